@@ -47,7 +47,8 @@ small_of activity live = record { kept = option_map kept_in (kept_of activity li
 
 -- ---- what it hears
 
--- the request of a call, by its operation: a Write asks for the record whose index is one less than its number
+-- the request of a call, by its operation: a Write asks for the record whose number is one less than the call's
+-- sequence number
 abbrev pub asked_by : ℕ → Option Operation → ToDevice
 asked_by sequence (Some operation.Connect) = small.Call sequence small.Connects
 asked_by sequence (Some operation.Write) = small.Call sequence (small.Writes (sequence - 1))

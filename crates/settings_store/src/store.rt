@@ -1,4 +1,4 @@
-// The store: what runs beside what is stored.
+// The store: the running settings beside the stored ones.
 ghost use Rattle.std.specs.Prelude.{◌≡◌, ◌≤◌, ℕ, true, false, IsErr, IfOk, IfErr, OnOk, OnErr, MatchResult, length, [], ◌∷◌};
 ghost use Rattle.flash_model.specs.Calls.{Arms};
 ghost use Rattle.flash_model.specs.Image.{Image, erased};
@@ -14,7 +14,7 @@ use pn_values::{BlockError, Command, SetItem, Settings};
 use settings_journal::{BootFault, CommitFault, Fill, Journal};
 use std::marker::Model;
 
-/// The settings of a station: those that run, and those that a restart finds. A clause sees the flash and the values.
+/// The settings of a station: the running ones, and those that a restart finds. Clauses see the flash and the values.
 #[derive(Drop)]
 pub struct Store<F: Flash<S>, const S: usize> {
     journal: Journal<F, S>,
@@ -44,14 +44,15 @@ impl<F: Flash<S>, const S: usize> Model for Store<F, S> {
 }
 
 impl<F: Flash<S>, const S: usize> Store<F, S> {
-    /// Starts from what the flash keeps, and writes nothing. A refusal hands the flash back.
+    /// Starts from the settings on the flash and writes nothing. An error returns the flash.
     pub fn boot(flash: F) -> Result<Store<F, S>, (BootFault, F)>
-        // What is stored runs, and nothing else.
+        // On success the store runs exactly the stored settings, which a start reads from the image, with the same
+        // room.
         ensures starts { IfOk result (λ store. StartsWith (F.image flash) store.values.stored store.values.room) }
         ensures running { IfOk result (λ store. store.values.running ≡ store.values.stored) }
         ensures fresh { IfOk result (λ store. (store.values.has_failed ≡ false) × (store.values.is_lost ≡ false)) }
 
-        // What can be read is given, unless a read fails.
+        // If the image can be read, the store has its settings and room, unless the start fails with FlashFault.
         ensures known { (settings : Settings) (room : ℕ) → StartsWith (F.image flash) settings room →
             MatchResult result (λ store. (store.values.stored ≡ settings)
             × (store.values.room ≡ room)) (λ refused. refused.0 ≡ BootFault.FlashFault) }
@@ -60,11 +61,11 @@ impl<F: Flash<S>, const S: usize> Store<F, S> {
             LeftByDevice (F.image flash) × StartsWith (F.image flash) factory_settings (capacity S) }
         ensures ample { IsAmple S }
 
-        // Foreign is what cannot be read, and nothing else.
+        // Foreign is returned only if no journal of this layout left the image, and a start on such an image fails.
         ensures foreign { IfErr result (λ refused. refused.0 ≡ BootFault.Foreign → IsForeign (F.image flash)) }
         ensures strange { IsForeign (F.image flash) → IsErr result }
 
-        // Nothing is written, and FlashFault is answered where a read fails and only there.
+        // Nothing is written. FlashFault is returned if and only if a read failed.
         ensures same { MatchResult result (λ store. F.image store.flash ≡ F.image flash) (λ refused. F.image refused.1 ≡ F.image flash) }
         ensures calls { MatchResult result (λ store. F.asked flash [] store.flash) (λ refused. F.asked flash [] refused.1) }
         ensures cause { MatchResult result (λ store. F.failures store.flash ≡ F.failures flash)
@@ -80,7 +81,7 @@ impl<F: Flash<S>, const S: usize> Store<F, S> {
         }
     }
 
-    /// A store that did not start: it stores nothing, and has read nothing yet.
+    /// A store that has not started: it stores nothing and has read nothing yet.
     pub fn unstarted(flash: F) -> Self
         ensures flash { result.flash ≡ flash }
         ensures has_failed { result.values.has_failed ≡ true }
@@ -100,15 +101,16 @@ impl<F: Flash<S>, const S: usize> Store<F, S> {
         self.journal.fill(from);
     }
 
-    /// Starts where it lies, from what the flash keeps, and writes nothing. After a refusal nothing is stored.
+    /// Starts in place from the settings on the flash and writes nothing. After an error no commit is carried out.
     pub fn load(&mut self) -> Result<(), BootFault>
-        // What is stored runs, and nothing else.
+        // On success the store runs exactly the stored settings, which a start reads from the image, with the same
+        // room.
         ensures starts { OnOk result (StartsWith (F.image self.old.flash) self.new.values.stored self.new.values.room) }
         ensures running { OnOk result (self.new.values.running ≡ self.new.values.stored) }
         ensures fresh { OnOk result ((self.new.values.has_failed ≡ false) × (self.new.values.is_lost ≡ false)) }
         ensures refused { OnErr result (self.new.values.has_failed ≡ true) }
 
-        // What can be read is given, unless a read fails.
+        // If the image can be read, the store has its settings and room, unless the start fails with FlashFault.
         ensures known { (settings : Settings) (room : ℕ) → StartsWith (F.image self.old.flash) settings room →
             MatchResult result (λ _. (self.new.values.stored ≡ settings)
             × (self.new.values.room ≡ room)) (λ fault. fault ≡ BootFault.FlashFault) }
@@ -117,11 +119,11 @@ impl<F: Flash<S>, const S: usize> Store<F, S> {
             LeftByDevice (F.image self.old.flash) × StartsWith (F.image self.old.flash) factory_settings (capacity S) }
         ensures ample { IsAmple S }
 
-        // Foreign is what cannot be read, and nothing else.
+        // Foreign is returned only if no journal of this layout left the image, and a start on such an image fails.
         ensures foreign { IfErr result (λ fault. fault ≡ BootFault.Foreign → IsForeign (F.image self.old.flash)) }
         ensures strange { IsForeign (F.image self.old.flash) → IsErr result }
 
-        // Nothing is written, and FlashFault is answered where a read fails and only there.
+        // Nothing is written. FlashFault is returned if and only if a read failed.
         ensures same { F.image self.new.flash ≡ F.image self.old.flash }
         ensures calls { F.asked self.old.flash [] self.new.flash }
         ensures cause { MatchResult result (λ _. F.failures self.new.flash ≡ F.failures self.old.flash)
@@ -135,14 +137,14 @@ impl<F: Flash<S>, const S: usize> Store<F, S> {
         Ok(())
     }
 
-    /// The settings that run.
+    /// The running settings.
     pub fn running(&self) -> &Settings
         ensures { result.now ≡ self.now.values.running }
     {
         &self.running
     }
 
-    /// The settings that a restart finds, where no commit failed since the start.
+    /// The settings that a restart finds, if no commit failed since the start.
     pub fn stored(&self) -> &Settings
         ensures value { result.now ≡ self.now.values.stored }
         ensures holds { self.now.values.has_failed ≡ false →
@@ -151,11 +153,11 @@ impl<F: Flash<S>, const S: usize> Store<F, S> {
         self.journal.settings()
     }
 
-    /// How many commits are left: that many further ones are accepted while no flash call fails. 0 after a commit that failed,
-    /// until the next start, and before a start.
+    /// The number of commits left: this many more are accepted as long as no flash call fails. It is 0 after a commit
+    /// that failed, until the next start, and before a start.
     pub fn left(&self) -> u32
         ensures value { result ≡ commits_left self.now.values.has_failed self.now.values.room }
-        // Where no commit failed, a start on the flash reads as many.
+        // If no commit failed, a start on the flash reads the stored settings with this room.
         ensures read { self.now.values.has_failed ≡ false → StartsWith (F.image self.now.flash) self.now.values.stored result }
     {
         self.journal.left()
@@ -175,7 +177,7 @@ impl<F: Flash<S>, const S: usize> Store<F, S> {
         self.journal.flash()
     }
 
-    /// Tells the flash what to do to a later call. Nothing else changes.
+    /// Test hook: orders the flash to do something to a later call. Nothing else changes.
     pub fn arm(&mut self, order: Order)
         ensures values { self.new.values ≡ self.old.values }
         ensures image { F.image self.new.flash ≡ F.image self.old.flash }
@@ -185,21 +187,21 @@ impl<F: Flash<S>, const S: usize> Store<F, S> {
         self.journal.arm(order);
     }
 
-    /// The flash, given back.
+    /// Returns the flash.
     pub fn into_flash(self) -> F
         ensures { result ≡ self.flash }
     {
         self.journal.into_flash()
     }
 
-    /// Carries items of a Set out in order, each by itself, and says how each is answered.
+    /// Carries out items of a Set in order, each by itself, and returns the answer to each.
     pub fn carry_out<const N: usize>(&mut self, items: &[SetItem]) -> ArrayVec<BlockError, N>
         requires { length items.now ≤ N }
         ensures carries { Carries F.Flash self.old items.now result.items self.new }
         ensures reliable { F.is_reliable self.old.flash → F.is_reliable self.new.flash
             × (self.new.values.has_failed ≡ self.old.values.has_failed) }
     {
-        // What the journal keeps holds before the items, too.
+        // The invariant of the journal holds before the items, too.
         let _ = &self.journal;
         let mut answers = ArrayVec::new();
         for item in items {
@@ -209,15 +211,15 @@ impl<F: Flash<S>, const S: usize> Store<F, S> {
         answers
     }
 
-    /// Carries one item of a Set out by itself, and says how it is answered.
+    /// Carries out one item of a Set by itself, and returns its answer.
     pub fn carry(&mut self, item: &SetItem) -> BlockError
         ensures carries { CarriesItem F.Flash self.old item.now result self.new }
-        // As a list of one.
+        // The item is carried out like a list of one item.
         ensures listed { Carries F.Flash self.old (item.now ∷ []) (result ∷ []) self.new }
         ensures reliable { F.is_reliable self.old.flash → F.is_reliable self.new.flash
             × (self.new.values.has_failed ≡ self.old.values.has_failed) }
     {
-        // What the journal keeps holds before the item, too.
+        // The invariant of the journal holds before the item, too.
         let _ = &self.journal;
         match item {
             SetItem::Ask(command) => self.commit(command),
@@ -226,7 +228,7 @@ impl<F: Flash<S>, const S: usize> Store<F, S> {
         }
     }
 
-    /// Stores what the command asks for, and shows it once it is stored.
+    /// Stores the settings that the command asks for, and shows them once they are stored.
     fn commit(&mut self, command: &Command) -> BlockError
         ensures carries { CarriesItem F.Flash self.old (SetItem.Ask command.now) result self.new }
         ensures reliable { F.is_reliable self.old.flash → F.is_reliable self.new.flash

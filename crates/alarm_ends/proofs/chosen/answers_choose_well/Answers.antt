@@ -1,4 +1,4 @@
--- By what a controller finds in the blocks.
+-- This follows from what a controller finds in the blocks.
 use Rattle.alarm_ends.proofs.Differs.{chosen_well}
 use Rattle.alarm_ends.proofs.chosen.answers_choose_well.Goals as goal
 

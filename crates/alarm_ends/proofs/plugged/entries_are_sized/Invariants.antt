@@ -1,4 +1,4 @@
--- each of those so far
+-- this holds of each module so far
 use Rattle.std.proofs.Common.{take}
 use Rattle.alarm_ends.specs.Sized.{AreSizedModules}
 use Rattle.alarm_ends.proofs.plugged.entries_are_sized.Given as goal

@@ -1,4 +1,4 @@
--- each of those so far
+-- this holds of each record so far
 use Rattle.std.proofs.Common.{take}
 use Rattle.world_ends.specs.Played.{ArePlaced}
 use Rattle.world_ends.proofs.start_up.are_placed.Given as goal

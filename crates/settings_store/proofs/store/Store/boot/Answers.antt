@@ -1,4 +1,4 @@
--- What is loaded is what is started with.
+-- The store starts with what is loaded.
 use Rattle.settings_store.proofs.store.Store.boot.Goals as goal
 
 pub returns-in-Ok-clause-known : goal.returns-in-Ok-clause-known
