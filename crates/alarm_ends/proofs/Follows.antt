@@ -66,7 +66,8 @@ use Rattle.alarm_ends.proofs.Tied.{Goes, IsFresh, IsHeard, IsSaid, IsTied, heard
 -- ---- a frame
 
 -- What either end hears of alarms in the frame was said. A Connect in it is the first call, and each call has its
--- sizes. What the controller hears in it comes from its device, and a positive response to the Connect chooses well.
+-- sizes. What the controller hears in it comes from its device, and a positive response to the Connect chooses a
+-- suitable FrameID for outputs.
 pub record IsIn (setup : Setup) (identity : Identity) (r : Relation) (frame : List ℕ) : Type 0 where
   pub noted : IsSaid r.alarms.pdus r.acks (noted_of setup frame)
   pub told : IsHeard r.told (told_of identity frame)

@@ -1,5 +1,5 @@
 -- The response of a device to the first call of its controller: only the Connect may succeed, and then its blocks
--- choose well.
+-- choose a suitable FrameID for outputs.
 use Rattle.std.proofs.Common.{◌≡◌, ◌+◌, ℕ, suc, Bool, true, false, cond, List, [], ◌∷◌, Option, Some, None, Result, Ok, Err, refl, sym, ap, subst, ◌∙◌, arith}
 use Rattle.std.specs.List.{AllByRecursion}
 use Rattle.std.proofs.lemmas.Bool.{false≢true}
@@ -88,11 +88,11 @@ module _ (setup : Setup) (station : Station) (live : Live) where
   abbrev asked : Request
   asked = request_for setup.plan setup.ar
 
-  -- the blocks of the response to the Connect of the plan choose well
+  -- the blocks of the response to the Connect of the plan choose a suitable FrameID for outputs
   abbrev pub Chooses : Type 0
   Chooses = IsChosenWell (connect_blocks station.identity asked (differing_of asked station.real))
 
-  -- a positive response to a call of number 0 chooses well
+  -- a positive response to a call of number 0 chooses a suitable FrameID for outputs
   abbrev pub IsServed : Sent → Type 0
   IsServed (CallAnswer caller address answer) = Chooses → answer.header.sequence ≡ 0 → is_done answer.status ≡ true → IsChosenWell answer.blocks
   IsServed (IdentifyAnswer asker running xid) = Unit {0}

@@ -101,7 +101,7 @@ IsGood mac controller.Nothing = Unit {0}
 IsGood mac (controller.Responds response) = Unit {0}
 IsGood mac (controller.Cyclic source frame_id body) = Unit {0}
 
--- a positive response to the Connect chooses well
+-- a positive response to the Connect chooses a suitable FrameID for outputs
 abbrev pub IsWell : Setup → controller.Heard → Type 0
 IsWell setup (controller.Responds response) = is_answer setup asks.Connect response.header ≡ true → is_done response.status ≡ true → IsChosenWell response.blocks
 IsWell setup controller.Nothing = Unit {0}

@@ -1,4 +1,5 @@
--- What a controller hears of its device chooses well, if it is the response to the Connect, and the calls that a device
+-- If what a controller hears of its device is the response to the Connect, it chooses a suitable FrameID for outputs;
+-- and the calls that a device hears have their sizes.
 -- hears have their sizes.
 use Rattle.std.proofs.Common.{◌≡◌, ◌⊎◌, inl, inr, ◌==◌, ◌&&◌, ◌<◌, ℕ, Bool, true, false, cond, List, [], ◌∷◌, length, Option, Some, None, refl, sym, ap, subst, ◌∙◌}
 use Rattle.std.specs.Prelude.{nat_eq, nat_le}

@@ -18,9 +18,9 @@ ghost use Rattle.alarm_laws.specs.Sendable.{CanBeSaid, IsHeader, ack_pdu, empty_
 use block_laws::blocks_are_read;
 use pn_alarms::fitting_pdus_are_read;
 
-/// A written PDU is read back. This is a law of the definitions. No code is involved.
+/// A PDU that can be sent is read back. This is a law of the definitions. No code is involved.
 pub fn pdus_are_read()
-    // A written PDU is read back, with anything after it.
+    // A PDU that can be sent is read back, with anything after it.
     ensures read { (said : Said) (more : List ℕ) → CanBeSaid said → pdu_of (pdu_bytes said ++ more) ≡ Ok said }
     // A PDU has 12 octets and those of its body.
     ensures long { (said : Said) → length (pdu_bytes said) ≡ 12 + length said.body }

@@ -71,7 +71,7 @@ pub record IsAlarm (alarm : AlarmNotification) : Type 0 where
   pub alarm_specifier : alarm.alarm_specifier < 65536
   pub few : length alarm.alarm_data ≤ 1458
 
--- a block that can be written: of a start-up or of alarms, or any other one that its format takes
+-- a block that can be written: one of a start-up or of alarms, or any other block that its format can write
 abbrev pub CanBeWritten : Block → Type 0
 CanBeWritten (is.PrmEnd block) = IsControl block
 CanBeWritten (is.PrmEndRes block) = IsControl block × (block.control_command ≡ 8)

@@ -7,12 +7,12 @@ ghost use Rattle.block_laws.specs.Writable.{AreRead, CanBeWritten, octets_of};
 
 use block_codec::fitting_blocks_are_read;
 
-/// A written block is read back. These are laws of the definitions. No code is involved.
+/// A block that can be written is read back. These are laws of the definitions. No code is involved.
 pub fn blocks_are_read()
-    // A written block is read back, with anything or nothing after it.
+    // A block that can be written is read back, with anything or nothing after it.
     ensures read { (block : Block) (rest : List ℕ) → CanBeWritten block → block_of (block_bytes block ++ rest) ≡ front block rest }
     ensures alone { (block : Block) → CanBeWritten block → block_of (block_bytes block) ≡ front block [] }
-    // Blocks that are written one after the other are read one after the other.
+    // Blocks that can be written one after the other are read one after the other.
     ensures each { (blocks : List Block) (rest : List ℕ) → AllByRecursion CanBeWritten blocks →
         AreRead (octets_of blocks ++ rest) blocks rest }
     // A block has as many octets as its size says.

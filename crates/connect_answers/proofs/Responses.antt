@@ -45,7 +45,7 @@ module _ {F A : Type 0} where
       → (checked test f codec).read bytes ≡ Ok y → (x : A × List ℕ) × (codec.read bytes ≡ Ok x) × (test x.0 ≡ true)
   was_checked test f codec bytes y e = was_passed test f (codec.read bytes) y e
 
-  -- ---- a fault is kept
+  -- ---- a fault stays a fault
 
   not_loose : (codec : Codec F A) (bytes : List ℕ) (g : F) → codec.read bytes ≡ Err g → (loose codec).read bytes ≡ Err g
   not_loose codec bytes g e = ap (λ (r : Result (A × List ℕ) F). r >>= λ x. Ok x.0) e

@@ -1,4 +1,4 @@
--- The contents of a response, independent of its place in memory, and what is asked of it.
+-- The contents of a response, independent of its place in memory, and tests of them.
 use Rattle.std.specs.Prelude.{◌&&◌, ℕ, Bool, true, false, List, [], ◌∷◌, if◌then◌else◌, Option, Some, None}
 use Rattle.std.specs.List.{list_all}
 use Rattle.pn_values.specs.declared.set_item.BlockError.TheVariants as error

@@ -211,8 +211,8 @@ impl<'a> Response<'a> {
         None
     }
 
-    /// Whether the response is positive: the service is supported, and no block or pair was refused. A response without
-    /// blocks about the outcome is positive too.
+    /// Whether the response is positive: the service is supported, and no block or pair was refused. There need not be
+    /// any block.
     pub fn is_positive(&self) -> bool
         ensures { result ≡ is_agreed (answered self.now) }
     {

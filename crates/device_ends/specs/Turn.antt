@@ -181,7 +181,7 @@ IsTurn real calls before heard after sent =
     Stays before after sent ⊎ (Makes calls before heard after sent ⊎ (Raises real before heard after sent
     ⊎ (HearsAck before heard after sent ⊎ (HearsData before heard after sent ⊎ (Passes before heard after sent ⊎ Takes before heard after sent)))))
 
--- ---- answers
+-- ---- responses
 
 -- a call is answered, and the response is stored
 pub record Answers (identity : Identity) (before after : List Kept) (sent : List Sent) : Type 0 where

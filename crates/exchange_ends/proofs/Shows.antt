@@ -64,7 +64,7 @@ record IsSame (before after : Cyclic) : Type 0 where
 same : (cyclic : Cyclic) → IsSame cyclic cyclic
 same cyclic = record { route = refl; last = refl; taken = refl }
 
--- a frame followed by another one has the effect of the other one alone
+-- a frame followed by another one has the same effect as the second one
 cells_again : (octets others : List ℕ) (cells : List Cell) → map (λ (cell : Cell). cell_of octets cell.place) (map (λ (cell : Cell). cell_of others cell.place) cells) ≡ map (λ (cell : Cell). cell_of octets cell.place) cells
 cells_again octets others [] = refl
 cells_again octets others (cell ∷ cells) = ap (λ (more : List Cell). cell_of octets cell.place ∷ more) (cells_again octets others cells)

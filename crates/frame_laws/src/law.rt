@@ -11,16 +11,17 @@ use frame_codec::{fitting_frames_are_read, formats_are_sound};
 
 /// A written frame is read back. These are laws of the definitions. No code is involved.
 pub fn frames_are_read()
-    // Whatever a frame carries, it has at least 60 octets and at most as many as a frame may have. It is read as the
-    // given meaning with its padding added, also with more octets after it, up to the limit.
+    // Whatever a frame that can be sent carries, it has at least 60 octets and at most as many as a frame may have. It
+    // is read as the given meaning with its padding added, also with more octets after it, up to the limit.
     ensures back { (meaning : Meaning) → CanBeSent meaning → IsReadBack meaning }
-    // Real-time data is read with the padding at its end.
+    // Real-time data that can be sent is read with the padding at its end.
     ensures real_time { (destination source : Mac) (tag : Option ℕ) (frame_id : ℕ) (body : List ℕ)
         → CanBeSent (carrying destination source tag (RealTime frame_id body))
         → frame_of (frame_bytes (carrying destination source tag (RealTime frame_id body)))
         ≡ Ok (carrying destination source tag (RealTime frame_id (body
         ++ padding_of (carrying destination source tag (RealTime frame_id body))))) }
-    // A packet of ARP and a datagram of UDP are read back without the padding: their own lengths say where they end.
+    // If they can be sent, a packet of ARP and a datagram of UDP are read back without the padding: their own lengths
+    // say where they end.
     ensures arp { (destination source : Mac) (tag : Option ℕ) (packet : Arp)
         → CanBeSent (carrying destination source tag (ArpPacket packet))
         → frame_of (frame_bytes (carrying destination source tag (ArpPacket packet)))

@@ -47,12 +47,12 @@ pub fn calls_can_be_sent()
 
 /// What is heard of a call of the controller. These are laws of the definitions.
 pub fn calls_are_heard()
-    // The device that the call goes to hears it: from the controller, to the IP address of the plan.
+    // If a call can be sent, the device that it goes to hears it: from the controller, to the IP address of the plan.
     ensures device { (identity : Identity) (setup : Setup) (to : Mac) (call : Call) → IsSetup setup → IsMac to → CanBeCalled devices call
         → device_hears identity (comes (call_frame setup to call))
         ≡ own_told identity setup.plan.controller.mac to (calls_at setup.plan.controller.address)
         (calls_at setup.plan.station.suite.address) (Calls call) }
-    // A controller hears nothing of a call to a device.
+    // A controller hears nothing of a call to a device that can be sent.
     ensures controller { (mine : Controller) (setup : Setup) (to : Mac) (call : Call) → IsSetup setup → IsMac to → CanBeCalled devices call
         → controller_hears mine (call_frame setup to call) ≡ Nothing }
 {
@@ -64,12 +64,12 @@ pub fn calls_are_heard()
 
 /// What is heard of a response of the device. These are laws of the definitions.
 pub fn responses_are_heard()
-    // The controller that the response goes to hears it.
+    // If a response can be sent, the controller that it goes to hears it.
     ensures controller { (mine : Controller) (identity : Identity) (caller : Caller) (address : List ℕ) (answer : Answered)
         → IsDevice identity → IsCaller caller → IsAddress address → CanBeAnswered answer
         → controller_hears mine (response_frame identity caller address answer)
         ≡ mine_told mine caller.mac caller.endpoint (Responded answer) }
-    // A device that the response goes to hears a response and not a call.
+    // If a response can be sent, a device that it goes to hears a response and not a call.
     ensures device { (other identity : Identity) (caller : Caller) (address : List ℕ) (answer : Answered)
         → IsDevice identity → IsCaller caller → IsAddress address → CanBeAnswered answer
         → device_hears other (comes (response_frame identity caller address answer))
@@ -89,7 +89,7 @@ pub fn responses_are_heard()
 
 /// What is heard of ApplicationReady. These are laws of the definitions.
 pub fn ready_calls_are_heard()
-    // The controller that the call goes to hears it, from the device.
+    // If the call can be sent, the controller that it goes to hears it, from the device.
     ensures controller { (mine : Controller) (identity : Identity) (address : List ℕ) (ready : Ready)
         → IsDevice identity → IsMac ready.partner.mac → IsAddress ready.partner.address → IsAddress address →
         CanBeCalled controllers (ready_call ready)
@@ -111,13 +111,13 @@ pub fn ready_calls_are_heard()
 
 /// What is heard of the response to ApplicationReady. These are laws of the definitions.
 pub fn ready_answers_are_heard()
-    // The device that the response goes to hears a response and not a call.
+    // If the response can be sent, the device that it goes to hears a response and not a call.
     ensures device { (identity : Identity) (setup : Setup) (caller : Caller) (answer : Answered) → IsSetup setup → IsCaller caller →
         CanBeAnswered answer
         → device_hears identity (comes (answer_frame setup caller answer))
         ≡ own_told identity setup.plan.controller.mac caller.mac (calls_at setup.plan.controller.address) caller.endpoint
         (Responds answer) }
-    // A controller that the response goes to hears it.
+    // If the response can be sent, a controller that it goes to hears it.
     ensures controller { (mine : Controller) (setup : Setup) (caller : Caller) (answer : Answered) → IsSetup setup → IsCaller caller →
         CanBeAnswered answer
         → controller_hears mine (answer_frame setup caller answer) ≡ mine_told mine caller.mac caller.endpoint (Responded answer) }

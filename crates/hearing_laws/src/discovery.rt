@@ -43,17 +43,18 @@ pub fn requests_are_heard()
 
 /// What a controller hears of the device's DCP responses. These are laws of the definitions.
 pub fn answers_are_heard()
-    // The controller hears what the device reports of itself, from the device, with the Xid of the request.
+    // If the response fits a frame, the controller hears what the device reports of itself, from the device, with the
+    // Xid of the request.
     ensures identify { (mine : Controller) (identity : Identity) (asker : Mac) (running : Settings) (xid : ℕ)
         → IsDevice identity → IsMac asker → xid < 4294967296 → length (identify_bytes identity running xid) ≤ 1498
         → controller_hears mine (device_bytes identity (IdentifyAnswer asker running xid))
         ≡ mine_hears mine asker (Answers identity.mac (identify_said identity running xid)) }
-    // The controller hears what the device reports of each kind that was asked for.
+    // If the response fits a frame, the controller hears what the device reports of each kind that was asked for.
     ensures get { (mine : Controller) (identity : Identity) (asker : Mac) (running : Settings) (request : Asked)
         → IsDevice identity → IsMac asker → request.xid < 4294967296 → length (get_bytes identity running request) ≤ 1498
         → controller_hears mine (device_bytes identity (GetAnswer asker running request))
         ≡ mine_hears mine asker (Answers identity.mac (get_said identity running request)) }
-    // The controller hears the outcome of each block of a Set.
+    // If the response fits a frame, the controller hears the outcome of each block of a Set.
     ensures set { (mine : Controller) (identity : Identity) (asker : Mac) (request : Asked) (outcomes : List BlockError)
         → IsDevice identity → IsMac asker → request.xid < 4294967296 → length (set_bytes request outcomes) ≤ 1498
         → controller_hears mine (device_bytes identity (SetAnswer asker request outcomes))

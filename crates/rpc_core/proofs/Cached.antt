@@ -51,7 +51,7 @@ tidy_below bound [] k below tidy = absurd (omega (arith, below))
 tidy_below bound (place ∷ places) zero below tidy = tidy.0
 tidy_below bound (place ∷ places) (suc k) below tidy = tidy_below bound places k (omega (arith, below)) tidy.2
 
--- ---- the answers in the slots
+-- ---- the responses in the slots
 
 -- writing another slot does not change the responses in these slots
 pub shown_after : (slots : List Slot) (place : ℕ) (slot : Slot) (order : List ℕ) → IsFree place order → shown (set slots place slot) order ≡ shown slots order

@@ -10,7 +10,7 @@ is_itself : (activity : List ℕ) (b : Bool) → b ≡ pointwise nat_eq activity
 is_itself activity true e = refl
 is_itself activity false e = absurd (other_text activity activity e refl)
 
--- ---- what is kept of an activity
+-- ---- the response of an activity
 
 kept_first : (kept : Kept) (others : List Kept) (activity : List ℕ) → activity ≡ kept.activity → kept_of activity (kept ∷ others) ≡ Some kept
 kept_first kept others activity same = rw same (rw (is_itself kept.activity (pointwise nat_eq kept.activity kept.activity) refl) refl)
@@ -52,7 +52,7 @@ kept_apart most activity call cache differs held =
     let passed : kept_of activity (call ∷ rest) ≡ kept_of activity rest = kept_other activity call rest (is_of activity call) refl differs in
     passed ∙ kept_take activity (most - 1) (without call.activity cache) (subst (λ (o : Option Kept). IsSome o) passed held) ∙ kept_without activity call.activity cache differs
 
--- ---- what is told
+-- ---- what the cache says
 
 -- this response, or one to a later call
 abbrev Follows : ℕ → List ℕ → Kept → Type 0

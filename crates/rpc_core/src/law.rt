@@ -7,23 +7,24 @@ ghost use Rattle.rpc_core.specs.Interface.{interface_uuid};
 ghost use Rattle.rpc_core.specs.Response.{Answered, response_bytes, response_of};
 ghost use Rattle.rpc_core.specs.Sendable.{CanBeAnswered, CanBeCalled, IsHeader};
 
-/// A written call is read back. This is a law of the definitions. No code is involved.
+/// A call that can be sent is read back. This is a law of the definitions. No code is involved.
 pub fn calls_are_read()
-    // A written call is read back at its interface, with anything after it.
+    // A call that can be sent is read back at its interface, with anything after it.
     ensures read { (interface : Interface) (call : Asked) (more : List ℕ) → CanBeCalled interface call →
         call_of interface (call_bytes interface call ++ more) ≡ Ok call }
-    // A written call fits a frame.
+    // A call that can be sent fits a frame.
     ensures short { (interface : Interface) (call : Asked) → CanBeCalled interface call → length (call_bytes interface call) ≤ 1472 }
 {}
 
-/// A written response is read back. This is a law of the definitions. No code is involved.
+/// A response that can be sent is read back. This is a law of the definitions. No code is involved.
 pub fn responses_are_read()
-    // A written response is read back, with anything after it.
+    // A response that can be sent is read back, with anything after it.
     ensures read { (response : Answered) (more : List ℕ) → CanBeAnswered response →
         response_of (response_bytes response ++ more) ≡ Ok response }
-    // A written response fits a frame.
+    // A response that can be sent fits a frame.
     ensures short { (response : Answered) → CanBeAnswered response → length (response_bytes response) ≤ 1472 }
-    // A written response has 100 octets and those of its blocks, however many there are.
+    // If its header's fields have their sizes, a response has 100 octets and those of its blocks, however many there
+    // are.
     ensures long { (response : Answered) → IsHeader response.header → length (response_bytes response) ≡ 100 + length response.blocks }
 {}
 

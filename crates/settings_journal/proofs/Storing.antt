@@ -71,7 +71,7 @@ module _ (old : Image) (active : Option Sector) (settings : Settings) (generatio
   generation_before before (inl (sector, is, e)) = generation_of_active sector before is e
   generation_before before (inr (first, second, e)) = rw e (generation_of_none first second)
 
--- ---- a base is there
+-- ---- a base is stored
 
 -- The write of a base with the next settings into the spare sector, and what it left.
 pub record Written (old new : Image) (active : Option Sector) (settings next : Settings) (generation free slots : ℕ) : Type 0 where

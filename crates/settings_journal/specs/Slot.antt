@@ -12,7 +12,7 @@ use Rattle.flash_model.specs.Image.{erased}
 use Rattle.settings_journal.specs.declared.head.Version.{Version}
 use Rattle.settings_journal.specs.declared.head.Version.TheVariants.{One, Two}
 
--- where a slot begins in its sector
+-- the offset of a slot in its sector
 abbrev pub place_of : ℕ → ℕ
 place_of number = 512 + 256 * number
 
@@ -96,7 +96,7 @@ IsCommand ResetApplication = Unit {0}
 IsCommand ResetCommunication = Unit {0}
 IsCommand ResetAll = Unit {0}
 
--- the given command if it is valid; none if there is none or it is not valid
+-- the given command if it is valid; none if no command is given or it is not valid
 abbrev pub IsJudged : Option Command → Option Command → Type 0
 IsJudged meant (Some command) = (meant ≡ Some command) × IsCommand command
 IsJudged meant None = (command : Command) → meant ≡ Some command → ¬ IsCommand command

@@ -26,7 +26,7 @@
 //! with a name is `unfoldable`, so that a proof unfolds only those that it is about:
 //!
 //! ```antt
-//! -- an option, a suboption, a length and that many bytes, and a byte of padding where the length is odd
+//! -- an option, a suboption, a length and that many bytes, and a byte of padding if the length is odd
 //! unfoldable pub head : Codec DcpFault Block
 //! head = seen (λ x. record { option = x.0; suboption = x.1.0; contents = x.1.1 })
 //!     (λ block. (block.option, (block.suboption, block.contents)))
