@@ -31,7 +31,7 @@ pub record Torn (sector : Sector) (start end : ℕ) (finished : List ℕ) (old n
 abbrev pub HasRisen : ℕ → ℕ → Type 0
 HasRisen before now = (before < now) ⊎ ((before ≡ 18446744073709551615) × (now ≡ 18446744073709551615))
 
--- An error has a cause, a call that failed. If there is no error, no call failed.
+-- After an error the count of failed calls has risen or is saturated. On success it is unchanged.
 pub record HasCause {T : Type 0} (before now : ℕ) (result : Result T FlashFault) : Type 0 where
   pub failed : OnErr result (HasRisen before now)
   pub done : OnOk result (now ≡ before)

@@ -58,32 +58,51 @@ pub trait Flash<const S: usize>: Drop {
     /// Reads the bytes from `place` on.
     fn read(&mut self, sector: Sector, place: usize, buffer: &mut [u8]) -> Result<(), FlashFault>
         requires { place + length buffer.old ≤ S }
+        // On success the buffer holds the bytes of the sector from `place` on.
         ensures done { OnOk result (buffer.new ≡ slice_range (sector_of (image self.old) sector) place (place + length buffer.old)) }
+        // The image is unchanged.
         ensures same { image self.new ≡ image self.old }
+        // No call that changes the flash is made.
         ensures calls { asked self.old [] self.new }
+        // After an error the count of failed calls has risen or is saturated. On success it is unchanged.
         ensures cause { HasCause (failures self.old) (failures self.new) result }
+        // Power that was lost stays lost, and then the call fails.
         ensures lost { StaysLost (is_lost self.old) (is_lost self.new) result }
+        // On a reliable flash the call succeeds, and the flash stays reliable.
         ensures reliable { is_reliable self.old → IsOk result × is_reliable self.new };
 
     /// Clears each bit that is 0 in `bytes`, from `place` on.
     fn program(&mut self, sector: Sector, place: usize, bytes: &[u8]) -> Result<(), FlashFault>
         requires { place + length bytes.now ≤ S }
+        // On success the bytes are programmed, and everything else is unchanged.
         ensures done { OnOk result (image self.new
             ≡ with_sector (image self.old) sector (programmed (sector_of (image self.old) sector) place bytes.now)) }
+        // After an error each bit in the range is old or as the finished call would have left it, and everything else
+        // is unchanged.
         ensures torn { OnErr result (Torn sector place (place + length bytes.now)
             (programmed (sector_of (image self.old) sector) place bytes.now) (image self.old) (image self.new)) }
+        // Exactly this program call is made.
         ensures calls { asked self.old (Programs sector place bytes.now ∷ []) self.new }
+        // After an error the count of failed calls has risen or is saturated. On success it is unchanged.
         ensures cause { HasCause (failures self.old) (failures self.new) result }
+        // Power that was lost stays lost, and then the call fails.
         ensures lost { StaysLost (is_lost self.old) (is_lost self.new) result }
+        // On a reliable flash the call succeeds, and the flash stays reliable.
         ensures reliable { is_reliable self.old → IsOk result × is_reliable self.new };
 
     /// Sets every bit of a sector to 1.
     fn erase(&mut self, sector: Sector) -> Result<(), FlashFault>
+        // On success the sector is erased, and the other one is unchanged.
         ensures done { OnOk result (image self.new ≡ with_sector (image self.old) sector (erased S)) }
+        // After an error each bit of the sector is old or 1, and the other sector is unchanged.
         ensures torn { OnErr result (Torn sector 0 S (erased S) (image self.old) (image self.new)) }
+        // Exactly this erase call is made.
         ensures calls { asked self.old (Erases sector ∷ []) self.new }
+        // After an error the count of failed calls has risen or is saturated. On success it is unchanged.
         ensures cause { HasCause (failures self.old) (failures self.new) result }
+        // Power that was lost stays lost, and then the call fails.
         ensures lost { StaysLost (is_lost self.old) (is_lost self.new) result }
+        // On a reliable flash the call succeeds, and the flash stays reliable.
         ensures reliable { is_reliable self.old → IsOk result × is_reliable self.new };
 
     /// How many calls have failed. The count saturates at `u64::MAX`.
@@ -96,9 +115,13 @@ pub trait Flash<const S: usize>: Drop {
 
     /// Test hook (fault injection): orders the flash to do something to a later call. No byte changes.
     fn arm(&mut self, order: Order)
+        // The image is unchanged.
         ensures image { image self.new ≡ image self.old }
+        // The count of failed calls is unchanged.
         ensures failures { failures self.new ≡ failures self.old }
+        // Power is as before.
         ensures lost { is_lost self.new ≡ is_lost self.old }
+        // Exactly this order is given.
         ensures calls { asked self.old (Arms order ∷ []) self.new };
 
     /// Both sectors have `S` bytes.

@@ -221,19 +221,30 @@ impl<const S: usize> Flash<S> for MemoryFlash<S> {
     fn read(&mut self, sector: Sector, place: usize, buffer: &mut [u8]) -> Result<(), FlashFault>
         requires { place + length buffer.old ≤ S }
 
-        // These clauses are those of the trait.
+        // On success the buffer holds the bytes of the sector from `place` on.
         ensures done { OnOk result (buffer.new ≡ slice_range (sector_of (image_of self.old) sector) place (place + length buffer.old)) }
+        // The image is unchanged.
         ensures same { image_of self.new ≡ image_of self.old }
+        // No call that changes the flash is made.
         ensures calls { IsAsked self.old [] self.new }
+        // After an error the count of failed calls has risen or is saturated. On success it is unchanged.
         ensures cause { HasCause (failures_of self.old) (failures_of self.new) result }
+        // Power that was lost stays lost, and then the call fails.
         ensures lost { StaysLost (is_powerless self.old) (is_powerless self.new) result }
+        // On a reliable flash the call succeeds, and the flash stays reliable.
         ensures reliable { IsReliable self.old → IsOk result × IsReliable self.new }
 
-        // The exact behaviour of a flash in memory.
+        // The call succeeds if and only if there is power and no armed order for reads strikes.
         ensures passes { IsOk result ↔ (next_readable self.old ≡ true) }
+        // After an error the buffer is unchanged.
         ensures refused { OnErr result (buffer.new ≡ buffer.old) }
+        // If there is power, an armed order for reads counts the read, and is gone if it struck. Otherwise the order is
+        // unchanged.
         ensures armed { armed_in self.new ≡ next_read_armed self.old }
+        // Power is as before.
         ensures power { is_powerless self.new ≡ is_powerless self.old }
+        // The count of failed calls rises by one after an error, up to the maximum of 64 bits. On success it is
+        // unchanged.
         ensures failures { failures_of self.new ≡ failures_after (failures_of self.old) result }
     {
         if !self.next_read() {
@@ -249,24 +260,37 @@ impl<const S: usize> Flash<S> for MemoryFlash<S> {
     fn program(&mut self, sector: Sector, place: usize, bytes: &[u8]) -> Result<(), FlashFault>
         requires { place + length bytes.now ≤ S }
 
-        // These clauses are those of the trait, and a call without power changes no byte.
+        // On success the bytes are programmed, and everything else is unchanged.
         ensures done { OnOk result (image_of self.new
             ≡ with_sector (image_of self.old) sector (programmed (sector_of (image_of self.old) sector) place bytes.now)) }
+        // After an error each bit in the range is old or as the finished call would have left it, and everything else
+        // is unchanged.
         ensures torn { OnErr result (Torn sector place (place + length bytes.now)
             (programmed (sector_of (image_of self.old) sector) place bytes.now) (image_of self.old) (image_of self.new)) }
+        // Exactly this program call is made.
         ensures calls { IsAsked self.old (Programs sector place bytes.now ∷ []) self.new }
+        // After an error the count of failed calls has risen or is saturated. On success it is unchanged.
         ensures cause { HasCause (failures_of self.old) (failures_of self.new) result }
+        // Power that was lost stays lost, and then the call fails.
         ensures lost { StaysLost (is_powerless self.old) (is_powerless self.new) result }
+        // Without power no byte changes.
         ensures untouched { is_powerless self.old ≡ true → image_of self.new ≡ image_of self.old }
+        // On a reliable flash the call succeeds, and the flash stays reliable.
         ensures reliable { IsReliable self.old → IsOk result × IsReliable self.new }
 
-        // The exact behaviour of a flash in memory.
+        // The call succeeds if and only if there is power and the armed order does not strike.
         ensures passes { IsOk result ↔ (next_fate self.old ≡ Fate.Passes) }
+        // The bytes are those that the fate of the call gives, bit by bit.
         ensures image { image_of self.new
             ≡ with_sector (image_of self.old) sector (sector_after (next_fate self.old) place (place + length bytes.now)
             (programmed (sector_of (image_of self.old) sector) place bytes.now) (sector_of (image_of self.old) sector)) }
+        // If there is power, an armed order that is not for reads counts the call, and is gone if it struck. Otherwise
+        // the order is unchanged.
         ensures armed { armed_in self.new ≡ next_armed self.old }
+        // Power is lost after the call if it was lost before or a cut struck.
         ensures power { is_powerless self.new ≡ next_lost self.old }
+        // The count of failed calls rises by one after an error, up to the maximum of 64 bits. On success it is
+        // unchanged.
         ensures failures { failures_of self.new ≡ failures_after (failures_of self.old) result }
     {
         let fate = self.next_fate();
@@ -279,22 +303,34 @@ impl<const S: usize> Flash<S> for MemoryFlash<S> {
 
     /// Sets every bit of a sector to 1. It fails if and only if there is no power or the armed order strikes.
     fn erase(&mut self, sector: Sector) -> Result<(), FlashFault>
-        // These clauses are those of the trait, and a call without power changes no byte.
+        // On success the sector is erased, and the other one is unchanged.
         ensures done { OnOk result (image_of self.new ≡ with_sector (image_of self.old) sector (erased S)) }
+        // After an error each bit of the sector is old or 1, and the other sector is unchanged.
         ensures torn { OnErr result (Torn sector 0 S (erased S) (image_of self.old) (image_of self.new)) }
+        // Exactly this erase call is made.
         ensures calls { IsAsked self.old (Erases sector ∷ []) self.new }
+        // After an error the count of failed calls has risen or is saturated. On success it is unchanged.
         ensures cause { HasCause (failures_of self.old) (failures_of self.new) result }
+        // Power that was lost stays lost, and then the call fails.
         ensures lost { StaysLost (is_powerless self.old) (is_powerless self.new) result }
+        // Without power no byte changes.
         ensures untouched { is_powerless self.old ≡ true → image_of self.new ≡ image_of self.old }
+        // On a reliable flash the call succeeds, and the flash stays reliable.
         ensures reliable { IsReliable self.old → IsOk result × IsReliable self.new }
 
-        // The exact behaviour of a flash in memory.
+        // The call succeeds if and only if there is power and the armed order does not strike.
         ensures passes { IsOk result ↔ (next_fate self.old ≡ Fate.Passes) }
+        // The bytes are those that the fate of the call gives, bit by bit.
         ensures image { image_of self.new
             ≡ with_sector (image_of self.old) sector (sector_after (next_fate self.old) 0 S (erased S)
             (sector_of (image_of self.old) sector)) }
+        // If there is power, an armed order that is not for reads counts the call, and is gone if it struck. Otherwise
+        // the order is unchanged.
         ensures armed { armed_in self.new ≡ next_armed self.old }
+        // Power is lost after the call if it was lost before or a cut struck.
         ensures power { is_powerless self.new ≡ next_lost self.old }
+        // The count of failed calls rises by one after an error, up to the maximum of 64 bits. On success it is
+        // unchanged.
         ensures failures { failures_of self.new ≡ failures_after (failures_of self.old) result }
     {
         let fate = self.next_fate();
@@ -319,13 +355,16 @@ impl<const S: usize> Flash<S> for MemoryFlash<S> {
 
     /// Arms the order in place of one that was armed before. No byte changes.
     fn arm(&mut self, order: Order)
-        // These clauses are those of the trait.
+        // The image is unchanged.
         ensures image { image_of self.new ≡ image_of self.old }
+        // The count of failed calls is unchanged.
         ensures failures { failures_of self.new ≡ failures_of self.old }
+        // Power is as before.
         ensures lost { is_powerless self.new ≡ is_powerless self.old }
+        // Exactly this order is given.
         ensures calls { IsAsked self.old (Arms order ∷ []) self.new }
 
-        // The exact behaviour of a flash in memory.
+        // The order is armed, in place of an earlier one.
         ensures armed { armed_in self.new ≡ Some order }
     {
         match order {

@@ -9,12 +9,13 @@ use Rattle.settings_journal.specs.declared.journal.CommitFault.{CommitFault}
 use Rattle.settings_journal.specs.declared.journal.CommitFault.TheVariants as commit
 use Rattle.settings_journal.specs.Image.{BootsTo, LeftByDevice}
 
--- a start returns FlashFault if and only if a read failed
+-- after FlashFault of a start the count of failed calls has risen or is saturated; after Foreign it is unchanged
 abbrev pub HasBootCause : BootFault → ℕ → ℕ → Type 0
 HasBootCause FlashFault before now = HasRisen before now
 HasBootCause Foreign before now = now ≡ before
 
--- a commit returns FlashFault if and only if a call of the flash failed
+-- after FlashFault of a commit the count of failed calls has risen or is saturated; after any other result it is
+-- unchanged
 abbrev pub HasCommitCause : Result (Unit {0}) CommitFault → ℕ → ℕ → Type 0
 HasCommitCause (Ok done) before now = now ≡ before
 HasCommitCause (Err commit.FlashFault) before now = HasRisen before now

@@ -94,31 +94,41 @@ impl<F: Flash<S>, const S: usize> Journal<F, S> {
     pub fn boot(flash: F) -> Result<Journal<F, S>, (BootFault, F)>
         // On success the journal has the settings and the room that are read from the image.
         ensures starts { IfOk result (λ journal. StartsWith (F.image flash) journal.settings journal.room) }
+        // On success no commit has failed.
         ensures fresh { IfOk result (λ journal. journal.has_failed ≡ false) }
 
         // If the image can be read, the journal has its settings and room, unless the start fails with FlashFault.
         ensures known { (settings : Settings) (room : ℕ) → StartsWith (F.image flash) settings room →
             MatchResult result (λ journal. (journal.settings ≡ settings)
             × (journal.room ≡ room)) (λ refused. refused.0 ≡ BootFault.FlashFault) }
+        // On an image that this device left, a start fails only with FlashFault.
         ensures left { LeftByDevice (F.image flash) → IfErr result (λ refused. refused.0 ≡ BootFault.FlashFault) }
 
-        // Foreign is returned only if no journal of this layout left the image, and a start on such an image fails.
+        // Foreign is returned only if no journal of this layout left the image.
         ensures foreign { IfErr result (λ refused. refused.0 ≡ BootFault.Foreign → IsForeign (F.image flash)) }
+        // If no journal of this layout left the image, the start fails.
         ensures strange { IsForeign (F.image flash) → IsErr result }
 
-        // A flash that was never written starts with the factory settings and its full capacity.
+        // A flash that was never written is left by this device, and is read as the factory settings with its full
+        // capacity.
         ensures blank { F.image flash ≡ record { first = erased S; second = erased S } →
             LeftByDevice (F.image flash) × StartsWith (F.image flash) factory_settings (capacity S) }
+        // A flash that was never written has room for at least 65,535 commits.
         ensures ample { IsAmple S }
 
-        // Nothing is written. FlashFault is returned if and only if a read failed.
+        // The image is unchanged, on success and on an error.
         ensures same { MatchResult result (λ journal. F.image journal.flash ≡ F.image flash) (λ refused. F.image refused.1
             ≡ F.image flash) }
+        // Nothing is written: no call that changes the flash is made.
         ensures calls { MatchResult result (λ journal. F.asked flash [] journal.flash) (λ refused. F.asked flash [] refused.1) }
+        // The count of failed calls is unchanged on success and after Foreign. After FlashFault it has risen or is
+        // saturated.
         ensures cause { MatchResult result (λ journal. F.failures journal.flash ≡ F.failures flash)
             (λ refused. HasBootCause refused.0 (F.failures flash) (F.failures refused.1)) }
+        // On success the flash has power. Power that was lost stays lost.
         ensures lost { MatchResult result (λ journal. F.is_lost journal.flash ≡ false) (λ refused. F.is_lost flash ≡ true →
             F.is_lost refused.1 ≡ true) }
+        // A reliable flash stays reliable, and on it a start fails only with Foreign.
         ensures reliable { F.is_reliable flash →
             MatchResult result (λ journal. F.is_reliable journal.flash) (λ refused. F.is_reliable refused.1
             × (refused.0 ≡ BootFault.Foreign)) }
@@ -170,30 +180,41 @@ impl<F: Flash<S>, const S: usize> Journal<F, S> {
     pub fn load(&mut self) -> Result<(), BootFault>
         // On success the journal has the settings and the room that are read from the image.
         ensures starts { OnOk result (StartsWith (F.image self.old.flash) self.new.settings self.new.room) }
+        // On success no commit has failed.
         ensures fresh { OnOk result (self.new.has_failed ≡ false) }
+        // After an error no commit is carried out.
         ensures refused { OnErr result (self.new.has_failed ≡ true) }
 
         // If the image can be read, the journal has its settings and room, unless the start fails with FlashFault.
         ensures known { (settings : Settings) (room : ℕ) → StartsWith (F.image self.old.flash) settings room →
             MatchResult result (λ _. (self.new.settings ≡ settings) × (self.new.room ≡ room)) (λ fault. fault ≡ BootFault.FlashFault) }
+        // On an image that this device left, a start fails only with FlashFault.
         ensures left { LeftByDevice (F.image self.old.flash) → IfErr result (λ fault. fault ≡ BootFault.FlashFault) }
 
-        // Foreign is returned only if no journal of this layout left the image, and a start on such an image fails.
+        // Foreign is returned only if no journal of this layout left the image.
         ensures foreign { IfErr result (λ fault. fault ≡ BootFault.Foreign → IsForeign (F.image self.old.flash)) }
+        // If no journal of this layout left the image, the start fails.
         ensures strange { IsForeign (F.image self.old.flash) → IsErr result }
 
-        // A flash that was never written starts with the factory settings and its full capacity.
+        // A flash that was never written is left by this device, and is read as the factory settings with its full
+        // capacity.
         ensures blank { F.image self.old.flash ≡ record { first = erased S; second = erased S } →
             LeftByDevice (F.image self.old.flash) × StartsWith (F.image self.old.flash) factory_settings (capacity S) }
+        // A flash that was never written has room for at least 65,535 commits.
         ensures ample { IsAmple S }
 
-        // Nothing is written. FlashFault is returned if and only if a read failed.
+        // The image is unchanged, on success and on an error.
         ensures same { F.image self.new.flash ≡ F.image self.old.flash }
+        // Nothing is written: no call that changes the flash is made.
         ensures calls { F.asked self.old.flash [] self.new.flash }
+        // The count of failed calls is unchanged on success and after Foreign. After FlashFault it has risen or is
+        // saturated.
         ensures cause { MatchResult result (λ _. F.failures self.new.flash ≡ F.failures self.old.flash)
             (λ fault. HasBootCause fault (F.failures self.old.flash) (F.failures self.new.flash)) }
+        // On success the flash has power. Power that was lost stays lost.
         ensures lost { MatchResult result (λ _. F.is_lost self.new.flash ≡ false) (λ _. F.is_lost self.old.flash ≡ true →
             F.is_lost self.new.flash ≡ true) }
+        // A reliable flash stays reliable, and on it a start fails only with Foreign.
         ensures reliable { F.is_reliable self.old.flash →
             F.is_reliable self.new.flash × IfErr result (λ fault. fault ≡ BootFault.Foreign) }
     {
@@ -213,6 +234,7 @@ impl<F: Flash<S>, const S: usize> Journal<F, S> {
     /// The settings that are stored.
     pub fn settings(&self) -> &Settings
         ensures value { result.now ≡ self.now.settings }
+        // If no commit failed, a start on the flash reads these settings with the same room.
         ensures stored { self.now.has_failed ≡ false → StartsWith (F.image self.now.flash) self.now.settings self.now.room }
     {
         &self.settings
@@ -229,9 +251,9 @@ impl<F: Flash<S>, const S: usize> Journal<F, S> {
     /// that failed, until the next start, and before a start.
     pub fn left(&self) -> u32
         ensures value { result ≡ commits_left self.now.has_failed self.now.room }
-        // If no commit failed, the result is 0 if and only if the room is 0, and a start on the flash reads these
-        // settings with this room.
+        // If no commit failed, the result is 0 if and only if the room is 0.
         ensures exhausted { self.now.has_failed ≡ false → (result ≡ 0) ↔ (self.now.room ≡ 0) }
+        // If no commit failed, a start on the flash reads the settings of the journal with this room.
         ensures read { self.now.has_failed ≡ false → StartsWith (F.image self.now.flash) self.now.settings result }
     {
         if self.has_failed {
@@ -279,25 +301,38 @@ impl<F: Flash<S>, const S: usize> Journal<F, S> {
     /// Stores the settings that the command makes of the current ones. After a flash fault no commit is carried out
     /// until the next start.
     pub fn commit(&mut self, command: &Command) -> Result<(), CommitFault>
-        // On success the new settings are stored when the call returns.
+        // On success the settings are those that the command makes of the earlier ones.
         ensures settings { OnOk result (self.new.settings ≡ apply command.now self.old.settings) }
+        // On success the room is one less.
         ensures room { OnOk result (self.new.room + 1 ≡ self.old.room) }
+        // On success one commit fewer is left.
         ensures counts { OnOk result (commits_left self.new.has_failed self.new.room + 1 ≡ commits_left self.old.has_failed self.old.room) }
+        // If no commit has failed, a start on the flash reads these settings with this room.
         ensures stored { self.new.has_failed ≡ false → StartsWith (F.image self.new.flash) self.new.settings self.new.room }
+        // On success the generation rises by at most one.
         ensures generation { (before : ℕ) → IsGeneration (F.image self.old.flash) before →
             OnOk result ((now : ℕ) × IsGeneration (F.image self.new.flash) now × (now ≤ before + 1)) }
+        // On an error the settings and the room of the journal are unchanged.
         ensures refused { OnErr result ((self.new.settings ≡ self.old.settings) × (self.new.room ≡ self.old.room)) }
+        // No commit has failed if and only if none had failed before and this one does not return FlashFault.
         ensures has_failed { (self.new.has_failed ≡ false) ↔ ((self.old.has_failed ≡ false) × (IsErrOf result CommitFault.FlashFault → ⊥)) }
 
-        // When each error is returned, and what it leaves.
+        // Failed is returned if and only if an earlier commit failed.
         ensures failed { IsErrOf result CommitFault.Failed ↔ (self.old.has_failed ≡ true) }
+        // Exhausted is returned if and only if no earlier commit failed and there is no room.
         ensures exhausted { IsErrOf result CommitFault.Exhausted ↔ ((self.old.has_failed ≡ false) × (self.old.room ≡ 0)) }
+        // No commit is left if and only if Failed or Exhausted is returned.
         ensures none_left { (commits_left self.old.has_failed self.old.room ≡ 0) ↔
             (IsErrOf result CommitFault.Failed ⊎ IsErrOf result CommitFault.Exhausted) }
+        // After Failed or Exhausted nothing has changed.
         ensures untouched { IsErrOf result CommitFault.Failed ⊎ IsErrOf result CommitFault.Exhausted → self.new ≡ self.old }
+        // After FlashFault the count of failed calls has risen or is saturated. After any other result it is unchanged.
         ensures cause { HasCommitCause result (F.failures self.old.flash) (F.failures self.new.flash) }
+        // On success the flash has power.
         ensures lost { OnOk result (F.is_lost self.new.flash ≡ false) }
+        // Power that was lost stays lost.
         ensures stays_lost { F.is_lost self.old.flash ≡ true → F.is_lost self.new.flash ≡ true }
+        // A reliable flash stays reliable, and on it FlashFault is never returned.
         ensures reliable { F.is_reliable self.old.flash → F.is_reliable self.new.flash × (IsErrOf result CommitFault.FlashFault → ⊥) }
 
         // These are the calls that the commit makes to the flash: its own, in order, and no others.
@@ -308,9 +343,11 @@ impl<F: Flash<S>, const S: usize> Journal<F, S> {
         // is unchanged.
         ensures apart { self.old.has_failed ≡ false → StandsApart (F.image self.old.flash) self.old.settings (F.image self.new.flash) }
 
-        // Whichever call failed, with power lost or not: the image is left by this device, and a start on it gives the
-        // settings from before or those after the command.
+        // If this device left the image before, it is left by this device after, whichever call failed, with power lost
+        // or not.
         ensures left { LeftByDevice (F.image self.old.flash) → LeftByDevice (F.image self.new.flash) }
+        // If this device left the image and no earlier commit failed, a start on the new image gives the settings from
+        // before or those after the command, whichever call failed, with power lost or not.
         ensures kept { self.old.has_failed ≡ false → LeftByDevice (F.image self.old.flash) →
             IsKept (F.image self.new.flash) self.old.settings (apply command.now self.old.settings) }
     {

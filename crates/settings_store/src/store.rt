@@ -46,31 +46,42 @@ impl<F: Flash<S>, const S: usize> Model for Store<F, S> {
 impl<F: Flash<S>, const S: usize> Store<F, S> {
     /// Starts from the settings on the flash and writes nothing. An error returns the flash.
     pub fn boot(flash: F) -> Result<Store<F, S>, (BootFault, F)>
-        // On success the store runs exactly the stored settings, which a start reads from the image, with the same
-        // room.
+        // On success the store has the stored settings and the room that are read from the image.
         ensures starts { IfOk result (λ store. StartsWith (F.image flash) store.values.stored store.values.room) }
+        // On success the running settings are the stored ones.
         ensures running { IfOk result (λ store. store.values.running ≡ store.values.stored) }
+        // On success no commit has failed, and the flash has power.
         ensures fresh { IfOk result (λ store. (store.values.has_failed ≡ false) × (store.values.is_lost ≡ false)) }
 
         // If the image can be read, the store has its settings and room, unless the start fails with FlashFault.
         ensures known { (settings : Settings) (room : ℕ) → StartsWith (F.image flash) settings room →
             MatchResult result (λ store. (store.values.stored ≡ settings)
             × (store.values.room ≡ room)) (λ refused. refused.0 ≡ BootFault.FlashFault) }
+        // On an image that this device left, a start fails only with FlashFault.
         ensures left { LeftByDevice (F.image flash) → IfErr result (λ refused. refused.0 ≡ BootFault.FlashFault) }
+        // A flash that was never written is left by this device, and is read as the factory settings with its full
+        // capacity.
         ensures blank { F.image flash ≡ record { first = erased S; second = erased S } →
             LeftByDevice (F.image flash) × StartsWith (F.image flash) factory_settings (capacity S) }
+        // A flash that was never written has room for at least 65,535 commits.
         ensures ample { IsAmple S }
 
-        // Foreign is returned only if no journal of this layout left the image, and a start on such an image fails.
+        // Foreign is returned only if no journal of this layout left the image.
         ensures foreign { IfErr result (λ refused. refused.0 ≡ BootFault.Foreign → IsForeign (F.image flash)) }
+        // If no journal of this layout left the image, the start fails.
         ensures strange { IsForeign (F.image flash) → IsErr result }
 
-        // Nothing is written. FlashFault is returned if and only if a read failed.
+        // The image is unchanged, on success and on an error.
         ensures same { MatchResult result (λ store. F.image store.flash ≡ F.image flash) (λ refused. F.image refused.1 ≡ F.image flash) }
+        // Nothing is written: no call that changes the flash is made.
         ensures calls { MatchResult result (λ store. F.asked flash [] store.flash) (λ refused. F.asked flash [] refused.1) }
+        // The count of failed calls is unchanged on success and after Foreign. After FlashFault it has risen or is
+        // saturated.
         ensures cause { MatchResult result (λ store. F.failures store.flash ≡ F.failures flash)
             (λ refused. HasBootCause refused.0 (F.failures flash) (F.failures refused.1)) }
+        // On an error, power that was lost stays lost.
         ensures stays_lost { IfErr result (λ refused. F.is_lost flash ≡ true → F.is_lost refused.1 ≡ true) }
+        // A reliable flash stays reliable, and on it a start fails only with Foreign.
         ensures reliable { F.is_reliable flash →
             MatchResult result (λ store. F.is_reliable store.flash) (λ refused. F.is_reliable refused.1 × (refused.0 ≡ BootFault.Foreign)) }
     {
@@ -103,32 +114,44 @@ impl<F: Flash<S>, const S: usize> Store<F, S> {
 
     /// Starts in place from the settings on the flash and writes nothing. After an error no commit is carried out.
     pub fn load(&mut self) -> Result<(), BootFault>
-        // On success the store runs exactly the stored settings, which a start reads from the image, with the same
-        // room.
+        // On success the store has the stored settings and the room that are read from the image.
         ensures starts { OnOk result (StartsWith (F.image self.old.flash) self.new.values.stored self.new.values.room) }
+        // On success the running settings are the stored ones.
         ensures running { OnOk result (self.new.values.running ≡ self.new.values.stored) }
+        // On success no commit has failed, and the flash has power.
         ensures fresh { OnOk result ((self.new.values.has_failed ≡ false) × (self.new.values.is_lost ≡ false)) }
+        // After an error no commit is carried out.
         ensures refused { OnErr result (self.new.values.has_failed ≡ true) }
 
         // If the image can be read, the store has its settings and room, unless the start fails with FlashFault.
         ensures known { (settings : Settings) (room : ℕ) → StartsWith (F.image self.old.flash) settings room →
             MatchResult result (λ _. (self.new.values.stored ≡ settings)
             × (self.new.values.room ≡ room)) (λ fault. fault ≡ BootFault.FlashFault) }
+        // On an image that this device left, a start fails only with FlashFault.
         ensures left { LeftByDevice (F.image self.old.flash) → IfErr result (λ fault. fault ≡ BootFault.FlashFault) }
+        // A flash that was never written is left by this device, and is read as the factory settings with its full
+        // capacity.
         ensures blank { F.image self.old.flash ≡ record { first = erased S; second = erased S } →
             LeftByDevice (F.image self.old.flash) × StartsWith (F.image self.old.flash) factory_settings (capacity S) }
+        // A flash that was never written has room for at least 65,535 commits.
         ensures ample { IsAmple S }
 
-        // Foreign is returned only if no journal of this layout left the image, and a start on such an image fails.
+        // Foreign is returned only if no journal of this layout left the image.
         ensures foreign { IfErr result (λ fault. fault ≡ BootFault.Foreign → IsForeign (F.image self.old.flash)) }
+        // If no journal of this layout left the image, the start fails.
         ensures strange { IsForeign (F.image self.old.flash) → IsErr result }
 
-        // Nothing is written. FlashFault is returned if and only if a read failed.
+        // The image is unchanged, on success and on an error.
         ensures same { F.image self.new.flash ≡ F.image self.old.flash }
+        // Nothing is written: no call that changes the flash is made.
         ensures calls { F.asked self.old.flash [] self.new.flash }
+        // The count of failed calls is unchanged on success and after Foreign. After FlashFault it has risen or is
+        // saturated.
         ensures cause { MatchResult result (λ _. F.failures self.new.flash ≡ F.failures self.old.flash)
             (λ fault. HasBootCause fault (F.failures self.old.flash) (F.failures self.new.flash)) }
+        // On an error, power that was lost stays lost.
         ensures stays_lost { OnErr result (F.is_lost self.old.flash ≡ true → F.is_lost self.new.flash ≡ true) }
+        // A reliable flash stays reliable, and on it a start fails only with Foreign.
         ensures reliable { F.is_reliable self.old.flash →
             F.is_reliable self.new.flash × IfErr result (λ fault. fault ≡ BootFault.Foreign) }
     {
@@ -147,6 +170,7 @@ impl<F: Flash<S>, const S: usize> Store<F, S> {
     /// The settings that a restart finds, if no commit failed since the start.
     pub fn stored(&self) -> &Settings
         ensures value { result.now ≡ self.now.values.stored }
+        // If no commit failed, a start on the flash reads these settings with the same room.
         ensures holds { self.now.values.has_failed ≡ false →
             StartsWith (F.image self.now.flash) self.now.values.stored self.now.values.room }
     {
@@ -197,7 +221,9 @@ impl<F: Flash<S>, const S: usize> Store<F, S> {
     /// Carries out items of a Set in order, each by itself, and returns the answer to each.
     pub fn carry_out<const N: usize>(&mut self, items: &[SetItem]) -> ArrayVec<BlockError, N>
         requires { length items.now ≤ N }
+        // The items are carried out in order, with these answers, for some outcomes of the flash calls.
         ensures carries { Carries F.Flash self.old items.now result.items self.new }
+        // A reliable flash stays reliable, and no commit fails on it.
         ensures reliable { F.is_reliable self.old.flash → F.is_reliable self.new.flash
             × (self.new.values.has_failed ≡ self.old.values.has_failed) }
     {
@@ -213,9 +239,11 @@ impl<F: Flash<S>, const S: usize> Store<F, S> {
 
     /// Carries out one item of a Set by itself, and returns its answer.
     pub fn carry(&mut self, item: &SetItem) -> BlockError
+        // The item is carried out with this answer, for some outcome of the flash call.
         ensures carries { CarriesItem F.Flash self.old item.now result self.new }
         // The item is carried out like a list of one item.
         ensures listed { Carries F.Flash self.old (item.now ∷ []) (result ∷ []) self.new }
+        // A reliable flash stays reliable, and no commit fails on it.
         ensures reliable { F.is_reliable self.old.flash → F.is_reliable self.new.flash
             × (self.new.values.has_failed ≡ self.old.values.has_failed) }
     {
