@@ -1,4 +1,4 @@
--- A world that is begun and played has all that the laws of both ends say.
+-- A world that is begun and played meets all laws of both ends.
 use Rattle.std.proofs.Common.{◌≡◌, ◌<◌, ◌≤◌, ◌+◌, ℕ, true, false, List, length, take, Option, Some, Result, Ok, Err, refl, sym, subst}
 use Rattle.std.specs.Prelude.{OnErr, OnOk}
 use Rattle.flash_model.specs.declared.flash.Flash.{Ghosts as Flash}
@@ -23,7 +23,7 @@ use Rattle.alarms_law.specs.Sized.{AreSizedModules}
 use Rattle.alarms_law.specs.Over.{IsOneOfTheLastTwo, raised_over, taken_over}
 use Rattle.alarms_law.specs.Together.{IsBegunAndCut, IsBegunAndPlayed}
 
--- what follows where a result is good follows of what holds there, and so of one that is not
+-- what follows from the case of success follows for any result
 pub on_good : {A E : Type 0} (P Q : Type 0) (result : Result A E) → (P → Q) → OnOk result P → OnOk result Q
 on_good P Q (Ok value) so holds = so holds
 on_good P Q (Err error) so holds = holds

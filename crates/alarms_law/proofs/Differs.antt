@@ -1,4 +1,5 @@
--- The blocks with which a device answers the Connect of a plan choose a FrameID for outputs that is none of alarms, or tell that modules differ.
+-- The blocks of a device's response to the Connect of a plan choose a FrameID for outputs that is not one of alarms, or
+-- say that modules differ.
 use Rattle.std.proofs.Common.{◌≡◌, ◌⊎◌, inl, inr, ◌<◌, ◌==◌, ◌++◌, ℕ, zero, suc, Bool, true, false, cond, List, [], ◌∷◌, length, drop, Option, Some, Result, Ok, Err, append_assoc, refl, sym, ap, subst, ◌∙◌, arith}
 use Rattle.std.specs.Prelude.{nat_lt}
 use Rattle.std.proofs.lemmas.Bool.{eqb-true, false_from_ne_true, false≢true}
@@ -29,7 +30,7 @@ use Rattle.controller_core.specs.Connect.{behind_block, found_in, nothing, with_
 use Rattle.message_laws.specs.sending.Sized.{Found}
 use Rattle.alarms_law.specs.Sized.{IsChosenWell}
 
--- ---- that modules differ is never found less
+-- ---- once a module is found to differ, it stays found
 
 still_iocr : (value : IocrBlockRes) (found : Found) (b c : Bool) → found.differs ≡ true
     → (cond b (record found { input = true }) (cond c (record found { output = Some value.frame_id }) found)).differs ≡ true
@@ -86,7 +87,7 @@ differs_on (suc most) bytes found result differs e =
     (behind_differs (block_of bytes) (λ one rest. found_in most rest (with_block one found)) result
     (λ one rest. differs_on most rest (with_block one found) result (still_differs one found differs))) e
 
--- ---- octets of a ModuleDiffBlock are read as one, if at all
+-- ---- the octets of a ModuleDiffBlock are read as one, if at all
 
 bind_ok : {A B F : Type 0} (r : Result A F) (next : A → Result B F) (y : B) → (r >>= next) ≡ Ok y → (x : A) × (r ≡ Ok x) × (next x ≡ Ok y)
 bind_ok (Ok x) next y e = (x, refl, e)
@@ -147,7 +148,7 @@ diff_bytes value = (_, refl)
 not_none : (x : ℕ) (xs : List ℕ) → (length (x ∷ xs) == 0) ≡ false
 not_none x xs = false_from_ne_true (length (x ∷ xs) == 0) (λ t. let e = eqb-true (length (x ∷ xs)) 0 t in absurd (omega (arith, e)))
 
--- where they are read the controller finds that modules differ
+-- if the octets are read, the controller finds that modules differ
 diff_found : (most : ℕ) (value : ModuleDiffBlock) (found result : Found) → found_in most (block_bytes (is.ModuleDiffBlock value)) found ≡ Some result → result.differs ≡ true
 unfolding found_in
 diff_found zero value found result e = absurd cc
@@ -164,7 +165,7 @@ diff_found (suc most) value found result e =
         differs_on most x.1 (with_block x.0 found) result (subst (λ (one : Block). (with_block one found).differs ≡ true) (sym there.1) refl) f
     by_read (Err fault) tail is f = absurd cc
 
--- ---- the blocks in front of it
+-- ---- the blocks before it
 
 front_bytes : (one : Block) → (first second : ℕ) × (tail : List ℕ) × (block_bytes one ≡ first ∷ second ∷ tail)
 unfolding block_bytes block
@@ -183,7 +184,7 @@ found_all : (most : ℕ) (found : Found) → found_in (suc most) [] found ≡ So
 unfolding found_in
 found_all most found = refl
 
--- the blocks, one behind the other
+-- the blocks, one after the other
 behind_one_another : (first second third fourth rest : List ℕ) → ((first ++ (second ++ third)) ++ fourth) ++ rest ≡ first ++ (second ++ (third ++ (fourth ++ rest)))
 behind_one_another first second third fourth rest =
     append_assoc (first ++ (second ++ third)) fourth rest

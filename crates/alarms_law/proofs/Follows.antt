@@ -1,4 +1,4 @@
--- Both ends of a network, as the alarms of a relation that some moves made.
+-- Both ends of a network, as the alarms of a relation that some moves led to.
 use Rattle.std.proofs.Common.{◌≡◌, ◌⊎◌, inl, inr, ◌==◌, ◌++◌, ℕ, Bool, true, false, cond, List, [], ◌∷◌, map, length, Option, Some, None, option_map, Result, Ok, refl, sym, ap, subst, ◌∙◌, append-nil, append_assoc, arith}
 use Rattle.std.specs.Prelude.{nat_lt, slice_get}
 use Rattle.std.specs.List.{AllByRecursion}
@@ -65,8 +65,9 @@ use Rattle.alarms_law.proofs.Tied.{Goes, IsFresh, IsHeard, IsSaid, IsTied, heard
 
 -- ---- a frame
 
--- What either end hears of alarms in it was said; a Connect in it is the first call, and each call has its sizes; what the controller hears
--- in it is of its device, and a positive answer to the Connect chooses well.
+-- What either end hears of alarms in the frame was said. A Connect in it is the first call, and each call has its
+-- sizes. What the controller hears in it comes from its device, and a positive response to the Connect chooses a
+-- suitable FrameID for outputs.
 pub record IsIn (setup : Setup) (identity : Identity) (r : Relation) (frame : List ℕ) : Type 0 where
   pub noted : IsSaid r.alarms.pdus r.acks (noted_of setup frame)
   pub told : IsHeard r.told (told_of identity frame)
@@ -103,7 +104,7 @@ pub record Follows (setup : Setup) (station : Station) (live : Live) (controllin
   pub linked : (link : small.Link TakenRecord Request) → (small_of setup.activity live).link ≡ Some link → kept_at setup live ≡ None → ⊥
   pub again : (answer : small.Kept) → kept_at setup live ≡ Some answer → IsIn setup station.identity relation answer.frame
   pub frames : AllByRecursion (IsIn setup station.identity relation) sent
-  -- addresses that differ, and numbers with their sizes
+  -- the addresses differ, and the numbers have their sizes
   pub good : IsSetup setup
   pub apart : station.identity.mac ≡ setup.plan.controller.mac → ⊥
   pub real : AreSizedModules station.real.modules.items
@@ -115,7 +116,7 @@ runs_on : (setup : Setup) (moves more : List Move) (r : Relation) → behind set
 runs_on setup [] more r = refl
 runs_on setup (move ∷ moves) more r = runs_on setup moves more (behind_one setup r move)
 
--- ---- the answer that is kept, and the relation
+-- ---- the response that is stored, and the relation
 
 module _ (rules : Rules TakenRecord Request) where
   abbrev Small : Type 0
@@ -132,7 +133,7 @@ module _ (rules : Rules TakenRecord Request) where
   kept_is P small.Confirms before after frames (inr rests) was all answer is = was answer (ap (λ (d : Small). d.kept) (sym rests.0) ∙ is)
   kept_is P small.Idle before after frames goes was all answer is = was answer (sym goes.keeps ∙ is)
 
-  -- where none is kept behind a step none was before
+  -- if no response is stored after a step, none was before
   none_kept : (heard : ToDevice) (before after : Small) (frames : List (List ℕ)) → DeviceSteps rules heard before after frames → after.kept ≡ None → before.kept ≡ None
   none_kept (small.Call sequence ask) before after frames (inl answered) none = absurd (none_some _ after.kept none answered.keeps)
   none_kept (small.Call sequence ask) before after frames (inr (inl repeats)) none = ap (λ (d : Small). d.kept) (sym repeats.unchanged) ∙ none
@@ -141,7 +142,7 @@ module _ (rules : Rules TakenRecord Request) where
   none_kept small.Confirms before after frames (inr rests) none = ap (λ (d : Small). d.kept) (sym rests.0) ∙ none
   none_kept small.Idle before after frames goes none = sym goes.keeps ∙ none
 
-  -- where there is a relation an answer is kept
+  -- if there is a relation, a response is stored
   linked_on : (heard : ToDevice) (before after : Small) (frames : List (List ℕ)) → DeviceSteps rules heard before after frames
       → ((link : small.Link TakenRecord Request) → before.link ≡ Some link → before.kept ≡ None → ⊥) → (link : small.Link TakenRecord Request) → after.link ≡ Some link → after.kept ≡ None → ⊥
   linked_on (small.Call sequence ask) before after frames (inl answered) was link is none = none_some _ after.kept none answered.keeps
@@ -159,7 +160,7 @@ module _ (rules : Rules TakenRecord Request) where
 
 -- ---- the device
 
--- a call of number 0 is new only where none of its activity was answered
+-- a call of number 0 is new only if no call of its activity was answered
 told_zero : (sequence : ℕ) (frame : List ℕ) → cond (0 == sequence) (again frame) (cond (nat_lt 0 sequence) old new) ≡ new → ⊥
 told_zero sequence frame e = by_same (0 == sequence) refl e
   where
@@ -189,7 +190,7 @@ module _ (setup : Setup) (station : Station) (live : Live) (controlling : Contro
     unlinked None e none = e
     unlinked (Some link) e none = absurd (follows.linked (link_of link) (ap (λ (l : Option Link). option_map link_of l) e) none)
 
-    -- where a call of number 0 is new there is no relation
+    -- if a call of number 0 is new, there is no relation
     pub unlinked_new : (caller : Caller) (address : List ℕ) (call : Call) → heard ≡ Told caller address (Calls call) → call.header.sequence ≡ 0
         → looked call.header.activity call.header.sequence live.rest.calls ≡ new → live.rest.link ≡ None
     unlinked_new caller address call is zero_is fresh =
@@ -237,7 +238,7 @@ module _ (setup : Setup) (station : Station) (live : Live) (controlling : Contro
       stays : (frame : List ℕ) → IsIn setup station.identity r frame → IsIn setup station.identity next frame
       stays frame is = in_stays setup station.identity r next frame goes.pdus goes.acks (subst (λ (told : List said.Sent). Extends r.told told) (sym goes.told) (unchanged r.told)) is
 
-      -- the frame of an answer that is sent again
+      -- the frame of a repeated response
       again_in : (frame : List ℕ) → IsOfKept heard live frame → IsIn setup station.identity next frame
       again_in frame owed_so =
           let plan : IsPlannedCall rules setup.activity station.real owed_so.call = subst (λ (h : Heard). IsPlanned rules setup.activity station.real h) owed_so.is planned in
@@ -315,7 +316,7 @@ module _ (setup : Setup) (station : Station) (live : Live) (controlling : Contro
 
   -- ---- the controller
 
-  -- what becomes of the alarms of the relation with a turn of the controller, where these are taken
+  -- the effect of a turn of the controller on the alarms of the relation, if these alarms are accepted
   record Turned (turn : Turn) (now : List AlarmNotification) : Type 0 where
     next : Relation
     moves : List Move
@@ -328,7 +329,7 @@ module _ (setup : Setup) (station : Station) (live : Live) (controlling : Contro
     raised_are : next.alarms.sent ≡ follows.relation.alarms.sent
     taken_are : next.alarms.taken ≡ follows.relation.alarms.taken ++ now
 
-  -- what has nothing to do with data of alarms and ACKs
+  -- a turn that has nothing to do with alarm data and ACKs
   turned_by : (move : Move) (turn : Turn) → behind_one setup follows.relation move ≡ turns follows.relation turn → Turned turn []
   turned_by move turn is = record {
     next = turns follows.relation turn;
@@ -396,7 +397,7 @@ module _ (setup : Setup) (station : Station) (live : Live) (controlling : Contro
   heard_turned (controller.Calls caller call) is = turned_by (Hears (controller.Calls caller call)) _ refl
   heard_turned (controller.Cyclic source frame_id body) is = turned_by (Hears (controller.Cyclic source frame_id body)) _ refl
 
-  -- what comes is in what was said, and what is taken with it
+  -- what is delivered is among what was said, and the alarms accepted with it
   abbrev pub IsEventIn : Event → Type 0
   IsEventIn (event.Frame bytes) = IsSaid follows.relation.alarms.pdus follows.relation.acks (noted_of setup bytes.items)
   IsEventIn event.Tick = Unit {0}
@@ -415,9 +416,9 @@ module _ (setup : Setup) (station : Station) (live : Live) (controlling : Contro
   event_turned (event.Give slot subslot value) is = turned_by (Gives slot subslot value.items) _ refl
   event_turned event.Stop is = turned_by Stops _ refl
 
-  -- ---- what it says
+  -- ---- what the controller says
 
-  -- each message stands at a place
+  -- each message has its position in the list
   middle : {A : Type 0} (front : List A) (x : A) (behind_it : List A) → slice_get (front ++ x ∷ behind_it) (length front) ≡ Some x
   middle [] x behind_it = refl
   middle (y ∷ front) x behind_it = middle front x behind_it
@@ -444,7 +445,7 @@ module _ (setup : Setup) (station : Station) (live : Live) (controlling : Contro
   said_heard told (said.Agrees caller answer) k there = tt
   said_heard told (said.Cycles route shown counter) k there = tt
 
-  -- its Connect is the call of number 0
+  -- the Connect of the controller is the call of number 0
   first_said : (message : said.Sent) (sequence : ℕ) → said_by setup.plan message ≡ small.Call sequence small.Connects → sequence ≡ 0
   first_said (said.Requests to asks.Identify) sequence e = absurd cc
   first_said (said.Requests to asks.Address) sequence e = absurd cc

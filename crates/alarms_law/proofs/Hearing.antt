@@ -50,7 +50,7 @@ untold_request : (source : Mac) (read : Result Asked DcpFault) → IsUntold (hea
 untold_request source (Ok request) = refl
 untold_request source (Err fault) = refl
 
--- a frame of data that is not its own, or no alarm frame, tells a device nothing of alarms
+-- a frame whose data is not for this device, or which is not an alarm frame, says nothing of alarms to it
 untold_content : (identity : Identity) (destination source : Mac) (frame_id : ℕ) (body : List ℕ) → (is_own identity destination ≡ false) ⊎ (is_alarm frame_id ≡ false)
     → IsUntold (heard_content identity destination source (RealTime frame_id body))
 untold_content identity destination source frame_id body e =
@@ -96,7 +96,7 @@ data_unnoted mine destination source tag frame_id body more reads e =
     subst (λ (read : Result Meaning FrameFault). IsUnnoted (heard_read mine read)) (sym reads)
     (unnoted_frame mine destination source tag frame_id more (pointwise nat_eq destination.octets mine.mac.octets) e)
 
--- ---- what is no real-time data
+-- ---- contents that are not real-time data
 
 unnoted_call : (caller : Caller) (call : Call) (blocks : Option (List ℕ)) → IsUnnoted (heard_call caller call blocks)
 unnoted_call caller call (Some blocks) = refl
@@ -132,7 +132,7 @@ other_unnoted address source (ArpPacket packet) none = refl
 other_unnoted address source (UdpDatagram from to body) none =
     holds_if IsUnnoted (is_to address to) (heard_body (record { mac = source; endpoint = from }) body) controller.Nothing (unnoted_body _ body) refl
 
--- packets and datagrams tell neither end anything of alarms
+-- packets and datagrams say nothing of alarms to either end
 pub packet_untold : (identity : Identity) (octets : List ℕ) (meaning : Meaning) → frame_of octets ≡ Ok meaning → IsNoData meaning.content → told_at (heard_of identity (comes octets)) ≡ None
 unfolding heard_of
 packet_untold identity octets meaning reads none =
@@ -168,7 +168,7 @@ data_good mine destination source tag frame_id body more reads e six =
     subst (λ (read : Result Meaning FrameFault). IsGood source (heard_read mine read)) (sym reads)
     (holds_if (IsGood source) (pointwise nat_eq destination.octets mine.mac.octets) (heard_real_time source frame_id more) controller.Nothing (good_real_time source frame_id more e six) tt)
 
--- real-time data to another station it does not hear
+-- the controller does not hear real-time data to another station
 pub data_unheard : (mine : Controller) (destination source : Mac) (tag : Option ℕ) (frame_id : ℕ) (body more : List ℕ)
     → frame_of (frame_bytes (carrying destination source tag (RealTime frame_id body))) ≡ Ok (carrying destination source tag (RealTime frame_id more))
     → pointwise nat_eq destination.octets mine.mac.octets ≡ false → controller.heard_of mine (frame_bytes (carrying destination source tag (RealTime frame_id body))) ≡ controller.Nothing
@@ -195,7 +195,7 @@ good_body : (mac : Mac) (caller : Caller) (body : List ℕ) → IsErr (call_of c
 unfolding heard_body
 good_body mac caller body none = good_first mac caller (call_of controllers body) (response_of body) none
 
--- a datagram that is no call
+-- a datagram that is not a call
 pub datagram_good : (mine : Controller) (mac : Mac) (octets : List ℕ) (destination source : Mac) (tag : Option ℕ) (from to : Endpoint) (body : List ℕ)
     → frame_of octets ≡ Ok (carrying destination source tag (UdpDatagram from to body)) → IsErr (call_of controllers body) → IsGood mac (controller.heard_of mine octets)
 unfolding controller.heard_of

@@ -1,4 +1,4 @@
--- Over any run of worlds, what is taken begins what was raised.
+-- Over any run of worlds, the accepted alarms are a prefix of the raised ones.
 use Rattle.std.proofs.Common.{◌≡◌, ◌⊎◌, inl, inr, ◌==◌, ◌&&◌, ◌||◌, ◌++◌, ◌≤◌, ◌+◌, ℕ, Bool, true, false, List, [], ◌∷◌, map, length, Option, Some, None, option_map, Result, Ok, Err, refl, sym, ap, subst, ◌∙◌, append-nil, append_assoc, arith}
 use Rattle.std.specs.Prelude.{nat_eq, slice_get}
 use Rattle.std.specs.Cmp.Lexicographic.{pointwise}
@@ -80,7 +80,7 @@ of_device setup mac (controller.Alarms source header told) good fit = tt
 of_device setup mac controller.Nothing good fit = tt
 of_device setup mac (controller.Cyclic source frame_id body) good fit = tt
 
--- what becomes of a controller with it has its sizes
+-- the controller keeps its sizes after what it hears
 module _ (goes_sized : (setup : Setup) (live : ControllerLive) (one : Event) → IsSetup setup → IsLive live → IsSizedEvent setup one → IsRight setup (turn_of setup live one))
     (setup : Setup) (live : ControllerLive) (mac : Mac) (good : IsSetup setup) (lives : IsLive live) where
   right_by : (octets : List ℕ) (heard : controller.Heard) → heard_by setup.plan.controller octets ≡ heard → IsSized heard → IsRight setup (turned setup live heard)
@@ -124,7 +124,7 @@ unraised_frame : (identity : Identity) (octets : List ℕ) → IsUnraised (heard
 unfolding heard_of
 unraised_frame identity octets = unraised_read identity (frame_of octets)
 
--- ---- the laws below
+-- ---- the laws of the crates below
 
 pub record DeviceSo : Type 0 where
   pub begins_sized : (setup : Setup) → IsSetup setup → IsLive (first_live setup.plan)
@@ -151,7 +151,7 @@ unfolding step_of
 frames_are old one = refl
 
 module _ {F : Type 0} where
-  -- a world, as the alarms of a relation of which these were raised and these are taken
+  -- a world, as the alarms of a relation of which these were raised and these accepted
   abbrev pub FollowsAt : World F → List AlarmNotification → List AlarmNotification → Type 0
   FollowsAt w raised taken = Follows w.controller.setup w.device.station w.device.live w.controller.live w.sent raised taken
 
@@ -318,7 +318,7 @@ module _ {F : Type 0} where
       subst (λ (xs : List AlarmNotification). FollowsAt (last_world one.1 run) xs (taken ++ (taken_with w one.0 ++ taken_over one.1 run))) (append_assoc raised (raised_with w one.0) (raised_over one.1 run))
       (subst (λ (xs : List AlarmNotification). FollowsAt (last_world one.1 run) ((raised ++ raised_with w one.0) ++ raised_over one.1 run) xs) (append_assoc taken (taken_with w one.0) (taken_over one.1 run)) all)
 
-  -- ---- the beginning
+  -- ---- the start
 
   pub begins_so : DeviceSo → (setup : Setup) (identity : Identity) (first : World F) → Begins setup identity first → IsSetup first.controller.setup
       → (first.device.station.identity.mac ≡ first.controller.setup.plan.controller.mac → ⊥) → AreSizedModules first.device.station.real.modules.items
@@ -361,7 +361,7 @@ module _ {F : Type 0} where
       unheard = asks_unheard first.device.station.identity first.controller.setup (opening_of first.controller) source request asks_it
           (other_mac first.device.station.identity.mac first.controller.setup.plan.controller.mac apart)
 
-  -- ---- what follows of it
+  -- ---- what follows from the invariant
 
   module _ (w : World F) (raised taken : List AlarmNotification) (follows : FollowsAt w raised taken) where
     pub in_order : AreTakenInOrder → length raised ≤ 32768 → IsPrefixOf taken raised
@@ -395,7 +395,7 @@ pub opening_asks : ((identity : Identity) (setup : Setup) (to : Mac) → IsSetup
 opening_asks law identity controlling good =
     ap (λ (octets : List ℕ). heard_of identity (comes octets)) (opening_is controlling) ∙ law identity controlling.setup controlling.live.device good
 
--- ---- from the beginning
+-- ---- from the start
 
 module _ {F : Type 0} where
   pub follows_so : DeviceSo → HearsSo → (setup : Setup) (identity : Identity) → IsSetup setup → CanMeet setup identity → {S : ℕ} (as_flash : Flash F S)
@@ -411,9 +411,9 @@ module _ {F : Type 0} where
       (opening_asks hears.identify first.device.station.identity first.controller own) in
       run_follows so hears as_flash first [] [] from run made meant
 
--- ---- the last of those that were raised
+-- ---- the last of the raised alarms
 
--- a front that lacks at most the last is all, or all but the last
+-- a prefix that lacks at most the last item is the whole list, or all but the last item
 front_is : (raised taken : List AlarmNotification) → IsPrefixOf taken raised → length raised ≤ length taken + 1
     → (taken ≡ raised) ⊎ ((last : AlarmNotification) × (raised ≡ taken ++ last ∷ []))
 front_is raised taken front lacks = by_rest front.0 front.1

@@ -1,4 +1,4 @@
--- Lists, and what stands in them.
+-- Lists and their items.
 use Rattle.std.proofs.Common.{◌≡◌, ℕ, zero, suc, Bool, true, false, cond, List, [], ◌∷◌, ◌++◌, length, Option, Some, None, refl, subst}
 use Rattle.std.specs.Prelude.{slice_get}
 use Rattle.std.specs.List.{AllByRecursion}
@@ -9,7 +9,7 @@ some_is x y e = cc
 pub none_some : {A : Type 0} (x : A) (o : Option A) → o ≡ None → o ≡ Some x → ⊥
 none_some x o e f = absurd cc
 
--- what stands at a place of one list stands there in another
+-- an item at an index of the first list is at that index of the second
 abbrev pub Extends : {A : Type 0} → List A → List A → Type 0
 Extends {A = A} xs ys = (k : ℕ) (x : A) → slice_get xs k ≡ Some x → slice_get ys k ≡ Some x
 
@@ -38,7 +38,7 @@ pub each_on : {A : Type 0} (P Q : A → Type 0) (xs : List A) → ((x : A) → P
 each_on P Q [] on all = tt
 each_on P Q (x ∷ xs) on all = (on x all.0, each_on P Q xs on all.1)
 
--- what holds of both holds of whichever is chosen
+-- what holds of both branches holds of the choice
 pub holds_if : {A : Type 0} (P : A → Type 0) (b : Bool) (x y : A) → P x → P y → P (cond b x y)
 holds_if P true x y one other = one
 holds_if P false x y one other = other

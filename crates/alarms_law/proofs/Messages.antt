@@ -1,4 +1,4 @@
--- Each message that is sized is heard as it is said.
+-- Each message whose fields have their sizes is heard as it is meant.
 use Rattle.std.proofs.Common.{◌≡◌, ◌⊎◌, inl, inr, ◌==◌, ◌&&◌, ◌++◌, ◌<◌, ℕ, Bool, true, false, cond, List, [], ◌∷◌, length, Option, Some, None, Ok, refl, sym, ap, subst, ◌∙◌, append-nil, arith}
 use Rattle.std.specs.Prelude.{IsErr, nat_eq}
 use Rattle.std.specs.List.{AllByRecursion}
@@ -71,7 +71,8 @@ use Rattle.alarms_law.proofs.Opening.{alarms_unheard, asks_unheard}
 
 -- ---- a message of the controller
 
--- outputs go under a FrameID that is none of alarms, and all but calls and what goes to any station to another
+-- outputs have a FrameID that is not one of alarms, and every message but calls and messages to all stations goes to
+-- another station
 abbrev pub IsAimed : Setup → said.Sent → Type 0
 IsAimed setup (said.Cycles route shown counter) = (is_alarm route.sent_id ≡ false) × (route.partner ≡ setup.plan.controller.mac → ⊥)
 IsAimed setup (said.Confirms route header ack) = route.partner ≡ setup.plan.controller.mac → ⊥
@@ -85,7 +86,7 @@ IsAimed setup (said.Requests to asks.PrmEnd) = Unit {0}
 IsAimed setup (said.Requests to (asks.Release sequence)) = Unit {0}
 IsAimed setup (said.Agrees caller answer) = caller.mac ≡ setup.plan.controller.mac → ⊥
 
--- and each field of it has its size, so that it can be sent
+-- each field of a message has its size, so that it can be sent
 abbrev pub IsSizedSaid : Setup → said.Sent → Type 0
 IsSizedSaid setup message = CanBeSaid setup message × IsAimed setup message
 
@@ -93,7 +94,7 @@ pub both_sized : (setup : Setup) (messages : List said.Sent) → AllByRecursion 
 both_sized setup [] can aimed = tt
 both_sized setup (message ∷ messages) can aimed = ((can.0, aimed.0), both_sized setup messages can.1 aimed.1)
 
--- ---- the laws below
+-- ---- the laws of the crates below
 
 pub record HearsSo : Type 0 where
   pub data_read : (destination source : Mac) (tag : Option ℕ) (frame_id : ℕ) (body : List ℕ) → CanBeSent (carrying destination source tag (RealTime frame_id body))
@@ -170,14 +171,14 @@ own_mac mac = by_test (pointwise nat_eq mac.octets mac.octets) refl
     by_test true e = sym e
     by_test false e = absurd (other_text mac.octets mac.octets e refl)
 
--- a route of which nothing but the partner and the tag of alarms counts
+-- a route of which only the partner and the tag of alarms matter
 abbrev alarm_route : Route → Route
 alarm_route route = record { partner = route.partner; sent_id = 0x8000; sent_tag = 0; taken_id = 0; alarm_tag = route.alarm_tag; reference = 0 }
 
 route_is : (route : Route) → IsMac route.partner → route.alarm_tag < 65536 → IsRoute (alarm_route route)
 route_is route mac tag = record { partner = mac; cyclic = refl; tag = omega arith; alarm_tag = tag }
 
--- what is heard in a frame to one, or nothing in one to another
+-- what is heard in a frame to this controller, or nothing in a frame to another station
 noted_or : (b : Bool) (heard : controller.Heard) → (noted_at (cond b heard controller.Nothing) ≡ noted_at heard) ⊎ (noted_at (cond b heard controller.Nothing) ≡ None)
 noted_or true heard = inl refl
 noted_or false heard = inr refl
@@ -190,7 +191,7 @@ told_none : (b : Bool) (heard : Heard) → told_at heard ≡ None → told_at (c
 told_none true heard e = e
 told_none false heard e = refl
 
--- an alarm of which an AlarmAck can be written
+-- an alarm for which an AlarmAck can be written
 noted_alarm : (alarm : AlarmNotification) → IsAlarm alarm → IsNoted alarm
 noted_alarm alarm is = record {
   alarm_type = is.alarm_type;
@@ -200,7 +201,7 @@ noted_alarm alarm is = record {
   alarm_specifier = is.alarm_specifier;
 }
 
--- a datagram tells neither end anything of alarms, nor does a request of DCP
+-- a datagram says nothing of alarms to either end, and neither does a DCP request
 datagram_told : (identity : Identity) (source destination : Mac) (from to : Endpoint) (body : device.Said) → told_at (own_told identity source destination from to body) ≡ None
 datagram_told identity source destination from to body =
     told_none (is_own identity destination && to.port == 34964) (device.Told (record { mac = source; endpoint = from }) to.address body) refl
@@ -231,7 +232,7 @@ module _ (so : HearsSo) (setup : Setup) (identity : Identity) where
   good_by_law octets destination heard e good =
       subst (λ (h : controller.Heard). IsGood identity.mac h) (sym e) (holds_if (IsGood identity.mac) (pointwise nat_eq destination.octets mine.mac.octets) heard controller.Nothing good tt)
 
-  -- ---- the device's
+  -- ---- the messages of the device
 
   -- ApplicationReady is of the relation of the plan
   abbrev pub IsReady : sent.Sent → Type 0
@@ -280,7 +281,7 @@ module _ (so : HearsSo) (setup : Setup) (identity : Identity) where
   all_ready good heard live [] sized owed = tt
   all_ready good heard live (message ∷ messages) sized owed = (owed_ready good heard live message sized owed.0, all_ready good heard live messages sized owed.1)
 
-  -- data that is none of alarms
+  -- data that is not of alarms
   plain_noted : (destination : Mac) (tag : Option ℕ) (frame_id : ℕ) (body : List ℕ) → is_alarm frame_id ≡ false → CanBeSent (carrying destination identity.mac tag (RealTime frame_id body))
       → IsNotedBy setup identity (frame_bytes (carrying destination identity.mac tag (RealTime frame_id body))) None
   plain_noted destination tag frame_id body plain can =
@@ -290,7 +291,7 @@ module _ (so : HearsSo) (setup : Setup) (identity : Identity) where
         data_good mine destination identity.mac tag frame_id body _ reads plain can.source,
       )
 
-  -- its own alarm frames it does not hear
+  -- the device does not hear its own alarm frames
   alarm_untold : (destination : Mac) (tag : Option ℕ) (frame_id : ℕ) (body : List ℕ) → (destination ≡ identity.mac → ⊥) → CanBeSent (carrying destination identity.mac tag (RealTime frame_id body))
       → told_of identity (frame_bytes (carrying destination identity.mac tag (RealTime frame_id body))) ≡ None
   alarm_untold destination tag frame_id body apart can =
@@ -364,9 +365,9 @@ module _ (so : HearsSo) (setup : Setup) (identity : Identity) where
   all_noted [] can sized ready_so = tt
   all_noted (message ∷ messages) can sized ready_so = (message_noted message can.0 sized.0 ready_so.0, all_noted messages can.1 sized.1 ready_so.1)
 
-  -- ---- the controller's
+  -- ---- the messages of the controller
 
-  -- whoever a frame goes to hears it
+  -- a station that a frame goes to hears it
   abbrev at_partner : Mac → Identity
   at_partner destination = record identity { mac = destination }
 
@@ -375,7 +376,7 @@ module _ (so : HearsSo) (setup : Setup) (identity : Identity) where
   own_heard destination octets heard e = e ∙ ap (λ (b : Bool). cond b heard device.Elsewhere) (own_mac destination)
 
   module _ (good : IsSetup setup) (apart : identity.mac ≡ setup.plan.controller.mac → ⊥) where
-    -- a frame of alarms to another station the controller does not hear
+    -- the controller does not hear an alarm frame to another station
     alarm_unheard : (destination : Mac) (octets : List ℕ) (source : Mac) (header : Header) (message : ToDevice) → (destination ≡ mine.mac → ⊥)
         → heard_of (at_partner destination) (comes octets) ≡ own_hears (at_partner destination) destination (device.Alarms source header message) → heard_by mine octets ≡ controller.Nothing
     alarm_unheard destination octets source header message apart e =

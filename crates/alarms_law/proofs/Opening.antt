@@ -1,4 +1,4 @@
--- A frame in which a device hears a request of DCP, or an alarm, a controller of another address does not hear.
+-- A controller with another address does not hear a frame in which a device hears a DCP request or an alarm.
 use Rattle.std.proofs.Common.{◌≡◌, ◌⊎◌, inl, inr, ◌==◌, ◌&&◌, ◌||◌, ℕ, Bool, true, false, cond, List, Result, Ok, Err, refl, sym, ap, subst, ◌∙◌}
 use Rattle.std.specs.Prelude.{nat_eq}
 use Rattle.std.specs.Cmp.Lexicographic.{pointwise, same_text}
@@ -23,7 +23,7 @@ use Rattle.controller_frames.specs.Heard.{heard_real_time, heard_read}
 use Rattle.message_laws.specs.hearing.Hearing.{comes}
 use Rattle.alarms_law.proofs.Lists.{holds_if}
 
--- a request of DCP is heard
+-- a DCP request is heard
 abbrev IsAsking : Heard → Type 0
 IsAsking (Asks source request) = Unit {0}
 IsAsking Ticks = ⊥
@@ -51,7 +51,7 @@ either true false false d e = absurd cc
 either false b true d e = inr refl
 either false b false d e = absurd cc
 
--- it goes to that device, or is an Identify
+-- the frame goes to that device, or is an Identify
 asks_owned : (identity : Identity) (destination source : Mac) (frame_id : ℕ) (body : List ℕ) → IsAsking (heard_content identity destination source (RealTime frame_id body))
     → (is_own identity destination ≡ true) ⊎ ((frame_id == 65278) ≡ true)
 asks_owned identity destination source frame_id body is = by_taken (is_taken identity destination frame_id) refl is
@@ -73,7 +73,7 @@ none_of : (b : Bool) → cond b controller.Nothing controller.Nothing ≡ contro
 none_of true = refl
 none_of false = refl
 
--- what goes to a device a controller of another address does not hear
+-- a controller with another address does not hear what goes to a device
 to_another : (identity : Identity) (mine : Controller) (destination : Mac) (heard : controller.Heard) → pointwise nat_eq identity.mac.octets mine.mac.octets ≡ false
     → is_own identity destination ≡ true → cond (pointwise nat_eq destination.octets mine.mac.octets) heard controller.Nothing ≡ controller.Nothing
 to_another identity mine destination heard apart own =
@@ -103,14 +103,14 @@ asks_read : (identity : Identity) (mine : Controller) (read : Result Meaning Fra
 asks_read identity mine (Ok meaning) apart is = asks_heard identity mine meaning.destination meaning.source meaning.content apart is
 asks_read identity mine (Err fault) apart is = refl
 
--- what a device hears as a request of DCP a controller of another address does not hear
+-- a controller with another address does not hear what a device hears as a DCP request
 pub asks_unheard : (identity : Identity) (setup : Setup) (octets : List ℕ) (source : Mac) (request : Asked) → heard_of identity (comes octets) ≡ Asks source request
     → pointwise nat_eq identity.mac.octets setup.plan.controller.mac.octets ≡ false → controller.heard_of setup.plan.controller octets ≡ controller.Nothing
 unfolding heard_of controller.heard_of
 asks_unheard identity setup octets source request e apart =
     asks_read identity setup.plan.controller (frame_of octets) apart (subst (λ (h : Heard). IsAsking h) (sym e) tt)
 
--- ---- an alarm frame that a device hears goes to it, and to no controller of another address
+-- ---- an alarm frame that a device hears goes to it, and to no controller with another address
 
 abbrev IsAlarming : Heard → Type 0
 IsAlarming (Alarms source header message) = Unit {0}

@@ -1,4 +1,4 @@
--- A controller sends to the station that answered, and its outputs under the FrameID that this chose.
+-- A controller sends to the station that responded, and its outputs under the FrameID that this station chose.
 use Rattle.std.proofs.Common.{◌≡◌, ◌&&◌, ◌+◌, ℕ, Bool, true, false, cond, List, length, Option, Some, None, refl, sym, ap, ◌∙◌}
 use Rattle.std.specs.Prelude.{nat_lt, unwrap_or}
 use Rattle.std.specs.List.{AllByRecursion}
@@ -50,8 +50,8 @@ use Rattle.alarms_law.proofs.Lists.{each_behind}
 use Rattle.alarms_law.proofs.Turns.{frame_route}
 use Rattle.alarms_law.proofs.Messages.{IsAimed}
 
--- where it is, as far as its frames go: its relation is with this station, under a FrameID of outputs that is none of alarms, and so is what
--- it asks for
+-- The state of a controller, as far as its frames are concerned: its relation is with this station, under a FrameID of
+-- outputs that is not one of alarms, and so is its pending request.
 pub record IsPlaced (mac : Mac) (live : Live) : Type 0 where
   pub plain : is_alarm live.cyclic.route.sent_id ≡ false
   pub partner : live.stands ≡ true → live.cyclic.route.partner ≡ mac
@@ -59,7 +59,7 @@ pub record IsPlaced (mac : Mac) (live : Live) : Type 0 where
   pub giving : live.phase ≡ Addressing → live.device ≡ mac
   pub addressing : live.asked ≡ Some asks.Address → live.device ≡ mac
 
--- this station alone answers it and calls it, and chooses no FrameID of alarms for outputs
+-- only this station responds to the controller and calls it, and it chooses no FrameID of alarms for outputs
 abbrev pub IsOf : Setup → Mac → Heard → Type 0
 IsOf setup mac (Answers source answer) = source ≡ mac
 IsOf setup mac (Responds response) = IsWell setup (Responds response)
@@ -90,7 +90,7 @@ module _ (setup : Setup) (mac : Mac) (apart : mac ≡ setup.plan.controller.mac 
   released_placed cause live p =
       record { live = record { plain = p.plain; partner = λ e. absurd cc; asking = λ e. absurd cc; giving = λ e. absurd cc; addressing = λ e. absurd cc }; sent = (tt, tt) }
 
-  -- ---- answers of DCP
+  -- ---- DCP responses
 
   found_placed : (live : Live) (source : Mac) (answer : Answered) → source ≡ mac → IsPlaced mac live → PlacedTurn (found setup live source answer)
   found_placed live source answer is p =

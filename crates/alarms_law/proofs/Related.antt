@@ -1,4 +1,4 @@
--- What becomes of a controller with a response, of which the FrameID counts where it is the answer to a Connect.
+-- The effect of a response on a controller; its FrameID counts if it is the response to a Connect.
 use Rattle.std.proofs.Common.{◌≡◌, ◌<◌, ◌+◌, ℕ, Bool, true, false, cond, List, length, Option, Some, None, refl, sym, ap, ◌∙◌, arith}
 use Rattle.std.specs.Prelude.{nat_lt}
 use Rattle.std.specs.List.{AllByRecursion}
@@ -25,7 +25,7 @@ use Rattle.message_laws.specs.sending.Sized.{AreFew, Found, IsFew, IsLive}
 use Rattle.alarms_law.specs.Sized.{IsChosenWell}
 use Rattle.alarms_law.proofs.Told.{IsWell}
 
--- what it keeps has its sizes, and what it sends
+-- the state has its sizes, and so has what the controller sends
 abbrev pub IsRight : Setup → Turn → Type 0
 IsRight setup turn = IsLive turn.live × AllByRecursion (CanBeSent setup) turn.sent
 

@@ -1,4 +1,5 @@
--- What a device answers to the first call of its controller: the Connect alone may be done, and then its blocks choose well.
+-- The response of a device to the first call of its controller: only the Connect may succeed, and then its blocks
+-- choose a suitable FrameID for outputs.
 use Rattle.std.proofs.Common.{◌≡◌, ◌+◌, ℕ, suc, Bool, true, false, cond, List, [], ◌∷◌, Option, Some, None, Result, Ok, Err, refl, sym, ap, subst, ◌∙◌, arith}
 use Rattle.std.specs.List.{AllByRecursion}
 use Rattle.std.proofs.lemmas.Bool.{false≢true}
@@ -54,7 +55,7 @@ empty_well : IsChosenWell []
 empty_well found e whole same frame_id there =
     absurd (false≢true (ap (λ (one : Found). is_whole one) (some_is nothing found (sym (none_found 399) ∙ e)) ∙ whole))
 
--- ---- PrmEnd and Release where there is no relation
+-- ---- PrmEnd and Release if there is no relation
 
 err_ok : {A B : Type 0} (why : B) (value : A) → ◌≡◌ {A = Result A B} (Err why) (Ok value) → ⊥
 err_ok why value e = absurd cc
@@ -81,17 +82,17 @@ no_release blocks value e =
     never_done (control_block kind.Release blocks) (λ block. named_of None block 4 >>= λ _. Ok block)
     (λ block. Ok (block_bytes (variant.ReleaseRes (done_of block)))) value (λ block. (_, refl)) e
 
--- ---- answers
+-- ---- responses
 
 module _ (setup : Setup) (station : Station) (live : Live) where
   abbrev asked : Request
   asked = request_for setup.plan setup.ar
 
-  -- the blocks that answer the Connect of the plan choose well
+  -- the blocks of the response to the Connect of the plan choose a suitable FrameID for outputs
   abbrev pub Chooses : Type 0
   Chooses = IsChosenWell (connect_blocks station.identity asked (differing_of asked station.real))
 
-  -- a positive answer to a call of number 0 chooses well
+  -- a positive response to a call of number 0 chooses a suitable FrameID for outputs
   abbrev pub IsServed : Sent → Type 0
   IsServed (CallAnswer caller address answer) = Chooses → answer.header.sequence ≡ 0 → is_done answer.status ≡ true → IsChosenWell answer.blocks
   IsServed (IdentifyAnswer asker running xid) = Unit {0}
@@ -125,7 +126,7 @@ module _ (setup : Setup) (station : Station) (live : Live) where
   behind_served address link (Ok block) = readies_served address link
   behind_served address link (Err why) = tt
 
-  -- what is owed to no call is no answer to one
+  -- a message that is owed to no call is not a response to one
   unserved : (heard : Heard) → ((caller : Caller) (address : List ℕ) (call : Call) → heard ≡ Told caller address (Calls call) → ⊥)
       → (messages : List Sent) → AllByRecursion (IsOwed heard live) messages → AreServed messages
   unserved heard other [] owed = tt
@@ -162,7 +163,7 @@ module _ (setup : Setup) (station : Station) (live : Live) where
     release_well : (blocks : List ℕ) → (call.header.sequence ≡ 0 → live.rest.link ≡ None) → IsWellOutcome call (release_answer live.rest.link blocks)
     release_well blocks none = λ chooses zero_is value e. absurd (no_release blocks value (sym (ap (λ (l : Option Link). release_answer l blocks) (none zero_is)) ∙ e))
 
-    -- a Write has another number
+    -- a Write has a number other than 0
     one_more : (number : ℕ) → number + 1 ≡ 0 → ⊥
     one_more number e = absurd (omega (arith, e))
 

@@ -78,13 +78,13 @@ pub record IsSizedEnd (end : DeviceEnd) : Type 0 where
   pub specifier : end.sender.specifier < 2048
   pub standing : IsAlarmOrNone end.sender.standing
 
--- the way of the relation that a plan asks for
+-- the alarm part of the relation that a plan asks for
 pub record IsSizedWay (request : Request) (way : Way) : Type 0 where
   pub same : way.request ≡ request
   pub routed : way.route ≡ route_of request
   pub alarms : IsSizedEnd way.alarms
 
--- the relation that there is, if one is, is that of the plan
+-- the relation, if there is one, is that of the plan
 abbrev pub AreSizedIn : Request → Option Link → Type 0
 AreSizedIn request link = (l : Link) → link ≡ Some l → IsSizedWay request (way_of l)
 
@@ -104,7 +104,7 @@ behind_short : (last : Option ℕ) (number : ℕ) (b : Bool) → (number == next
 behind_short last number true e short = subst (λ (n : ℕ). n < 65536) (sym (eqb-true number (next_number last) e)) (next_short last)
 behind_short last number false e short = short
 
--- ---- what changes it
+-- ---- what changes the relation
 
 acked_last : (s : Sending) (b : Bool) → IsShort s.last → IsShort (cond b (rested s) s).last
 acked_last s true short = short
@@ -143,7 +143,7 @@ with_sized end alarm sized is = record {
   standing = is;
 }
 
--- ---- what is plugged
+-- ---- the modules that are plugged
 
 found_by : {A : Type 0} (P : A → Type 0) (test : A → Bool) (y x : A) (b : Bool) (rest : Option A) → test y ≡ b → P y → (rest ≡ Some x → P x × (test x ≡ true)) → cond b (Some y) rest ≡ Some x → P x × (test x ≡ true)
 found_by P test y x true rest f is more g = let same = some_is y x g in (subst P same is, ap test (sym same) ∙ f)
@@ -311,7 +311,7 @@ module _ (identity : Identity) (plan : Parts) (ar : List ℕ) (apart : identity.
             (all_calm before passes.others sized passes.calm));
       }
 
-  -- any turn, where a relation that is made now is that of the plan
+  -- any turn, if a relation that is made now is that of the plan
   pub turn_sized : (real : List RealModule) (calls : List Answer) (before : Option Link) (heard : Heard) (after : Option Link) (sent : List Sent) → AreSizedModules real → AreSizedIn request before
       → ((makes : Makes calls before heard after sent) → makes.request ≡ request) → IsTurn real calls before heard after sent → SizedTurn after sent
   turn_sized real calls before heard after sent all sized planned (inl stays) =

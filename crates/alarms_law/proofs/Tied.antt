@@ -50,7 +50,7 @@ use Rattle.alarms_law.proofs.Lists.{Extends, at_end, each_behind, more_extends, 
 use Rattle.end_laws.specs.device.Turn.{AreCalm, HearsAck, HearsData, IsCalm, IsRaise, Makes, Passes, Raises, Refused}
 use Rattle.alarms_law.proofs.Turns.{IsSameOr, IsTurn, Way, way_of}
 
--- ---- what is said stands among what was sent
+-- ---- what is said is among what was sent
 
 abbrev pub IsSaid : List (ℕ × AlarmNotification) → List ℕ → Option (Notice AlarmNotification) → Type 0
 IsSaid pdus acks None = Unit {0}
@@ -100,7 +100,8 @@ heard_stays told more (Some notice.Abort) t is = tt
 
 -- ---- a turn of the device
 
--- what becomes of the alarms of a relation, where the device's relation was this and is that, and these are raised
+-- the effect on the alarms of a relation, if the device's relation was the first and is the second, and these alarms
+-- are raised
 pub record Goes (setup : Setup) (r : Relation) (before after : Option Link) (sent : List Sent) (now : List AlarmNotification) : Type 0 where
   pub next : Relation
   pub moves : List Move
@@ -115,7 +116,7 @@ pub record Goes (setup : Setup) (r : Relation) (before after : Option Link) (sen
   pub still : before ≡ None → next ≡ r
   pub said : AllByRecursion (λ message. IsSaid next.alarms.pdus next.acks (noted_in message)) sent
 
--- the device's end is that of its relation
+-- the device's end of alarms is that of its relation
 abbrev pub IsTied : Relation → Option Link → Type 0
 IsTied r link = (l : Link) → link ≡ Some l → l.flow.alarms ≡ r.device
 
@@ -178,12 +179,12 @@ IsUnraised (Given slot subslot value) = Unit {0}
 
 -- ---- an alarm is raised
 
--- the same as the application's
+-- the alarm as the application raised it
 abbrev alarm_for : ℕ → ℕ → ℕ → ℕ → List ℕ → Alarm
 alarm_for slot subslot ident part octets =
     record { slot_number = slot; subslot_number = subslot; module_ident_number = ident; submodule_ident_number = part; alarm_data = record { ref_ptr = (0, 0); now = octets } }
 
--- what an alarm that is heard as raised leads to
+-- the effect of an alarm that is raised
 abbrev raised_for : List RealModule → Heard → Link → Option Flow
 raised_for real (Raised slot subslot octets) link = raised_at link.flow real slot subslot octets
 raised_for real Ticks link = None
@@ -196,7 +197,7 @@ raised_for real (Comes source frame_id body) link = None
 raised_for real (Alarms source header message) link = None
 raised_for real (Given slot subslot value) link = None
 
--- it may be raised: a submodule is plugged there, its octets are few, and none stands
+-- the alarm may be raised: a submodule is plugged there, it has few octets, and no other one is unconfirmed
 pub record MayRaise (flow : Flow) (slot subslot : ℕ) (octets : List ℕ) (ident_at part_at : Option ℕ) (after : Flow) : Type 0 where
   pub ident : ℕ
   pub part : ℕ
@@ -276,7 +277,7 @@ module _ (setup : Setup) (r : Relation) where
       stands_said route header (Some standing) alarm pdus acks e there =
           ((there.0, there.1 ∙ ap (λ (a : AlarmNotification). Some (header.send_number, a)) (sym (some_is standing alarm e))), tt)
 
-  -- it is refused
+  -- the alarm is refused
   refused_on : (real : List RealModule) (before : Option Link) (slot subslot : ℕ) (octets : List ℕ) (after : Option Link) (sent : List Sent) → IsTied r before
       → Refused real before slot subslot octets after sent → Goes setup r before after sent []
   refused_on real before slot subslot octets after sent tied refused =
@@ -317,7 +318,7 @@ module _ (setup : Setup) (r : Relation) where
   line_taken line number (Some alarm) due_is.Again = refl
   line_taken line number alarm due_is.Spent = refl
 
-  -- the alarm that stands is sent again where it is due
+  -- the unconfirmed alarm is repeated if it is due
   due_said : (line : Line AlarmNotification) (acks : List ℕ) (route : Route) (header : Header) (standing : Option AlarmNotification) (due_now : Due) (is : Bool) → (is ≡ true → due_now ≡ due_is.Again)
       → AllByRecursion (λ message. IsSaid (line_after line header.send_number standing due_now).pdus acks (noted_in message)) (where_due is (frames_in route (option_map (Notifies header) standing)))
   due_said line acks route header standing due_now false again = tt
@@ -357,7 +358,7 @@ module _ (setup : Setup) (r : Relation) where
             again (all_calm next.alarms.pdus next.acks before passes.others passes.calm));
       }
 
-  -- ---- an ACK comes
+  -- ---- an ACK arrives
 
   acks_on : (before : Option Link) (heard : Heard) (after : Option Link) (sent : List Sent) → IsTied r before → IsHeard r.told (told_at heard) → HearsAck before heard after sent → Goes setup r before after sent []
   acks_on before heard after sent tied is acked =
@@ -382,7 +383,7 @@ module _ (setup : Setup) (r : Relation) where
         said = subst (λ (messages : List Sent). AllByRecursion (λ message. IsSaid r.alarms.pdus r.acks (noted_in message)) messages) (sym acked.silent) tt;
       }
 
-  -- ---- an AlarmAck comes
+  -- ---- an AlarmAck arrives
 
   last_fits : (seen : Option ℕ) (number : ℕ) → is_last seen number ≡ true → ack_number seen ≡ number
   last_fits None number e = absurd cc
@@ -393,7 +394,7 @@ module _ (setup : Setup) (r : Relation) where
   extends_acks acks number Once_more = more_extends acks (number ∷ [])
   extends_acks acks number Not_taken = unchanged acks
 
-  -- the answer acknowledges the number, where it does
+  -- the reply acknowledges the number, if it does
   answer_said : (pdus : List (ℕ × AlarmNotification)) (acks : List ℕ) (seen : Option ℕ) (number : ℕ) (is again : Bool) → is_last seen number ≡ again
       → IsSaid pdus (acks_after acks number (cond is New (cond again Once_more Not_taken))) (reply_of (ack_number (cond is (Some number) seen)) (answer_to (cond is New (cond again Once_more Not_taken))))
   answer_said pdus acks seen number true again e = (length acks, at_end acks number)
@@ -430,7 +431,7 @@ module _ (setup : Setup) (r : Relation) where
 
   -- ---- any turn
 
-  -- a relation that is made now begins as nothing happened yet
+  -- a relation that is made now begins as if nothing had happened
   abbrev pub IsFresh : List Answer → Option Link → Heard → Option Link → List Sent → Type 0
   IsFresh calls before heard after sent = (makes : Makes calls before heard after sent) → idle makes.request.alarm.timeout_factor makes.request.alarm.retries ≡ r.device
 

@@ -33,7 +33,7 @@ use Rattle.alarms_law.specs.Sized.{IsChosenWell}
 
 -- ---- at the device
 
--- what it hears of alarms, if it hears an alarm frame
+-- what the device hears of alarms, if it hears an alarm frame
 abbrev pub told_at : device.Heard → Option (Notice AlarmAck)
 told_at (device.Alarms source header message) = Some message
 told_at device.Ticks = None
@@ -46,14 +46,14 @@ told_at (device.Cyclic source frame_id body) = None
 told_at (device.Given slot subslot value) = None
 told_at (device.Raised slot subslot octets) = None
 
--- what an answer to data says, by its type: an ACK of the number, or that it was refused
+-- what a reply to data says, by its type: an ACK of the number, or that it was refused
 abbrev pub reply_of : {B : Type 0} → ℕ → PduType → Option (Notice B)
 reply_of number pdu.Ack = Some (notice.Ack number)
 reply_of number pdu.Nack = Some notice.Nack
 reply_of number pdu.Data = None
 reply_of number pdu.Error = None
 
--- what it says of alarms: an alarm under its number, the answer to an AlarmAck, or the end of the relation
+-- what the device says of alarms: an alarm with its number, the reply to an AlarmAck, or the end of the relation
 abbrev pub noted_by : Frame → Option (Notice AlarmNotification)
 noted_by (Inputs inputs counter) = None
 noted_by (Notifies header alarm) = Some (notice.Data header.send_number alarm)
@@ -72,7 +72,7 @@ noted_in (sent.ReadyCall address ready) = None
 
 -- ---- at the controller
 
--- what it hears of alarms
+-- what the controller hears of alarms
 abbrev pub noted_at : controller.Heard → Option (Notice AlarmNotification)
 noted_at (controller.Alarms source header message) = Some message
 noted_at controller.Nothing = None
@@ -81,7 +81,7 @@ noted_at (controller.Responds response) = None
 noted_at (controller.Calls caller call) = None
 noted_at (controller.Cyclic source frame_id body) = None
 
--- what it says of alarms: an AlarmAck under its number, the answer to an alarm, or the end of the relation
+-- what the controller says of alarms: an AlarmAck with its number, the reply to an alarm, or the end of the relation
 abbrev pub told_in : said.Sent → Option (Notice AlarmAck)
 told_in (said.Confirms route header ack) = Some (notice.Data header.send_number ack)
 told_in (said.Replies route header) = reply_of header.ack_number header.kind
@@ -92,7 +92,7 @@ told_in (said.Cycles route shown counter) = None
 
 -- ---- what a controller hears of its device
 
--- this station alone answers it and calls it, and each field has its size
+-- only this station responds to the controller and calls it, and each field has its size
 abbrev pub IsGood : Mac → controller.Heard → Type 0
 IsGood mac (controller.Answers source answer) = (source ≡ mac) × IsMac source
 IsGood mac (controller.Calls caller call) = (caller.mac ≡ mac) × IsCaller caller × IsHeader call.header × (call.args_maximum < 4294967296)
@@ -101,7 +101,7 @@ IsGood mac controller.Nothing = Unit {0}
 IsGood mac (controller.Responds response) = Unit {0}
 IsGood mac (controller.Cyclic source frame_id body) = Unit {0}
 
--- a positive answer to the Connect chooses well
+-- a positive response to the Connect chooses a suitable FrameID for outputs
 abbrev pub IsWell : Setup → controller.Heard → Type 0
 IsWell setup (controller.Responds response) = is_answer setup asks.Connect response.header ≡ true → is_done response.status ≡ true → IsChosenWell response.blocks
 IsWell setup controller.Nothing = Unit {0}
@@ -122,18 +122,19 @@ IsCallIn heard = (caller : Caller) (address : List ℕ) (call : Call) → heard 
 
 -- ---- what is heard as it is said
 
--- what is heard of octets by the device, and by the controller
+-- what the device and the controller hear of octets
 abbrev pub told_of : Identity → List ℕ → Option (Notice AlarmAck)
 told_of identity octets = told_at (heard_of identity (comes_in (record { items = octets })))
 
 abbrev pub noted_of : Setup → List ℕ → Option (Notice AlarmNotification)
 noted_of setup octets = noted_at (heard_by setup.plan.controller octets)
 
--- octets of the device: the controller hears this of alarms in them, or nothing, the device nothing, and all has its size
+-- octets of the device: the controller hears this of alarms in them, or nothing, the device hears nothing, and
+-- everything has its size
 abbrev pub IsNotedBy : Setup → Identity → List ℕ → Option (Notice AlarmNotification) → Type 0
 IsNotedBy setup identity octets says = ((noted_of setup octets ≡ says) ⊎ (noted_of setup octets ≡ None)) × (told_of identity octets ≡ None) × IsGood identity.mac (heard_by setup.plan.controller octets)
 
--- a message of the device. The frame of an answer that is sent again was sent before
+-- a message of the device; the frame of a repeated response was sent before
 abbrev pub IsNotedAs : Setup → Identity → sent.Sent → Type 0
 IsNotedAs setup identity (sent.Again frame) = Unit {0}
 IsNotedAs setup identity (sent.Exchanges route frame) = IsNotedBy setup identity (bytes_of identity (sent.Exchanges route frame)) (noted_by frame)
@@ -145,7 +146,8 @@ IsNotedAs setup identity (sent.ArpReply asker address target) = IsNotedBy setup 
 IsNotedAs setup identity (sent.CallAnswer caller address answer) = IsNotedBy setup identity (bytes_of identity (sent.CallAnswer caller address answer)) None
 IsNotedAs setup identity (sent.ReadyCall address ready) = IsNotedBy setup identity (bytes_of identity (sent.ReadyCall address ready)) None
 
--- octets of the controller: the device hears this of alarms in them, or nothing, and the controller nothing at all
+-- octets of the controller: the device hears this of alarms in them, or nothing, and the controller hears nothing at
+-- all
 abbrev pub IsToldBy : Setup → Identity → List ℕ → Option (Notice AlarmAck) → Type 0
 IsToldBy setup identity octets says = ((told_of identity octets ≡ says) ⊎ (told_of identity octets ≡ None)) × (heard_by setup.plan.controller octets ≡ controller.Nothing)
 
@@ -153,7 +155,7 @@ IsToldBy setup identity octets says = ((told_of identity octets ≡ says) ⊎ (t
 abbrev pub IsToldAs : Setup → Identity → said.Sent → Type 0
 IsToldAs setup identity message = IsToldBy setup identity (said.bytes_of setup message) (told_in message)
 
--- a message of the device of which a controller hears no other positive answer to its Connect
+-- a message of the device in which a controller hears no other positive response to its Connect
 abbrev pub IsWellBy : Setup → List ℕ → Type 0
 IsWellBy setup octets = IsWell setup (heard_by setup.plan.controller octets)
 

@@ -1,4 +1,4 @@
--- Each turn of a device, as far as the alarms of its relation go.
+-- Each turn of a device, as far as the alarms of its relation are concerned.
 use Rattle.std.proofs.Common.{◌≡◌, ◌⊎◌, inl, inr, ◌∙◌, ℕ, Bool, true, false, cond, List, [], Option, Some, None, option_map, Result, Ok, Err, refl, sym, ap, subst}
 use Rattle.std.specs.List.{AllByRecursion}
 use Rattle.pn_values.specs.declared.mac.Mac.{Mac}
@@ -19,9 +19,9 @@ use Rattle.device_frames.specs.Sent.{Sent}
 use Rattle.end_laws.specs.device.Turn.{AreCalm, HearsAck, HearsData, IsCalm, Makes, Passes, Raises, Standing, standing_of}
 use Rattle.end_laws.specs.device.Turn as device
 
--- ---- what alarms see of a relation
+-- ---- the alarm part of a relation
 
--- the device's end of them, between whom its frames go, and what was asked for
+-- the device's end of alarms, the stations between which its frames go, and the request of the Connect
 pub record Way : Type 0 where
   pub alarms : DeviceEnd
   pub route : Route
@@ -33,9 +33,9 @@ way_with alarms route request = record { alarms = alarms; route = route; request
 abbrev pub way_of : Link → Way
 way_of link = way_with link.flow.alarms link.flow.cyclic.route link.request
 
--- ---- what a turn may be
+-- ---- the kinds of turns
 
--- the relation's way stays, or there is no relation any more
+-- the alarm part of the relation stays the same, or the relation has ended
 abbrev pub IsSameOr : Option Link → Option Link → Type 0
 IsSameOr before after = (option_map way_of after ≡ option_map way_of before) ⊎ (after ≡ None)
 
@@ -48,7 +48,7 @@ IsTurn real calls before heard after sent =
     Stays before after sent ⊎ (Makes calls before heard after sent ⊎ (Raises real before heard after sent
     ⊎ (HearsAck before heard after sent ⊎ (HearsData before heard after sent ⊎ Passes before heard after sent))))
 
--- ---- what stays
+-- ---- what stays the same
 
 abbrev way_from : Standing → Way
 way_from standing = way_with standing.alarms standing.route standing.request
@@ -76,7 +76,7 @@ frame_route cyclic source frame_id body = by_test (is_of_partner cyclic.route so
     by_test true = read_route cyclic (cyclic_of cyclic.taken.data_length body)
     by_test false = refl
 
--- a turn of the device, in which a cyclic frame that is taken changes nothing of alarms
+-- a turn of the device in which an accepted cyclic frame changes nothing of alarms
 pub as_alarms : (real : List RealModule) (calls : List Answer) (before : Option Link) (heard : Heard) (after : Option Link) (sent : List Sent)
     → device.IsTurn real calls before heard after sent → IsTurn real calls before heard after sent
 as_alarms real calls before heard after sent (inl stays) = inl (record { link = way_same before after stays.link; calm = stays.calm })

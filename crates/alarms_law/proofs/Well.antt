@@ -1,4 +1,6 @@
--- What a controller hears of its device chooses well, where it answers the Connect, and the calls that a device hears have their sizes.
+-- If what a controller hears of its device is the response to the Connect, it chooses a suitable FrameID for outputs;
+-- and the calls that a device hears have their sizes.
+-- hears have their sizes.
 use Rattle.std.proofs.Common.{◌≡◌, ◌⊎◌, inl, inr, ◌==◌, ◌&&◌, ◌<◌, ℕ, Bool, true, false, cond, List, [], ◌∷◌, length, Option, Some, None, refl, sym, ap, subst, ◌∙◌}
 use Rattle.std.specs.Prelude.{nat_eq, nat_le}
 use Rattle.std.specs.List.{AllByRecursion}
@@ -52,7 +54,7 @@ and_second true b e = e
 and_second false b e = absurd cc
 
 module _ (setup : Setup) where
-  -- the number of an answer to the Connect
+  -- the number of a response to the Connect
   zero_is : (response : Response) → is_answer setup asks.Connect response.header ≡ true → response.header.sequence ≡ 0
   zero_is response is =
       eqb-true response.header.sequence 0 (and_second (pointwise nat_eq response.header.activity setup.activity) (response.header.sequence == 0) is)
@@ -64,7 +66,7 @@ module _ (setup : Setup) where
       (and_first (pointwise nat_eq response.header.activity setup.activity) (response.header.sequence == 0) is)
       ∙ (ap (λ (n : ℕ). small.Answers n (is_done response.status)) (zero_is response is) ∙ ap (λ (b : Bool). small.Answers 0 b) done)
 
-  -- what says nothing, or no positive answer of this number, is none to the Connect
+  -- what says nothing, or is not a positive response of this number, is not a positive response to the Connect
   unanswered_well : (heard : controller.Heard) (says : ToController) → (says ≡ small.Answers 0 true → ⊥)
       → (said_to setup heard ≡ small.Nothing) ⊎ (said_to setup heard ≡ says) → IsWell setup heard
   unanswered_well (controller.Responds response) says other at_most = λ is done. absurd (by_saying (said_positive response is done) at_most)

@@ -1,4 +1,4 @@
--- The alarms of a run: those that the device raised, those that its controller took, and the one that it shows.
+-- The alarms of a run: those that the device raised, those that its controller accepted, and the one that it shows.
 use Rattle.std.specs.Prelude.{◌≡◌, ◌⊎◌, ◌++◌, ◌&&◌, ℕ, Bool, true, false, List, [], ◌∷◌, slice_get, if◌then◌else◌, Option, Some, None}
 use Rattle.record_blocks.specs.declared.alarm_notification.AlarmNotification.{AlarmNotification}
 use Rattle.pn_alarms.specs.declared.message.Notice.TheVariants as notice
@@ -20,18 +20,18 @@ use Rattle.network_world.specs.World.{World, is_skipped}
 
 -- ---- raised
 
--- the one there is
+-- the value, if there is one, as a list
 abbrev pub one_in : {A : Type 0} → Option A → List A
 one_in None = []
 one_in (Some value) = value ∷ []
 
--- the alarm that stands behind one that was raised
+-- the unconfirmed alarm after one was raised
 abbrev pub raised_in : Option Flow → List AlarmNotification
 raised_in None = []
 raised_in (Some flow) = one_in flow.alarms.sender.standing
 
 module _ {F : Type 0} where
-  -- an alarm is raised where the device has a relation in which it may be, and is the one that stands then
+  -- an alarm is raised if the device has a relation in which it may be, and then it is the unconfirmed one
   abbrev pub raised_with : World F → Move → List AlarmNotification
   raised_with world (move.Alarm slot subslot octets) =
       raised_in (raised_to world.device.station.real.modules.items slot subslot octets.items world.device.live.rest.link)
@@ -41,14 +41,14 @@ module _ {F : Type 0} where
   raised_with world (move.Give slot subslot value) = []
   raised_with world move.Stop = []
 
-  -- over a run, in their order
+  -- the alarms raised over a run, in order
   abbrev pub raised_over : World F → List (Move × World F) → List AlarmNotification
   raised_over before [] = []
   raised_over before (one ∷ run) = raised_with before one.0 ++ raised_over one.1 run
 
--- ---- taken
+-- ---- accepted alarms
 
--- an alarm frame is looked at while the relation stands, if it is of that, and data is taken whose number comes next
+-- an alarm frame is looked at while the relation exists, if it belongs to it, and data with the next number is accepted
 abbrev pub taken_of : Live → Mac → Header → ToController → List AlarmNotification
 taken_of live source header (notice.Data number alarm) =
     if live.stands && is_alarm live.cyclic.route source header then more_taken [] alarm (taken_as live.alarms.seen number) else []
@@ -64,7 +64,7 @@ taken_by live (Responds response) = []
 taken_by live (Calls caller call) = []
 taken_by live (Cyclic source frame_id body) = []
 
--- from a frame, if there is one that is not skipped
+-- the alarms accepted from a frame that is delivered, unless it is skipped
 abbrev pub taken_in : Bool → Controlling → List ℕ → List AlarmNotification
 taken_in true controlling octets = []
 taken_in false controlling octets = taken_by controlling.live (heard_of controlling.setup.plan.controller octets)
@@ -83,14 +83,14 @@ module _ {F : Type 0} where
   taken_with world (move.Give slot subslot value) = []
   taken_with world move.Stop = []
 
-  -- over a run, in their order
+  -- the alarms accepted over a run, in order
   abbrev pub taken_over : World F → List (Move × World F) → List AlarmNotification
   taken_over before [] = []
   taken_over before (one ∷ run) = taken_with before one.0 ++ taken_over one.1 run
 
 -- ---- shown
 
--- It is the last of these, or the one before it; of none, or of one alone, it may be none.
+-- It is the last of these alarms, or the one before it. If there are none, or only one, it may be none.
 abbrev pub IsOneOfTheLastTwo : List AlarmNotification → Option AlarmNotification → Type 0
 IsOneOfTheLastTwo raised shown =
     (shown ≡ last_of raised) ⊎ ((before : List AlarmNotification) × (last : AlarmNotification) × (raised ≡ before ++ last ∷ []) × (shown ≡ last_of before))

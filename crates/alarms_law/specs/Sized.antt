@@ -1,4 +1,5 @@
--- What is asked of what is plugged in a device, whose numbers have their sizes, and of the FrameID that it chooses for outputs.
+-- The premises about the modules in a device, whose numbers have their sizes, and about the FrameID that it chooses for
+-- outputs.
 use Rattle.std.specs.Prelude.{◌≡◌, ◌<◌, true, false, ℕ, List, Some}
 use Rattle.std.specs.List.{AllByRecursion}
 use Rattle.pn_values.specs.declared.real.RealModule.{RealModule}
@@ -19,10 +20,10 @@ IsSizedModule entry = (entry.slot < 65536) × (entry.ident < 4294967296) × AllB
 abbrev pub AreSizedModules : List RealModule → Type 0
 AreSizedModules modules = AllByRecursion IsSizedModule modules
 
--- ---- what a device answers
+-- ---- the response of a device
 
--- in the blocks of an answer, where all is there that a relation needs and no module differs, the FrameID that the device chose for outputs
--- has two octets, and is none of alarms
+-- If the blocks of a response have everything that a relation needs and no module differs, the FrameID that the device
+-- chose for outputs has two octets and is not one of alarms.
 abbrev pub IsChosenWell : List ℕ → Type 0
 IsChosenWell blocks = (found : Found) → found_in 400 blocks nothing ≡ Some found → is_whole found ≡ true → found.differs ≡ false
     → (frame_id : ℕ) → found.output ≡ Some frame_id → (frame_id < 65536) × (is_alarm frame_id ≡ false)

@@ -19,7 +19,7 @@ use Rattle.outputs_law.specs.Given.{AreOfOneFrame, zero_for}
 use Rattle.outputs_law.specs.Shown.{has_accepted}
 use Rattle.alarms_law.specs.Over.{IsOneOfTheLastTwo, raised_over, taken_over}
 
--- A world that was begun of this set-up and this device, and in which these moves were made, one after the other.
+-- A world that was begun with this set-up and this device, and in which these moves were made, one after the other.
 pub record IsBegunAndPlayed {F : Type 0} {S : ℕ} (as_flash : Flash F S) (setup : Setup) (device : State F) (moves : List Move) (last : World F) : Type 0 where
   pub first : World F
   pub begins : Begins setup device.station.identity first
@@ -28,25 +28,29 @@ pub record IsBegunAndPlayed {F : Type 0} {S : ℕ} (as_flash : Flash F S) (setup
   pub are : moves_of run ≡ moves
   pub made : AreMade as_flash first run
   pub ends : last_world first run ≡ last
-  -- If the controller exchanges data, it was handed an ApplicationReady that the device had sent before with a move of its own: at that point
-  -- it had accepted the plan's Connect, and had taken the plan's records, in their order, each once.
+  -- If the controller exchanges data, it received an ApplicationReady that the device had sent before, with one of its
+  -- own moves. At that point the device had accepted the plan's Connect, and had accepted the plan's records in order,
+  -- each once.
   pub handed : last.controller.live.phase ≡ Exchanging → WasHanded (rules_of first.controller.setup first.device.station) (view_of first) (viewed run)
   -- If the device exchanges data, its controller did so before.
   pub exchanging : (link : Link) → last.device.live.rest.link ≡ Some link → link.phase ≡ in_exchange → WasExchanging (viewed run)
-  -- A relation that the device has is the plan's.
+  -- A relation of the device is the plan's.
   pub relation : (link : Link) → last.device.live.rest.link ≡ Some link → link.request ≡ request_for setup.plan setup.ar
-  -- All outputs that the device shows are zeros, or come from one frame of the controller.
+  -- All outputs that the device shows are zeros as long as it accepted no cyclic frame in its relation, then they come
+  -- from one frame of the controller.
   pub zeros : (link : Link) → last.device.live.rest.link ≡ Some link → has_accepted link ≡ false
       → (slot subslot : ℕ) → output_in slot subslot (Some link) ≡ zero_for setup slot subslot
   pub values : (link : Link) → last.device.live.rest.link ≡ Some link → has_accepted link ≡ true → AreOfOneFrame setup device.station.identity first run link
-  -- While at most 32,768 alarms are raised, those that the controller took are a prefix of those that the device raised, and lack at most the last.
+  -- If at most 32,768 alarms are raised, those that the controller accepted are a prefix of those that the device
+  -- raised, and lack at most the last.
   pub front : length (raised_over first run) ≤ 32768 → IsPrefixOf (taken_over first run) (raised_over first run)
   pub lacks : length (raised_over first run) ≤ 32768 → length (raised_over first run) ≤ length (taken_over first run) + 1
-  -- The controller shows the last alarm that it took: the last that was raised, or the one before it.
+  -- The controller shows the last alarm that it accepted. If at most 32,768 alarms are raised, it is the last one
+  -- raised or the one before it.
   pub shown : last.controller.live.alarm ≡ last_of (taken_over first run)
   pub alarm : length (raised_over first run) ≤ 32768 → IsOneOfTheLastTwo (raised_over first run) last.controller.live.alarm
 
--- The same if memory ended before a move: of the moves before it.
+-- The same for the moves before the one for which memory ran out.
 pub record IsBegunAndCut {F : Type 0} {S : ℕ} (as_flash : Flash F S) (setup : Setup) (device : State F) (moves : List Move) (last : World F) : Type 0 where
   pub count : ℕ
   pub before : count < length moves

@@ -1,4 +1,4 @@
-//! The law of alarms, of the worlds that moves make.
+//! The law of alarms, for the worlds that moves lead to.
 ghost use Rattle.std.specs.Prelude.{◌≡◌, ◌≤◌, ◌+◌, length, List};
 ghost use Rattle.message_laws.specs.turns.Alarms.{last_of};
 ghost use Rattle.codec_laws.specs.alarms.World.{IsPrefixOf};
@@ -22,19 +22,22 @@ use pn_values::Identity;
 use rpc_core::calls_and_responses_differ;
 use startup_law::worlds_start_up;
 
-/// The alarms of a relation of this set-up with this device, over the worlds of any moves, whatever the flash of the device does.
+/// The alarms of a relation of this set-up with this device, in the worlds of any moves, whatever the flash of the
+/// device does.
 pub fn worlds_take_alarms<F: Flash<S>, const S: usize>(setup: &Setup, identity: &Identity)
-    // While at most 32,768 alarms are raised, those that the controller took begin those that the device raised, in their order, each once,
+    // If at most 32,768 alarms are raised, the alarms that the controller accepted are a prefix of those that the
+    // device raised: in order, each once.
     ensures front { CanMeet setup.now identity.now →
         (first : World F) (run : List (Move × World F)) → Begins setup.now identity.now first
         → AreMade F.Flash first run → AreSizedModules first.device.station.real.modules.items
         → length (raised_over first run) ≤ 32768 → IsPrefixOf (taken_over first run) (raised_over first run) }
-    // and lack at most the last.
+    // If at most 32,768 alarms are raised, at most the last of them is not accepted.
     ensures last { CanMeet setup.now identity.now →
         (first : World F) (run : List (Move × World F)) → Begins setup.now identity.now first
         → AreMade F.Flash first run → AreSizedModules first.device.station.real.modules.items
         → length (raised_over first run) ≤ 32768 → length (raised_over first run) ≤ length (taken_over first run) + 1 }
-    // It shows the last that it took: of those that were raised the last, or the one before it, and none before the first was raised.
+    // The controller shows the alarm that it accepted last. If at most 32,768 alarms are raised, it is the last one
+    // raised or the one before it, and none before the first was raised.
     ensures shown { CanMeet setup.now identity.now →
         (first : World F) (run : List (Move × World F)) → Begins setup.now identity.now first
         → AreMade F.Flash first run → AreSizedModules first.device.station.real.modules.items

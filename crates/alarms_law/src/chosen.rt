@@ -9,9 +9,10 @@ ghost use Rattle.alarms_law.specs.Sized.{IsChosenWell};
 
 use codec_laws::blocks_are_read;
 
-/// The blocks with which a device answers the Connect of a plan are as the law of alarms asks: a law of the definitions.
+/// The blocks of a device's response to the Connect of a plan meet the premise of the law of alarms. This is a law of
+/// the definitions.
 pub fn answers_choose_well()
-    // Whatever is plugged in the device: where a module differs a controller finds so.
+    // This holds whatever is plugged in the device. If a module differs, the controller finds that it does.
     ensures { (setup : Setup) (identity : Identity) (real : Real) → IsSetup setup → IsDevice identity
         → IsChosenWell (connect_blocks identity (request_for setup.plan setup.ar) (differing_of (request_for setup.plan setup.ar) real)) }
 {

@@ -1,5 +1,5 @@
-//! The alarms of both ends of a network: what a controller takes is what its device raised. And all that holds of both ends, of a world that
-//! is begun and played.
+//! The alarms of both ends of a network: a controller accepts what its device raised. This crate also has all laws of
+//! both ends for a world that is begun and played.
 #![tactic(auto)]
 
 mod alarms;

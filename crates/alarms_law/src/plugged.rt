@@ -1,25 +1,25 @@
-//! The numbers of what is plugged in a device have their sizes.
+//! The numbers of the modules in a device have their sizes.
 ghost use Rattle.std.specs.Prelude.{◌<◌};
 ghost use Rattle.std.specs.List.{AllByRecursion};
 ghost use Rattle.alarms_law.specs.Sized.{AreSizedModules, IsSizedPart};
 
 use pn_values::{Real, RealModule, RealSubmodule};
 
-/// A number of 16 bits is one.
+/// A `u16` has 16 bits.
 fn has_16_bits(number: u16)
     ensures { number < 65536 }
 {
     let _number = number;
 }
 
-/// So is one of 32.
+/// A `u32` has 32 bits.
 fn has_32_bits(number: u32)
     ensures { number < 4294967296 }
 {
     let _number = number;
 }
 
-/// The numbers of submodules.
+/// The numbers of submodules have their sizes.
 fn parts_are_sized(parts: &[RealSubmodule])
     ensures { AllByRecursion IsSizedPart parts.now }
 {
@@ -29,7 +29,7 @@ fn parts_are_sized(parts: &[RealSubmodule])
     }
 }
 
-/// The numbers of modules, and of their submodules.
+/// The numbers of modules and of their submodules have their sizes.
 fn entries_are_sized(modules: &[RealModule])
     ensures { AreSizedModules modules.now }
 {
@@ -40,9 +40,10 @@ fn entries_are_sized(modules: &[RealModule])
     }
 }
 
-/// What the law of alarms asks of what is plugged in a device is so of whatever is: a law of the definitions.
+/// Any modules meet the premise of the law of alarms about what is plugged in a device. This is a law of the
+/// definitions.
 pub fn modules_are_sized(real: &Real)
-    // Slots and subslots have 16 bits, and ident numbers 32.
+    // Slots and subslots have 16 bits, and ident numbers have 32.
     ensures { AreSizedModules real.now.modules.items }
 {
     entries_are_sized(real.modules.as_slice());

@@ -1,4 +1,4 @@
-//! Both ends of a network, begun and played: all three laws of what comes of it.
+//! Both ends of a network, begun and played, with the laws of start-up, outputs and alarms.
 ghost use Rattle.std.specs.Prelude.{◌≡◌, ◌<◌, [], ℕ, None, OnErr, OnOk, length, take};
 ghost use Rattle.startup_law.specs.Played.{CanMeet};
 ghost use Rattle.alarms_law.specs.Together.{IsBegunAndCut, IsBegunAndPlayed};
@@ -14,8 +14,9 @@ use pn_values::Identity;
 use startup_law::{begin_world, worlds_start_up};
 use std::alloc::{AllocError, Global};
 
-/// A world of this device and of a controller of this set-up, in which these moves were made, and whether memory ended before that. The
-/// device is of this identity, answered no call since its start, and has no relation; `can_meet` tells whether the two can meet.
+/// A world of this device and a controller of this set-up in which these moves were made, and whether memory ran out
+/// before the last one. The device must have this identity, must have answered no call since its start, and must have
+/// no relation. `can_meet` says whether the two can meet.
 pub fn play_both_ends<F: Flash<S>, const S: usize>(
     alloc: Global,
     device: Device<F, S>,
@@ -27,9 +28,9 @@ pub fn play_both_ends<F: Flash<S>, const S: usize>(
     requires unrelated { device.live.rest.link ≡ None }
     requires known { device.station.identity ≡ identity.now }
     requires meets { CanMeet setup identity.now }
-    // Start-up, outputs and alarms are as they should be, whatever the flash of the device does.
+    // If all moves were made, the laws of start-up, outputs and alarms hold, whatever the flash of the device does.
     ensures played { OnOk result.1 (IsBegunAndPlayed F.Flash setup device moves.now result.0) }
-    // The same of the moves before the one for which memory ended.
+    // If memory ran out, the same holds of the moves before the one for which it did.
     ensures cut { OnErr result.1 (IsBegunAndCut F.Flash setup device moves.now result.0) }
 {
     worlds_start_up::<F, S>(&setup, identity);

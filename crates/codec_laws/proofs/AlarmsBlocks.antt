@@ -1,4 +1,4 @@
--- The blocks that data carries are read as they were written.
+-- The blocks in data are read back.
 use Rattle.std.proofs.Common.{◌≡◌, ◌+◌, [], length, Ok, refl, ◌∙◌, arith}
 use Rattle.block_fields.specs.Fields.{body, open_body, version}
 use Rattle.record_blocks.specs.declared.alarm_ack.AlarmAck.{AlarmAck}
@@ -11,7 +11,7 @@ use Rattle.block_codec.specs.Block.{block_bytes, block_of, block_size, fields_of
 use Rattle.codec_laws.specs.blocks.Writable.{CanBeWritten, IsAck, IsAlarm}
 use Rattle.pn_alarms.specs.Carried.{ack_of, notification_of}
 
--- what can be written is read, and takes as many octets as its format says
+-- a block that can be written is read back, and has as many octets as its format says
 abbrev pub BlocksAreRead : Type 0
 BlocksAreRead = (block : Block) → CanBeWritten block → block_of (block_bytes block) ≡ front block []
 

@@ -1,4 +1,4 @@
--- One direction: what is taken begins what was sent, while the numbers are different.
+-- One direction: what is accepted is a prefix of what was sent, as long as the numbers are different.
 use Rattle.std.proofs.Common.{◌≡◌, ℕ, zero, suc, ◌≤◌, ◌+◌, Bool, true, false, cond, eqb, List, [], ◌∷◌, ◌++◌, length, Option, Some, None, refl, sym, ap, subst, ◌∙◌, append_assoc, arith}
 use Rattle.std.specs.Prelude.{slice_get}
 use Rattle.std.specs.List.{AllByRecursion}
@@ -19,7 +19,7 @@ use Rattle.codec_laws.proofs.AlarmsNumbered.{number_of, last_of, next_is, same_n
 some_is : {A : Type 0} (x y : A) → Some x ≡ Some y → x ≡ y
 some_is x y e = cc
 
--- two lists with fronts of one length
+-- two equal lists whose prefixes have the same length
 same_front : {A : Type 0} (xs ys us vs : List A) → length xs ≡ length us → xs ++ ys ≡ us ++ vs → (xs ≡ us) × (ys ≡ vs)
 same_front [] ys [] vs long e = (refl, e)
 same_front [] ys (u ∷ us) vs long e = absurd (omega (arith, long))
@@ -42,7 +42,7 @@ all_at P (y ∷ ys) (suc k) x all e = all_at P ys k x all.1 e
 one_more : {A : Type 0} (xs : List A) (x : A) → length (xs ++ x ∷ []) ≡ suc (length xs)
 one_more xs x = omega (arith, length-append xs (x ∷ []))
 
--- ---- what holds of a direction
+-- ---- the invariant of a direction
 
 -- a PDU is of data that was sent, and has its number
 pub record IsSent {A : Type 0} (sent : List A) (pdu : ℕ × A) : Type 0 where
@@ -52,15 +52,15 @@ pub record IsSent {A : Type 0} (sent : List A) (pdu : ℕ × A) : Type 0 where
   pub number : pdu.0 ≡ number_of (length front)
 
 pub record IsLine {A : Type 0} (last seen : Option ℕ) (line : Line A) : Type 0 where
-  -- the numbers of the last data that was sent, and that was taken
+  -- the numbers of the last data sent and of the last data accepted
   pub last_is : last ≡ last_of (length line.sent)
   pub seen_is : seen ≡ last_of (length line.taken)
   pub pdus : AllByRecursion (IsSent line.sent) line.pdus
-  -- what is taken begins what was sent
+  -- what is accepted is a prefix of what was sent
   pub rest : List A
   pub begins : line.taken ++ rest ≡ line.sent
 
--- an option is the last of a list, if it is there
+-- the option is the last item of the list, if there is one
 abbrev pub IsLast : {A : Type 0} → List A → Option A → Type 0
 IsLast sent None = Unit {0}
 IsLast {A = A} sent (Some value) = (front : List A) × (sent ≡ front ++ value ∷ [])
@@ -81,7 +81,7 @@ module _ {A : Type 0} where
   pub line_starts : IsLine {A = A} None None empty
   line_starts = record { last_is = refl; seen_is = refl; pdus = tt; rest = []; begins = refl }
 
-  -- what is taken is no more than what was sent
+  -- not more is accepted than was sent
   pub few_taken : (last seen : Option ℕ) (line : Line A) → IsLine last seen line → length line.taken ≤ length line.sent
   few_taken last seen line l = omega (arith, length-append line.taken l.rest, ap length l.begins)
 
@@ -140,7 +140,7 @@ module _ {A : Type 0} where
   not_taken taken value true = refl
   not_taken taken value false = refl
 
-  -- data comes that has the expected number, or another
+  -- data arrives, with the expected number or with another
   comes_as : (last seen : Option ℕ) (line : Line A) (pdu : ℕ × A) (b : Bool) → eqb pdu.0 (next_number seen) ≡ b → length line.sent ≤ 32768 → IsLine last seen line → IsSent line.sent pdu
       → IsLine last (cond b (Some pdu.0) seen) (record {
         sent = line.sent;
@@ -174,7 +174,7 @@ module _ {A : Type 0} where
   line_comes last seen line k pdu there few l =
       comes_as last seen line pdu (eqb pdu.0 (next_number seen)) refl few l (all_at (IsSent line.sent) line.pdus k pdu l.pdus there)
 
-  -- what is taken grows, by one where it is new
+  -- what is accepted grows, by one if the data is new
   pub more_is_more : (taken : List A) (value : A) (t : Taken) → length taken ≤ length (more_taken taken value t)
   more_is_more taken value New = omega (arith, length-append taken (value ∷ []))
   more_is_more taken value Again = omega arith

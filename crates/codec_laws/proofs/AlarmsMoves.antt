@@ -1,4 +1,4 @@
--- Over any list of moves, what is taken begins what was raised, and lacks at most its last.
+-- Over any list of moves, the accepted alarms are a prefix of those raised, and lack at most the last one.
 use Rattle.std.proofs.Common.{◌≡◌, ℕ, ◌≤◌, ◌+◌, Bool, true, false, cond, leb, ltb, List, [], ◌∷◌, length, Option, Some, None, refl, sym, ap, subst, arith}
 use Rattle.std.specs.Prelude.{slice_get}
 use Rattle.std.proofs.lemmas.Bool.{ltb-true}
@@ -21,33 +21,34 @@ use Rattle.codec_laws.specs.alarms.Line.{with_sent, more_taken}
 use Rattle.codec_laws.specs.alarms.World.{World, start, with_raised, after_raise, after_device_tick, after_controller_tick, after_alarm, after_confirms, after_ack_to_device, after_ack_to_controller, after_nack_to_device, happens, behind_all, IsPrefixOf}
 use Rattle.codec_laws.proofs.AlarmsLines.{IsLine, IsLast, line_starts, few_taken, line_sends, line_ticks, same_sent, same_taken, line_comes, more_is_more}
 
--- how many stand
+-- how many alarms are unconfirmed
 abbrev standing_count : Option AlarmNotification → ℕ
 standing_count None = 0
 standing_count (Some alarm) = 1
 
--- what holds of both ends
+-- the invariant of both ends
 pub record IsWorld (w : World) : Type 0 where
   pub alarms : IsLine w.device.sender.sending.last w.controller.seen w.alarms
   pub confirms : IsLine w.controller.sending.last w.device.seen w.confirms
-  -- what is sent again is the last that was sent
+  -- what is repeated is the last that was sent
   pub standing : IsLast w.alarms.sent w.device.sender.standing
   pub confirming : IsLast w.confirms.sent w.controller.confirming
-  -- no more AlarmAcks were sent than alarms were taken, and each alarm but one that stands was ended by one that was taken
+  -- at most as many AlarmAcks were sent as alarms were accepted, and each alarm but an unconfirmed one was ended by an
+  -- accepted AlarmAck
   pub few : length w.confirms.sent ≤ length w.alarms.taken
   pub settled : length w.alarms.sent ≤ length w.confirms.taken + standing_count w.device.sender.standing
 
--- a step: no fewer alarms are raised, and what holds goes on to hold
+-- a step: the number of raised alarms does not fall, and the invariant is kept
 abbrev Step : World → World → Type 0
 Step w v = (length w.alarms.sent ≤ length v.alarms.sent) × (length w.alarms.sent ≤ 32768 → IsWorld w → IsWorld v)
 
--- ---- the last number stays
+-- ---- the last number stays the same
 
 last_acked : (s : Sending) (b : Bool) → (cond b (rested s) s).last ≡ s.last
 last_acked s true = refl
 last_acked s false = refl
 
--- an AlarmAck leaves the number, and ends what stands or nothing
+-- an AlarmAck keeps the number, and ends the unconfirmed alarm or nothing
 record IsLeft (before after : Alarming) : Type 0 where
   number : after.sending.last ≡ before.sending.last
   standing : (sent : List AlarmNotification) → IsLast sent before.standing → IsLast sent after.standing
@@ -65,7 +66,7 @@ one_stands : (o : Option AlarmNotification) → standing_count o ≤ 1
 one_stands None = omega arith
 one_stands (Some alarm) = omega arith
 
--- one AlarmAck more, or what stood stands
+-- one more AlarmAck was accepted, or the unconfirmed alarm stays
 settled_by : (a : Alarming) (ack : AlarmAck) (t : Taken) (taken : List AlarmAck) (raised : ℕ) → raised ≤ length taken + standing_count a.standing
     → raised ≤ length (more_taken taken ack t) + standing_count (sender_after a ack t).standing
 settled_by a ack New taken raised so_far = omega (arith, so_far, one_stands a.standing, length-append taken (ack ∷ []))
@@ -221,7 +222,7 @@ step w (AckComesToController k) = ack_to_controller_step w (slice_get w.acks_to_
 step w (NackComesToDevice k) = nack_to_device_step w (slice_get w.nacks_to_device k)
 step w (NackComesToController k) = (omega arith, λ few i. i)
 
--- ---- any list of them
+-- ---- any list of moves
 
 starts : (factor retries : ℕ) → IsWorld (start factor retries)
 starts factor retries = record { alarms = line_starts; confirms = line_starts; standing = tt; confirming = tt; few = omega arith; settled = omega arith }
@@ -236,11 +237,11 @@ runs (move ∷ moves) w =
       λ few i. others.1 few (one.1 (omega (arith, few, one.0, others.0)) i),
     )
 
--- at most the last is lacking
+-- at most the last alarm is missing
 lacks_one : (w : World) → IsWorld w → length w.alarms.sent ≤ length w.alarms.taken + 1
 lacks_one w i = omega (arith, i.settled, i.few, few_taken _ _ _ i.confirms, one_stands w.device.sender.standing)
 
--- of a world behind any moves
+-- the same for a world after any moves
 pub ordered : (factor retries : ℕ) (moves : List Move) (w : World) → w ≡ behind_all moves (start factor retries) → length w.alarms.sent ≤ 32768 → IsPrefixOf w.alarms.taken w.alarms.sent
 ordered factor retries moves w e few =
     let i = subst IsWorld (sym e) ((runs moves (start factor retries)).1 (subst (λ (v : World). length v.alarms.sent ≤ 32768) e few) (starts factor retries)) in

@@ -1,4 +1,4 @@
--- PDUs are read as they were written.
+-- PDUs are read back.
 use Rattle.std.proofs.Common.{◌≡◌, ◌≤◌, ◌<◌, ◌^◌, ◌+◌, ℕ, true, List, ◌++◌, length, Result, Ok, refl, ap, ◌∙◌, arith}
 use Rattle.record_blocks.specs.declared.alarm_ack.AlarmAck.{AlarmAck}
 use Rattle.record_blocks.specs.declared.alarm_notification.AlarmNotification.{AlarmNotification}
@@ -42,14 +42,14 @@ header_fits value is = (
   (omega (arith, is.source), (kind_fits value.kind, (flags_fit value.kind, (omega (arith, is.send_number), omega (arith, is.ack_number))))),
 )
 
--- what fits the format is read: a clause of the format
+-- a PDU that fits the format is read back: a clause of the format
 abbrev pub FittingIsRead : Type 0
 FittingIsRead = (said : Said) (more : List ℕ) → header.Fits said.header → is_long said.header.kind (length said.body) ≡ true → length said.body < 65536 → pdu_of (pdu_bytes said ++ more) ≡ Ok said
 
 pub pdu_read : FittingIsRead → (said : Said) (more : List ℕ) → CanBeSaid said → pdu_of (pdu_bytes said ++ more) ≡ Ok said
 pdu_read fitting said more is = fitting said more (header_fits said.header is.header) is.long (omega (arith, is.few))
 
--- ---- what it says
+-- ---- the contents of a PDU
 
 -- what a PDU of a kind says to a station
 says : {B : Type 0} (fitting : FittingIsRead) (block : List ℕ → Result B AlarmFault) (said : Said) (more : List ℕ) (type : PduType) (told : Notice B)
@@ -78,7 +78,7 @@ alarm_said fitting reads sized value alarm more same is good =
     record { header = is; long = any_long value.kind (length (alarm_pdu value alarm).body) (omega (arith, alarm_long sized alarm)); few = omega (arith, alarm_long sized alarm, good.few) } in
     says fitting notification_of (alarm_pdu value alarm) more pdu.Data (notice.Data value.send_number alarm) can same (rw (alarm_read reads alarm good) refl)
 
--- a PDU that carries nothing
+-- a PDU without a body
 empty_is : (value : Header) (type : PduType) → value.kind ≡ type → is_long type 0 ≡ true → IsHeader value → CanBeSaid (empty_pdu value)
 empty_is value type same long is = record { header = is; long = rw same long; few = omega arith }
 

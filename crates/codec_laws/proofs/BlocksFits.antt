@@ -22,7 +22,7 @@ use Rattle.block_codec.specs.declared.block.Block.TheVariants as is
 use Rattle.block_codec.specs.Block.{fields_of, kind_of}
 use Rattle.codec_laws.specs.blocks.Writable.{CanBeWritten, IsAck, IsAlarm, IsArAnswer, IsControl, IsIocrAnswer, IsRecord, IsWrite, IsWritten}
 
--- ---- what the formats of fields take
+-- ---- the values that the formats of fields can write
 
 version_fits : version.Fits tt
 unfolding version
@@ -122,7 +122,7 @@ alarm_size alarm is = omega (arith, is.few)
 
 -- ---- a block
 
--- the format of its fields takes it
+-- the format of its fields can write it
 abbrev pub Fits : Block → Type 0
 Fits block = ((fields_of (kind_of block)).size block < 65536) × (fields_of (kind_of block)).Fits block
 

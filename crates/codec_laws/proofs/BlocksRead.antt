@@ -1,4 +1,4 @@
--- What can be written is read.
+-- What can be written is read back.
 use Rattle.std.proofs.Common.{◌≡◌, ◌<◌, List, ℕ, [], ◌∷◌, ◌++◌, refl, sym, ap, ◌∙◌, append_assoc}
 use Rattle.std.specs.List.{AllByRecursion}
 use Rattle.std.proofs.lemmas.List.{append-nil}
@@ -7,7 +7,7 @@ use Rattle.block_codec.specs.Block.{block_bytes, block_of, fields_of, front, kin
 use Rattle.codec_laws.specs.blocks.Writable.{AreRead, CanBeWritten, octets_of}
 use Rattle.codec_laws.proofs.BlocksFits.{block_fits}
 
--- what fits its format is read: a clause of the format
+-- what fits its format is read back: a clause of the format
 abbrev pub FittingIsRead : Type 0
 FittingIsRead = (block : Block) (rest : List ℕ) → (fields_of (kind_of block)).size block < 65536 → (fields_of (kind_of block)).Fits block → block_of (block_bytes block ++ rest) ≡ front block rest
 

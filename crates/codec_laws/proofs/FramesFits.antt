@@ -13,7 +13,7 @@ use Rattle.codec_laws.specs.frames.Sendable.{CanBeSent, IsContent, IsHolder, IsM
 
 -- ---- the Ethernet header
 
--- an EtherType of a content, in front of which a tag may stand
+-- the EtherType of a content, which a tag may precede
 tag_fits : (tag : Option ℕ) (content : Content) → IsTag tag → tag_and_type.Fits (tag, type_of content)
 unfolding tag_and_type
 tag_fits None (RealTime frame_id body) is = (omega arith, refl)

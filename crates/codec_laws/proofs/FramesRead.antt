@@ -1,4 +1,4 @@
--- What is written is read.
+-- What is written is read back.
 use Rattle.std.proofs.Common.{◌≡◌, ◌==◌, ◌+◌, ◌≤◌, ◌<◌, ℕ, Bool, true, false, List, [], ◌++◌, length, nat_lt, Option, Some, None, Result, Ok, Err, if◌then◌else◌, refl, sym, ap, subst, ◌∙◌, append_assoc, arith}
 use Rattle.std.specs.Prelude.{IsErr}
 use Rattle.std.proofs.lemmas.Bool.{lt-ltb}
@@ -17,27 +17,27 @@ use Rattle.frame_codec.specs.Frame.{FitsFrame, IsReadBack, content_under, datagr
 use Rattle.codec_laws.specs.frames.Sendable.{CanBeSent, IsMac, IsRealTime, IsRealTimeOrNone, IsTag, carrying}
 use Rattle.codec_laws.proofs.FramesFits.{DatagramsFit, frame_fits, layers_fit, header_fits}
 
--- what fits its formats is read: a clause of the formats
+-- what fits its formats is read back: a clause of the formats
 abbrev pub FittingIsRead : Type 0
 FittingIsRead = (meaning : Meaning) → FitsFrame meaning → layers.Fits meaning → IsReadBack meaning
 
 pub back : FittingIsRead → DatagramsFit → (meaning : Meaning) → CanBeSent meaning → IsReadBack meaning
 back reads fit meaning is = reads meaning (frame_fits meaning is.content) (layers_fit fit meaning is)
 
--- with nothing more behind it
+-- the case without anything after the frame
 pub alone_back : FittingIsRead → DatagramsFit → (meaning : Meaning) → CanBeSent meaning → frame_of (frame_bytes meaning) ≡ Ok (with_behind meaning (padding_of meaning))
 alone_back reads fit meaning is =
     let b = back reads fit meaning is in
     let short : length (frame_bytes meaning) + length {A = ℕ} [] ≤ longest meaning.tag = omega (arith, b.most) in
     ap frame_of (sym (append-nil (frame_bytes meaning))) ∙ b.again [] short ∙ ap (λ (more : List ℕ). Ok (with_behind meaning more)) (append-nil (padding_of meaning))
 
--- ---- real-time data alone
+-- ---- real-time data is read only as real-time data
 
--- what a format is of
+-- the type of the values of a format
 abbrev ValueOf : {F A : Type 0} → Codec F A → Type 0
 ValueOf {A = A} codec = A
 
--- what is made of what was read is real-time data
+-- if what was read is real-time data, so is what is made of it
 made : {A H : Type 0} → (r : Result A FrameFault) (to : A → Content) (header : H) (make : H × Content → Meaning) → ((x : A) → IsRealTime (make (header, to x)).content)
     → IsRealTimeOrNone (((r >>= λ x. Ok (to x)) >>= λ y. Ok (header, y)) >>= λ x. Ok (make x))
 made (Ok x) to header make is = is x
@@ -47,7 +47,7 @@ judged : (long : Bool) (r : Result Meaning FrameFault) → IsRealTimeOrNone r �
 judged true r is = tt
 judged false r is = is
 
--- the Ethernet header in front decides
+-- the Ethernet header at the front decides
 under : (bytes rest : List ℕ) (destination source : Mac) (tag : Option ℕ) (frame_id : ℕ) (body : List ℕ)
     → ethernet.read bytes ≡ Ok (header_of (carrying destination source tag (RealTime frame_id body)), rest) → IsRealTimeOrNone (frame_of bytes)
 unfolding frame_of layers real_time
@@ -56,7 +56,7 @@ under bytes rest destination source tag frame_id body e =
     (made {A = ℕ × List ℕ} {H = ValueOf ethernet} ((ends_by (number TooShort 2) (λ _. everything)).read rest) (λ x. RealTime x.0 x.1)
     (header_of (carrying destination source tag (RealTime frame_id body))) (λ x. record { destination = x.0.destination; source = x.0.source; tag = x.0.tag; content = x.1 }) (λ x. tt)))
 
--- what is written begins with its Ethernet header
+-- a written frame begins with its Ethernet header
 parts : IsSound ethernet → (meaning : Meaning) → frame_bytes meaning ≡ ethernet.write (header_of meaning) ((content_under (type_of meaning.content)).write meaning.content ++ padding_of meaning)
 unfolding frame_bytes layers
 parts sound meaning =
@@ -65,7 +65,7 @@ parts sound meaning =
     ap (λ (xs : List ℕ). xs ++ padding_of meaning) (sound.local header body) ∙ append_assoc (ethernet.write header []) body (padding_of meaning)
     ∙ sym (sound.local header (body ++ padding_of meaning))
 
--- the Ethernet header in front of a frame is read
+-- the Ethernet header at the front of a frame is read
 header_read : IsSound ethernet → (meaning : Meaning) → IsMac meaning.destination → IsMac meaning.source → IsTag meaning.tag
     → ethernet.read (frame_bytes meaning) ≡ Ok (header_of meaning, (content_under (type_of meaning.content)).write meaning.content ++ padding_of meaning)
 header_read sound meaning one other tagged =

@@ -1,5 +1,6 @@
-//! Laws of alarms, and no code: what is written of a PDU is read as that, at the station that gets it; and what the one end takes, over a
-//! network that may lose, repeat and reorder whatever either sends, is what the other raised (IEC 61158-6-10, 4.8).
+//! Laws of alarms (IEC 61158-6-10, 4.8). A written PDU is read back by the station that receives it. What one end
+//! accepts is what the other raised, over a network that may lose, repeat and reorder everything that either end sends.
+//! This crate has no code.
 
 mod alarm_law;
 mod taken;

@@ -1,4 +1,4 @@
-//! Laws of blocks, and no code: what is written is read as that, also where blocks stand one behind the other.
+//! Laws of blocks: a written block is read back, also if several follow one another. This crate has no code.
 
 mod block_law;
 

@@ -1,4 +1,4 @@
-//! Laws of frames, and no code: what fits a frame and is written is read as that.
+//! Laws of frames: a frame that fits and is written is read back. This crate has no code.
 
 mod frame_law;
 

@@ -1,4 +1,6 @@
-//! Laws of frames, and no code: what fits a frame and is written is read as that.
+//! Laws of the codecs, proved of their definitions; the functions have no code.
+//!
+//! What fits and is written is read as itself: frames (`frames`), blocks (`blocks`), and the PDUs of alarms (`alarms`).
 #![tactic(auto)]
 
 mod alarms;

@@ -1,4 +1,4 @@
--- What a device sends for the Connect of a plan, and what its controller makes of it.
+-- The device's response to the Connect of a plan, and what its controller makes of it.
 use Rattle.std.proofs.Common.{◌≡◌, ◌==◌, ◌&&◌, ◌++◌, ℕ, Bool, true, List, [], ◌∷◌, Option, Some, None, Result, Ok, append_assoc, append-nil, refl, sym, ap, subst, ◌∙◌}
 use Rattle.std.specs.Prelude.{if◌then◌else◌}
 use Rattle.std.proofs.lemmas.Cmp.{nat_list_eq_equiv}
@@ -50,7 +50,7 @@ answers_so setup identity device none =
     (moved (making setup.plan.real (partner_of caller) (connect_of link blocks)) link) in
     (rest, ap (λ (l : Option Link). Moves rest (answer_from address caller call Connect (connect_answer identity setup.plan.real l blocks) ∷ [])) none)
 
--- where the device reads the plan's request, and none of its modules differs, it answers by these blocks
+-- if the device reads the plan's request and no module differs, it responds with these blocks
 blocks_by : (setup : Setup) (identity : Identity) → request_of None (blocks_of setup asks.Connect) ≡ Ok (request_for setup.plan setup.ar)
     → diff_of (request_for setup.plan setup.ar).expected setup.plan.real.modules.items ≡ no_rows
     → connect_answer identity setup.plan.real None (blocks_of setup asks.Connect) ≡ Ok (answer_blocks setup identity)
@@ -58,7 +58,7 @@ blocks_by setup identity read same =
     ap (λ (r : Result Request CallFault). r >>= λ request. Ok (connect_blocks identity request (differing_of request setup.plan.real))) read
     ∙ ap (λ (rows : Listed DiffModule DiffSubmodule). Ok (connect_blocks identity (request_for setup.plan setup.ar) (differing_octets rows))) same
 
--- so its frame is that of the response
+-- the frame is that of this response
 pub frame_by : (setup : Setup) (identity : Identity) (address : List ℕ) → request_of None (blocks_of setup asks.Connect) ≡ Ok (request_for setup.plan setup.ar)
     → diff_of (request_for setup.plan setup.ar).expected setup.plan.real.modules.items ≡ no_rows
     → answer_frame setup identity address
@@ -81,7 +81,7 @@ output_of = record { iocr_type = 2; iocr_reference = 2; frame_id = 0xC000 }
 abbrev alarm_bytes : List ℕ
 alarm_bytes = block_bytes (is.AlarmCrBlockRes (record {}))
 
--- they are these
+-- the blocks are these
 blocks_are : (setup : Setup) (identity : Identity) → answer_blocks setup identity
     ≡ block_bytes (is.ArBlockRes (relation_of setup identity)) ++ (block_bytes (is.IocrBlockRes input_of) ++ block_bytes (is.IocrBlockRes output_of)) ++ alarm_bytes ++ []
 unfolding connect_blocks
@@ -95,7 +95,7 @@ all_there setup identity there = subst (λ (blocks : List ℕ). IsAllThere block
 one_behind_another : (a b c d : List ℕ) → ((a ++ b) ++ c) ++ d ≡ ((a ++ (b ++ c)) ++ d) ++ []
 one_behind_another a b c d = ap (λ (front : List ℕ). front ++ d) (append_assoc a b c) ∙ sym (append-nil ((a ++ (b ++ c)) ++ d))
 
--- as they are written
+-- the blocks as they are written
 pub blocks_written : (setup : Setup) (identity : Identity)
     → ((block_bytes (is.ArBlockRes (relation_of setup identity)) ++ block_bytes (is.IocrBlockRes input_of)) ++ block_bytes (is.IocrBlockRes output_of)) ++ alarm_bytes
     ≡ answer_blocks setup identity
@@ -105,11 +105,11 @@ blocks_written setup identity =
 
 -- ---- at the controller
 
--- a response that is done, with this header and these blocks
+-- a positive response with this header and these blocks
 abbrev pub done_with : CallHeader → List ℕ → Answered
 done_with header blocks = record { header = header; status = done; maximum_count = 1372; blocks = blocks }
 
--- the frame is heard as what it was made of
+-- the frame is heard as the response that it was made of
 pub heard_as_made : (setup : Setup) (identity : Identity) (address blocks : List ℕ) (controller : Controller) (header : CallHeader)
     → request_of None (blocks_of setup asks.Connect) ≡ Ok (request_for setup.plan setup.ar)
     → diff_of (request_for setup.plan setup.ar).expected setup.plan.real.modules.items ≡ no_rows
@@ -122,14 +122,14 @@ heard_as_made setup identity address blocks controller header read same at of th
     ap (heard_of setup.plan.controller) (frame_by setup identity address read same)
     ∙ subst (λ (a : Answered). heard_of setup.plan.controller (response_frame identity (caller_of setup.plan.controller) address a) ≡ Responds a) answer one
 
--- it asked by this call
+-- the controller made this call
 is_its_answer : (setup : Setup) → is_answer setup asks.Connect (call_for setup asks.Connect).header ≡ true
 is_its_answer setup = ap (λ (is : Bool). is && 0 == 0) (nat_list_eq_equiv.refl setup.activity)
 
 where_so : {A : Type 0} (is : Bool) (x y : A) → is ≡ true → (if is then x else y) ≡ x
 where_so is x y e = ap (λ (b : Bool). if b then x else y) e
 
--- and goes on
+-- the controller goes on
 pub goes_on : (setup : Setup) (live : Controls) (octets blocks : List ℕ) (frame_id : ℕ) → IsAllThere blocks frame_id
     → heard_of setup.plan.controller octets ≡ Responds (answer_to (call_for setup asks.Connect) done blocks) → live.asked ≡ Some asks.Connect
     → turn_of setup live (Frame (record { items = octets })) ≡ writing (writing_from setup.plan 0) (standing setup live frame_id)

@@ -1,4 +1,4 @@
--- What a controller finds in the blocks of an answer.
+-- What a controller finds in the blocks of a response.
 use Rattle.std.proofs.Common.{◌≡◌, ◌<◌, ◌==◌, ◌++◌, ℕ, suc, true, false, List, [], length, Some, append_assoc, length-append, refl, ap, ◌∙◌, arith}
 use Rattle.std.proofs.lemmas.Bool.{eqb-true, false_from_ne_true}
 use Rattle.connect_blocks.specs.declared.ar_block.ArBlockRes.{ArBlockRes}
@@ -9,14 +9,14 @@ use Rattle.block_codec.specs.Block.{block_bytes, block_of, front}
 use Rattle.controller_core.specs.Connect.{found_in, nothing, with_block, with_iocr}
 use Rattle.connect_laws.specs.answer.Answer.{IsAllThere}
 
--- what a controller finds
+-- the type of what a controller finds
 abbrev TypeOf : {A : Type 0} → A → Type 0
 TypeOf {A = A} value = A
 
 abbrev Found : Type 0
 Found = TypeOf nothing
 
--- a block is read as it, and has octets
+-- a block is read back, and is not empty
 pub record IsOne (block : Block) : Type 0 where
   pub read : (rest : List ℕ) → block_of (block_bytes block ++ rest) ≡ front block rest
   pub some : 0 < length (block_bytes block)
@@ -35,7 +35,7 @@ found_all : (most : ℕ) (found : Found) → found_in (suc most) [] found ≡ So
 unfolding found_in
 found_all most found = refl
 
--- which of both IOCRBlockRes it is
+-- which of the two IOCRBlockRes it is
 as_input : (block : IocrBlockRes) (found : Found) → block.iocr_type ≡ 1 → with_iocr block found ≡ record found { input = true }
 as_input block found e = rw e refl
 
@@ -55,7 +55,7 @@ module _ (relation : ArBlockRes) (input output : IocrBlockRes) (r : IsOne (is.Ar
   abbrev alarm_bytes : List ℕ
   alarm_bytes = block_bytes (is.AlarmCrBlockRes (record {}))
 
-  -- the blocks, one behind the other
+  -- the blocks, one after the other
   behind_one_another : (first second third fourth : List ℕ) → ((first ++ (second ++ third)) ++ fourth) ++ [] ≡ first ++ (second ++ (third ++ (fourth ++ [])))
   behind_one_another first second third fourth =
       append_assoc (first ++ (second ++ third)) fourth []

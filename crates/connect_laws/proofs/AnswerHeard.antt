@@ -33,11 +33,11 @@ meaning_with controller identity address body = record {
 abbrev pub answer_meaning : Controller → Identity → List ℕ → Answered → Meaning
 answer_meaning controller identity address answer = meaning_with controller identity address (response_bytes answer)
 
--- the frame is read as that
+-- the frame is read as this meaning
 frame_is : (meaning : Meaning) → IsReadBack meaning → frame_of (frame_bytes meaning ++ []) ≡ Ok (with_behind meaning (padding_of meaning ++ []))
 frame_is meaning back = back.again [] (omega (arith, back.most))
 
--- its body is no call, and so the response
+-- the body is not a call, so it is the response
 body_is : (controller : Controller) (answer : Answered) (from : Caller) → response_of (response_bytes answer) ≡ Ok answer
     → heard_body from (response_bytes answer) ≡ Responds answer
 unfolding heard_body

@@ -14,7 +14,7 @@ use Rattle.rpc_core.specs.Pdu.{cut_off, is_known, is_served, is_version, is_whol
 use Rattle.rpc_core.specs.Call.{asked_by, call, call_body, call_of, parts_of_call}
 use Rattle.rpc_core.specs.Response.{Answered, answered_by, parts_of_response, response, response_body, response_of}
 
--- ---- what was read was read by each part, and passed each test
+-- ---- if the whole was read, each part was read and each test passed
 
 was_first : {F A B : Type 0} (read : Result A F) (next : A → Result B F) (y : B) → (read >>= next) ≡ Ok y → (x : A) × (read ≡ Ok x)
 was_first (Ok x) next y e = (x, refl)
@@ -45,7 +45,7 @@ module _ {F A : Type 0} where
       → (checked test f codec).read bytes ≡ Ok y → (x : A × List ℕ) × (codec.read bytes ≡ Ok x) × (test x.0 ≡ true)
   was_checked test f codec bytes y e = was_passed test f (codec.read bytes) y e
 
-  -- ---- a fault stays one
+  -- ---- a fault stays a fault
 
   not_loose : (codec : Codec F A) (bytes : List ℕ) (g : F) → codec.read bytes ≡ Err g → (loose codec).read bytes ≡ Err g
   not_loose codec bytes g e = ap (λ (r : Result (A × List ℕ) F). r >>= λ x. Ok x.0) e
@@ -62,13 +62,13 @@ module _ {F A : Type 0} where
   not_checked : (test : A → Bool) (f : F) (codec : Codec F A) (bytes : List ℕ) (g : F) → codec.read bytes ≡ Err g → (checked test f codec).read bytes ≡ Err g
   not_checked test f codec bytes g e = ap (λ (r : Result (A × List ℕ) F). r >>= λ x. if test x.0 then Ok x else Err f) e
 
-  -- what fails a test is refused
+  -- a value that fails a test is refused
   refused_by : (test : A → Bool) (f : F) (codec : Codec F A) (bytes : List ℕ) (x : A × List ℕ) → codec.read bytes ≡ Ok x → test x.0 ≡ false
       → (checked test f codec).read bytes ≡ Err f
   refused_by test f codec bytes x e t =
       ap (λ (r : Result (A × List ℕ) F). r >>= λ y. if test y.0 then Ok y else Err f) e ∙ ap (λ (is : Bool). if is then Ok x else Err f) t
 
--- ---- four tests, one behind the other
+-- ---- four tests, one after the other
 
 module _ {F A : Type 0} (cut : Codec F A) (version known whole served : A → Bool) (f g h k : F) where
   abbrev tested : Codec F A
@@ -99,7 +99,7 @@ second_not true true c e = absurd cc
 second_not true false c e = refl
 second_not false b c e = refl
 
--- that of a response is not that of a call
+-- the packet type of a response is not that of a call
 no_version : (version packet_type authentication : ℕ) → ((version == 4) && (packet_type == 2) && (authentication == 0)) ≡ true
     → ((version == 4) && (packet_type == 0) && (authentication == 0)) ≡ false
 no_version version packet_type authentication e =

@@ -1,5 +1,5 @@
-//! What a device answers to the Connect of a plan is a positive answer to the plan's controller (IEC 61158-6-10, 5.2.4): laws of the
-//! definitions by which the device answers and the controller reads.
+//! The response of a device to the Connect of a plan is a positive response for the plan's controller (IEC 61158-6-10,
+//! 5.2.4). These are laws of the definitions by which the device responds and the controller reads.
 
 mod blocks;
 mod law;

@@ -1,5 +1,5 @@
-//! What a device reads of the Connect of a plan (IEC 61158-6-10, 5.2.4): exactly what the plan asks for, and where the device has
-//! the plan's modules, none of them differs.
+//! Laws of a Connect: the device accepts the Connect of a plan that fits it, and the controller reads the answer as it is meant.
+//! The functions have no code.
 #![tactic(auto)]
 
 mod answer;

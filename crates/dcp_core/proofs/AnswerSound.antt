@@ -1,4 +1,4 @@
--- Answers are read as they are spelled.
+-- Reading responses agrees with how they are spelled.
 use Rattle.std.proofs.Common.{◌≡◌, ℕ, ◌+◌, ◌<◌, ◌≤◌, Bool, List, ◌++◌, length, Result, Ok, Err, refl, sym, ap, ◌∙◌, subst, arith}
 use Rattle.std.proofs.lemmas.List.{length-append, length-drop}
 use Rattle.wire.specs.Codec.{Codec, IsSound, IsSoundWhole, IsOnward, ◌>>=◌}
@@ -38,11 +38,11 @@ pub answer_block_sound : IsSound answer_block
 unfolding answer_block
 answer_block_sound = judged_sound _ _ (block everything) (block_sound everything everything_sound)
 
--- so many bytes go into a number
+-- a number of n bytes takes n bytes
 number_takes : {F : Type 0} (short : F) (size : ℕ) (bytes : List ℕ) (value : ℕ) (rest : List ℕ) → (number short size).Spells bytes value rest → length bytes ≡ size + length rest
 number_takes short size bytes value rest s = ap length s.2 ∙ length-append s.0 rest ∙ ap (λ (n : ℕ). n + length rest) s.1
 
--- a block takes four bytes at least
+-- a block takes at least four bytes
 takes_four : (bytes : List ℕ) (asked : AskedBlock) (rest : List ℕ) → (block everything).Spells bytes asked rest → 4 + length rest ≤ length bytes
 unfolding block kind
 takes_four bytes asked rest s =
@@ -74,7 +74,7 @@ pub answer_blocks_sound : IsSoundWhole answer_blocks
 unfolding answer_blocks
 answer_blocks_sound = every_sound fault.Block answer_block answer_block_shrinks answer_block_sound some_block
 
--- ---- answers
+-- ---- responses
 
 data_sound : (service : Result (Service × Bool) DcpFault) → IsSoundWhole (answer_data service)
 unfolding answer_data
@@ -95,22 +95,22 @@ onward frame_id = seen_onward _ (λ (said : Answered). ((id_of said.service, (ty
     (λ _. then_by_onward _ _ (number_onward fault.Length 4) (λ _. unchecked_onward fault.Length 2 0))))
     (λ head. framed_onward _ fault.Length (answer_data (answer_to frame_id head.0 head.1.0)) (number_onward fault.Length 2)))
 
--- bytes that are read as an answer spell it
+-- bytes that are read as a response spell it
 pub answer_takes : (frame_id : ℕ) (bytes : List ℕ) (said : Answered) → answer_of frame_id bytes ≡ Ok said → IsAnswer frame_id bytes said
 unfolding answer_of IsAnswer
 answer_takes frame_id bytes said e = (answer_sound frame_id).takes bytes said e
 
--- bytes that spell an answer are read as it
+-- bytes that spell a response are read as it
 pub answer_again : (frame_id : ℕ) (bytes : List ℕ) (said : Answered) → IsAnswer frame_id bytes said → answer_of frame_id bytes ≡ Ok said
 unfolding answer_of IsAnswer
 answer_again frame_id bytes said s = (answer_sound frame_id).again bytes said s
 
--- and so are they with anything behind them
+-- the same with anything after the bytes
 pub answer_behind : (frame_id : ℕ) (bytes more : List ℕ) (said : Answered) → IsAnswer frame_id bytes said → IsAnswer frame_id (bytes ++ more) said
 unfolding IsAnswer answer
 answer_behind frame_id bytes more said s = loose_behind (answer_header_and_data frame_id) bytes said more (onward frame_id) s
 
--- so are bytes that begin with an answer that fits a frame
+-- the same for bytes that begin with a response that fits a frame
 pub answer_sent : (frame_id xid : ℕ) (answer bytes : List ℕ) (said : Answered) → IsSent xid answer bytes → IsAnswer frame_id answer said → IsAnswer frame_id bytes said
 answer_sent frame_id xid answer bytes said sent s =
     subst (λ (all : List ℕ). IsAnswer frame_id all said) (sym sent.whole) (answer_behind frame_id answer sent.behind said s)

@@ -1,4 +1,4 @@
--- What is written as an answer spells what it says.
+-- A written response spells its contents.
 use Rattle.std.proofs.Common.{◌≡◌, ℕ, ◌+◌, ◌*◌, ◌^◌, ◌<◌, ◌≤◌, ◌%◌, Bool, true, false, cond, List, [], ◌∷◌, ◌++◌, length, map, replicate, Result, Ok, refl, sym, ap, ◌∙◌, subst, append_assoc, arith}
 use Rattle.std.specs.List.{list_all, flat_map, zip}
 use Rattle.std.specs.Prelude.{◌==◌}
@@ -46,7 +46,7 @@ two_bytes short n rest below = (number_sound short 2).written n rest below
 four_bytes : {F : Type 0} (short : F) (n : ℕ) (rest : List ℕ) → n < 2 ^ 32 → (number short 4).Spells (to_be_bytes w32 n ++ rest) n rest
 four_bytes short n rest below = (number_sound short 4).written n rest below
 
--- a block is spelled with anything behind it
+-- a block is spelled, with anything after it
 block_spelled : (about : Kind) (contents rest : List ℕ) → length contents < 65536
     → (block everything).Spells (block_bytes about contents ++ rest) (record { kind = named about; contents = contents }) rest
 unfolding block kind
@@ -75,7 +75,7 @@ block_spelled about contents rest below =
       ),
     )
 
--- a value behind a BlockInfo
+-- a value after a BlockInfo
 value_spelled : (about : Kind) (high low : ℕ) (value rest : List ℕ) → named about ≡ about → said_by about (high ∷ low ∷ value) ≡ value_in about (high ∷ low ∷ value)
     → length value + 2 < 65536 → answer_block.Spells (block_bytes about (high ∷ low ∷ value) ++ rest) (told about (high * 256 + low) value) rest
 unfolding answer_block
@@ -99,7 +99,7 @@ known error.Exhausted = refl
 known error.Local = refl
 known error.InOperation = refl
 
--- how a block or pair came out
+-- the outcome of a block or pair
 response_spelled : (about : Kind) (e : BlockError) (rest : List ℕ) → answer_block.Spells (response_bytes about e ++ rest) (came_out (named about) (Known e)) rest
 unfolding answer_block
 response_spelled about e rest =
@@ -109,26 +109,26 @@ response_spelled about e rest =
       block_spelled named_kind.Response contents rest (omega arith),
     )
 
--- the contents are no longer than the block
+-- the contents are not longer than the block
 block_long : (about : Kind) (contents : List ℕ) → length contents ≤ length (block_bytes about contents)
 block_long about contents =
     let pad : List ℕ = replicate (length contents % 2) 0 in
     let head : List ℕ = option_of about ∷ suboption_of about ∷ to_be_bytes w16 (length contents) in
     omega (arith, length-append (head ++ contents) pad, length-append head contents)
 
--- a value with nothing to say in its BlockInfo
+-- a value whose BlockInfo is 0
 plain : (about : Kind) (value rest : List ℕ) → named about ≡ about → said_by about (0 ∷ 0 ∷ value) ≡ value_in about (0 ∷ 0 ∷ value)
     → length (block_bytes about (0 ∷ 0 ∷ value)) ≤ 1498 → answer_block.Spells (block_bytes about (0 ∷ 0 ∷ value) ++ rest) (told about 0 value) rest
 plain about value rest same is short = let long = block_long about (0 ∷ 0 ∷ value) in value_spelled about 0 0 value rest same is (omega arith)
 
--- the IP suite, whose BlockInfo says whether an address was set
+-- the IP suite, whose BlockInfo says whether an address is set
 suite_spelled : (is_zero : Bool) (value rest : List ℕ) → length (block_bytes named_kind.IpSuite (cond is_zero (0 ∷ 0 ∷ []) (0 ∷ 1 ∷ []) ++ value)) ≤ 1498
     → answer_block.Spells (block_bytes named_kind.IpSuite (cond is_zero (0 ∷ 0 ∷ []) (0 ∷ 1 ∷ []) ++ value) ++ rest) (told named_kind.IpSuite (cond is_zero 0 1) value) rest
 suite_spelled true value rest short = plain named_kind.IpSuite value rest refl refl short
 suite_spelled false value rest short =
     let long = block_long named_kind.IpSuite (0 ∷ 1 ∷ value) in value_spelled named_kind.IpSuite 0 1 value rest refl refl (omega arith)
 
--- what a station tells of a kind
+-- what a station reports of a kind
 got_spelled : (identity : Identity) (settings : Settings) (about : Kind) (rest : List ℕ) → length (got identity settings about) ≤ 1498
     → answer_block.Spells (got identity settings about ++ rest) (told_of identity settings about) rest
 got_spelled identity settings named_kind.MacAddress rest short = plain named_kind.MacAddress identity.mac.octets rest refl refl short
@@ -154,7 +154,7 @@ module _ {X : Type 0} (bytes_of : X → List ℕ) (said : X → AnsweredBlock)
       let less = answer_block_shrinks.less (bytes_of x ++ rest) (said x) rest (answer_block_sound.again (bytes_of x ++ rest) (said x) rest s) in
       (omega arith, rest, s, all_spelled xs (omega arith))
 
--- ---- answers
+-- ---- responses
 
 -- a header and blocks
 answer_spelled : (frame_id : ℕ) (service : Service) (xid : ℕ) (bytes : List ℕ) (blocks : List AnsweredBlock) → answer_to frame_id (id_of service) 1 ≡ Ok (service, true)

@@ -1,4 +1,4 @@
--- Lists of any number of values, of a format whose values take a byte at least.
+-- Lists of any number of values, of a format whose values take at least one byte.
 use Rattle.std.proofs.Common.{◌≡◌, ℕ, zero, suc, ◌-◌, ◌<◌, ◌≤◌, Bool, true, false, cond, eqb, List, [], ◌∷◌, length, Option, Some, None, Result, Ok, Err, refl, sym, ap, ◌∙◌, arith}
 use Rattle.std.proofs.lemmas.Bool.{ne_eqb, eqb-true}
 use Rattle.wire.specs.Codec.{Codec, IsSound, IsSoundWhole, ◌>>=◌}
@@ -7,11 +7,11 @@ use Rattle.wire.proofs.Fields.{bind_ok, ok_is}
 use Rattle.wire.proofs.Lists.{filled_sound}
 use Rattle.dcp_core.specs.Every.{every, values_within, values_in}
 
--- each value that is read takes a byte at least
+-- each value that is read takes at least one byte
 pub record Shrinks {F A : Type 0} (codec : Codec F A) : Type 0 where
   pub less : (bytes : List ℕ) (value : A) (rest : List ℕ) → codec.read bytes ≡ Ok (value, rest) → length rest < length bytes
 
--- the rest of two readings that agree about shorter bytes
+-- the rest of two readings that agree on shorter bytes
 same_rest : {F A : Type 0} (bytes : List ℕ) (one other : List ℕ → Result (List A) F) (r : Result (A × List ℕ) F)
     → ((value : A) (rest : List ℕ) → r ≡ Ok (value, rest) → length rest < length bytes)
     → ((rest : List ℕ) → length rest < length bytes → one rest ≡ other rest)
@@ -21,7 +21,7 @@ same_rest {F} {A} bytes one other (Ok x) less same =
     let next : List A → Result (List A) F = λ values. Ok (x.0 ∷ values) in
     ap (λ (r : Result (List A) F). r >>= next) (same x.1 (less x.0 x.1 refl))
 
--- the same of the values in front
+-- the same for the values at the front
 same_values : {F A : Type 0} (bytes : List ℕ) (one other : List ℕ → List A) (r : Result (A × List ℕ) F)
     → ((value : A) (rest : List ℕ) → r ≡ Ok (value, rest) → length rest < length bytes)
     → ((rest : List ℕ) → length rest < length bytes → one rest ≡ other rest)
@@ -29,7 +29,7 @@ same_values : {F A : Type 0} (bytes : List ℕ) (one other : List ℕ → List A
 same_values bytes one other (Err why) less same = refl
 same_values bytes one other (Ok x) less same = ap (λ values. x.0 ∷ values) (same x.1 (less x.0 x.1 refl))
 
--- the values in front of what a reading of all gave
+-- the values at the front of what a reading of all bytes gave
 given_all : {F A : Type 0} (bytes : List ℕ) (one : List ℕ → Result (List A) F) (other : List ℕ → List A) (r : Result (A × List ℕ) F) (values : List A)
     → ((rest : List ℕ) (values : List A) → one rest ≡ Ok values → other rest ≡ values)
     → (r >>= λ x. one x.1 >>= λ values. Ok (x.0 ∷ values)) ≡ Ok values
@@ -40,7 +40,7 @@ given_all {F} bytes one other (Ok x) values same e =
     ap (λ others. x.0 ∷ others) (same x.1 a.0 a.1) ∙ ok_is {F = F} (x.0 ∷ a.0) values a.2
 
 module _ {F A : Type 0} (more : F) (codec : Codec F A) (shrinks : Shrinks codec) where
-  -- more turns than there are bytes change nothing
+  -- more steps than there are bytes change nothing
   read_enough : (m n : ℕ) (bytes : List ℕ) → length bytes ≤ m → length bytes ≤ n → read_all m more codec bytes ≡ read_all n more codec bytes
   unfolding read_all
   read_enough zero zero bytes a b = refl
@@ -51,7 +51,7 @@ module _ {F A : Type 0} (more : F) (codec : Codec F A) (shrinks : Shrinks codec)
       (same_rest bytes (read_all m more codec) (read_all n more codec) (codec.read bytes) (shrinks.less bytes)
       (λ rest shorter. read_enough m n rest (omega arith) (omega arith)))
 
-  -- no value is in no bytes
+  -- empty bytes hold no value
   nothing_read : (bytes : List ℕ) (r : Result (A × List ℕ) F) → codec.read bytes ≡ r → length bytes ≡ 0 → (one : List ℕ → List A)
       → elim r as (λ _. List A) [ Ok x ↦ x.0 ∷ one x.1 | Err why ↦ [] ] ≡ []
   nothing_read bytes (Err why) e none one = refl
@@ -68,7 +68,7 @@ module _ {F A : Type 0} (more : F) (codec : Codec F A) (shrinks : Shrinks codec)
       same_values bytes (values_within m codec) (values_within n codec) (codec.read bytes) (shrinks.less bytes)
       (λ rest shorter. values_enough m n rest (omega arith) (omega arith))
 
-  -- one value more is read of all the bytes
+  -- one more value is read from all the bytes
   pub read_step : (bytes : List ℕ) (value : A) (rest : List ℕ) → codec.read bytes ≡ Ok (value, rest)
       → (every more codec).read bytes ≡ ((every more codec).read rest >>= λ values. Ok (value ∷ values))
   unfolding read_all
@@ -80,7 +80,7 @@ module _ {F A : Type 0} (more : F) (codec : Codec F A) (shrinks : Shrinks codec)
       let opened : read_all (suc (length bytes - 1)) more codec bytes ≡ (read_all (length bytes - 1) more codec rest >>= λ values. Ok (value ∷ values)) = rw (some, e) refl in
       ap (λ (n : ℕ). read_all n more codec bytes) k ∙ opened ∙ ap (λ (r : Result (List A) F). r >>= λ values. Ok (value ∷ values)) enough
 
-  -- a fault in front is the fault of all the bytes
+  -- a fault at the front is the fault of all the bytes
   pub read_fails : (bytes : List ℕ) (why : F) → 0 < length bytes → codec.read bytes ≡ Err why → (every more codec).read bytes ≡ Err why
   unfolding read_all
   read_fails bytes why some e =
@@ -89,12 +89,12 @@ module _ {F A : Type 0} (more : F) (codec : Codec F A) (shrinks : Shrinks codec)
       let opened : read_all (suc (length bytes - 1)) more codec bytes ≡ Err why = rw (full, e) refl in
       ap (λ (n : ℕ). read_all n more codec bytes) k ∙ opened
 
-  -- no bytes are no values
+  -- empty bytes are an empty list
   pub read_ends : (bytes : List ℕ) → length bytes ≡ 0 → (every more codec).read bytes ≡ Ok []
   unfolding read_all
   read_ends bytes none = ap (λ (n : ℕ). read_all n more codec bytes) none ∙ rw none refl
 
-  -- the first value that bytes give
+  -- the first value of the bytes
   pub values_step : (bytes : List ℕ) (value : A) (rest : List ℕ) → codec.read bytes ≡ Ok (value, rest) → values_in codec bytes ≡ value ∷ values_in codec rest
   unfolding values_in
   values_step bytes value rest e =
@@ -104,7 +104,7 @@ module _ {F A : Type 0} (more : F) (codec : Codec F A) (shrinks : Shrinks codec)
       let opened : values_within (suc (length bytes - 1)) codec bytes ≡ value ∷ values_within (length bytes - 1) codec rest = rw (e, values_within) refl in
       ap (λ (n : ℕ). values_within n codec bytes) k ∙ opened ∙ ap (λ values. value ∷ values) enough
 
-  -- bytes that are none give none
+  -- bytes that are not a value give no values
   pub values_end : (bytes : List ℕ) (why : F) → codec.read bytes ≡ Err why → values_in codec bytes ≡ []
   unfolding values_in
   values_end bytes why e = by (length bytes)
@@ -113,7 +113,7 @@ module _ {F A : Type 0} (more : F) (codec : Codec F A) (shrinks : Shrinks codec)
       by zero = refl
       by (suc n) = rw (e, values_within) refl
 
-  -- the values that a reading gave are in front
+  -- the values that a reading gave are at the front
   values_of : (n : ℕ) (bytes : List ℕ) (values : List A) → read_all n more codec bytes ≡ Ok values → values_within n codec bytes ≡ values
   unfolding read_all
   values_of zero bytes values e = by (eqb (length bytes) 0) e
@@ -128,12 +128,12 @@ module _ {F A : Type 0} (more : F) (codec : Codec F A) (shrinks : Shrinks codec)
       by true test same e = none_in bytes n (eqb-true _ _ test) ∙ ok_is {F = F} [] values e
       by false test same e = given_all bytes (read_all n more codec) (values_within n codec) (codec.read bytes) values same e
 
-  -- bytes that are values to the end give these
+  -- bytes that are values up to the end give these values
   pub values_are : (bytes : List ℕ) (values : List A) → (every more codec).read bytes ≡ Ok values → values_in codec bytes ≡ values
   unfolding values_in
   values_are bytes values e = values_of (length bytes) bytes values e
 
-  -- bytes that spell values spell no more than there are bytes
+  -- bytes spell at most as many values as there are bytes
   few : (bytes : List ℕ) (values : List A) → IsSound codec → SpellAll codec bytes values → length values ≤ length bytes
   few bytes [] sound s = omega arith
   few bytes (value ∷ values) sound s =
@@ -154,7 +154,7 @@ abbrev pub fault_in : {F A : Type 0} → Result A F → Option F
 fault_in (Ok value) = None
 fault_in (Err why) = Some why
 
--- a value in front changes nothing of it
+-- a value at the front does not change the fault
 pub same_fault : {F A : Type 0} (value : A) (r : Result (List A) F) → fault_in (r >>= λ values. Ok (value ∷ values)) ≡ fault_in r
 same_fault value (Ok values) = refl
 same_fault value (Err why) = refl

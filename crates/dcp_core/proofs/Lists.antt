@@ -1,4 +1,4 @@
--- What a list says of its items seen otherwise.
+-- Facts about lists whose items are mapped.
 use Rattle.std.proofs.Common.{◌≡◌, ◌⊎◌, ◌++◌, Bool, List, [], ◌∷◌, map, refl, ap, inl, inr}
 use Rattle.std.specs.Prelude.{◌||◌}
 use Rattle.std.specs.List.{list_any, flat_map, zip}
@@ -13,7 +13,7 @@ flat_map-zip-map f h [] zs = refl
 flat_map-zip-map f h (x ∷ xs) [] = refl
 flat_map-zip-map f h (x ∷ xs) (z ∷ zs) = ap (λ rest. f (h x, z) ++ rest) (flat_map-zip-map f h xs zs)
 
--- where either list is empty there are no pairs
+-- if either list is empty, there are no pairs
 pub flat_map-zip-nil : {X Z A : Type 0} (f : X × Z → List A) (xs : List X) (zs : List Z) → (xs ≡ []) ⊎ (zs ≡ []) → flat_map f (zip xs zs) ≡ []
 flat_map-zip-nil f [] zs h = refl
 flat_map-zip-nil f (x ∷ xs) [] h = refl

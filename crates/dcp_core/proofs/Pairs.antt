@@ -15,11 +15,11 @@ use Rattle.dcp_core.specs.Get.{firsts_of}
 abbrev pub kinds_in : List Block → List Kind
 kinds_in blocks = map (λ (block : Block). block.kind) blocks
 
--- what was written for the kinds before, and what is to come for those that are left
+-- what was written for the earlier kinds, and what the remaining kinds add
 abbrev pub Gets : (Kind → List ℕ) → List ℕ → List Kind → List Kind → List ℕ → Type 0
 Gets got written before left all = written ++ flat_map got (firsts_of before left) ≡ all
 
--- a pair that was not there before
+-- a pair that did not occur before
 gets_new : (got : Kind → List ℕ) (written : List ℕ) (before : List Kind) (kind : Kind) (left : List Kind) (all : List ℕ)
     → list_any (is_same kind) before ≡ false → Gets got written before (kind ∷ left) all → Gets got (written ++ got kind) (before ++ kind ∷ []) left all
 gets_new got written before kind left all new h =
@@ -27,14 +27,14 @@ gets_new got written before kind left all new h =
     append_assoc written (got kind) (flat_map got (firsts_of (before ++ kind ∷ []) left))
     ∙ ap (λ (kinds : List Kind). written ++ flat_map got kinds) (sym first) ∙ h
 
--- a pair that was
+-- a pair that occurred before
 gets_again : (got : Kind → List ℕ) (written : List ℕ) (before : List Kind) (kind : Kind) (left : List Kind) (all : List ℕ)
     → list_any (is_same kind) before ≡ true → Gets got written before (kind ∷ left) all → Gets got written (before ++ kind ∷ []) left all
 gets_again got written before kind left all again h =
     let first : firsts_of before (kind ∷ left) ≡ firsts_of (before ++ kind ∷ []) left = rw again refl in
     ap (λ (kinds : List Kind). written ++ flat_map got kinds) (sym first) ∙ h
 
--- the room that a name takes beyond that of other values
+-- the room that a name needs beyond that of other values
 abbrev pub for_name : List Kind → ℕ
 for_name kinds = cond (list_any (is_same NameOfStation) kinds) 215 0
 
@@ -55,7 +55,7 @@ joined before kind = list_any-append (is_same NameOfStation) before (kind ∷ []
 room_again : (before : List Kind) (kind : Kind) → for_name before ≤ for_name (before ++ kind ∷ [])
 room_again before kind = rw (joined before kind) (kept (list_any (is_same NameOfStation) before) (list_any (is_same NameOfStation) (kind ∷ [])))
 
--- a name that was not there before takes the room for it
+-- a name that did not occur before takes the room for it
 name_new : (before : List Kind) → list_any (is_same NameOfStation) before ≡ false → for_name before + 247 ≤ for_name (before ++ NameOfStation ∷ []) + 32
 name_new before new = rw (joined before NameOfStation, new) (omega arith)
 
@@ -75,18 +75,18 @@ for_name-most kinds = by (list_any (is_same NameOfStation) kinds)
     by true = omega arith
     by false = omega arith
 
--- what holds of the bytes that were written for the blocks before a place
+-- the facts about the bytes written for the blocks before an index
 pub record IsSoFar (got : Kind → List ℕ) (written : List ℕ) (blocks : List Block) (i : ℕ) : Type 0 where
-  -- what is to come makes them the whole answer
+  -- with what is to come they make the whole response
   pub all : Gets got written (kinds_in (take i blocks)) (kinds_in (drop i blocks)) (flat_map got (firsts_of [] (kinds_in blocks)))
   -- they take 32 bytes for each block, and more for one name
   pub room : length written ≤ 32 * i + for_name (kinds_in (take i blocks))
 
--- before the first block
+-- the facts before the first block
 pub so_far_none : (got : Kind → List ℕ) (written : List ℕ) (blocks : List Block) → written ≡ [] → IsSoFar got written blocks 0
 so_far_none got written blocks none = record { all = rw none refl; room = rw none (omega arith) }
 
--- behind the last one
+-- the facts after the last block
 pub so_far_all : (got : Kind → List ℕ) (written : List ℕ) (blocks : List Block) (i : ℕ) → length blocks ≤ i → IsSoFar got written blocks i
     → written ≡ flat_map got (firsts_of [] (kinds_in blocks))
 so_far_all got written blocks i end h =
@@ -124,7 +124,7 @@ module _ (got : Kind → List ℕ) (blocks : List Block) (i : ℕ) (d : Block) (
     room = let room = room_again before kind in let was = h.room in rw more_before (omega arith);
   }
 
-  -- there is room for one more
+  -- there is room for one more block
   pub has_room : (written : List ℕ) → list_any (is_same kind) before ≡ false → length blocks ≤ 16 → IsSoFar got written blocks i → length written + most_of kind ≤ 727
   has_room written new few h =
       let room = room_new before kind new in

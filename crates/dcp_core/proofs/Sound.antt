@@ -1,4 +1,4 @@
--- Requests are read as they are spelled.
+-- Reading requests agrees with how they are spelled.
 use Rattle.std.proofs.Common.{◌≡◌, ℕ, ◌<◌, ◌≤◌, ◌%◌, ltb, List, ◌++◌, length, Result, Ok, Err, refl, subst, arith}
 use Rattle.std.proofs.lemmas.Bool.{ltb-false, le-ltb}
 use Rattle.wire.specs.Codec.{Codec, Whole, IsSound, IsSoundWhole, IsOnward}
@@ -72,7 +72,7 @@ block_of_sound Get = pair_sound
 block_of_sound Set = block_sound (at_least fault.Block 2) (at_least_sound fault.Block 2)
 block_of_sound Identify = block_sound _ everything_sound
 
--- a block takes a byte at least
+-- a block takes at least one byte
 some_of : (service : Service) (asked : AskedBlock) → (block_of service).Fits asked → 0 < (block_of service).size asked
 unfolding block_of pair block kind
 some_of Get asked fits = omega arith
@@ -114,7 +114,7 @@ pub request_again : (frame_id : ℕ) (bytes : List ℕ) (asked : Asked) → IsRe
 unfolding request_of IsRequest
 request_again frame_id bytes asked s = (request_sound frame_id).again bytes asked s
 
--- and so are they with anything behind them
+-- the same with anything after the bytes
 pub request_behind : (frame_id : ℕ) (bytes more : List ℕ) (asked : Asked) → IsRequest frame_id bytes asked → IsRequest frame_id (bytes ++ more) asked
 unfolding IsRequest request
 request_behind frame_id bytes more asked s = loose_behind (header_and_data frame_id) bytes asked more (onward frame_id) s

@@ -18,7 +18,7 @@ use Rattle.dcp_core.proofs.Sound.{block_of_sound, blocks_sound, kind_sound, requ
 
 -- ---- a block
 
--- a kind, a length, so many bytes, and a zero where the length is odd
+-- a kind, a length, that many bytes, and a zero if the length is odd
 pub block_parts : (value : AskedBlock)
     → (block everything).write value [] ≡ kind.write value.kind [] ++ (big_bytes 2 (length value.contents) ++ (value.contents ++ replicate (length value.contents % 2) 0))
 unfolding block
@@ -26,7 +26,7 @@ block_parts value =
     kind_sound.local value.kind (big_bytes 2 (length value.contents) ++ (value.contents ++ (replicate (length value.contents % 2) 0 ++ [])))
     ∙ ap (λ (xs : List ℕ). kind.write value.kind [] ++ (big_bytes 2 (length value.contents) ++ (value.contents ++ xs))) (append-nil (replicate (length value.contents % 2) 0))
 
--- four parts, one behind the other
+-- four parts, one after the other
 pub four : (old a b c new first second third fourth : List ℕ) → a ≡ old ++ first → b ≡ a ++ second → c ≡ b ++ third → new ≡ c ++ fourth
     → new ≡ old ++ (first ++ (second ++ (third ++ fourth)))
 four old a b c new first second third fourth x y z w =
@@ -54,7 +54,7 @@ pub whole : (service : Service) (out : List ℕ) (left : List Block) (all : List
 whole service out left all none so =
     sym (append-nil out) ∙ ap (λ (blocks : List Block). out ++ write_all (block_of service) (map asked_block blocks)) (sym none) ∙ so
 
--- how many bytes all take
+-- how many bytes all blocks take
 pub sized : (service : Service) (blocks : List AskedBlock) → length (write_all (block_of service) blocks) ≡ sum_by (block_of service).size blocks
 unfolding blocks_of
 sized service blocks = (blocks_sound service).sized blocks
@@ -111,20 +111,20 @@ fits_request Get xid blocks fits short few small = ((omega arith, (omega arith, 
 fits_request Set xid blocks fits short few small = ((omega arith, (omega arith, (small, omega arith))), (omega (arith, few), ((fits, short), refl)))
 fits_request Identify xid blocks fits short few small = ((omega arith, (omega arith, (small, omega arith))), (omega (arith, few), ((fits, short), refl)))
 
--- what is written spells the request
+-- a written request spells the request
 pub spelled : (value : Asked) → IsRequestable value → length value.blocks ≤ 16 → value.xid < 256 ^ 4 → IsRequest (frame_id_of value.service) (request_bytes value) value
 unfolding IsRequest request_bytes request
 spelled value w short small =
     (request_sound (frame_id_of value.service)).written value
     (fits_request value.service value.xid value.blocks (all_fit value.service value.blocks w.0 w.1) short w.1 small)
 
--- and with anything behind it is read as it
+-- with anything after it, a written request is read back
 pub read_behind : (value : Asked) (more : List ℕ) → IsRequest (frame_id_of value.service) (request_bytes value) value
     → request_of (frame_id_of value.service) (request_bytes value ++ more) ≡ Ok value
 read_behind value more s =
     request_again (frame_id_of value.service) (request_bytes value ++ more) value (request_behind (frame_id_of value.service) (request_bytes value) more value s)
 
--- six parts, one behind the other
+-- six parts, one after the other
 pub six : (old a b c d e new p1 p2 p3 p4 p5 p6 : List ℕ) → a ≡ old ++ p1 → b ≡ a ++ p2 → c ≡ b ++ p3 → d ≡ c ++ p4 → e ≡ d ++ p5 → new ≡ e ++ p6
     → new ≡ old ++ (p1 ++ (p2 ++ (p3 ++ (p4 ++ (p5 ++ p6)))))
 six old a b c d e new p1 p2 p3 p4 p5 p6 x y z w v u =

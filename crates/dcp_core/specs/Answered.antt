@@ -1,4 +1,4 @@
--- An answer without where it lies in memory, and what is asked of it.
+-- The contents of a response, independent of its place in memory, and tests of them.
 use Rattle.std.specs.Prelude.{◌&&◌, ℕ, Bool, true, false, List, [], ◌∷◌, if◌then◌else◌, Option, Some, None}
 use Rattle.std.specs.List.{list_all}
 use Rattle.pn_values.specs.declared.set_item.BlockError.TheVariants as error
@@ -40,11 +40,11 @@ abbrev pub is_done : Outcome → Bool
 is_done (Known error.Done) = true
 is_done outcome = false
 
--- whether a block says that nothing went wrong, as a value does
+-- whether a block reports success or has a value
 abbrev pub is_positive : AnsweredBlock → Bool
 is_positive (told kind info value) = true
 is_positive (came_out kind outcome) = is_done outcome
 
--- whether an answer says that all went well: the service is supported, and no block or pair was refused
+-- whether a response is positive: the service is supported, and no block or pair was refused
 abbrev pub is_agreed : Answered → Bool
 is_agreed said = said.is_supported && list_all is_positive said.blocks

@@ -1,4 +1,4 @@
--- The answer to a Get (IEC 61158-6-10, 4.3.2.4).
+-- The response to a Get (IEC 61158-6-10, 4.3.2.4).
 use Rattle.std.specs.Prelude.{ℕ, List, [], ◌∷◌, ◌++◌, if◌then◌else◌, flat_map, map, Some, None}
 use Rattle.std.specs.List.{list_any}
 use Rattle.pn_values.specs.declared.identity.Identity.{Identity}
@@ -9,20 +9,20 @@ use Rattle.dcp_core.specs.Kinds.{blame, is_same}
 use Rattle.dcp_core.specs.Bytes.{response_bytes, answer_bytes}
 use Rattle.dcp_core.specs.Identify.{value_of, valued}
 
--- each kind at its first place, where the kinds before these are given
+-- each kind at its first position, given the kinds before these
 abbrev pub firsts_of : List Kind → List Kind → List Kind
 firsts_of before [] = []
 firsts_of before (kind ∷ kinds) =
     if list_any (is_same kind) before then firsts_of (before ++ kind ∷ []) kinds else kind ∷ firsts_of (before ++ kind ∷ []) kinds
 
--- the value asked for, or why there is none: the option is not known, or the suboption
+-- the value asked for, or the error that says why there is none: the option or the suboption is unknown
 abbrev pub got : Identity → Settings → Kind → List ℕ
 got identity settings kind = elim (value_of identity settings kind) [
   | Some value ↦ valued identity settings kind
   | None ↦ response_bytes kind (blame kind)
 ]
 
--- the answer of a Get: what follows the FrameID
+-- the response to a Get: what follows the FrameID
 unfoldable pub get_bytes : Identity → Settings → Asked → List ℕ
 get_bytes identity settings request =
     answer_bytes 3 request.xid (flat_map (got identity settings) (firsts_of [] (map (λ block. block.kind) request.blocks)))

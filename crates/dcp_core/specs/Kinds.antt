@@ -1,4 +1,4 @@
--- What blocks are about: Option and Suboption (IEC 61158-6-10, 4.3.1.4.1).
+-- The kinds of blocks: Option and Suboption (IEC 61158-6-10, 4.3.1.4.1).
 use Rattle.std.specs.Prelude.{◌==◌, ◌&&◌, ◌||◌, ℕ, Bool, if◌then◌else◌}
 use Rattle.pn_values.specs.declared.set_item.BlockError.{BlockError}
 use Rattle.pn_values.specs.declared.set_item.BlockError.TheVariants as error
@@ -57,11 +57,11 @@ kind_of option suboption =
     kind_of_5 : ℕ → Kind
     kind_of_5 s = if s == 3 then Signal else (if s == 4 then Response else (if s == 5 then FactoryReset else (if s == 6 then ResetToFactory else Other 5 s)))
 
--- whether the option is one of those that a device has: 1 IP, 2 device properties, 5 control
+-- whether the option is one that a device has: 1 IP, 2 device properties, 5 control
 abbrev pub is_known_option : Kind → Bool
 is_known_option kind = option_of kind == 1 || option_of kind == 2 || option_of kind == 5
 
--- what is to blame where a kind can't be answered or set: the suboption where the option is known, else the option
+-- the error if a kind cannot be read or set: the suboption if the option is known, else the option
 abbrev pub blame : Kind → BlockError
 blame kind = if is_known_option kind then error.Suboption else error.Option
 

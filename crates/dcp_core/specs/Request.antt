@@ -1,4 +1,4 @@
--- What a DCP request asks, as the standard names it.
+-- The contents of a DCP request, as the standard names them.
 use Rattle.std.specs.Prelude.{ℕ, List, map}
 use Rattle.dcp_core.specs.declared.kind.Kind.{Kind}
 use Rattle.dcp_core.specs.declared.request.Service.{Service}
@@ -16,10 +16,10 @@ pub record Asked : Type 0 where
   pub xid : ℕ
   pub blocks : List AskedBlock
 
--- a block without where it lies in memory
+-- the contents of a block, independent of its place in memory
 abbrev pub asked_block : Block → AskedBlock
 asked_block block = record { kind = block.kind; contents = block.contents.now }
 
--- a request without where it lies in memory
+-- the contents of a request, independent of its place in memory
 abbrev pub asked : Request → Asked
 asked request = record { service = request.service; xid = request.xid; blocks = map asked_block request.blocks.items }

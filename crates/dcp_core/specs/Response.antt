@@ -1,4 +1,4 @@
--- What a DCP answer says, as the standard names it.
+-- The contents of a DCP response, as the standard names them.
 use Rattle.std.specs.Prelude.{ℕ, Bool, List}
 use Rattle.dcp_core.specs.declared.kind.Kind.{Kind}
 use Rattle.dcp_core.specs.declared.request.Service.{Service}
@@ -6,12 +6,12 @@ use Rattle.dcp_core.specs.declared.response.Outcome.{Outcome}
 
 -- a block
 pub data AnsweredBlock : Type 0 where
-  -- a value of a kind, behind its BlockInfo
+  -- a value of a kind, after its BlockInfo
   told : Kind → ℕ → List ℕ → AnsweredBlock
-  -- how a block of a Set, or a pair of a Get, came out
+  -- the outcome of a block of a Set, or of a pair of a Get
   came_out : Kind → Outcome → AnsweredBlock
 
--- an answer
+-- a response
 pub record Answered : Type 0 where
   pub service : Service
   pub is_supported : Bool

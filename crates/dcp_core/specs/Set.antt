@@ -1,4 +1,4 @@
--- What the blocks of a Set ask for, and the answer (IEC 61158-6-10, 4.3.2.5).
+-- What the blocks of a Set ask for, and the response (IEC 61158-6-10, 4.3.2.5).
 use Rattle.std.specs.Prelude.{◌/◌, ◌%◌, ◌==◌, ◌&&◌, ◌||◌, ℕ, Bool, nat_le, List, [], ◌∷◌, length, map, flat_map, if◌then◌else◌, take, drop, nat_eq}
 use Rattle.std.specs.Cmp.Lexicographic.{pointwise}
 use Rattle.std.specs.List.{zip}
@@ -25,15 +25,15 @@ qualifier_of contents = from_be_bytes w16 (take 2 contents)
 abbrev pub is_permanent : List ℕ → Bool
 is_permanent contents = qualifier_of contents % 2 == 1
 
--- the value behind the qualifier
+-- the value after the qualifier
 abbrev pub value_in : List ℕ → List ℕ
 value_in contents = drop 2 contents
 
--- address, mask and gateway, one behind the other
+-- address, mask and gateway, one after the other
 abbrev pub suite_in : List ℕ → Suite
 suite_in value = record { address = take 4 value; mask = take 4 (drop 4 value); gateway = take 4 (drop 8 value) }
 
--- name and address are not set while an application relation exists
+-- the command, refused while an application relation exists: this is so for name and address
 abbrev pub judged : Bool → Command → SetItem
 judged in_operation command = if in_operation then Answer error.InOperation else Ask command
 
@@ -51,7 +51,7 @@ suite_item in_operation contents =
     then judged in_operation (SetIp (is_permanent contents) (suite_in (value_in contents)))
     else Answer error.Value
 
--- whether a Signal block asks to flash once, which is all that it may ask
+-- whether a Signal block asks to flash once, which is the only valid request
 abbrev pub is_flash : List ℕ → Bool
 is_flash contents = pointwise nat_eq (value_in contents) (1 ∷ 0 ∷ [])
 
@@ -59,11 +59,11 @@ is_flash contents = pointwise nat_eq (value_in contents) (1 ∷ 0 ∷ [])
 abbrev pub signal_item : List ℕ → SetItem
 signal_item contents = if is_flash contents then item.Signal else Answer error.Value
 
--- FactoryReset: a qualifier alone
+-- FactoryReset: only a qualifier
 abbrev pub factory_item : List ℕ → SetItem
 factory_item contents = if length contents == 2 then Ask ResetAll else Answer error.Value
 
--- ResetToFactory: a qualifier alone, in which mode 1 resets the texts and mode 2 name and address
+-- ResetToFactory: only a qualifier, in which mode 1 resets the texts and mode 2 name and address
 abbrev pub reset_item : List ℕ → SetItem
 reset_item contents =
     if length contents == 2 then reset_by (qualifier_of contents / 2) else Answer error.Value
@@ -71,7 +71,8 @@ reset_item contents =
     reset_by : ℕ → SetItem
     reset_by mode = if mode == 1 then Ask ResetApplication else (if mode == 2 then Ask ResetCommunication else Answer error.Suboption)
 
--- What a block of a Set comes to. The first fault counts: option, suboption, value, and then whether the device operates.
+-- What a block of a Set asks for, or its error. The first fault is given: option, suboption, value, and then whether
+-- the device operates.
 abbrev pub item_of : Bool → Kind → List ℕ → SetItem
 item_of in_operation NameOfStation contents = name_item in_operation contents
 item_of in_operation IpSuite contents = suite_item in_operation contents
@@ -84,7 +85,7 @@ item_of in_operation kind contents = Answer (blame kind)
 unfoldable pub plan_of : Bool → Asked → List SetItem
 plan_of in_operation request = map (λ block. item_of in_operation block.kind block.contents) request.blocks
 
--- the answer of a Set, given how each of its blocks came out: what follows the FrameID
+-- the response to a Set, given the outcome of each block: what follows the FrameID
 unfoldable pub set_bytes : Asked → List BlockError → List ℕ
 set_bytes request answers =
     answer_bytes 4 request.xid (flat_map (λ pair. response_bytes pair.0.kind pair.1) (zip request.blocks answers))

@@ -8,7 +8,7 @@ use Rattle.dcp_core.specs.Kinds.{kind_of, option_of, suboption_of}
 use Rattle.dcp_core.specs.Request.{Asked, AskedBlock}
 use Rattle.dcp_core.specs.Format.{block_of, frame_id_of, header_and_data}
 
--- a kind that has a name goes by it; Option and Suboption take a byte each
+-- a kind that has a name goes by it; Option and Suboption take one byte each
 abbrev pub IsNamed : Kind → Type 0
 IsNamed kind = (kind_of (option_of kind) (suboption_of kind) ≡ kind) × (option_of kind < 256) × (suboption_of kind < 256)
 
@@ -26,6 +26,6 @@ blocks_size asked = sum_by (block_of asked.service).size asked.blocks
 abbrev pub IsRequestable : Asked → Type 0
 IsRequestable asked = AllByRecursion (IsWritable asked.service) asked.blocks × (blocks_size asked ≤ 1488)
 
--- the bytes that are sent for a request, behind the FrameID of its service
+-- the bytes that are sent for a request, after the FrameID of its service
 unfoldable pub request_bytes : Asked → List ℕ
 request_bytes asked = (header_and_data (frame_id_of asked.service)).write asked []

@@ -1,4 +1,4 @@
-// Reading answers.
+// Reading responses.
 ghost use Rattle.std.specs.Prelude.{◌≡◌, ◌++◌, ℕ, List, IfOk, Ok};
 ghost use Rattle.std.specs.List.{list_all};
 ghost use Rattle.std.specs.Option.{option_map};
@@ -21,15 +21,15 @@ use crate::{DcpFault, Kind, Outcome, Response, ResponseBlock, ResponseBlocks, Se
 use pn_values::BlockError;
 use wire::{skip, split, u8_at, u16_at, u32_at};
 
-/// Reads the answer that begins behind a FrameID; what follows it is padding. The first fault counts: Length, then
-/// Service, then Block. It may have any number of blocks.
+/// Reads the response after a FrameID. The octets after it are padding. The first fault is returned: Length, then
+/// Service, then Block. The response may have any number of blocks.
 pub fn read_answer<'a>(frame_id: u16, bytes: &'a [u8]) -> Result<Response<'a>, DcpFault>
     ensures found { IfOk result (λ response. IsAnswer frame_id bytes.now (answered response)) }
     ensures only { (said : Answered) → IsAnswer frame_id bytes.now said → Gives answered result (Ok said) }
     ensures behind { (first more : List ℕ) (said : Answered) → IsAnswer frame_id first said → bytes.now ≡ first ++ more →
         Gives answered result (Ok said) }
     ensures exact { Gives answered result (answer_of frame_id bytes.now) }
-    // what is written here is read as what it says
+    // the responses that this crate writes are read as what they say
     ensures identify { (identity : Identity) (settings : Settings) (xid : ℕ) → frame_id ≡ 0xFEFF →
         IsSent xid (identify_bytes identity settings xid) bytes.now
         → Gives answered result (Ok (identify_said identity settings xid)) }
@@ -50,7 +50,7 @@ fn response_at<'a>(frame_id: u16, bytes: &'a [u8]) -> Result<Response<'a>, DcpFa
     let (id, rest) = u8_at(bytes, DcpFault::Length)?;
     let (service_type, rest) = u8_at(rest, DcpFault::Length)?;
     let (xid, rest) = u32_at(rest, DcpFault::Length)?;
-    // ResponseDelay of the request, which an answer has as a reserved field.
+    // This is ResponseDelay in a request. In a response it is reserved.
     let (_reserved, rest) = u16_at(rest, DcpFault::Length)?;
     let (length, rest) = u16_at(rest, DcpFault::Length)?;
     let (data, _behind) = split(rest, length as usize, DcpFault::Length)?;
@@ -65,7 +65,7 @@ fn response_at<'a>(frame_id: u16, bytes: &'a [u8]) -> Result<Response<'a>, DcpFa
     })
 }
 
-/// The service that FrameID and ServiceID say is answered.
+/// The service whose response this FrameID and ServiceID name.
 fn answered_by(frame_id: u16, id: u8) -> Result<Service, DcpFault>
     ensures { result ≡ answered_service frame_id id }
 {
@@ -88,20 +88,20 @@ fn supported_by(service_type: u8) -> Result<bool, DcpFault>
     }
 }
 
-/// All blocks, of which each one is whole.
+/// The blocks of a response, if each one is complete.
 fn blocks_at(bytes: &[u8]) -> Result<ResponseBlocks<'_>, DcpFault>
     ensures { Gives blocks_left result (answer_blocks.read bytes.now) }
 {
     let mut rest = bytes;
     while !rest.is_empty() {
-        // Each block is judged here, so that what is later read in place can have no fault.
+        // Each block is judged here, so that reading them in place later cannot fail.
         let (_block, behind) = block_at(rest)?;
         rest = behind;
     }
     Ok(ResponseBlocks { bytes })
 }
 
-/// One block, and the bytes behind it.
+/// One block, and the bytes after it.
 #[tactic(auto, unfolding(crate::specs::Answer::answer_block, crate::specs::Format::block))]
 fn block_at(bytes: &[u8]) -> Result<(ResponseBlock<'_>, &[u8]), DcpFault>
     ensures { Gives (λ x. (answered_block x.0, x.1.now)) result (answer_block.read bytes.now) }
@@ -109,7 +109,7 @@ fn block_at(bytes: &[u8]) -> Result<(ResponseBlock<'_>, &[u8]), DcpFault>
     let (kind, rest) = kind_at(bytes)?;
     let (length, rest) = u16_at(rest, DcpFault::Block)?;
     let (contents, rest) = split(rest, length as usize, DcpFault::Block)?;
-    // The padding octet of a last block may be missing, and its value is not looked at: stations differ in both.
+    // The padding octet of the last block may be missing, and its value is ignored: stations differ in both.
     let rest = skip(rest, contents.len() % 2);
     let block = said_in(kind, contents)?;
     Ok((block, rest))
@@ -125,7 +125,7 @@ fn said_in(kind: Kind, contents: &[u8]) -> Result<ResponseBlock<'_>, DcpFault>
     }
 }
 
-/// How a block or pair came out.
+/// The outcome of a block or pair.
 fn outcome_at(contents: &[u8]) -> Result<ResponseBlock<'_>, DcpFault>
     ensures { Gives answered_block result (outcome_in contents.now) }
 {
@@ -137,7 +137,7 @@ fn outcome_at(contents: &[u8]) -> Result<ResponseBlock<'_>, DcpFault>
     Ok(ResponseBlock::Outcome { kind, outcome })
 }
 
-/// A value behind its BlockInfo.
+/// A value after its BlockInfo.
 fn value_at(kind: Kind, contents: &[u8]) -> Result<ResponseBlock<'_>, DcpFault>
     ensures { Gives answered_block result (value_in kind contents.now) }
 {
@@ -146,7 +146,7 @@ fn value_at(kind: Kind, contents: &[u8]) -> Result<ResponseBlock<'_>, DcpFault>
 }
 
 impl Outcome {
-    /// What a BlockError says.
+    /// The outcome that a BlockError names.
     pub fn of(number: u8) -> Outcome
         ensures { result ≡ outcome_of number }
     {
@@ -162,7 +162,7 @@ impl Outcome {
         }
     }
 
-    /// Whether nothing went wrong.
+    /// Whether the outcome is success.
     pub fn is_done(self) -> bool
         ensures { result ≡ is_done self }
     {
@@ -186,14 +186,14 @@ impl<'a> Iterator for ResponseBlocks<'a> {
                 self.bytes = rest;
                 Some(block)
             }
-            // Only the end: each block was judged as the answer was read.
+            // This is the end of the blocks: each block was judged when the response was read.
             Err(_) => None,
         }
     }
 }
 
 impl<'a> Response<'a> {
-    /// The first value of a kind that the answer tells, without its BlockInfo.
+    /// The first value of a kind in the response, without its BlockInfo.
     pub fn value(&self, kind: Kind) -> Option<&'a [u8]>
         ensures { option_map (λ value. value.now) result ≡ value_among kind (blocks_left self.now.blocks) }
     {
@@ -211,8 +211,8 @@ impl<'a> Response<'a> {
         None
     }
 
-    /// Whether all went well: the service is supported, and no block or pair was refused. An answer that tells of no block
-    /// is positive too.
+    /// Whether the response is positive: the service is supported, and no block or pair was refused. There need not be
+    /// any block.
     pub fn is_positive(&self) -> bool
         ensures { result ≡ is_agreed (answered self.now) }
     {
@@ -228,7 +228,7 @@ impl<'a> Response<'a> {
     }
 }
 
-/// Whether a block says that nothing went wrong, as a value does.
+/// Whether a block reports success or has a value.
 fn is_positive(block: &ResponseBlock<'_>) -> bool
     ensures { result ≡ is_positive (answered_block block.now) }
 {

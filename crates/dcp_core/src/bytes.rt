@@ -1,4 +1,4 @@
-// Appending blocks, and the header of an answer.
+// Writing blocks, and the header of a response.
 ghost use Rattle.std.specs.Prelude.{◌≡◌, ◌+◌, ◌≤◌, ◌++◌, [], length};
 ghost use Rattle.arrayvec.specs.ArrayVec.{array_vec_len};
 ghost use Rattle.dcp_core.specs.Bytes.{block_bytes, response_bytes, answer_bytes, error_number};
@@ -7,11 +7,11 @@ use crate::Kind;
 use arrayvec::ArrayVec;
 use pn_values::BlockError;
 
-/// An answer, which is what follows the FrameID: a header of 10 bytes, and for each of at most 16 kinds up to 32 bytes, for
-/// the name 247.
+/// A response, which is what follows the FrameID: a header of 10 bytes, and for each of at most 16 kinds up to 32
+/// bytes, or 247 for the name.
 pub type Answer = ArrayVec<u8, 737>;
 
-/// The blocks of an answer, which is a header of ten bytes and these.
+/// The blocks of a response, which follow its header of ten bytes.
 pub(crate) type Blocks = ArrayVec<u8, 727>;
 
 /// Appends a block of BlockInfo and a value. There must be room.
@@ -30,7 +30,7 @@ pub(crate) fn put_block(blocks: &mut Blocks, kind: Kind, info: [u8; 2], value: &
     }
 }
 
-/// Appends how a block or pair of this kind came out. There must be room.
+/// Appends the outcome of a block or pair of this kind. There must be room.
 pub(crate) fn put_response(blocks: &mut Blocks, kind: Kind, error: BlockError)
     requires { array_vec_len blocks.old + 8 ≤ 727 }
     ensures items { blocks.new.items ≡ blocks.old.items ++ response_bytes kind error }
@@ -40,7 +40,7 @@ pub(crate) fn put_response(blocks: &mut Blocks, kind: Kind, error: BlockError)
     let _ = blocks.try_extend_from_slice(&response);
 }
 
-/// Puts together an answer with these blocks: ServiceID, success, the transaction, and DCPDataLength.
+/// Writes a response with these blocks: ServiceID, success, the transaction, and DCPDataLength.
 pub(crate) fn put_answer(answer: &mut Answer, service: u8, xid: u32, blocks: &Blocks)
     requires { answer.old.items ≡ [] }
     ensures items { answer.new.items ≡ answer_bytes service xid blocks.now.items }

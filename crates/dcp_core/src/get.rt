@@ -1,4 +1,4 @@
-// A Get: the values asked for.
+// Get: the values asked for.
 ghost use Rattle.std.specs.Prelude.{◌≡◌, ◌+◌, ◌≤◌, ◌++◌, length, map};
 ghost use Rattle.std.specs.List.{list_any};
 ghost use Rattle.arrayvec.specs.ArrayVec.{array_vec_len};
@@ -12,7 +12,8 @@ use crate::identify::put_value;
 use crate::{Block, Kind, Request};
 use pn_values::{Identity, Settings};
 
-/// The answer to a Get: for each pair, in order, its value or why there is none; a repeated pair at its first place only.
+/// The response to a Get: for each pair, in order, its value or why there is none. A repeated pair is answered at its
+/// first position only.
 pub fn get_answer(identity: &Identity, settings: &Settings, request: &Request<'_>) -> Answer
     ensures items { result.items ≡ get_bytes identity.now settings.now (asked request.now) }
     ensures length { length result.items ≤ 737 }
@@ -20,7 +21,7 @@ pub fn get_answer(identity: &Identity, settings: &Settings, request: &Request<'_
     let asked_for = request.blocks.as_slice();
     let mut blocks = Blocks::new();
     for (index, block) in asked_for.iter().enumerate() {
-        // A pair that is asked for twice is answered once, so that an answer never has more than 16 values.
+        // A repeated pair is answered once, so that a response never has more than 16 values.
         if !is_among(&asked_for[..index], block.kind) {
             put_pair(&mut blocks, identity, settings, block.kind);
         }
@@ -37,7 +38,7 @@ fn is_among(earlier: &[Block<'_>], kind: Kind) -> bool
     earlier.iter().any(|block| kind.is_same(block.kind))
 }
 
-/// Appends the value of a kind, or why there is none. There must be room.
+/// Appends the value of a kind, or the error that says why there is none. There must be room.
 fn put_pair(blocks: &mut Blocks, identity: &Identity, settings: &Settings, kind: Kind)
     requires { array_vec_len blocks.old + most_of kind ≤ 727 }
     ensures items { blocks.new.items ≡ blocks.old.items ++ got identity.now settings.now kind }

@@ -1,4 +1,4 @@
-// Identify: whether a station answers, and with what.
+// Identify: whether a station responds, and with what.
 ghost use Rattle.std.specs.Prelude.{◌≡◌, ◌+◌, ◌≤◌, ◌++◌, length, is_some};
 ghost use Rattle.dcp_core.specs.Request.{asked};
 ghost use Rattle.arrayvec.specs.ArrayVec.{array_vec_len};
@@ -11,7 +11,7 @@ use crate::{Block, Kind, Request};
 use arrayvec::ArrayVec;
 use pn_values::{Identity, IpSuite, Settings};
 
-/// BlockInfo: nothing to say.
+/// BlockInfo without information.
 const NO_INFO: [u8; 2] = [0, 0];
 
 /// 2/4: an IO device.
@@ -22,12 +22,12 @@ const KNOWN_OPTIONS: [u8; 24] = [
     1, 1, 1, 2, 2, 1, 2, 2, 2, 3, 2, 4, 2, 5, 2, 7, 5, 3, 5, 4, 5, 5, 5, 6,
 ];
 
-/// Whether a station with this identity and these running settings answers an Identify request: there is a block, and
-/// each one matches.
+/// Whether a station with this identity and these running settings responds to an Identify request: the request has at
+/// least one block, and each block matches.
 pub fn identify_matches(identity: &Identity, settings: &Settings, request: &Request<'_>) -> bool
     ensures { result ≡ matches identity.now settings.now (asked request.now) }
 {
-    // No block asks for nobody in particular, and is no question to all: that has a block 255/255.
+    // A request without blocks asks for no station. A request to all stations has a block 255/255.
     !request.blocks.is_empty()
         && request
             .blocks
@@ -46,7 +46,8 @@ fn matches_block(identity: &Identity, settings: &Settings, block: &Block<'_>) ->
         Kind::MacAddress => contents == identity.mac.octets.as_slice(),
         Kind::IpSuite => contents == octets_of(&settings.suite).as_slice(),
         Kind::StationType => contents == identity.station_type.as_slice(),
-        // Nobody answers to no name: else each station without one would, which is what an Identify of all is for.
+        // No station matches an empty name. Otherwise each station without a name would, and that is what an Identify
+        // of all is for.
         Kind::NameOfStation => !contents.is_empty() && contents == settings.name.as_bytes(),
         Kind::DeviceId => contents == device_id_of(identity).as_slice(),
         Kind::DeviceRole => contents == ROLE.as_slice(),
@@ -83,7 +84,7 @@ fn octets_of(suite: &IpSuite) -> ArrayVec<u8, 12>
     octets
 }
 
-/// The answer to an Identify request.
+/// The response to an Identify request.
 #[tactic(auto, unfolding(crate::specs::Identify::identify_bytes))]
 pub fn identify_answer(identity: &Identity, settings: &Settings, xid: u32) -> Answer
     ensures items { result.items ≡ identify_bytes identity.now settings.now xid }
@@ -102,7 +103,7 @@ pub fn identify_answer(identity: &Identity, settings: &Settings, xid: u32) -> An
     answer
 }
 
-/// Appends the block of a kind's value, and says whether the station has one. There must be room.
+/// Appends the block of a kind's value, and returns whether the station has one. There must be room.
 pub(crate) fn put_value(
     blocks: &mut Blocks,
     identity: &Identity,
@@ -151,7 +152,7 @@ fn put_suite(blocks: &mut Blocks, suite: &IpSuite)
     );
 }
 
-/// BlockInfo of an IP suite: whether an address was set.
+/// BlockInfo of an IP suite: whether an address is set.
 fn info_of(octets: &[u8]) -> [u8; 2]
     ensures { result ≡ suite_info octets.now }
 {

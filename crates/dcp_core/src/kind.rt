@@ -1,10 +1,10 @@
-// What a block is about.
+// The kinds of blocks.
 ghost use Rattle.std.specs.Prelude.{◌≡◌};
 ghost use Rattle.dcp_core.specs.Kinds.{kind_of, option_of, suboption_of, blame, is_same};
 
 use pn_values::BlockError;
 
-/// What a block or pair is about: Option and Suboption (IEC 61158-6-10, 4.3.1.4.1).
+/// The kind of a block or pair: Option and Suboption (IEC 61158-6-10, 4.3.1.4.1).
 #[derive(Clone, Copy, Debug, PartialEq, Eq)]
 pub enum Kind {
     /// 1/1
@@ -23,9 +23,9 @@ pub enum Kind {
     DeviceOptions,
     /// 2/7
     DeviceInstance,
-    /// 5/3: the lamp
+    /// 5/3: the signal lamp
     Signal,
-    /// 5/4: how one block of a Set, or one pair of a Get, came out
+    /// 5/4: the outcome of one block of a Set, or of one pair of a Get
     Response,
     /// 5/5
     FactoryReset,
@@ -62,7 +62,7 @@ impl Kind {
         }
     }
 
-    /// Its Option.
+    /// The Option.
     pub fn option(self) -> u8
         ensures { result ≡ option_of self }
     {
@@ -80,7 +80,7 @@ impl Kind {
         }
     }
 
-    /// Its Suboption.
+    /// The Suboption.
     pub fn suboption(self) -> u8
         ensures { result ≡ suboption_of self }
     {
@@ -97,8 +97,8 @@ impl Kind {
         }
     }
 
-    /// What is to blame where the kind can't be answered or set: the suboption where the Option is one of those that a
-    /// device has (1 IP, 2 device properties, 5 control), and else the option.
+    /// The error if the kind cannot be read or set: the suboption, if the Option is one that a device has (1 IP, 2
+    /// device properties, 5 control), else the option.
     pub(crate) fn blame(self) -> BlockError
         ensures { result ≡ blame self }
     {
@@ -108,7 +108,7 @@ impl Kind {
         }
     }
 
-    /// Whether Option and Suboption are those of the other.
+    /// Whether Option and Suboption are the same as those of the other kind.
     pub(crate) fn is_same(self, other: Kind) -> bool
         ensures { result ≡ is_same self other }
     {

@@ -1,4 +1,4 @@
-//! The laws.
+//! The laws of DCP.
 ghost use Rattle.std.specs.Prelude.{◌≡◌, ◌++◌, ◌≤◌, ◌<◌, List, ℕ, length, Ok};
 ghost use Rattle.pn_values.specs.declared.identity.Identity.{Identity};
 ghost use Rattle.pn_values.specs.declared.set_item.BlockError.{BlockError};
@@ -14,26 +14,27 @@ ghost use Rattle.dcp_core.specs.Told.{get_said, identify_said, set_said};
 ghost use Rattle.dcp_core.specs.Writing.{request_bytes};
 ghost use Rattle.dcp_core.specs.Sendable.{CanBeAsked};
 
-/// What is written for a request is read as that request: a law of the definitions, and no code.
+/// A request that can be sent is read back. This is a law of the definitions. No code is involved.
 pub fn requests_are_read()
-    // Under the FrameID of its service, whatever stands behind it.
+    // A request that can be sent is read back under the FrameID of its service, with anything after it.
     ensures read { (asked : Asked) (more : List ℕ) → CanBeAsked asked →
         request_of (frame_id_of asked.service) (request_bytes asked ++ more) ≡ Ok asked }
-    // It fits a frame.
+    // A request that can be sent fits a frame.
     ensures short { (asked : Asked) → CanBeAsked asked → length (request_bytes asked) ≤ 1498 }
 {}
 
-/// What is written for an answer is read as what it says: laws of the definitions, and no code.
+/// A response that is written is read as what it says. These are laws of the definitions. No code is involved.
 pub fn answers_are_read()
-    // What a station tells of itself, with the Xid of the request, whatever stands behind it.
+    // If it fits a frame, the response to an Identify is read as what the station reports of itself, with the Xid of
+    // the request, whatever follows it.
     ensures identify { (identity : Identity) (settings : Settings) (xid : ℕ) (more : List ℕ) → xid < 4294967296 →
         length (identify_bytes identity settings xid) ≤ 1498
         → answer_of 0xFEFF (identify_bytes identity settings xid ++ more) ≡ Ok (identify_said identity settings xid) }
-    // What a station tells of each kind that was asked for.
+    // If it fits a frame, the response to a Get is read as what the station reports of each kind that was asked for.
     ensures get { (identity : Identity) (settings : Settings) (request : Asked) (more : List ℕ) → request.xid < 4294967296 →
         length (get_bytes identity settings request) ≤ 1498
         → answer_of 0xFEFD (get_bytes identity settings request ++ more) ≡ Ok (get_said identity settings request) }
-    // How each block of a Set came out.
+    // If it fits a frame, the response to a Set is read as the outcome of each block.
     ensures set { (request : Asked) (outcomes : List BlockError) (more : List ℕ) → request.xid < 4294967296 →
         length (set_bytes request outcomes) ≤ 1498
         → answer_of 0xFEFD (set_bytes request outcomes ++ more) ≡ Ok (set_said request outcomes) }

@@ -1,5 +1,6 @@
 //! DCP, the Discovery and basic Configuration Protocol (IEC 61158-6-10, 4.3): its requests as values, the commands that
-//! a Set asks for, and the answers, which are written and read. A request or an answer is here what follows the FrameID.
+//! a Set asks for, and the responses, which are written and read. Here, a request or a response is what follows the
+//! FrameID.
 #![tactic(auto)]
 
 mod answers;

@@ -8,7 +8,7 @@ use crate::{Block, DcpFault, Kind, Request, Service};
 use arrayvec::ArrayVec;
 use wire::{skip, split, u8_at, u16_at, u32_at};
 
-/// Reads the request that begins behind a FrameID; what follows it is padding. The first fault counts: Length, then
+/// Reads the request after a FrameID. The octets after it are padding. The first fault is returned: Length, then
 /// Service, then Block.
 pub fn read_request<'a>(frame_id: u16, bytes: &'a [u8]) -> Result<Request<'a>, DcpFault>
     ensures found { IfOk result (λ request. IsRequest frame_id bytes.now (asked request)) }
@@ -27,7 +27,7 @@ fn request_at<'a>(frame_id: u16, bytes: &'a [u8]) -> Result<Request<'a>, DcpFaul
     let (id, rest) = u8_at(bytes, DcpFault::Length)?;
     let (service_type, rest) = u8_at(rest, DcpFault::Length)?;
     let (xid, rest) = u32_at(rest, DcpFault::Length)?;
-    // ResponseDelay spreads the answers of many stations; this one answers at once, which is inside of any delay.
+    // ResponseDelay spreads the responses of many stations. This station responds at once, which is within any delay.
     let (_delay, rest) = u16_at(rest, DcpFault::Length)?;
     let (length, rest) = u16_at(rest, DcpFault::Length)?;
     let (data, _behind) = split(rest, length as usize, DcpFault::Length)?;
@@ -41,7 +41,7 @@ fn request_at<'a>(frame_id: u16, bytes: &'a [u8]) -> Result<Request<'a>, DcpFaul
     })
 }
 
-/// The service that FrameID, ServiceID and ServiceType ask for.
+/// The service that FrameID, ServiceID and ServiceType name.
 fn service_at(frame_id: u16, id: u8, service_type: u8) -> Result<Service, DcpFault>
     ensures { result ≡ service_of frame_id id service_type }
 {
@@ -74,7 +74,7 @@ fn read_blocks<'a>(
     Ok(())
 }
 
-/// One block or pair, and the bytes behind it.
+/// One block or pair, and the bytes after it.
 #[tactic(auto, unfolding(crate::specs::Format::block_of, crate::specs::Format::pair, crate::specs::Format::block))]
 fn block_at(service: Service, bytes: &[u8]) -> Result<(Block<'_>, &[u8]), DcpFault>
     ensures { Gives (λ x. (asked_block x.0, x.1.now)) result ((block_of service).read bytes.now) }
@@ -93,7 +93,7 @@ fn block_at(service: Service, bytes: &[u8]) -> Result<(Block<'_>, &[u8]), DcpFau
     Ok((Block { kind, contents }, skip(rest, contents.len() % 2)))
 }
 
-/// A kind, and the bytes behind it.
+/// A kind, and the bytes after it.
 #[tactic(auto, unfolding(crate::specs::Format::kind))]
 pub(crate) fn kind_at(bytes: &[u8]) -> Result<(Kind, &[u8]), DcpFault>
     ensures { Gives (λ x. (x.0, x.1.now)) result (kind.read bytes.now) }

@@ -5,19 +5,19 @@ ghost use Rattle.dcp_core.specs.DcpFault.{number_of};
 use crate::Kind;
 use arrayvec::ArrayVec;
 
-/// Why bytes are no request.
+/// Why bytes are not a request.
 #[derive(Clone, Copy, Debug, PartialEq, Eq)]
 pub enum DcpFault {
-    /// The header is not whole, or DCPDataLength is more than what follows it.
+    /// The header is incomplete, or DCPDataLength is more than what follows it.
     Length = 1,
     /// ServiceID, ServiceType and FrameID are not those of a request.
     Service = 2,
-    /// A block or pair is not whole, there are more than 16, or a block of a Set has no BlockQualifier.
+    /// A block or pair is incomplete, there are more than 16, or a block of a Set has no BlockQualifier.
     Block = 3,
 }
 
 impl DcpFault {
-    /// Its number, 1 to 3.
+    /// The number of the fault, 1 to 3.
     pub fn number(self) -> u8
         ensures { result ≡ number_of self }
     {
@@ -37,11 +37,11 @@ pub enum Service {
 #[derive(Clone, Copy)]
 pub struct Block<'a> {
     pub kind: Kind,
-    /// What Length counts, BlockQualifier included.
+    /// The octets that Length counts, BlockQualifier included.
     pub contents: &'a [u8],
 }
 
-// `ArrayVec` asks for a default of its elements; nothing else does.
+// Only `ArrayVec` needs a default of its elements.
 impl Default for Block<'_> {
     ghost use Rattle.std.specs.Prelude.{◌≡◌, []};
     ghost use Rattle.dcp_core.specs.declared.kind.Kind.TheVariants.{All};
@@ -56,11 +56,11 @@ impl Default for Block<'_> {
     }
 }
 
-/// A request to get or to set values, or to identify oneself.
+/// A Get, Set or Identify request.
 #[derive(Drop)]
 pub struct Request<'a> {
     pub service: Service,
-    /// Transaction, which the answer repeats.
+    /// Transaction, which the response repeats.
     pub xid: u32,
     pub blocks: ArrayVec<Block<'a>, 16>,
 }

@@ -1,4 +1,4 @@
-// A Set: what each of its blocks asks for, and the answer.
+// Set: what each block asks for, and the response.
 ghost use Rattle.std.specs.Prelude.{◌≡◌, ◌≤◌, ◌==◌, ◌%◌, ◌&&◌, ◌↔◌, IsTrue, IsSome, IfSome, length};
 ghost use Rattle.std.specs.Int.{w16, from_be_bytes};
 ghost use Rattle.dcp_core.specs.Request.{asked};
@@ -11,7 +11,8 @@ use crate::{Block, Kind, Request};
 use arrayvec::ArrayVec;
 use pn_values::{BlockError, Command, IpSuite, SetItem, StationName};
 
-/// What each block of a Set comes to. `in_operation`: whether an application relation exists.
+/// The plan of a Set: what each of its blocks asks for, or its error. `in_operation` says whether an application
+/// relation exists.
 pub fn set_plan(request: &Request<'_>, in_operation: bool) -> ArrayVec<SetItem, 16>
     ensures items { result.items ≡ plan_of in_operation (asked request.now) }
     ensures count { length result.items ≤ 16 }
@@ -21,7 +22,7 @@ pub fn set_plan(request: &Request<'_>, in_operation: bool) -> ArrayVec<SetItem, 
     plan
 }
 
-/// The same, put where the caller keeps it, in the place of what is there: a plan has some 4 KiB.
+/// The same, written into the caller's plan, whose contents it replaces: a plan has about 4 KiB.
 pub fn fill_plan(request: &Request<'_>, in_operation: bool, plan: &mut ArrayVec<SetItem, 16>)
     ensures items { plan.new.items ≡ plan_of in_operation (asked request.now) }
     ensures count { length plan.new.items ≤ 16 }
@@ -33,8 +34,8 @@ pub fn fill_plan(request: &Request<'_>, in_operation: bool, plan: &mut ArrayVec<
     }
 }
 
-/// What one block of a Set comes to. The first fault counts: option, suboption, value, and then whether the device
-/// operates.
+/// What one block of a Set asks for, or its error. The first fault is returned: option, suboption, value, and then
+/// whether the device operates.
 pub fn plan_block(block: &Block<'_>, in_operation: bool) -> SetItem
     ensures { result ≡ item_of in_operation block.now.kind block.now.contents.now }
 {
@@ -48,19 +49,19 @@ pub fn plan_block(block: &Block<'_>, in_operation: bool) -> SetItem
     }
 }
 
-/// Name and address are not set while an application relation exists.
+/// Refuses the command while an application relation exists. This is so for name and address.
 fn unless_operating(in_operation: bool, command: Command) -> SetItem
     ensures { result ≡ judged in_operation command }
 {
     if in_operation {
-        // A controller exchanges by this name and address: another one would make it lose the station.
+        // The controller uses this name and address. With others it would lose the station.
         SetItem::Answer(BlockError::InOperation)
     } else {
         SetItem::Ask(command)
     }
 }
 
-/// The name, or none where there are no bytes.
+/// Sets the name, or no name if there are no bytes.
 fn plan_name(contents: &[u8], in_operation: bool) -> SetItem
     ensures { result ≡ name_item in_operation contents.now }
 {
@@ -68,7 +69,7 @@ fn plan_name(contents: &[u8], in_operation: bool) -> SetItem
         return SetItem::Answer(BlockError::Value);
     };
     let permanent = is_permanent(*qualifier);
-    // No octets are how a name is taken away; they are no faulty name.
+    // An empty value deletes the name. It is not an invalid name.
     if value.is_empty() {
         let name = StationName::none();
         return unless_operating(in_operation, Command::SetName { permanent, name });
@@ -79,7 +80,7 @@ fn plan_name(contents: &[u8], in_operation: bool) -> SetItem
     }
 }
 
-/// The IP suite behind its qualifier.
+/// Sets the IP suite after its qualifier.
 fn plan_suite(contents: &[u8], in_operation: bool) -> SetItem
     ensures { result ≡ suite_item in_operation contents.now }
 {
@@ -109,7 +110,7 @@ fn read_suite(value: &[u8]) -> Option<IpSuite>
     IpSuite::new(*address, *mask, *gateway)
 }
 
-/// Whether the value is to be kept over a power failure.
+/// Whether the value must be kept over a power failure.
 fn is_permanent(qualifier: [u8; 2]) -> bool
     ensures { result ≡ (from_be_bytes w16 qualifier % 2 == 1) }
 {
@@ -127,15 +128,15 @@ fn plan_signal(contents: &[u8]) -> SetItem
     }
 }
 
-/// Whether a Signal block asks to flash once, which is all that it may ask.
+/// Whether a Signal block asks to flash once, which is the only valid request.
 fn asks_to_flash(contents: &[u8]) -> bool
     ensures { result ≡ is_flash contents.now }
 {
-    // The qualifier is not looked at: nothing is stored, so it has nothing to say.
+    // The qualifier is ignored: nothing is stored.
     matches!(contents, [_, _, 1, 0])
 }
 
-/// FactoryReset, which has a qualifier alone.
+/// FactoryReset, which has only a qualifier.
 fn plan_factory_reset(contents: &[u8]) -> SetItem
     ensures { result ≡ factory_item contents.now }
 {
@@ -146,14 +147,14 @@ fn plan_factory_reset(contents: &[u8]) -> SetItem
     }
 }
 
-/// ResetToFactory, whose mode stands in its qualifier: 1 resets the texts, 2 name and address.
+/// ResetToFactory, whose mode is in its qualifier: 1 resets the texts, 2 name and address.
 fn plan_reset(contents: &[u8]) -> SetItem
     ensures { result ≡ reset_item contents.now }
 {
     let [high, low] = contents else {
         return SetItem::Answer(BlockError::Value);
     };
-    // The lowest bit is that of every qualifier, permanent or not; the mode stands above it.
+    // The lowest bit says permanent or not, as in every qualifier. The mode is in the bits above it.
     match u16::from_be_bytes([*high, *low]) >> 1 {
         1 => SetItem::Ask(Command::ResetApplication),
         2 => SetItem::Ask(Command::ResetCommunication),
@@ -161,7 +162,7 @@ fn plan_reset(contents: &[u8]) -> SetItem
     }
 }
 
-/// The answer to a Set: how each block came out.
+/// The response to a Set: the outcome of each block.
 pub fn set_answer(request: &Request<'_>, answers: &ArrayVec<BlockError, 16>) -> Answer
     ensures items { result.items ≡ set_bytes (asked request.now) answers.now.items }
     ensures length { length result.items ≤ 737 }

@@ -12,7 +12,7 @@ use crate::{Block, Kind, Request, Service};
 use arrayvec::ArrayVec;
 use wire::{append, append_u8, append_u16, append_u32};
 
-/// The blocks or pairs of a request, which fit a frame behind a FrameID and the header of ten octets.
+/// The blocks or pairs of a request. They fit a frame after a FrameID and the header of ten octets.
 type Asking = ArrayVec<u8, 1488>;
 
 impl Service {
@@ -27,7 +27,7 @@ impl Service {
         }
     }
 
-    /// The FrameID under which a request for it is sent.
+    /// The FrameID of a request for this service.
     pub fn frame_id(self) -> u16
         ensures { result ≡ frame_of self }
     {
@@ -37,7 +37,7 @@ impl Service {
         }
     }
 
-    /// ResponseDelay: 1, the least, of an Identify; elsewhere it is reserved.
+    /// ResponseDelay: 1, the minimum, in an Identify. In other requests it is reserved.
     fn delay(self) -> u16
         ensures { result ≡ delay_under (frame_of self) }
     {
@@ -59,7 +59,7 @@ fn put_kind(data: &mut Asking, value: Kind)
     append_u8(data, value.suboption());
 }
 
-/// Appends a block, and behind it a zero where its length is odd.
+/// Appends a block, and a zero after it if its length is odd.
 fn put_contents(data: &mut Asking, value: &Block<'_>)
     requires { array_vec_len data.old + (4 + length value.now.contents.now + length value.now.contents.now % 2) ≤ 1488 }
     ensures items { data.new.items ≡ data.old.items ++ (block everything).write (asked_block value.now) [] }
@@ -104,14 +104,14 @@ fn put_all(data: &mut Asking, request: &Request<'_>)
 #[tactic(auto, unfolding(crate::specs::Writing::request_bytes, crate::specs::Format::header_and_data, crate::specs::Format::data_of))]
 pub fn write_request<const N: usize>(request: &Request<'_>, out: &mut ArrayVec<u8, N>)
     requires room { array_vec_len out.old + 10 + blocks_size (asked request.now) ≤ N }
-    // A kind that has a name goes by it, a block of a Set has its BlockQualifier, and all fit a frame.
+    // A kind that has a name goes by it, each block of a Set has its BlockQualifier, and all blocks fit a frame.
     requires fits { IsRequestable (asked request.now) }
-    // The octets, each of them.
+    // The octets are exactly those of the request.
     ensures exact { out.new.items ≡ out.old.items ++ request_bytes (asked request.now) }
     ensures len { array_vec_len out.new ≡ array_vec_len out.old + 10 + blocks_size (asked request.now) }
-    // They spell what was given.
+    // The octets spell the given request.
     ensures spelled { IsRequest (frame_of request.now.service) (request_bytes (asked request.now)) (asked request.now) }
-    // With anything behind them, they are read as that.
+    // With anything after them, the octets are read as the given request.
     ensures behind { (more : List ℕ) → request_of (frame_of request.now.service) (request_bytes (asked request.now) ++ more)
         ≡ Ok (asked request.now) }
 {

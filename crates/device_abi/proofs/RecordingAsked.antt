@@ -52,11 +52,11 @@ use Rattle.device_abi.proofs.RecordingFew.{of_bind, few_data}
 
 -- ---- the blocks of a request
 
--- what is in front of the data
+-- the fields before the data
 abbrev head : ℕ → Codec DcpFault (ℕ × (ℕ × (ℕ × Unit {0})))
 head frame_id = number fault.Length 1 ⨾ number fault.Length 1 ⨾ number fault.Length 4 ⨾ unchecked fault.Length 2 (delay_under frame_id)
 
--- the data behind it
+-- the data after the header
 abbrev behind : ℕ → ℕ × (ℕ × (ℕ × Unit {0})) → Codec DcpFault (Service × List AskedBlock)
 behind frame_id front = framed (number fault.Length 2) fault.Length (data_of (service_of frame_id front.0 front.1.0))
 
@@ -130,7 +130,7 @@ short_of identity Tick = tt
 short_of identity (Input slot subslot value) = tt
 short_of identity (Alarm slot subslot octets) = tt
 
--- ---- what it comes to
+-- ---- what the step asks for
 
 abbrev IsFew : Judged → Type 0
 IsFew what = length (items_in what) ≤ 16

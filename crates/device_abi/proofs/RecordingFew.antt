@@ -1,4 +1,4 @@
--- No step asks for more than 48 calls: a Set has at most 16 blocks, and no commit more than three calls.
+-- No step makes more than 48 calls: a Set has at most 16 blocks, and a commit makes at most three calls.
 use Rattle.std.proofs.Common.{◌≡◌, ◌⊎◌, ◌==◌, ◌*◌, ◌+◌, ◌-◌, ◌≤◌, ◌<◌, ℕ, Bool, true, false, zero, suc, List, [], ◌∷◌, ◌++◌, length, map, refl, sym, ap, subst, ◌∙◌, Option, Some, None, Result, Ok, Err, arith}
 use Rattle.std.specs.Prelude.{if◌then◌else◌}
 use Rattle.std.proofs.lemmas.List.{length-append, length-map}

@@ -1,4 +1,4 @@
--- Wherever the calls of accepted commands are cut off, the chip is a legal end.
+-- If the calls of accepted commands are cut off anywhere, the chip is a legal end.
 use Rattle.std.proofs.Common.{◌≡◌, ◌⊎◌, ◌-◌, ◌+◌, ℕ, false, suc, List, [], ◌∷◌, ◌++◌, length, take, drop, refl, sym, ap, subst, ◌∙◌, inl, inr, arith}
 use Rattle.std.proofs.lemmas.List.{length-append, length-take, length-drop, length-replicate, append_assoc}
 use Rattle.pn_values.specs.Command.{apply, fold_of}
@@ -16,7 +16,7 @@ use Rattle.settings_store.specs.Legal.{LegalEnd, AllButLast, made_of}
 use Rattle.settings_store.specs.Machine.{Accepted, commands_of}
 use Rattle.device_abi.specs.recording.Calls.{CallsOf, AcceptedOf, EndsLegally, AreLegal, unanswered}
 
--- ---- lengths stay
+-- ---- lengths do not change
 
 anded_length : (xs ys : List ℕ) → length (anded xs ys) ≡ length xs
 anded_length [] ys = refl
@@ -42,7 +42,7 @@ calls_length : (image : Image) (calls : List Call) → length (all_carried_out i
 calls_length image [] = refl
 calls_length image (call ∷ calls) = calls_length (carried_out image call) calls ∙ call_length image call
 
--- ---- where calls behind calls are cut off
+-- ---- calls after calls that are cut off
 
 cut_split : (image chip : Image) (front back : List Call) → CutOff image (front ++ back) chip → CutOff image front chip ⊎ CutOff (all_carried_out image front) back chip
 cut_split image chip [] back cut = inr cut
@@ -54,13 +54,13 @@ cut_none : (image : Image) (calls : List Call) → CutOff image calls (all_carri
 cut_none image [] = refl
 cut_none image (call ∷ calls) = inr (cut_none (carried_out image call) calls)
 
--- ---- what commands make
+-- ---- the effect of commands
 
 made_append : (front back : List Accepted) (first : Settings) → made_of (front ++ back) first ≡ made_of back (made_of front first)
 made_append [] back first = refl
 made_append (one ∷ front) back first = made_append front back (apply one.command first)
 
--- a legal end behind the commands of earlier steps
+-- a legal end is one after the commands of earlier steps too
 behind_earlier : (chip : Image) (earlier some : List Accepted) (first stored : Settings) → stored ≡ made_of earlier first → LegalEnd chip some stored → LegalEnd chip (earlier ++ some) first
 behind_earlier chip earlier some first stored made (inl boots) =
     inl (subst (BootsTo chip) (ap (made_of some) made ∙ sym (made_append earlier some first)) boots)
@@ -73,11 +73,11 @@ behind_earlier chip earlier some first stored made (inr but) =
       boots = subst (BootsTo chip) (ap (made_of but.front) made ∙ sym (made_append earlier but.front first)) but.boots;
     })
 
--- and behind one more
+-- the same after one more command
 behind_one : (chip : Image) (one : Accepted) (rest : List Accepted) (stored : Settings) → LegalEnd chip rest (apply one.command stored) → LegalEnd chip (one ∷ rest) stored
 behind_one chip one rest stored legal = behind_earlier chip (one ∷ []) rest stored (apply one.command stored) refl legal
 
--- what is accepted, and a legal end of it
+-- the accepted commands, and a legal end of them
 pub record Ends (chip : Image) (accepted : List Accepted) (stored : Settings) : Type 0 where
   pub some : List Accepted
   pub some_of : AcceptedOf accepted some
@@ -88,14 +88,14 @@ pub record Ends (chip : Image) (accepted : List Accepted) (stored : Settings) : 
   pub parts : accepted ≡ kept ++ later
   pub boots : BootsTo chip (made_of kept stored)
 
--- some first ones of the commands are stored
+-- a prefix of the commands is stored
 pub record Keeps (chip : Image) (accepted : List Accepted) (stored : Settings) : Type 0 where
   pub kept : List Accepted
   pub later : List Accepted
   pub parts : accepted ≡ kept ++ later
   pub boots : BootsTo chip (made_of kept stored)
 
--- none of them, or the first
+-- none of the commands is stored, or the first one
 keeps_here : (chip : Image) (one : Accepted) (more : List Accepted) (stored : Settings) → IsKept chip stored (apply one.command stored) → Keeps chip (one ∷ more) stored
 keeps_here chip one more stored kept = elim kept.boots [
   | inl before ↦ record { kept = []; later = one ∷ more; parts = refl; boots = before }
@@ -145,7 +145,7 @@ ends size image chip stored room (one ∷ more) calls long now of cut left =
           ends size between chip (apply one.command stored) (room - 1) more of.1 (calls_length image of.0 ∙ long) now of.4 later (of.3 left))
     ]
 
--- wherever the calls are cut off
+-- the same wherever the calls are cut off
 pub are_legal : (size : ℕ) (image : Image) (stored : Settings) (room : ℕ) (accepted : List Accepted) (calls : List Call) → length image.first ≡ size → CallsOf image stored room accepted calls → AreLegal size image stored accepted calls
 are_legal size image stored room accepted calls long of chip now cut left first earlier made =
     let e = ends size image chip stored room accepted calls long now of cut left in

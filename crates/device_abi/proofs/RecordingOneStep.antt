@@ -1,4 +1,4 @@
--- One step, from what its items asked of the flash.
+-- One step, from the calls that its items made to the flash.
 use Rattle.std.proofs.Common.{◌≡◌, ◌≤◌, ℕ, false, [], length, ap, ◌∙◌, arith}
 use Rattle.device_core.specs.Machine.{items_of, judged_step, heard_step, step_of}
 use Rattle.device_core.specs.State.{State, store_of}

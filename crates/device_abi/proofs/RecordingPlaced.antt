@@ -1,4 +1,4 @@
--- What items asked of a recorded flash are the calls of the commands that were accepted.
+-- The calls that items make to a recorded flash are those of the accepted commands.
 use Rattle.std.proofs.Common.{◌≡◌, ◌⊎◌, ◌==◌, ◌-◌, ◌+◌, ◌≤◌, ◌<◌, ℕ, Bool, true, false, suc, List, [], ◌∷◌, ◌++◌, length, drop, refl, sym, ap, subst, ◌∙◌, inl, inr, arith}
 use Rattle.std.specs.Prelude.{nat_lt, if◌then◌else◌}
 use Rattle.std.proofs.lemmas.Bool.{cases_Bool, lt-ltb}
@@ -25,7 +25,7 @@ as_recorded = record { image = image_of; failures = failures_of; is_lost = has_p
 
 -- ---- one item, with no call failing
 
--- nothing is accepted and nothing changes, or a command is, and is stored
+-- nothing is accepted and nothing changes, or a command is accepted and stored
 abbrev Case : Values → Carried → Type 0
 Case values one =
     ((one.accepted ≡ []) × (one.values ≡ values))
@@ -48,7 +48,7 @@ pub after_image : (before : Record) (calls : List Call) → (after_all before ca
 after_image before [] = refl
 after_image before (call ∷ calls) = after_image (after_one before call) calls
 
--- one call behind those that are kept: they stay, while there is room for it too
+-- one more call after those that are stored: they stay, if there is room
 pushed_behind : (front back : List Call) (call : Call) → length back + 1 ≤ 48 → (old : List Call) × (pushed (front ++ back) call ≡ old ++ (back ++ call ∷ []))
 pushed_behind [] back call few =
     let short : nat_lt (length back) 48 ≡ true = lt-ltb _ _ (omega (arith, few)) in
@@ -59,7 +59,7 @@ pushed_behind (one ∷ front) back call few =
       | inr long ↦ (front, rw long (append_assoc front back (call ∷ [])))
     ]
 
--- calls behind those that are kept stay there while there is room for all of them
+-- more calls after those that are stored: they stay, if there is room for all of them
 kept_behind : (front back calls : List Call) → length back + length calls ≤ 48 → (before : Record) → before.recent ≡ front ++ back
     → (old : List Call) × ((after_all before calls).recent ≡ old ++ (back ++ calls))
 kept_behind front back [] few before is = (front, is ∙ ap (λ l. front ++ l) (sym (append-nil back)))
@@ -93,7 +93,7 @@ module _ {S : ℕ} where
       let by_values : ItemsCalls old ([] ++ (carried [] (carried_one Pass old.values item).values items).accepted) new = subst (λ v. ItemsCalls old (carried [] v items).accepted new) (sym same) here in
       subst (λ l. ItemsCalls old (l ++ (carried [] (carried_one Pass old.values item).values items).accepted) new) (sym none) by_values
 
-  -- it accepted a command
+  -- the first item accepted a command
   behind_command : (old between new : State (RecordedFlash S)) (command : Command) (items : List SetItem) (outcome : Outcome) (item : SetItem) → CarriesOne as_recorded outcome old item between
       → (carried_one outcome old.values item).accepted ≡ record { command = command; is_done = true } ∷ [] → between.values ≡ (accepted Pass old.values command).values
       → ItemsCalls between (carried [] between.values items).accepted new → ItemsCalls old (record { command = command; is_done = true } ∷ (carried [] between.values items).accepted) new

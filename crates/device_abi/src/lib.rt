@@ -1,4 +1,7 @@
-//! A flash in memory that records its program and erase calls, for a host that carries them out on a chip of its own.
+//! The device as a host in C drives it: events go in, and work comes out, flash calls first and then frames.
+//!
+//! `recorded` is a flash in memory that records its calls, `recording` a step of the device over it, `port` the device with the
+//! work of its last step and the law for hosts, and `operations` the operations of the library for C over a port.
 #![tactic(auto)]
 
 mod operations;

@@ -1,5 +1,5 @@
-//! A device whose flash is carried out by a host: what a step asks of the flash is recorded, and the host does it on a chip
-//! of its own before it sends the frames of that step.
+//! A device whose flash calls are carried out by a host. The calls that a step makes to the flash are recorded, and the
+//! host carries them out on its own chip before it sends the frames of that step.
 
 mod step;
 

@@ -7,7 +7,7 @@ module _ {A : Type 0} where
   some_is : (x y : A) → Some x ≡ Some y → x ≡ y
   some_is x y e = cc
 
-  -- what follows for each follows for all
+  -- what follows for each item follows for all items
   pub each_so : (P Q : A → Type 0) → ((x : A) → P x → Q x) → (xs : List A) → AllByRecursion P xs → AllByRecursion Q xs
   each_so P Q so [] all = tt
   each_so P Q so (x ∷ xs) all = (so x all.0, each_so P Q so xs all.1)
@@ -16,7 +16,7 @@ module _ {A : Type 0} where
   each_behind P [] more all others = others
   each_behind P (x ∷ xs) more all others = (all.0, each_behind P xs more all.1 others)
 
-  -- the item of a number is one
+  -- an item at an index has the property
   pub each_at : (P : A → Type 0) (xs : List A) (number : ℕ) (x : A) → AllByRecursion P xs → slice_get xs number ≡ Some x → P x
   each_at P [] number x all there = absurd cc
   each_at P (first ∷ xs) zero x all there = subst (λ (y : A). P y) (some_is first x there) all.0

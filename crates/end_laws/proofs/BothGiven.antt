@@ -14,11 +14,12 @@ none_is : {A : Type 0} (x : A) (o : Option A) → o ≡ None → o ≡ Some x �
 none_is x o e f = absurd cc
 
 module _ {O V : Type 0} (rules : Outputs O V) where
-  -- These octets were sent in this frame: `Sent` says of an earlier point that it sent them, and `Came` that they came to the device since.
+  -- These octets were sent in this frame: `Sent` says that they were sent at an earlier point, and `Came` that they
+  -- were delivered to the device since.
   abbrev IsBrought : (List ℕ → List ℕ → Type 0) → List ℕ → Type 0
   IsBrought Sent frame = (octets : List ℕ) → rules.brought_by frame ≡ Some octets → Sent frame octets
 
-  -- what is shown, by what came
+  -- what is shown comes from octets that were delivered
   pub record IsOf (Came : List ℕ → Type 0) (outputs : O) : Type 0 where
     pub octets : List ℕ
     pub came : Came octets
@@ -32,7 +33,7 @@ module _ {O V : Type 0} (rules : Outputs O V) where
     all : AllByRecursion (IsBrought Sent) w.sent
     shown : IsShown Came w.accepted w.outputs
 
-  -- frames that bring no outputs bring none that was not sent
+  -- frames that bring no outputs bring none that were not sent
   none_brought : (Sent : List ℕ → List ℕ → Type 0) (frames : List (List ℕ)) → AllByRecursion (BringsNone rules) frames → AllByRecursion (IsBrought Sent) frames
   none_brought Sent frames all =
       each_so (BringsNone rules) (IsBrought Sent) (λ frame none octets is. absurd (none_is octets (rules.brought_by frame) none is)) frames all
@@ -123,14 +124,14 @@ module _ {O V : Type 0} (rules : Outputs O V) where
 
   -- ---- any list of moves
 
-  -- what is behind a run, from one of its points on
+  -- the end of a run, from one of its points on
   end_behind : (first : Shown O V) (before : List (Move × Shown O V)) (one : Move × Shown O V) (later : List (Move × Shown O V))
       → shown_last first (before ++ one ∷ later) ≡ shown_last one.1 later
   end_behind first [] one later = refl
   end_behind first (other ∷ before) one later = end_behind other.1 before one later
 
   module _ (first : Shown O V) where
-    -- the controller sent this frame, which brings these octets, at an earlier point: what was given then
+    -- at an earlier point the controller sent this frame, which brings these octets: the values set then
     record WasGiven (run : List (Move × Shown O V)) (frame octets : List ℕ) : Type 0 where
       before : List (Move × Shown O V)
       move : Move
@@ -188,7 +189,7 @@ module _ {O V : Type 0} (rules : Outputs O V) where
       shown = was.shown;
     }
 
-    -- a frame that comes to the device now
+    -- a frame is delivered to the device now
     comes_now : (run : List (Move × Shown O V)) (one : Move × Shown O V) (number : ℕ) → one.0 ≡ ComesToDevice number → (frame octets : List ℕ)
         → slice_get (shown_last first run).sent number ≡ Some frame → WasGiven run frame octets → ComesFromOne rules first (run ++ one ∷ []) (rules.shown_by octets)
     comes_now run one number is frame octets there was = record {

@@ -1,4 +1,5 @@
--- What is true of a frame goes on to be true of it: what was taken stays taken, and what was true of an earlier point still is.
+-- The facts about a frame persist: records that were accepted stay accepted, and what was true of an earlier point
+-- stays true.
 use Rattle.std.proofs.Common.{◌≡◌, inl, inr, ℕ, zero, suc, true, false, List, Option, Some, None, sym, subst}
 use Rattle.end_laws.specs.both.Small.{Ask, ToDevice, Call, Confirms, Idle, ToController, Answers, Readies, Nothing, Rules, Link, Kept, Controller, Seeking, Asking, Waiting, Exchanges, Ended}
 use Rattle.end_laws.specs.both.Steps.{SaysAtMost}
@@ -6,7 +7,7 @@ use Rattle.end_laws.proofs.BothEach.{each_so}
 use Rattle.end_laws.proofs.BothHolds.{Took, Behind, IsCall, TellsDevice, TellsController, IsFine, AreFine, KeepsFine, AsksBehind}
 
 module _ {T Q : Type 0} where
-  -- what was taken stays taken
+  -- the records that were accepted stay accepted
   abbrev pub Grows : Option Kept → Option (Link T Q) → Option Kept → Option (Link T Q) → Type 0
   Grows kept link kept_now link_now = (count : ℕ) → Took count kept link → Took count kept_now link_now
 
@@ -54,7 +55,7 @@ module _ {T Q : Type 0} where
   pub same_grows : (kept : Option Kept) (link : Option (Link T Q)) → Grows kept link kept link
   same_grows kept link count took = took
 
-  -- a frame is fine by what each end hears of it
+  -- a frame is fine if what each end hears of it is
   pub fine_as : (rules : Rules T Q) (Was : Type 0) (Good : List ℕ → Type 0) (kept : Option Kept) (link : Option (Link T Q)) (frame : List ℕ) (to_device : ToDevice) (to_controller : ToController)
       → rules.to_device frame ≡ to_device → rules.to_controller frame ≡ to_controller
       → TellsDevice rules Was kept link to_device → TellsController rules Good kept link frame to_controller → IsFine rules Was Good kept link frame
@@ -63,7 +64,7 @@ module _ {T Q : Type 0} where
     controller = subst (λ (heard : ToController). TellsController rules Good kept link frame heard) (sym f) controller;
   }
 
-  -- so is one of which the controller hears this at most
+  -- the same for a frame of which the controller hears at most this
   pub fine_at_most : (rules : Rules T Q) (Was : Type 0) (Good : List ℕ → Type 0) (kept : Option Kept) (link : Option (Link T Q)) (frame : List ℕ) (heard : ToController)
       → rules.to_device frame ≡ Idle → SaysAtMost rules heard frame → TellsController rules Good kept link frame heard → IsFine rules Was Good kept link frame
   fine_at_most rules Was Good kept link frame heard idle (inl nothing) tells = fine_as rules Was Good kept link frame Idle Nothing idle nothing tt tt

@@ -1,4 +1,5 @@
--- What a step of the device leaves: what was taken stays taken, what holds of its relation goes on to hold, and what it sends is fine.
+-- The effect of a step of the device: accepted records stay accepted, the invariant of its relation is kept, and what
+-- it sends is fine.
 use Rattle.std.proofs.Common.{◌≡◌, ◌⊎◌, inl, inr, ◌<◌, ◌≤◌, ℕ, suc, Bool, true, false, List, [], ◌∷◌, ◌++◌, length, Option, Some, None, refl, sym, ap, subst, ◌∙◌, append_assoc, append-nil, length-append, arith}
 use Rattle.std.specs.List.{AllByRecursion}
 use Rattle.std.specs.Prelude.{slice_get}
@@ -12,7 +13,7 @@ use Rattle.end_laws.proofs.BothGoes.{Grows, are_fine_on, keeps_on, same_grows, f
 some_is : {A : Type 0} (x y : A) → Some x ≡ Some y → x ≡ y
 some_is x y e = cc
 
--- the item of a number is the first of what is left behind so many
+-- the item at an index is the first of the rest after that many
 next_item : {A : Type 0} (taken rest : List A) (value : A) → slice_get (taken ++ rest) (length taken) ≡ Some value → (more : List A) × (rest ≡ value ∷ more)
 next_item [] [] value is = absurd cc
 next_item {A = A} [] (x ∷ xs) value is = (xs, ap (λ (y : A). y ∷ xs) (some_is x value is))
@@ -22,7 +23,7 @@ next_of : {A : Type 0} (taken rest all : List A) (value : A) (number : ℕ) → 
 next_of {A = A} taken rest all value number begins long is =
     next_item taken rest value (ap (λ (xs : List A). slice_get xs (length taken)) begins ∙ (ap (λ (n : ℕ). slice_get all n) long ∙ is))
 
--- nothing is left
+-- no record is left
 all_taken : {A : Type 0} (taken rest all : List A) → taken ++ rest ≡ all → length all ≤ length taken → taken ≡ all
 all_taken taken [] all begins few = sym (append-nil taken) ∙ begins
 all_taken taken (x ∷ rest) all begins few = absurd (omega (arith, length-append taken (x ∷ rest), ap length begins, few))
@@ -30,7 +31,7 @@ all_taken taken (x ∷ rest) all begins few = absurd (omega (arith, length-appen
 module _ {T Q : Type 0} (rules : Rules T Q) where
   -- ---- a new call
 
-  -- what it does, where a Connect comes to no relation
+  -- the effect of a call, if a Connect finds no relation
   abbrev Does : Bool → Ask → Option (Link T Q) → Option (Link T Q) → Type 0
   Does false ask before after = after ≡ before
   Does true Connects before after = after ≡ Some (made rules)
@@ -51,7 +52,7 @@ module _ {T Q : Type 0} (rules : Rules T Q) where
   does_by sequence Parameterized true kept link after new call comes holds = comes
   does_by sequence Releases true kept link after new call comes holds = comes
 
-  -- none is left of the sequences below the first
+  -- no sequence number is below the first
   never_first : (sequence : ℕ) (kept : Option Kept) → sequence ≡ 0 → IsNew sequence kept → IsSomeKept kept → ⊥
   never_first sequence None first new some = some
   never_first sequence (Some kept) first new some = absurd (omega (arith, first, new))
@@ -68,7 +69,7 @@ module _ {T Q : Type 0} (rules : Rules T Q) where
       subst (λ (l : Option (Link T Q)). TookIn count l) (sym comes.becomes) (subst (λ (l : Option (Link T Q)). TookIn count l) comes.was took.taken)
   took_by sequence Releases true kept link after count new call comes took = subst (λ (l : Option (Link T Q)). TookIn count l) (sym comes) tt
 
-  -- the relation is held behind a later answer too
+  -- the relation is held after a later response too
   past_later : (sequence later : ℕ) (link : Link T Q) → sequence < later → (link.phase ≡ Started) ⊎ ((length rules.records < sequence) × (link.taken ≡ rules.records))
       → (link.phase ≡ Started) ⊎ ((length rules.records < later) × (link.taken ≡ rules.records))
   past_later sequence later link before (inl started) = inl started
@@ -85,7 +86,7 @@ module _ {T Q : Type 0} (rules : Rules T Q) where
     past = past_later kept.sequence sequence link new held.past;
   }
 
-  -- the relation that is there is held behind the answer that is kept
+  -- the relation is held after the response that is stored
   is_held : (kept : Option Kept) (link : Option (Link T Q)) (there : Link T Q) → link ≡ Some there → HoldsAt rules kept link → (answer : Kept) × (kept ≡ Some answer) × IsHeld rules answer.sequence there
   is_held None link there is none = absurd cc
   is_held (Some kept) link there is held = (kept, refl, subst (λ (l : Option (Link T Q)). IsHeldIn rules kept.sequence l) is held)
@@ -95,7 +96,7 @@ module _ {T Q : Type 0} (rules : Rules T Q) where
   past_write number sequence link inside few (inl started) = started
   past_write number sequence link inside few (inr past) = absurd (omega (arith, inside, few, past.0))
 
-  -- one more record is taken: the next one
+  -- the next record is accepted
   write_held : (sequence number : ℕ) (kept : Option Kept) (link after : Option (Link T Q)) → IsNew sequence kept → number < length rules.records → sequence ≡ suc number
       → Took number kept link → TakesRecord rules number link after → HoldsAt rules kept link → IsHeldIn rules sequence after
   write_held sequence number kept link after new inside is took takes holds =
@@ -112,7 +113,7 @@ module _ {T Q : Type 0} (rules : Rules T Q) where
         past = inl (past_write number held.0.sequence takes.link inside (omega (arith, fresh, is)) held.2.past);
       })
 
-  -- all records are taken
+  -- all records are accepted
   end_held : (sequence : ℕ) (kept : Option Kept) (link after : Option (Link T Q)) → sequence ≡ suc (length rules.records)
       → Took (length rules.records) kept link → IsParameterized link after → HoldsAt rules kept link → IsHeldIn rules sequence after
   end_held sequence kept link after is took ends holds =
@@ -148,7 +149,7 @@ module _ {T Q : Type 0} (rules : Rules T Q) where
       end_held sequence kept link after is (behind_suc sequence (length rules.records) kept link is asked.1) comes holds
   held_by sequence Releases true kept link after new call comes holds = subst (λ (l : Option (Link T Q)). IsHeldIn rules sequence l) (sym comes) tt
 
-  -- a positive answer says what was taken
+  -- a positive response says what was accepted
   told_by : (sequence : ℕ) (ask : Ask) (kept : Option Kept) (link after : Option (Link T Q))
       → IsCall rules sequence ask kept link → Does true ask link after → sequence ≤ length rules.records → TookIn sequence after
   told_by sequence Connects kept link after (inl releases) comes few = absurd cc
@@ -164,7 +165,7 @@ module _ {T Q : Type 0} (rules : Rules T Q) where
   told_by sequence Parameterized kept link after (inr asked) comes few = absurd (omega (arith, asked.0, few))
   told_by sequence Releases kept link after call comes few = subst (λ (l : Option (Link T Q)). TookIn sequence l) (sym comes) tt
 
-  -- while ApplicationReady waits for its answer, all records were taken
+  -- while ApplicationReady waits for its response, all records were accepted
   past_ready : (sequence : ℕ) (link : Link T Q) → link.phase ≡ Awaiting → (link.phase ≡ Started) ⊎ ((length rules.records < sequence) × (link.taken ≡ rules.records)) → link.taken ≡ rules.records
   past_ready sequence link awaits (inl started) = absurd cc
   past_ready sequence link awaits (inr past) = past.1
@@ -175,14 +176,14 @@ module _ {T Q : Type 0} (rules : Rules T Q) where
       let held = is_held kept link there is holds in
       (held.2.made, past_ready held.0.sequence there awaits held.2.past)
 
-  -- a relation is what the Connect asks for
+  -- a relation is the one that the Connect asks for
   pub made_is : (kept : Option Kept) (link : Option (Link T Q)) (there : Link T Q) → link ≡ Some there → HoldsAt rules kept link → there.request ≡ rules.request
   made_is kept link there is holds = (is_held kept link there is holds).2.made
 
   -- ---- steps
 
   module _ (Was WasNow Past PastNow : Type 0) (Good GoodNow : List ℕ → Type 0) (was_on : Was → WasNow) (past_on : Past → PastNow) (good_on : (frame : List ℕ) → Good frame → GoodNow frame) where
-    -- what a step of the device leaves, which sends these frames
+    -- the effect of a step of the device that sends these frames
     pub record Leaves (before after : Device T Q) (frames : List (List ℕ)) : Type 0 where
       pub grows : Grows before.kept before.link after.kept after.link
       pub held : HoldsAt rules after.kept after.link
@@ -220,7 +221,7 @@ module _ {T Q : Type 0} (rules : Rules T Q) where
       all_dull_fine after frames (good_behind after frame frames good) all.1,
     )
 
-    -- a confirmed relation stays one, and no call makes one of another
+    -- a confirmed relation stays confirmed, and no call confirms another
     still_confirmed : (link after : Option (Link T Q)) → (after ≡ link) ⊎ (after ≡ None) → ConfirmedIn Past link → ConfirmedIn PastNow after
     still_confirmed None after (inl same) confirmed = subst (λ (l : Option (Link T Q)). ConfirmedIn PastNow l) (sym same) tt
     still_confirmed (Some link) after (inl same) confirmed =
@@ -301,7 +302,7 @@ module _ {T Q : Type 0} (rules : Rules T Q) where
       call_leaves sequence ask call good (inr (inl again)) = again_leaves sequence again
       call_leaves sequence ask call good (inr (inr rests)) = rests_leaves rests
 
-      -- what was taken is not changed by a move of the relation to another phase, or to its end
+      -- a move of the relation to another phase, or to its end, does not change what was accepted
       took_same : (link now : Option (Link T Q)) (count : ℕ) → (now ≡ link) ⊎ (now ≡ None) → TookIn count link → TookIn count now
       took_same link now count (inl same) took = subst (λ (l : Option (Link T Q)). TookIn count l) (sym same) took
       took_same link now count (inr none) took = subst (λ (l : Option (Link T Q)). TookIn count l) (sym none) tt

@@ -52,7 +52,7 @@ module _ {T Q : Type 0} (rules : Rules T Q) where
 
   -- ---- from point to point
 
-  -- what was true of the points before is true of those up to now, and what is true of the new one
+  -- facts about earlier points are kept, and the facts about the new point are added
   pub record Passes (Was WasNow Past PastNow : Type 0) (Good GoodNow : List ℕ → Type 0) (Handed HandedNow : Type 0) (w : World T Q) (move : Move) (v : World T Q) : Type 0 where
     pub was_on : Was → WasNow
     pub good_on : (frame : List ℕ) → Good frame → GoodNow frame
@@ -68,7 +68,7 @@ module _ {T Q : Type 0} (rules : Rules T Q) where
 
   module _ (Was WasNow Past PastNow : Type 0) (Good GoodNow : List ℕ → Type 0) (Handed HandedNow : Type 0) (w : World T Q) (move : Move) (v : World T Q)
       (passes : Passes Was WasNow Past PastNow Good GoodNow Handed HandedNow w move v) (holds : Holds rules Was Past Good Handed w) where
-    -- what holds of the relation behind a step of the device, whatever it sends
+    -- the invariant of the relation after a step of the device, whatever it sends
     held_behind : (heard : ToDevice) → TellsDevice rules PastNow w.device.kept w.device.link heard → StepsAtDevice rules heard w v → HoldsAt rules v.device.kept v.device.link
     held_behind heard tells steps =
         let leaves = device_leaves rules Was WasNow Past PastNow Good (λ (frame : List ℕ). Unit {0}) passes.was_on passes.past_on (λ frame good. tt) w.device v.device steps.frames
@@ -103,7 +103,7 @@ module _ {T Q : Type 0} (rules : Rules T Q) where
     confirmed_on None confirmed = tt
     confirmed_on (Some link) confirmed = λ exchanges. passes.past_on (confirmed exchanges)
 
-    -- how the controller came to exchange data
+    -- the ApplicationReady with which the controller began to exchange data
     readied_by : (heard : ToController) (frame : List ℕ) → (heard ≡ Readies → v.controller ≡ Exchanges → HandedNow)
         → Moves (length rules.records) heard w.controller v.controller → v.controller ≡ Exchanges → HandedNow
     readied_by heard frame handed (inl same) exchanges = passes.handed_on (holds.readied (sym same ∙ exchanges))
@@ -152,7 +152,7 @@ module _ {T Q : Type 0} (rules : Rules T Q) where
           confirmed = subst (λ (d : Device T Q). ConfirmedIn PastNow d.link) (sym same) (confirmed_on link holds.confirmed);
         }
 
-    -- no step
+    -- the case that nothing steps
     at_rest : v ≡ w → Holds rules WasNow PastNow GoodNow HandedNow v
     at_rest same =
         let kept = w.device.kept in
@@ -167,7 +167,7 @@ module _ {T Q : Type 0} (rules : Rules T Q) where
           confirmed = confirmed_on link holds.confirmed;
         })
 
-    -- a confirmation that comes to the device now was sent before
+    -- a confirmation that is delivered to the device now was sent before
     past_tells : (number : ℕ) → move ≡ ComesToDevice number → (heard : ToDevice) → TellsDevice rules Was w.device.kept w.device.link heard
         → TellsDevice rules PastNow w.device.kept w.device.link heard
     past_tells number is (Call sequence ask) tells = tells
@@ -214,7 +214,7 @@ module _ {T Q : Type 0} (rules : Rules T Q) where
 
   -- one more point
   module _ (first : World T Q) where
-    -- the controller was exchanging data after a move of its own
+    -- the controller was exchanging data after one of its own moves
     record WasAtExchange (run : List (Move × World T Q)) : Type 0 where
       before : List (Move × World T Q)
       move : Move

@@ -8,11 +8,11 @@ module _ {W : Type 0} where
   last_more first [] one = refl
   last_more first (other ∷ run) one = last_more other.1 run one
 
-  -- a point of a run is one of the run that goes on
+  -- a point of a run is a point of the longer run
   pub later_on : (run before later : List (Move × W)) (point one : Move × W) → run ≡ before ++ point ∷ later → run ++ one ∷ [] ≡ before ++ point ∷ (later ++ one ∷ [])
   later_on run before later point one all = ap (λ (xs : List (Move × W)). xs ++ one ∷ []) all ∙ append_assoc before (point ∷ later) (one ∷ [])
 
-  -- what holds of a run, and goes on to hold with each move that is a step, holds of the run with any more
+  -- an invariant that each step keeps holds of every longer run
   module _ (Steps : W → Move → W → Type 0) (first : W) (Holds : List (Move × W) → W → Type 0)
       (more : (run : List (Move × W)) (one : Move × W) → Holds run (end_of first run) → Steps (end_of first run) one.0 one.1 → Holds (run ++ one ∷ []) one.1) where
     on : (run others : List (Move × W)) → Holds run (end_of first run) → AreSteps Steps (end_of first run) others → Holds (run ++ others) (end_of first (run ++ others))

@@ -1,4 +1,4 @@
--- Each turn of a controller, as far as a start-up goes.
+-- Each turn of a controller, as far as a start-up is concerned.
 use Rattle.std.proofs.Common.{◌≡◌, ◌⊎◌, inl, inr, ◌+◌, ◌<◌, ◌≤◌, ◌==◌, ◌&&◌, ℕ, Bool, true, false, cond, List, [], ◌∷◌, ◌++◌, length, Option, Some, None, refl, sym, ap, subst, ◌∙◌, arith}
 use Rattle.std.specs.Prelude.{nat_lt, nat_eq}
 use Rattle.std.specs.List.{AllByRecursion}
@@ -42,7 +42,7 @@ module _ (plan : Parts) where
   abbrev count : ℕ
   count = length plan.records.items
 
-  -- what is sent of a message says nothing of a start-up
+  -- a message that says nothing of a start-up
   abbrev IsQuiet : Sent → Type 0
   IsQuiet message = said_by plan message ≡ small.Idle
 
@@ -53,7 +53,7 @@ module _ (plan : Parts) where
   all_quiet now [] all = tt
   all_quiet now (message ∷ sent) all = (quiet_says now message all.0, all_quiet now sent all.1)
 
-  -- ---- where nothing moves, and where all is over
+  -- ---- the cases in which nothing moves, and in which the relation has ended
 
   same_goes : (heard : ToController) (live after : Live) (sent : List Sent) → IsInStep plan live.phase live.asked → after.phase ≡ live.phase → after.asked ≡ live.asked
       → AllByRecursion IsQuiet sent → GoesOn plan heard live (record { live = after; sent = sent })
@@ -73,7 +73,8 @@ module _ (setup : Setup) where
   released_goes : (heard : ToController) (reason : Cause) (live : Live) → GoesOn setup.plan heard live (released setup reason live)
   released_goes heard reason live = record { in_step = inr (next_sequence setup.plan live.asked, refl); moves = inr (inl refl); says = (inl refl, tt) }
 
-  -- what a request that stands tells of the state: by which call it asks, that there is such a record, or that it is over
+  -- what a pending request says of the state: the call that makes it, that its record exists, or that the relation has
+  -- ended
   abbrev Tells : State → Option Request → Request → Type 0
   Tells phase asked asks.Identify = Unit {0}
   Tells phase asked asks.Address = Unit {0}
@@ -88,7 +89,7 @@ module _ (setup : Setup) where
   none_stands : (request : Request) → None ≡ Some request → ⊥
   none_stands request e = absurd cc
 
-  -- in each state the request that belongs to it
+  -- the request that belongs to each state
   tells : (phase : State) (asked : Option Request) → IsInStep setup.plan phase asked → (request : Request) → asked ≡ Some request → Tells phase asked request
   tells Looking asked in_step request stands = tells_so Looking asked asks.Identify request in_step tt stands
   tells Addressing asked in_step request stands = tells_so Addressing asked asks.Address request in_step tt stands
@@ -102,7 +103,7 @@ module _ (setup : Setup) where
   tells (Ended reason) asked (inr there) request stands = tells_so (Ended reason) asked (asks.Release there.0) request there.1 (inl refl, refl) stands
   tells phase asked in_step request stands = absurd (none_stands request (sym in_step ∙ stands))
 
-  -- what is asked next is asked by the next call
+  -- the next request is made by the next call
   module _ (live after : Live) (number : ℕ) (heard : ToController) (before : small_of setup.plan live ≡ small.Asking number) (answers : heard ≡ small.Answers number true)
       (few : number ≤ length setup.plan.records.items) where
     writing_by : (b : Bool) → nat_lt number (length setup.plan.records.items) ≡ b
@@ -123,7 +124,7 @@ module _ (setup : Setup) where
     writing_goes : GoesOn setup.plan heard live (writing (writing_from setup.plan number) after)
     writing_goes = writing_by (nat_lt number (length setup.plan.records.items)) refl
 
-  -- a response is heard as the answer that it is
+  -- a response is heard as the response that it is
   is_heard : (request : Request) (response : Response) → is_answer setup request response.header ≡ true
       → said_to setup (Responds response) ≡ small.Answers (sequence_of setup.plan request) (is_done response.status)
   is_heard request response e =
@@ -143,7 +144,7 @@ module _ (setup : Setup) where
   taken_goes heard live after alarm Again in_step phase asked = same_goes setup.plan heard live after _ in_step phase asked (refl, tt)
   taken_goes heard live after alarm Refused in_step phase asked = same_goes setup.plan heard live after _ in_step phase asked (refl, tt)
 
-  -- the request that stands says what it may
+  -- the pending request says what it may
   request_says : (phase : State) (asked : Option Request) (request : Request) → Tells phase asked request
       → SaysToDevice (length setup.plan.records.items) (state_of setup.plan phase asked) (asked_by setup.plan request)
   request_says phase asked asks.Identify told = tt

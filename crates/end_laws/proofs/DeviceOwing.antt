@@ -1,4 +1,4 @@
--- The status of each answer of a start-up has four octets.
+-- The status of each response in a start-up has four octets.
 use Rattle.std.proofs.Common.{◌≡◌, ◌<◌, ℕ, Bool, true, false, not, cond, List, [], ◌∷◌, ◌++◌, length, take, Option, Some, None, Result, Ok, Err, sym, subst, arith}
 use Rattle.std.specs.Prelude.{◌==◌, ◌||◌, nat_lt, nat_eq}
 use Rattle.std.specs.List.{AllByRecursion}
@@ -124,7 +124,7 @@ status_sized which fault.FlashFault plain = record { code = code_small which; de
 status_sized which fault.TooManyRecords plain = record { code = code_small which; decode = omega arith; code1 = omega arith; code2 = omega arith }
 status_sized which fault.Access plain = record { code = code_small which; decode = omega arith; code1 = omega arith; code2 = omega arith }
 
--- a call that is refused, if it is, for such a fault
+-- if a call is refused, it is for such a fault
 abbrev pub IsPlainIn : {A : Type 0} → Result A CallFault → Type 0
 IsPlainIn (Ok value) = Unit {0}
 IsPlainIn (Err why) = IsPlain why
@@ -262,7 +262,7 @@ stored_plain header error.Suboption = tt
 stored_plain header error.Value = tt
 stored_plain header error.InOperation = tt
 
--- ---- a Connect that is accepted where there is no relation
+-- ---- a Connect that is accepted if there is no relation
 
 conflict_plain : (standing asked : List ℕ) → IsPlain (conflict standing asked)
 conflict_plain standing asked = by_name (pointwise nat_eq asked standing)

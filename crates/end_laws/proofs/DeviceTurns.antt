@@ -1,4 +1,4 @@
--- Each turn of a device, as far as a start-up goes.
+-- Each turn of a device, as far as a start-up is concerned.
 use Rattle.std.proofs.Common.{◌≡◌, ◌⊎◌, inl, inr, ◌+◌, ◌-◌, ◌<◌, ◌==◌, ◌&&◌, ℕ, Bool, true, false, not, cond, List, [], ◌∷◌, ◌++◌, map, length, take, Option, Some, None, option_map, Result, Ok, Err, refl, sym, ap, subst, ◌∙◌, arith}
 use Rattle.std.specs.Prelude.{◌%◌, is_some, nat_lt, nat_eq, slice_get}
 use Rattle.std.specs.List.{AllByRecursion}
@@ -100,7 +100,7 @@ bind_ok (Err why) f y e = absurd cc
 some_is : {A : Type 0} (x y : A) → Some x ≡ Some y → x ≡ y
 some_is x y e = cc
 
--- whether a call came out well
+-- whether a call succeeded
 abbrev is_well : {A : Type 0} → Result A CallFault → Bool
 is_well (Ok value) = true
 is_well (Err why) = false
@@ -110,7 +110,7 @@ same_ok x y e = cc
 
 -- ---- a relation that stays
 
--- what moves a relation without moving its start-up
+-- a change of a relation that does not move its start-up
 abbrev IsMild : Moving → Type 0
 IsMild (Made request partner rows) = ⊥
 IsMild Parameterized = ⊥
@@ -181,7 +181,7 @@ started_is (Some link) e = (link, refl, by_phase link.phase e)
     by_phase Awaiting f = absurd cc
     by_phase Exchanging f = absurd cc
 
--- a PrmEnd is accepted of a relation that waits for it
+-- a PrmEnd is accepted for a relation that waits for it
 started_by_test : (link : Option Link) (nothing : Unit {0}) (b : Bool) → is_started (phase_of link) ≡ b
     → ◌≡◌ {A = Result (Unit {0}) CallFault} (cond (not b) (Err fault.Phase) (Ok nothing)) (Ok nothing) → is_started (phase_of link) ≡ true
 started_by_test link nothing true f g = f
@@ -198,7 +198,7 @@ prm_started link blocks block e =
     let third = bind_ok (in_started link) (λ _. Ok first.0) block second.2 in
     started_is link (started_by link third.0 third.1)
 
--- a record that is kept is one more
+-- a record that is stored is one more
 kept_is : (value : TakenRecord) (records taken : List TakenRecord) → keep_of value records ≡ Ok taken → taken ≡ records ++ value ∷ []
 unfolding keep_of
 kept_is value records taken e = by_room (nat_lt (length records) 64) e
@@ -207,7 +207,7 @@ kept_is value records taken e = by_room (nat_lt (length records) 64) e
     by_room true f = sym (same_ok (records ++ value ∷ []) taken f)
     by_room false f = absurd cc
 
--- ---- messages that are no answers to calls
+-- ---- messages that are not responses to calls
 
 abbrev IsOther : Option Link → Sent → Type 0
 IsOther link (IdentifyAnswer asker running xid) = Unit {0}
@@ -251,7 +251,7 @@ farewell_other : (link : Option Link) (farewell : Option Farewell) → AreOther 
 farewell_other link None = tt
 farewell_other link (Some farewell) = (tt, tt)
 
--- ApplicationReady behind an answer, of a relation that waits for the answer to it
+-- ApplicationReady after a response, for a relation that waits for its own response
 abbrev IsReadyCall : Option Link → Sent → Type 0
 IsReadyCall link (IdentifyAnswer asker running xid) = ⊥
 IsReadyCall link (GetAnswer asker running request) = ⊥
@@ -270,7 +270,7 @@ readies_behind : (address : List ℕ) (link : Option Link) → AreReady (option_
 readies_behind address None = tt
 readies_behind address (Some link) = ((awaiting_from link, refl, refl), tt)
 
--- ApplicationReady again, while its answer is waited for
+-- ApplicationReady again, while its response is awaited
 again_other : (address : List ℕ) (link : Link) (b : Bool) → is_again link ≡ b → AreOther (Some (unit_later link)) (where_due b (ready_calls address (Some (unit_later link))))
 again_other address link true e = ((unit_later link, refl, awaiting_is link.phase (and_true (is_awaiting link.phase) (link.waited + 1 == 32000) e).0), tt)
 again_other address link false e = tt
@@ -289,7 +289,7 @@ farewells_other now true (Some link) = (tt, tt)
 farewells_other now true None = tt
 farewells_other now false link = tt
 
--- ---- the answer that is kept
+-- ---- the response that is stored
 
 new_is : (sequence : ℕ) (kept : Option Answer) → told_by sequence kept ≡ new → IsNew sequence (option_map kept_in kept)
 new_is sequence None e = tt
@@ -324,7 +324,7 @@ again_is sequence (Some kept) frame e = by_same (sequence == kept.sequence) refl
     by_same true f g = (kept, refl, sym (eqb-true sequence kept.sequence f), same_frame kept.frame frame g)
     by_same false f g = absurd (by_order (nat_lt sequence kept.sequence) g)
 
--- the law of statuses, of the crate below
+-- the law of statuses, from the crate below
 abbrev pub RefusalsAreNotDone : Type 0
 RefusalsAreNotDone = (operation : Operation) (fault : CallFault) → is_done (status_of operation fault) ≡ false
 
@@ -366,7 +366,7 @@ module _ (refusals_are_not_done : RefusalsAreNotDone) (rules : Rules TakenRecord
   one_ready later (Ends farewell) ready heard = absurd ready
   one_ready later (Exchanges route frame) ready heard = absurd ready
 
-  -- where it hears nothing at most, it hears nothing
+  -- a step that hears at most nothing hears nothing
   hears_nothing : (frame : List ℕ) → SaysAtMost rules small.Nothing frame → rules.to_controller frame ≡ small.Nothing
   hears_nothing frame (inl nothing) = nothing
   hears_nothing frame (inr nothing) = nothing
@@ -391,7 +391,7 @@ module _ (refusals_are_not_done : RefusalsAreNotDone) (rules : Rules TakenRecord
   all_other later [] other heard = tt
   all_other later (message ∷ sent) other heard = (one_other later message other.0 heard.0, all_other later sent other.1 heard.1)
 
-  -- whatever else happens
+  -- anything else that happens
   goes_by : (rest later : Rest) (sent : List Sent) → later.calls ≡ rest.calls → IsSameOr rest.link later.link → AreOther later.link sent → Goes small.Idle rest later sent
   goes_by rest later sent calls link other heard = record {
     keeps = ap (λ (c : List Answer). option_map kept_in (kept_of activity c)) calls;
@@ -400,7 +400,7 @@ module _ (refusals_are_not_done : RefusalsAreNotDone) (rules : Rules TakenRecord
   }
 
   module _ (live : Live) where
-    -- what was judged is finished, whatever the answers to its items are
+    -- what was judged is completed, whatever the results of its items are
     abbrev Comes_to : ToDevice → Judged → Type 0
     Comes_to heard what = (answers : List BlockError)
         → Goes heard live.rest (finished station.identity live.rest what answers).rest (finished station.identity live.rest what answers).sent
@@ -492,9 +492,9 @@ module _ (refusals_are_not_done : RefusalsAreNotDone) (rules : Rules TakenRecord
         (both_other link readies inputs (readies_other address before)
         (due_other link due.is_cyclic (inputs_of units (flow_of link)) (inputs_other link units (flow_of link))))))
 
-    -- ---- the answer to ApplicationReady
+    -- ---- the response to ApplicationReady
 
-    -- what it confirms: a relation that waits for it
+    -- the response confirms a relation that waits for it
     record Awaits (response : Response) : Type 0 where
       link : Link
       was : live.rest.link ≡ Some link
@@ -509,7 +509,7 @@ module _ (refusals_are_not_done : RefusalsAreNotDone) (rules : Rules TakenRecord
         by_name true f g = ap (λ (u : List ℕ). pointwise nat_eq block.ar_uuid u) same ∙ f
         by_name false f g = absurd cc
 
-    -- by the tests of an answer that is wanted, in their order
+    -- by the tests of a response that is awaited, in order
     confirmed_in : (response : Response) (link : Link) (wanted done : Bool) → is_wanted response link ≡ wanted → is_done response.status ≡ done
         → cond wanted (cond done (confirmed_by link.request.ar.uuid (confirmed_block (block_of response.blocks))) (to_ready.Refused (farewell_of Other link))) to_ready.NotWanted ≡ to_ready.Confirmed
         → (link.phase ≡ Awaiting) × (confirms response ≡ true)
@@ -532,7 +532,7 @@ module _ (refusals_are_not_done : RefusalsAreNotDone) (rules : Rules TakenRecord
         let both = confirmed_in response link (is_wanted response link) (is_done response.status) refl refl e in
         record { link = link; was = is; awaits = both.0; confirmed = both.1 }
 
-    -- one that is refused is none that is done
+    -- a refused response is not a positive one
     refused_in : (response : Response) (link : Link) (farewell : Farewell) (wanted done : Bool) → is_done response.status ≡ done
         → cond wanted (cond done (confirmed_by link.request.ar.uuid (confirmed_block (block_of response.blocks))) (to_ready.Refused (farewell_of Other link))) to_ready.NotWanted ≡ to_ready.Refused farewell
         → is_done response.status ≡ false
@@ -579,7 +579,7 @@ module _ (refusals_are_not_done : RefusalsAreNotDone) (rules : Rules TakenRecord
     all_ready later [] ready heard = tt
     all_ready later (message ∷ sent) ready heard = (one_ready later message ready.0 heard.0, all_ready later sent ready.1 heard.1)
 
-    -- an answer says whether the call came out well
+    -- a response says whether the call succeeded
     says_done : (which : Operation) (outcome : Result (List ℕ) CallFault) → is_done (outcome_of which outcome).0 ≡ is_well outcome
     says_done which (Ok blocks) = refl
     says_done which (Err why) = refusals_are_not_done which why
@@ -594,7 +594,7 @@ module _ (refusals_are_not_done : RefusalsAreNotDone) (rules : Rules TakenRecord
           by_name false e = absurd cc
 
       module _ (fresh : told_by call.header.sequence (kept_of activity live.rest.calls) ≡ new) where
-        -- it is answered, by its outcome, behind which this is the relation, and then this is sent
+        -- the call is answered by its outcome; then this is the relation, and this is sent
         serves : (ask : small.Ask) (which : Operation) (outcome : Result (List ℕ) CallFault) (link : Option Link) (behind : List Sent)
             → Comes rules (is_well outcome) ask (option_map link_of live.rest.link) (option_map link_of link) → AreReady link behind
             → Comes_to (small.Call call.header.sequence ask) (served station live caller call which outcome link behind)

@@ -1,4 +1,5 @@
--- One turn of a device: what becomes of its relation and of the answers that it keeps, and whence what it sends comes.
+-- One turn of a device: what becomes of its relation and of the responses that it stores, and where its messages come
+-- from.
 use Rattle.std.proofs.Common.{◌≡◌, inl, inr, ap, ◌+◌, ◌-◌, ℕ, Bool, true, false, cond, List, [], ◌∷◌, ◌++◌, length, Option, Some, None, option_map, Result, Ok, Err, refl, sym, subst}
 use Rattle.std.specs.Prelude.{◌%◌, ◌&&◌, is_some, nat_eq}
 use Rattle.std.specs.List.{AllByRecursion}
@@ -87,9 +88,9 @@ use Rattle.device_core.specs.State.{Rest}
 use Rattle.device_core.specs.Machine.{link_after}
 use Rattle.device_core.specs.Judged.{kept_behind}
 
--- ---- a relation of which this stays
+-- ---- a relation that keeps what outputs and alarms depend on
 
--- what moves a relation, of which what outputs and alarms are read stays
+-- a change of a relation that keeps what outputs and alarms depend on
 abbrev IsMild : Moving → Type 0
 IsMild (Made request partner rows) = ⊥
 IsMild (Exchanged flow) = ⊥
@@ -147,7 +148,7 @@ due_calm : (before : Option Link) (b : Bool) (sent : List Sent) → AreCalm befo
 due_calm before true sent calm = calm
 due_calm before false sent calm = tt
 
--- an answer to ApplicationReady that is refused ends the relation
+-- a refused response to ApplicationReady ends the relation
 refused_is : (response : Response) (link : Option Link) (farewell : Farewell) → ready_answer response link ≡ to_ready.Refused farewell
     → (reason : Abort) × (l : Link) × (link ≡ Some l) × (farewell ≡ farewell_of reason l)
 unfolding ready_answer
@@ -175,7 +176,7 @@ refused_is response (Some link) farewell e = by_wanted (is_wanted response link)
     by_wanted true f = by_done (is_done response.status) f
     by_wanted false f = absurd cc
 
--- what is exchanged became this
+-- the exchanged data became this
 becomes_same : (link : Option Link) (flow : Flow) → ((l : Link) → link ≡ Some l → standing_of (with_flow flow l) ≡ standing_of l) → IsSameOr link (moved (Exchanged flow) link)
 becomes_same None flow same = inl refl
 becomes_same (Some link) flow same = inl (ap (λ (s : Standing). Some s) (same link refl))
@@ -230,7 +231,7 @@ module _ (rules : Rules TakenRecord Request) (activity : List ℕ) (station : St
   abbrev AreOwed : List Sent → Type 0
   AreOwed sent = AllByRecursion (IsOwed heard live) sent
 
-  -- what was judged is finished, whatever the answers to its items are
+  -- what was judged is completed, whatever the results of its items are
   abbrev Comes_to : Judged → Type 0
   Comes_to what = (answers : List BlockError)
       → Turn station live heard (finished station.identity live.rest what answers).rest (finished station.identity live.rest what answers).sent
@@ -260,7 +261,7 @@ module _ (rules : Rules TakenRecord Request) (activity : List ℕ) (station : St
   farewells_owed true None = tt
   farewells_owed false link = tt
 
-  -- ApplicationReady, behind PrmEnd and again
+  -- ApplicationReady, after PrmEnd and again
   readies_owed : (address : List ℕ) (link : Option Link) → live.rest.link ≡ link → AreOwed (ready_calls address (option_map awaiting_from link))
   readies_owed address None is = tt
   readies_owed address (Some link) is = (record { link = link; is = is; header = refl; block = refl }, tt)
@@ -428,7 +429,7 @@ module _ (rules : Rules TakenRecord Request) (activity : List ℕ) (station : St
       status = outcome_sized which outcome plain;
     }
 
-    -- the call is answered so, behind which this is the relation
+    -- the call is answered like this; then this is the relation
     answered_so : (from : List ℕ) (which : Operation) (outcome : Result (List ℕ) CallFault) (link : Option Link) (behind : List Sent) → IsPlainIn outcome → AreOwed behind
         → IsTurn station.real.modules.items live.rest.calls live.rest.link heard link (answer_from from caller call which outcome ∷ behind)
         → Turn station live heard (kept_behind station.identity live.rest call (answer_from from caller call which outcome) link) (answer_from from caller call which outcome ∷ behind)

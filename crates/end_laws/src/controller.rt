@@ -1,4 +1,5 @@
-//! A controller's end of a start-up: its machine refines the small one of `both_ends`. Laws, and no code.
+//! A controller's end of a start-up: its machine refines the small one of `both_ends`. This crate has laws only and no
+//! code.
 
 mod goes_on;
 

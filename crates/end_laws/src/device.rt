@@ -1,4 +1,4 @@
-//! The machine of a device refines the small one of a start-up. Laws, and no code.
+//! The machine of a device refines the small one of a start-up. This crate has laws only and no code.
 
 mod goes_on;
 mod owed;

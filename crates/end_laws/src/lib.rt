@@ -1,5 +1,7 @@
-//! Both ends of a network that loses, repeats and reorders what they send, as small machines: laws over any list of moves, and no code.
-//! The machines of the device and of its controller refine them.
+//! What each end of a relation does at its turn, over any list of moves; the functions have no code.
+//!
+//! `both` has the two small machines whose laws are start-up and outputs, `device` and `controller` prove that the real ends
+//! refine them.
 #![tactic(auto)]
 
 mod both;

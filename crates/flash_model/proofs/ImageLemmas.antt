@@ -1,4 +1,4 @@
--- What programming and erasing make of a sector, place by place.
+-- The effect of programming and erasing on a sector, byte by byte.
 use Rattle.std.proofs.Common.{◌≡◌, ◌+◌, ◌-◌, ◌<◌, ◌≤◌, ◌∙◌, ◌⊎◌, inl, inr, ℕ, zero, suc, List, [], ◌∷◌, ◌++◌, length, take, drop, get_or, slice_range, bit_and, refl, sym, ap, arith}
 use Rattle.std.proofs.lemmas.List.{length-append, length-take, length-drop, length-take-le, length-replicate, get_or-replicate, get_or-take, get_or-drop, get_or_append_left, get_or-append_right, get_or_past, take-append-drop, take_at, drop_at, drop-drop, take-append-le, take-take, append_assoc, ext_get_or}
 use Rattle.std.proofs.lemmas.Slice.{drop-append-drop}
@@ -31,14 +31,14 @@ get_or-anded_past (o ∷ os) (n ∷ ns) (suc k) h = get_or-anded_past os ns k (o
 pub and_ones : (byte : ℕ) → byte < 256 → bit_and 255 byte ≡ byte
 and_ones byte h = grind (arith, common_steps)
 
--- only as many places change as there are bytes
+-- only as many bytes change as are programmed
 pub anded_split : (old new : List ℕ) → anded old new ≡ anded (take (length new) old) new ++ drop (length new) old
 anded_split [] [] = refl
 anded_split [] (n ∷ ns) = refl
 anded_split (o ∷ os) [] = refl
 anded_split (o ∷ os) (n ∷ ns) = ap (λ rest. bit_and o n ∷ rest) (anded_split os ns)
 
--- a programmed sector is the part before, the range and the part behind
+-- a programmed sector is the part before, the range and the part after
 pub programmed_split : (sector : List ℕ) (place end : ℕ) (bytes : List ℕ) → end ≡ place + length bytes →
     programmed sector place bytes ≡ take place sector ++ (anded (slice_range sector place end) bytes ++ drop end sector)
 programmed_split sector place end bytes e =
@@ -59,7 +59,7 @@ pub take-programmed : (sector : List ℕ) (place : ℕ) (bytes : List ℕ) (n : 
 take-programmed sector place bytes n h within =
     take-append-le n (take place sector) (anded (drop place sector) bytes) (omega (arith, length-take-le place sector within)) ∙ take-take n place sector h
 
--- behind the range nothing changes
+-- after the range nothing changes
 pub drop-programmed : (sector : List ℕ) (place : ℕ) (bytes : List ℕ) (n : ℕ) → place + length bytes ≤ n → n ≤ length sector →
     drop n (programmed sector place bytes) ≡ drop n sector
 drop-programmed sector place bytes n h within =
@@ -70,7 +70,7 @@ drop-programmed sector place bytes n h within =
     ap (drop n) (programmed_split sector place end bytes refl ∙ sym (append_assoc (take place sector) range (drop end sector)))
     ∙ drop-append-drop end sector (take place sector ++ range) n h front
 
--- the range has the old bytes and the new ones put over one another
+-- the range has the bitwise AND of the old bytes and the new ones
 pub slice_range-programmed : (sector : List ℕ) (place end : ℕ) (bytes : List ℕ) → end ≡ place + length bytes → end ≤ length sector →
     slice_range (programmed sector place bytes) place end ≡ anded (slice_range sector place end) bytes
 slice_range-programmed sector place end bytes e within =
@@ -82,20 +82,20 @@ slice_range-programmed sector place end bytes e within =
     ∙ anded_split old bytes ∙ ap (λ n. anded (take n old) bytes ++ drop n old) (sym size))
     ∙ take_at (anded (take (end - place) old) bytes) (drop (end - place) old) (end - place) long
 
--- over an erased range the bytes are left as they are
+-- over an erased range the new bytes are stored unchanged
 pub anded-erased : (bytes : List ℕ) (size : ℕ) → length bytes ≡ size → AreBytes bytes → anded (erased size) bytes ≡ bytes
 anded-erased bytes size long small =
     ext_get_or 0 (anded (erased size) bytes) bytes (length-anded (erased size) bytes ∙ length-replicate size 255 ∙ sym long) (λ k h.
     let here : k < size = omega (arith, length-anded (erased size) bytes, length-replicate {A = ℕ} size 255) in
     get_or-anded (erased size) bytes k (omega arith) ∙ ap (λ ones. bit_and ones (get_or bytes k 0)) (get_or-replicate size k 255 0 here) ∙ and_ones (get_or bytes k 0) (small k))
 
--- and so they stand in the sector
+-- a range that was erased holds the new bytes
 pub slice_range-programmed_erased : (sector : List ℕ) (place end : ℕ) (bytes : List ℕ) → end ≡ place + length bytes → end ≤ length sector → AreBytes bytes →
     slice_range sector place end ≡ erased (length bytes) → slice_range (programmed sector place bytes) place end ≡ bytes
 slice_range-programmed_erased sector place end bytes e within small blank =
     slice_range-programmed sector place end bytes e within ∙ ap (λ old. anded old bytes) blank ∙ anded-erased bytes (length bytes) refl small
 
--- one place of the range
+-- one byte inside the range
 pub get_or-programmed : (sector : List ℕ) (place : ℕ) (bytes : List ℕ) (k : ℕ) → k < length bytes → place ≤ length sector →
     get_or (programmed sector place bytes) (place + k) 0 ≡ bit_and (get_or sector (place + k) 0) (get_or bytes k 0)
 get_or-programmed sector place bytes k h within =
@@ -103,7 +103,7 @@ get_or-programmed sector place bytes k h within =
     ∙ ap (λ n. get_or (anded (drop place sector) bytes) n 0) (omega arith)
     ∙ get_or-anded (drop place sector) bytes k h ∙ ap (λ old. bit_and old (get_or bytes k 0)) (get_or-drop place sector k 0)
 
--- a place outside of it
+-- one byte outside the range
 pub get_or-programmed_outside : (sector : List ℕ) (place : ℕ) (bytes : List ℕ) (k : ℕ) → (k < place) ⊎ (place + length bytes ≤ k) → place ≤ length sector →
     get_or (programmed sector place bytes) k 0 ≡ get_or sector k 0
 get_or-programmed_outside sector place bytes k (inl before) within =
@@ -162,7 +162,7 @@ IsImage-with_sector size image First bytes is long small =
 IsImage-with_sector size image Second bytes is long small =
     record { first_size = is.first_size; second_size = long; first_bytes = is.first_bytes; second_bytes = small }
 
--- of one sector
+-- the size of one sector
 pub length-sector_of : (size : ℕ) (image : Image) (sector : Sector) → IsImage size image → length (sector_of image sector) ≡ size
 length-sector_of size image First is = is.first_size
 length-sector_of size image Second is = is.second_size

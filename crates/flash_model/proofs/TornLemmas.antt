@@ -7,12 +7,12 @@ use Rattle.std.proofs.lemmas.List.FromFn.{length-map-range_with_len, get_or-map-
 use Rattle.flash_model.specs.Fate.{torn_byte, torn_bytes, chosen_bit}
 use Rattle.flash_model.specs.Torn.{IsBetween}
 
--- one bit, by the mask's bit and its complement
+-- one bit, from the mask's bit and its complement
 chosen : (mask kept old new : ℕ) → mask < 2 → old < 2 → new < 2 → kept ≡ 1 - mask → max (min old kept) (min new mask) ≡ chosen_bit mask old new
 chosen zero kept old new m o n e = omega arith
 chosen (suc mask) kept old new m o n e = omega arith
 
--- behind the last bit of a byte
+-- after the last bit of a byte
 chosen_past : (mask kept old new : ℕ) → mask ≡ 0 → old ≡ 0 → new ≡ 0 → max (min old kept) (min new mask) ≡ chosen_bit mask old new
 chosen_past zero kept old new m o n = omega arith
 chosen_past (suc mask) kept old new m o n = absurd (omega arith)
@@ -28,7 +28,7 @@ torn_byte-bits old new mask o n m k =
       | inr h ↦ chosen_past (bit_at mask k) (bit_at (255 - mask) k) (bit_at old k) (bit_at new k) (bit_at_above mask 8 k m h) (bit_at_above old 8 k o h) (bit_at_above new 8 k n h)
     ]
 
--- the chosen bit is one of the two
+-- the chosen bit is the old or the new one
 chosen_between : (mask old new bit : ℕ) → bit ≡ chosen_bit mask old new → (bit ≡ old) ⊎ (bit ≡ new)
 chosen_between zero old new bit e = inl e
 chosen_between (suc mask) old new bit e = inr e

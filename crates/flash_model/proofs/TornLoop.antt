@@ -1,4 +1,4 @@
--- A loop that tears a range, place by place.
+-- A loop that tears a range, byte by byte.
 use Rattle.std.proofs.Common.{◌≡◌, ◌+◌, ◌<◌, ◌≤◌, ◌%◌, ◌∙◌, ℕ, List, length, set, get_or, sym, ap, subst, arith, below_more, inl, inr}
 use Rattle.std.proofs.lemmas.Bool.{cases_lt}
 use Rattle.std.proofs.lemmas.List.{get_or_past}
@@ -8,17 +8,17 @@ use Rattle.flash_model.specs.Torn.{IsBetween, AreBetween}
 use Rattle.flash_model.proofs.TornLemmas.{length-torn_bytes, get_or-torn_bytes}
 use Rattle.flash_model.proofs.Written.{written, get_or-written, written_step, written_all}
 
--- the range so far, which finished would have been those bytes
+-- The range so far; finished, it would hold these bytes.
 pub record TornSoFar (mask finished old bytes : List ℕ) (place : ℕ) : Type 0 where
   pub value : bytes ≡ written (torn_bytes mask old finished) old place
   pub between : (k : ℕ) → k < place → IsBetween (get_or old k 0) (get_or finished k 0) (get_or (torn_bytes mask old finished) k 0)
 
--- the place that comes next has its old byte
+-- the next byte is still the old one
 pub torn_next : (mask finished old now : List ℕ) (place : ℕ) → TornSoFar mask finished old now place → place < length old → get_or now place 0 ≡ get_or old place 0
 torn_next mask finished old now place so_far h =
     ap (λ s. get_or s place 0) so_far.value ∙ get_or-written (torn_bytes mask old finished) old place (length-torn_bytes mask old finished) h
 
--- one more byte, torn from the old one and the finished one
+-- one more byte, torn between the old one and the finished one
 pub torn_more : (mask finished old now : List ℕ) (place new byte : ℕ) → TornSoFar mask finished old now place → place < length old →
     new ≡ get_or finished place 0 → byte ≡ torn_byte (get_or now place 0) new (get_or mask (place % 8) 0) →
     IsBetween (get_or now place 0) new byte → TornSoFar mask finished old (set now place byte) (place + 1)

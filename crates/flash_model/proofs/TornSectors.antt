@@ -1,10 +1,10 @@
--- What a call leaves of a sector.
+-- What a failed call leaves of a sector.
 use Rattle.std.proofs.Common.{◌≡◌, ◌+◌, ◌-◌, ◌<◌, ◌≤◌, ◌∙◌, ℕ, List, ◌++◌, length, take, drop, get_or, slice_range, refl, sym, ap, subst, arith, inr}
 use Rattle.std.proofs.lemmas.List.{length-append, length-take-le, length-drop, take_at, append_assoc, get_or-take, get_or-drop, get_or-append_right, get_or_append_left}
 use Rattle.std.proofs.lemmas.Slice.{drop-append-drop}
 use Rattle.flash_model.specs.Torn.{IsBetween, AreBetween, TornSector}
 
--- all is as finished, which is as it was outside the range
+-- a call that finished also counts as torn, if it changed only the range
 pub torn-finished : (start end : ℕ) (finished old : List ℕ) → length finished ≡ length old → take start finished ≡ take start old → drop end finished ≡ drop end old →
     TornSector start end finished old finished
 torn-finished start end finished old l b d = record { length = l; before = b; behind = d; inside = λ k s e i. inr refl }
@@ -15,7 +15,7 @@ get_or-slice_range bytes start end k s e =
     let at : start + (k - start) ≡ k = omega arith in
     get_or-take (end - start) (drop start bytes) (k - start) 0 (omega arith) ∙ get_or-drop start bytes (k - start) 0 ∙ ap (λ n. get_or bytes n 0) at
 
--- the range is torn
+-- only the range is torn
 pub torn-range : (start end : ℕ) (finished old range : List ℕ) → start ≤ end → end ≤ length old →
     AreBetween (slice_range old start end) (slice_range finished start end) range → TornSector start end finished old (take start old ++ range ++ drop end old)
 torn-range start end finished old range order within between =

@@ -1,8 +1,8 @@
--- A loop that writes each place of a list in turn.
+-- A loop that writes each item of a list in turn.
 use Rattle.std.proofs.Common.{◌≡◌, ◌+◌, ◌<◌, ◌≤◌, ◌∙◌, ℕ, List, [], ◌∷◌, ◌++◌, length, take, drop, set, get_or, sym, ap, arith, rules}
 use Rattle.std.proofs.lemmas.List.{places, length-take-le, take_all, drop_all, append-nil, append_assoc, drop_more, take_more, set_at}
 
--- the list so far: written below this place, and old from there on
+-- the list so far: new before this index, and old from there on
 abbrev pub written : List ℕ → List ℕ → ℕ → List ℕ
 written done old place = take place done ++ drop place old
 
@@ -24,7 +24,7 @@ written_all done old now place w e h =
     let short : length done ≤ place = omega arith in
     w ∙ ap (λ f. f ++ drop place old) (take_all place done short) ∙ ap (λ r. done ++ r) (drop_all place old h) ∙ append-nil done
 
--- one more place, where the byte is made from the old one
+-- one more item, made from the old one
 pub written_step : (done old now : List ℕ) (place : ℕ) (make : ℕ → ℕ) → now ≡ written done old place → length done ≡ length old → place < length old →
     get_or done place 0 ≡ make (get_or old place 0) → set now place (make (get_or now place 0)) ≡ written done old (place + 1)
 written_step done old now place make w e h b =

@@ -1,4 +1,4 @@
--- What calls make of a flash in memory.
+-- The effect of calls on a flash in memory.
 use Rattle.std.specs.Prelude.{◌≡◌, ◌+◌, ℕ, Bool, List, [], ◌∷◌, length, Option, Some}
 use Rattle.flash_model.specs.declared.flash.Order.{Order}
 use Rattle.flash_model.specs.declared.flash.Sector.{Sector}
@@ -8,7 +8,8 @@ use Rattle.flash_model.specs.Fate.{fate_of, armed_after, against_writes, lost_af
 use Rattle.flash_model.specs.Image.{Image, sector_of, with_sector, programmed, erased}
 use Rattle.flash_model.specs.Memory.{image_of, armed_in, is_powerless}
 
--- what a call can change and meet: the bytes, the order that is armed against program and erase calls, and whether power was lost
+-- what a call can change or depends on: the bytes, the order that is armed against program and erase calls, and whether
+-- power was lost
 pub record Chip : Type 0 where
   pub image : Image
   pub armed : Option Order
@@ -17,7 +18,7 @@ pub record Chip : Type 0 where
 abbrev pub chip_of : {S : ℕ} → MemoryFlash S → Chip
 chip_of flash = record { image = image_of flash; armed = against_writes (armed_in flash); is_lost = is_powerless flash }
 
--- the chip behind a call on the places from start to end, which finished would have left those bytes in the sector
+-- the chip after a call on the bytes from start to end; finished, the call would have left these bytes in the sector
 abbrev pub written : Chip → Sector → ℕ → ℕ → List ℕ → Chip
 written chip sector start end finished =
     let fate = fate_of chip.is_lost chip.armed in record {
@@ -26,17 +27,17 @@ written chip sector start end finished =
       is_lost = lost_after chip.is_lost chip.armed;
     }
 
--- the chip behind a call, whether it passed, was torn or failed
+-- the chip after a call, whether it passed, was torn or failed
 abbrev pub after_call : Chip → Call → Chip
 after_call chip (Programs sector place bytes) = written chip sector place (place + length bytes) (programmed (sector_of chip.image sector) place bytes)
 after_call chip (Erases sector) = written chip sector 0 (length (sector_of chip.image sector)) (erased (length (sector_of chip.image sector)))
 after_call chip (Arms order) = record chip { armed = against_writes (Some order) }
 
--- the chip behind some calls, in order
+-- the chip after some calls, in order
 abbrev pub after_calls : Chip → List Call → Chip
 after_calls chip [] = chip
 after_calls chip (call ∷ calls) = after_calls (after_call chip call) calls
 
--- The one became the other by these calls, in order: nothing else changed its bytes, what is armed against them or its power.
+-- The flash changed by exactly these calls, in order: its bytes, what is armed against them and its power.
 abbrev pub IsAsked : {S : ℕ} → MemoryFlash S → List Call → MemoryFlash S → Type 0
 IsAsked old calls new = chip_of new ≡ after_calls (chip_of old) calls

@@ -1,4 +1,4 @@
--- What a flash of two sectors contains, and what a finished call makes of it.
+-- The contents of a flash of two sectors, and the effect of a finished call on them.
 use Rattle.std.specs.Prelude.{◌≡◌, ◌+◌, ◌-◌, ◌*◌, ◌/◌, ◌≤◌, ◌<◌, ℕ, List, [], ◌∷◌, ◌++◌, length, take, drop, replicate, slice_index, bit_and}
 use Rattle.flash_model.specs.declared.flash.Sector.{Sector}
 use Rattle.flash_model.specs.declared.flash.Sector.TheVariants.{First, Second}
@@ -21,13 +21,13 @@ abbrev pub other : Sector → Sector
 other First = Second
 other Second = First
 
--- bytes put over others: a bit is 1 where both have a 1
+-- the bitwise AND of two lists of bytes
 abbrev pub anded : List ℕ → List ℕ → List ℕ
 anded [] new = []
 anded (old ∷ olds) [] = old ∷ olds
 anded (old ∷ olds) (new ∷ news) = bit_and old new ∷ anded olds news
 
--- a sector after bytes were programmed at a place
+-- a sector after bytes were programmed at a position
 abbrev pub programmed : List ℕ → ℕ → List ℕ → List ℕ
 programmed sector place bytes = take place sector ++ anded (drop place sector) bytes
 
@@ -35,7 +35,7 @@ programmed sector place bytes = take place sector ++ anded (drop place sector) b
 abbrev pub erased : ℕ → List ℕ
 erased size = replicate size 255
 
--- how many slots of 256 bytes there are behind the first 512
+-- the number of slots of 256 bytes after the first 512 bytes
 abbrev pub slots_in : ℕ → ℕ
 slots_in size = (size - 512) / 256
 
@@ -49,7 +49,7 @@ pub record IsSectorSize (size : ℕ) : Type 0 where
 abbrev pub AreBytes : List ℕ → Type 0
 AreBytes bytes = (k : ℕ) → slice_index bytes k < 256
 
--- both sectors have this size, and bytes in them
+-- both sectors have this size and hold bytes
 pub record IsImage (size : ℕ) (image : Image) : Type 0 where
   pub first_size : length image.first ≡ size
   pub second_size : length image.second ≡ size

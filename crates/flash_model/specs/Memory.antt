@@ -1,4 +1,4 @@
--- A flash in memory as its callers see it, and what an armed order makes of its calls.
+-- A flash in memory as its callers see it, and the effect of an armed order on its calls.
 use Rattle.std.specs.Prelude.{◌≡◌, ℕ, Bool, false, Option, None}
 use Rattle.flash_model.specs.declared.flash.Order.{Order}
 use Rattle.flash_model.specs.declared.memory.MemoryFlash.{MemoryFlash}
@@ -14,7 +14,7 @@ image_of flash = record { first = flash.first; second = flash.second }
 abbrev pub armed_in : {S : ℕ} → MemoryFlash S → Option Order
 armed_in flash = flash.armed
 
--- how many calls have failed, as far as 64 bits count
+-- how many calls have failed; the count saturates at the maximum of 64 bits
 abbrev pub failures_of : {S : ℕ} → MemoryFlash S → ℕ
 failures_of flash = flash.failures
 
@@ -22,19 +22,19 @@ failures_of flash = flash.failures
 abbrev pub is_powerless : {S : ℕ} → MemoryFlash S → Bool
 is_powerless flash = flash.is_lost
 
--- power is there, and nothing is armed
+-- there is power, and nothing is armed
 abbrev pub IsReliable : {S : ℕ} → MemoryFlash S → Type 0
 IsReliable flash = (is_powerless flash ≡ false) × (armed_in flash ≡ None)
 
--- what becomes of the next program or erase call
+-- the fate of the next program or erase call
 abbrev pub next_fate : {S : ℕ} → MemoryFlash S → Fate
 next_fate flash = fate_of (is_powerless flash) (armed_in flash)
 
--- what is armed behind the next program or erase call
+-- what is armed after the next program or erase call
 abbrev pub next_armed : {S : ℕ} → MemoryFlash S → Option Order
 next_armed flash = armed_after (is_powerless flash) (armed_in flash)
 
--- whether power is lost behind the next program or erase call
+-- whether power is lost after the next program or erase call
 abbrev pub next_lost : {S : ℕ} → MemoryFlash S → Bool
 next_lost flash = lost_after (is_powerless flash) (armed_in flash)
 
@@ -42,6 +42,6 @@ next_lost flash = lost_after (is_powerless flash) (armed_in flash)
 abbrev pub next_readable : {S : ℕ} → MemoryFlash S → Bool
 next_readable flash = is_readable (is_powerless flash) (armed_in flash)
 
--- what is armed behind the next read
+-- what is armed after the next read
 abbrev pub next_read_armed : {S : ℕ} → MemoryFlash S → Option Order
 next_read_armed flash = armed_after_read (is_powerless flash) (armed_in flash)

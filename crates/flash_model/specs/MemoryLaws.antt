@@ -1,4 +1,4 @@
--- The laws of the trait at a flash in memory, from what its type keeps.
+-- The laws of the trait for a flash in memory, from the invariant of its type.
 use Rattle.std.specs.Prelude.{◌≡◌, ℕ, false, List, [], ◌∷◌, ◌++◌, refl}
 use Rattle.std.proofs.Common.{ap, sym, ◌∙◌}
 use Rattle.flash_model.specs.declared.memory.MemoryFlash.{MemoryFlash}
@@ -7,7 +7,7 @@ use Rattle.flash_model.specs.Calls.{Call}
 use Rattle.flash_model.specs.Image.{IsImage, IsSectorSize}
 use Rattle.flash_model.specs.Memory.{image_of, is_powerless, IsReliable}
 
--- both sectors have the size that the type names, and bytes in them
+-- both sectors have the size that the type names, and hold bytes
 pub IsImage-of : {S : ℕ} (flash : MemoryFlash S) → IsImage S (image_of flash)
 IsImage-of flash = flash.sized
 
@@ -19,11 +19,11 @@ IsSectorSize-of flash = flash.sector_size
 pub has_power-of : {S : ℕ} (flash : MemoryFlash S) → IsReliable flash → is_powerless flash ≡ false
 has_power-of flash reliable = reliable.0
 
--- without a call nothing changes
+-- no calls change nothing
 pub asked_nothing-of : {S : ℕ} (flash : MemoryFlash S) → IsAsked flash [] flash
 asked_nothing-of flash = refl
 
--- some calls, and then more
+-- calls followed by more calls
 pub after_calls-append : (chip : Chip) (front back : List Call) → after_calls chip (front ++ back) ≡ after_calls (after_calls chip front) back
 after_calls-append chip [] back = refl
 after_calls-append chip (call ∷ front) back = after_calls-append (after_call chip call) front back

@@ -1,22 +1,22 @@
-// What becomes of a program or erase call of a flash in memory, and the bytes that it leaves.
+// The fate of a program or erase call of a flash in memory, and the bytes that it leaves.
 ghost use Rattle.std.specs.Prelude.{◌≡◌, ◌+◌, ◌≤◌, ℕ, length};
 ghost use Rattle.std.specs.Int.{bit_at};
 ghost use Rattle.flash_model.specs.Image.{anded, programmed, erased, AreBytes};
 ghost use Rattle.flash_model.specs.Torn.{IsBetween, AreBetween, TornSector};
 ghost use Rattle.flash_model.specs.Fate.{torn_byte, torn_bytes, sector_after, chosen_bit};
 
-/// What becomes of a program or erase call.
+/// The fate of a program or erase call.
 #[derive(Clone, Copy)]
 pub enum Fate {
     /// It is carried out.
     Passes,
-    /// It fails inside: the mask has a 1 for each bit that is already new.
+    /// It fails halfway: the mask has a 1 for each bit that is already new.
     Tears([u8; 8]),
     /// There is no power.
     Fails,
 }
 
-/// A byte that was to turn from `old` to `new`: the bits of the new one where the mask has a 1, else those of the old.
+/// A byte on its way from `old` to `new`: the new bits if the mask has a 1, else the old ones.
 pub fn torn_byte(old: u8, new: u8, mask: u8) -> u8
     ensures value { result ≡ torn_byte old new mask }
     ensures bits { (k : ℕ) → bit_at result k ≡ chosen_bit (bit_at mask k) (bit_at old k) (bit_at new k) }
@@ -25,7 +25,7 @@ pub fn torn_byte(old: u8, new: u8, mask: u8) -> u8
     (old & !mask) | (new & mask)
 }
 
-/// Turns to 0 each bit of the range that is 0 in `bytes`.
+/// Clears each bit of the range that is 0 in `bytes`.
 fn and_bytes(range: &mut [u8], bytes: &[u8])
     requires { length bytes.now ≡ length range.old }
     ensures { range.new ≡ anded range.old bytes.now }
@@ -35,7 +35,7 @@ fn and_bytes(range: &mut [u8], bytes: &[u8])
     }
 }
 
-/// Turns to 0 those bits of the range that are 0 in `bytes` and 1 in the mask, which repeats from its start.
+/// Clears those bits of the range that are 0 in `bytes` and 1 in the mask, which repeats from the start of the range.
 fn and_masked(range: &mut [u8], bytes: &[u8], mask: [u8; 8])
     requires { length bytes.now ≡ length range.old }
     ensures value { range.new ≡ torn_bytes mask range.old (anded range.old bytes.now) }
@@ -47,7 +47,7 @@ fn and_masked(range: &mut [u8], bytes: &[u8], mask: [u8; 8])
     }
 }
 
-/// Turns to 1 those bits of the range that are 1 in the mask, which repeats from its start.
+/// Sets those bits of the range that are 1 in the mask, which repeats from the start of the range.
 fn set_masked(range: &mut [u8], mask: [u8; 8])
     ensures value { range.new ≡ torn_bytes mask range.old (erased (length range.old)) }
     ensures between { AreBetween range.old (erased (length range.old)) range.new }
@@ -57,7 +57,7 @@ fn set_masked(range: &mut [u8], mask: [u8; 8])
     }
 }
 
-/// What a program call makes of the sector.
+/// Applies a program call to the sector.
 pub fn program(sector: &mut [u8], place: usize, bytes: &[u8], fate: Fate)
     requires { place + length bytes.now ≤ length sector.old }
     ensures value { sector.new ≡ sector_after fate place (place + length bytes.now) (programmed sector.old place bytes.now) sector.old }
@@ -72,7 +72,7 @@ pub fn program(sector: &mut [u8], place: usize, bytes: &[u8], fate: Fate)
     }
 }
 
-/// What an erase call makes of the sector.
+/// Applies an erase call to the sector.
 pub fn erase(sector: &mut [u8], fate: Fate)
     ensures value { sector.new ≡ sector_after fate 0 (length sector.old) (erased (length sector.old)) sector.old }
     ensures torn { TornSector 0 (length sector.old) (erased (length sector.old)) sector.old sector.new }

@@ -1,13 +1,12 @@
-// A flash that is lent.
+// A borrowed flash.
 ghost use Rattle.std.specs.Prelude.{◌≡◌, false};
 
 use crate::MemoryFlash;
 use crate::flash::{Flash, FlashFault, Order, Sector};
 use std::marker::Model;
 
-/// A flash that is lent: it stays where it is, since one that holds its sectors in memory is large, and whoever takes a flash by value
-/// takes this in its place. A clause sees
-/// the flash.
+/// A borrowed flash. A flash that holds its sectors in memory is large, so it stays in place and this is passed by
+/// value instead. Clauses see the flash.
 #[derive(Drop)]
 pub struct Lent<'a, F> {
     flash: &'a mut F,
@@ -22,14 +21,14 @@ impl<'a, F> Model for Lent<'a, F> {
 }
 
 impl<'a, F> Lent<'a, F> {
-    /// Lends a flash.
+    /// Borrows a flash.
     pub fn new(flash: &'a mut F) -> Lent<'a, F>
         ensures { result ≡ flash.old }
     {
         Lent { flash }
     }
 
-    /// The flash.
+    /// The flash that is borrowed.
     pub fn flash(&self) -> &F
         ensures { result.now ≡ self.now }
     {
@@ -40,7 +39,7 @@ impl<'a, F> Lent<'a, F> {
 impl<'a, const S: usize> Lent<'a, MemoryFlash<S>> {
     ghost use Rattle.flash_model.specs.Memory.{image_of, armed_in, failures_of, is_powerless};
 
-    /// Gives power back, and changes nothing else: a pending order stays armed.
+    /// Restores power and changes nothing else: a pending order stays armed.
     pub fn power_up(&mut self)
         ensures lost { is_powerless self.new ≡ false }
         ensures armed { armed_in self.new ≡ armed_in self.old }

@@ -1,5 +1,5 @@
-//! A flash memory of two sectors, each erased as a whole, whose calls may fail, or be cut short by a loss of power,
-//! and then leave any mixture of the old bits and the new ones.
+//! A flash memory of two sectors, each erased as a whole. Its calls may fail or be cut short by a loss of power, and
+//! then leave any mixture of the old bits and the new ones.
 #![tactic(auto)]
 
 mod fate;

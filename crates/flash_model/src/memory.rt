@@ -1,4 +1,4 @@
-// A flash in memory, whose calls can be made to fail, with power lost inside one or not.
+// A flash in memory whose calls can be made to fail, with or without a loss of power.
 ghost use Rattle.std.specs.Prelude.{◌≡◌, ◌+◌, ◌≤◌, ◌↔◌, Option, None, Some, true, false, [], ◌∷◌, length, slice_range, IsOk, OnOk, OnErr};
 ghost use Rattle.std.specs.Prelude.{min};
 ghost use Rattle.std.proofs.Props.{props};
@@ -10,9 +10,9 @@ ghost use Rattle.flash_model.specs.Fate.{sector_after, failures_after};
 use crate::fate::{self, Fate};
 use crate::flash::{Flash, FlashFault, Order, Sector};
 
-/// A flash in memory. An order that was armed by [`fuse`](MemoryFlash::fuse) loses its power in a later call, which is
-/// then torn; until [`power_up`](MemoryFlash::power_up) each call fails. One by [`fault`](MemoryFlash::fault) tears a later
-/// call, and one by [`fault_read`](MemoryFlash::fault_read) fails a later read; both leave it its power. One order is armed
+/// A flash in memory. After an order of [`fuse`](MemoryFlash::fuse) power is lost in a later call, which is then torn,
+/// and each call fails until [`power_up`](MemoryFlash::power_up). An order of [`fault`](MemoryFlash::fault) tears a
+/// later call, and one of [`fault_read`](MemoryFlash::fault_read) fails a later read; power stays. One order is armed
 /// at a time.
 #[derive(Drop)]
 pub struct MemoryFlash<const S: usize> {
@@ -30,7 +30,7 @@ impl<const S: usize> MemoryFlash<S> {
     ghost use Rattle.flash_model.specs.Memory.{next_readable, next_read_armed};
     ghost use Rattle.flash_model.specs.declared.flash.Order.TheVariants.{Cut, Fault, ReadFault};
 
-    /// A flash with both sectors erased, power there, nothing armed and no failure counted.
+    /// A flash with both sectors erased. It has power, nothing is armed and no failure is counted.
     pub fn blank() -> Self
         requires { IsSectorSize S }
         ensures image { image_of result ≡ record { first = erased S; second = erased S } }
@@ -41,7 +41,7 @@ impl<const S: usize> MemoryFlash<S> {
         Self::from_sectors([0xFF; S], [0xFF; S])
     }
 
-    /// A flash with these bytes, power there, nothing armed and no failure counted.
+    /// A flash with these bytes. It has power, nothing is armed and no failure is counted.
     pub fn from_sectors(first: [u8; S], second: [u8; S]) -> Self
         requires { IsSectorSize S }
         ensures image { image_of result ≡ record { first = first.entry; second = second.entry } }
@@ -69,9 +69,9 @@ impl<const S: usize> MemoryFlash<S> {
         }
     }
 
-    /// Loses power in the program or erase call after `after` further ones, which is then torn: the new bit where the
-    /// mask has a 1, else the old, the mask's 8 bytes repeating from the start of the call's range. An order that was
-    /// armed before is forgotten.
+    /// Loses power in the program or erase call that follows `after` others. That call is torn: the new bit if the mask
+    /// has a 1, else the old one. The mask's 8 bytes repeat from the start of the call's range. The order replaces one
+    /// that was armed before.
     pub fn fuse(&mut self, after: u32, mask: [u8; 8])
         ensures armed { armed_in self.new ≡ Some (Cut after mask) }
         ensures image { image_of self.new ≡ image_of self.old }
@@ -81,8 +81,8 @@ impl<const S: usize> MemoryFlash<S> {
         self.armed = Some(Order::Cut { after, mask });
     }
 
-    /// Fails the program or erase call after `after` further ones, which is torn as by [`fuse`](MemoryFlash::fuse). Power
-    /// stays, and later calls pass. An order that was armed before is forgotten.
+    /// Fails the program or erase call that follows `after` others, which is torn as by [`fuse`](MemoryFlash::fuse).
+    /// Power stays, and later calls pass. The order replaces one that was armed before.
     pub fn fault(&mut self, after: u32, mask: [u8; 8])
         ensures armed { armed_in self.new ≡ Some (Fault after mask) }
         ensures image { image_of self.new ≡ image_of self.old }
@@ -92,8 +92,8 @@ impl<const S: usize> MemoryFlash<S> {
         self.armed = Some(Order::Fault { after, mask });
     }
 
-    /// Fails the read after `after` further ones. Power stays, and later reads pass. An order that was armed before is
-    /// forgotten.
+    /// Fails the read that follows `after` others. Power stays, and later reads pass. The order replaces one that was
+    /// armed before.
     pub fn fault_read(&mut self, after: u32)
         ensures armed { armed_in self.new ≡ Some (ReadFault after) }
         ensures image { image_of self.new ≡ image_of self.old }
@@ -103,7 +103,7 @@ impl<const S: usize> MemoryFlash<S> {
         self.armed = Some(Order::ReadFault { after });
     }
 
-    /// Gives power back, and changes nothing else: a pending order stays armed.
+    /// Restores power and changes nothing else: a pending order stays armed.
     pub fn power_up(&mut self)
         ensures lost { is_powerless self.new ≡ false }
         ensures armed { armed_in self.new ≡ armed_in self.old }
@@ -113,7 +113,7 @@ impl<const S: usize> MemoryFlash<S> {
         self.is_lost = false;
     }
 
-    /// Decides on the next program or erase call, and takes it off the order that is armed.
+    /// The fate of the next program or erase call, which the armed order counts.
     fn next_fate(&mut self) -> Fate
         ensures fate { result ≡ next_fate self.old }
         ensures armed { armed_in self.new ≡ next_armed self.old }
@@ -150,7 +150,7 @@ impl<const S: usize> MemoryFlash<S> {
         }
     }
 
-    /// Decides whether the next read passes, and takes it off the order that is armed.
+    /// Whether the next read passes. The armed order counts it.
     fn next_read(&mut self) -> bool
         ensures passes { result ≡ next_readable self.old }
         ensures armed { armed_in self.new ≡ next_read_armed self.old }
@@ -172,7 +172,7 @@ impl<const S: usize> MemoryFlash<S> {
         }
     }
 
-    /// The answer of a program or erase call, which is counted where it fails.
+    /// The result of a program or erase call. A failure is counted.
     fn outcome(&mut self, fate: Fate) -> Result<(), FlashFault>
         ensures passes { IsOk result ↔ (fate ≡ Fate.Passes) }
         ensures cause { HasCause (failures_of self.old) (failures_of self.new) result }
@@ -216,24 +216,35 @@ impl<const S: usize> Flash<S> for MemoryFlash<S> {
 
     ghost asked = { IsAsked };
 
-    /// Reads the bytes from `place` on. It fails exactly where there is no power or an order to reads strikes, and counts
-    /// for no other order.
+    /// Reads the bytes from `place` on. It fails if and only if there is no power or an order for reads strikes. Other
+    /// orders do not count it.
     fn read(&mut self, sector: Sector, place: usize, buffer: &mut [u8]) -> Result<(), FlashFault>
         requires { place + length buffer.old ≤ S }
 
-        // What the trait asks.
+        // On success the buffer holds the bytes of the sector from `place` on.
         ensures done { OnOk result (buffer.new ≡ slice_range (sector_of (image_of self.old) sector) place (place + length buffer.old)) }
+        // The image is unchanged.
         ensures same { image_of self.new ≡ image_of self.old }
+        // No call that changes the flash is made.
         ensures calls { IsAsked self.old [] self.new }
+        // After an error the count of failed calls has risen or is saturated. On success it is unchanged.
         ensures cause { HasCause (failures_of self.old) (failures_of self.new) result }
+        // Power that was lost stays lost, and then the call fails.
         ensures lost { StaysLost (is_powerless self.old) (is_powerless self.new) result }
+        // On a reliable flash the call succeeds, and the flash stays reliable.
         ensures reliable { IsReliable self.old → IsOk result × IsReliable self.new }
 
-        // What a flash in memory does beside, exactly.
+        // The call succeeds if and only if there is power and no armed order for reads strikes.
         ensures passes { IsOk result ↔ (next_readable self.old ≡ true) }
+        // After an error the buffer is unchanged.
         ensures refused { OnErr result (buffer.new ≡ buffer.old) }
+        // If there is power, an armed order for reads counts the read, and is gone if it struck. Otherwise the order is
+        // unchanged.
         ensures armed { armed_in self.new ≡ next_read_armed self.old }
+        // Power is as before.
         ensures power { is_powerless self.new ≡ is_powerless self.old }
+        // The count of failed calls rises by one after an error, up to the maximum of 64 bits. On success it is
+        // unchanged.
         ensures failures { failures_of self.new ≡ failures_after (failures_of self.old) result }
     {
         if !self.next_read() {
@@ -244,29 +255,42 @@ impl<const S: usize> Flash<S> for MemoryFlash<S> {
         Ok(())
     }
 
-    /// Turns to 0 each bit that is 0 in `bytes`, from `place` on. It fails exactly where there is no power or the order
-    /// that is armed strikes.
+    /// Clears each bit that is 0 in `bytes`, from `place` on. It fails if and only if there is no power or the armed
+    /// order strikes.
     fn program(&mut self, sector: Sector, place: usize, bytes: &[u8]) -> Result<(), FlashFault>
         requires { place + length bytes.now ≤ S }
 
-        // What the trait asks, and that a call without power changes no byte.
+        // On success the bytes are programmed, and everything else is unchanged.
         ensures done { OnOk result (image_of self.new
             ≡ with_sector (image_of self.old) sector (programmed (sector_of (image_of self.old) sector) place bytes.now)) }
+        // After an error each bit in the range is old or as the finished call would have left it, and everything else
+        // is unchanged.
         ensures torn { OnErr result (Torn sector place (place + length bytes.now)
             (programmed (sector_of (image_of self.old) sector) place bytes.now) (image_of self.old) (image_of self.new)) }
+        // Exactly this program call is made.
         ensures calls { IsAsked self.old (Programs sector place bytes.now ∷ []) self.new }
+        // After an error the count of failed calls has risen or is saturated. On success it is unchanged.
         ensures cause { HasCause (failures_of self.old) (failures_of self.new) result }
+        // Power that was lost stays lost, and then the call fails.
         ensures lost { StaysLost (is_powerless self.old) (is_powerless self.new) result }
+        // Without power no byte changes.
         ensures untouched { is_powerless self.old ≡ true → image_of self.new ≡ image_of self.old }
+        // On a reliable flash the call succeeds, and the flash stays reliable.
         ensures reliable { IsReliable self.old → IsOk result × IsReliable self.new }
 
-        // What a flash in memory does beside, exactly.
+        // The call succeeds if and only if there is power and the armed order does not strike.
         ensures passes { IsOk result ↔ (next_fate self.old ≡ Fate.Passes) }
+        // The bytes are those that the fate of the call gives, bit by bit.
         ensures image { image_of self.new
             ≡ with_sector (image_of self.old) sector (sector_after (next_fate self.old) place (place + length bytes.now)
             (programmed (sector_of (image_of self.old) sector) place bytes.now) (sector_of (image_of self.old) sector)) }
+        // If there is power, an armed order that is not for reads counts the call, and is gone if it struck. Otherwise
+        // the order is unchanged.
         ensures armed { armed_in self.new ≡ next_armed self.old }
+        // Power is lost after the call if it was lost before or a cut struck.
         ensures power { is_powerless self.new ≡ next_lost self.old }
+        // The count of failed calls rises by one after an error, up to the maximum of 64 bits. On success it is
+        // unchanged.
         ensures failures { failures_of self.new ≡ failures_after (failures_of self.old) result }
     {
         let fate = self.next_fate();
@@ -277,24 +301,36 @@ impl<const S: usize> Flash<S> for MemoryFlash<S> {
         self.outcome(fate)
     }
 
-    /// Turns every bit of a sector to 1. It fails exactly where there is no power or the order that is armed strikes.
+    /// Sets every bit of a sector to 1. It fails if and only if there is no power or the armed order strikes.
     fn erase(&mut self, sector: Sector) -> Result<(), FlashFault>
-        // What the trait asks, and that a call without power changes no byte.
+        // On success the sector is erased, and the other one is unchanged.
         ensures done { OnOk result (image_of self.new ≡ with_sector (image_of self.old) sector (erased S)) }
+        // After an error each bit of the sector is old or 1, and the other sector is unchanged.
         ensures torn { OnErr result (Torn sector 0 S (erased S) (image_of self.old) (image_of self.new)) }
+        // Exactly this erase call is made.
         ensures calls { IsAsked self.old (Erases sector ∷ []) self.new }
+        // After an error the count of failed calls has risen or is saturated. On success it is unchanged.
         ensures cause { HasCause (failures_of self.old) (failures_of self.new) result }
+        // Power that was lost stays lost, and then the call fails.
         ensures lost { StaysLost (is_powerless self.old) (is_powerless self.new) result }
+        // Without power no byte changes.
         ensures untouched { is_powerless self.old ≡ true → image_of self.new ≡ image_of self.old }
+        // On a reliable flash the call succeeds, and the flash stays reliable.
         ensures reliable { IsReliable self.old → IsOk result × IsReliable self.new }
 
-        // What a flash in memory does beside, exactly.
+        // The call succeeds if and only if there is power and the armed order does not strike.
         ensures passes { IsOk result ↔ (next_fate self.old ≡ Fate.Passes) }
+        // The bytes are those that the fate of the call gives, bit by bit.
         ensures image { image_of self.new
             ≡ with_sector (image_of self.old) sector (sector_after (next_fate self.old) 0 S (erased S)
             (sector_of (image_of self.old) sector)) }
+        // If there is power, an armed order that is not for reads counts the call, and is gone if it struck. Otherwise
+        // the order is unchanged.
         ensures armed { armed_in self.new ≡ next_armed self.old }
+        // Power is lost after the call if it was lost before or a cut struck.
         ensures power { is_powerless self.new ≡ next_lost self.old }
+        // The count of failed calls rises by one after an error, up to the maximum of 64 bits. On success it is
+        // unchanged.
         ensures failures { failures_of self.new ≡ failures_after (failures_of self.old) result }
     {
         let fate = self.next_fate();
@@ -317,15 +353,18 @@ impl<const S: usize> Flash<S> for MemoryFlash<S> {
         self.is_lost
     }
 
-    /// Arms the order, in the place of one that was armed before. No byte changes.
+    /// Arms the order in place of one that was armed before. No byte changes.
     fn arm(&mut self, order: Order)
-        // What the trait asks.
+        // The image is unchanged.
         ensures image { image_of self.new ≡ image_of self.old }
+        // The count of failed calls is unchanged.
         ensures failures { failures_of self.new ≡ failures_of self.old }
+        // Power is as before.
         ensures lost { is_powerless self.new ≡ is_powerless self.old }
+        // Exactly this order is given.
         ensures calls { IsAsked self.old (Arms order ∷ []) self.new }
 
-        // What a flash in memory does beside, exactly.
+        // The order is armed, in place of an earlier one.
         ensures armed { armed_in self.new ≡ Some order }
     {
         match order {

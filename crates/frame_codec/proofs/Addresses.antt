@@ -3,7 +3,7 @@ use Rattle.std.proofs.Common.{◌≡◌, ℕ, zero, suc, ◌<◌, length, List, 
 use Rattle.std.proofs.lemmas.Nat.{le_bytes_2, le_bytes_4}
 use Rattle.std.specs.Int.{w16, w32, from_le_bytes, to_le_bytes}
 
--- octets that are written as a number are what it was made of
+-- the octets of a number that was made of two octets are those octets
 two : (a b n : ℕ) → a < 256 → b < 256 → n ≡ from_le_bytes w16 (a ∷ b ∷ []) → to_le_bytes w16 n ≡ a ∷ b ∷ []
 two a b n i j is = le_bytes_2 (a ∷ b ∷ []) n refl small is
   where
@@ -23,7 +23,7 @@ four a b c d n i j k l is = le_bytes_4 (a ∷ b ∷ c ∷ d ∷ []) n refl small
     small (suc (suc (suc zero))) = l
     small (suc (suc (suc (suc m)))) = omega arith
 
--- both numbers are the address
+-- the octets of both numbers are the address
 pub both : (o : List ℕ) (n m : ℕ) → length o ≡ 6 → slice_index_or o 0 0 < 256 → slice_index_or o 1 0 < 256
     → slice_index_or o 2 0 < 256 → slice_index_or o 3 0 < 256 → slice_index_or o 4 0 < 256 → slice_index_or o 5 0 < 256
     → n ≡ from_le_bytes w16 (slice_index_or o 0 0 ∷ slice_index_or o 1 0 ∷ [])

@@ -15,7 +15,7 @@ use Rattle.frame_codec.proofs.Layers.{internet_header_sound, udp_header_sound, p
 
 -- ---- the header of IPv4
 
--- what is in front of its checksum
+-- the octets before the checksum of IPv4
 abbrev front : ℕ → List ℕ
 front size = internet_size.write size (internet_way.write tt [])
 
@@ -34,7 +34,7 @@ header_words h fits =
     ap words_total (header_parts h) ∙ words_append 5 (front h.size) (big_bytes 2 h.checksum ++ rest) (front_size h.size)
     ∙ ap (λ (n : ℕ). words_total (front h.size) + n) (word_of h.checksum rest fits)
 
--- with its checksum the sum of a header is all ones
+-- the sum of a header with its checksum is all ones
 pub header_passes : (h : InternetHeader) → h.checksum ≡ 0 → ones_sum_of (internet_header.write (internet_sealed h) []) ≡ 65535
 unfolding ones_sum_of
 header_passes h bare =
@@ -45,7 +45,7 @@ header_passes h bare =
 
 -- ---- a datagram
 
--- what is in front of its checksum
+-- the octets before the checksum of UDP
 abbrev ports : UdpHeader → List ℕ
 ports h = big_bytes 2 h.source ++ (big_bytes 2 h.destination ++ (big_bytes 2 (h.size + 8) ++ []))
 
@@ -69,7 +69,7 @@ datagram_words ip h body twelve fits =
     ∙ words_append 3 (ports h) (big_bytes 2 h.checksum ++ (body ++ [])) (ports_size h)
     ∙ ap (λ (n : ℕ). words_total (ports h) + n) (word_of h.checksum (body ++ []) fits))
 
--- with its checksum the sum of a datagram is all ones
+-- the sum of a datagram with its checksum is all ones
 datagram_passes : (ip : InternetHeader) (h : UdpHeader) (body : List ℕ) → length (pseudo ip h) ≡ 12 → h.checksum ≡ 0
     → ones_sum_of (pseudo ip h ++ udp.write (udp_sealed ip h body, body) []) ≡ 65535
 unfolding ones_sum_of
@@ -93,7 +93,7 @@ size_of : (h : UdpHeader) (content : List ℕ) → udp_header.size h + length co
 unfolding udp_header size_behind
 size_of h content = omega arith
 
--- what is written for a datagram can be written: its sums are right and its lengths are those of what is there
+-- the packet for a datagram can be written: its checksums are right and its lengths match its contents
 pub datagram_fits : (source destination : Endpoint) (body : List ℕ)
     → internet_header.Fits (headers_of source destination body).0 → udp_header.Fits (packet_of source destination body).1.0
     → datagram.Fits (UdpDatagram source destination body)
@@ -121,14 +121,14 @@ datagram_joined source destination body ip h before one two all ip_is h_is e f g
 
 -- ---- sums of the code
 
--- the test of a reader, where there is a checksum
+-- the test of a reader, if there is a checksum
 pub passes_if : (ip : InternetHeader) (h : UdpHeader) (octets front : List ℕ) (first sum : ℕ) → h.checksum ≢ 0 → front ≡ pseudo ip h → length front ≡ 12
     → first ≡ ones_sum_of front → sum ≡ carried (first + words_total octets) → (sum == 65535) ≡ passes ip h octets
 passes_if ip h octets front first sum some e long one on =
     let all : sum ≡ ones_sum_of (pseudo ip h ++ octets) = sum_parts front octets first sum 6 long one on ∙ ap (λ (xs : List ℕ). ones_sum_of (xs ++ octets)) e in
     rw (ne_eqb _ _ some) (ap (λ (n : ℕ). n == 65535) all)
 
--- what a writer sums
+-- the sum that a writer computes
 pub datagram_sum : (ip : InternetHeader) (h : UdpHeader) (body octets : List ℕ) (first sum : ℕ) → octets ≡ pseudo ip h ++ udp_header.write h [] → length octets ≡ 20
     → first ≡ ones_sum_of octets → sum ≡ carried (first + words_total body) → sum ≡ ones_sum_of (pseudo ip h ++ udp.write (h, body) [])
 unfolding udp

@@ -1,4 +1,4 @@
--- A datagram fits where its addresses, ports and octets do.
+-- A datagram fits if its addresses, ports and octets do.
 use Rattle.std.proofs.Common.{◌≡◌, ◌≤◌, ◌<◌, ◌+◌, ℕ, List, length, refl, arith}
 use Rattle.std.proofs.lemmas.Bool.{le-leb}
 use Rattle.frame_codec.specs.declared.udp.Endpoint.{Endpoint}

@@ -1,4 +1,4 @@
--- What holds of frames: reading and the relation are one, and how long what is written is.
+-- Facts about frames: reading agrees with the relation, and how long a written frame is.
 use Rattle.std.proofs.Common.{◌≡◌, ℕ, ◌+◌, ◌-◌, ◌≤◌, Bool, true, false, cond, ltb, List, [], ◌++◌, length, replicate, Option, Some, None, Result, Ok, Err, refl, sym, ap, subst, ◌∙◌, append_assoc, arith}
 use Rattle.std.proofs.lemmas.Bool.{ltb-false, le-ltb}
 use Rattle.std.proofs.lemmas.List.{length-append, length-replicate}
@@ -15,12 +15,12 @@ use Rattle.frame_codec.proofs.Layers.{ethernet_sound, arp_packet_onward, packet_
 
 -- ---- reading
 
--- a length that was judged
+-- a length that passed the test
 judged : (b : Bool) (r : Result Meaning FrameFault) (meaning : Meaning) → cond b (Err TooLong) r ≡ Ok meaning → (b ≡ false) × (r ≡ Ok meaning)
 judged true r meaning e = absurd cc
 judged false r meaning e = (refl, e)
 
--- the Ethernet header that stands in front of a frame
+-- the Ethernet header that comes before a frame
 record HasHeader (bytes : List ℕ) (meaning : Meaning) : Type 0 where
   header : EthernetHeader
   rest : List ℕ
@@ -56,7 +56,7 @@ frame_again bytes meaning frame =
     let short : length bytes ≤ longest h.header.tag = subst (λ (tag : Option ℕ). length bytes ≤ longest tag) (sym h.tag) frame.short in
     rw (h.reads, le-ltb _ _ short) (layers_sound.again bytes meaning frame.spelled)
 
--- with more behind it, up to the limit, a frame is one of the same meaning with that behind
+-- a frame with more octets after it, up to the limit, is a frame of the same meaning with these octets added
 pub frame_behind : (first more bytes : List ℕ) (meaning : Meaning) → IsFrame first meaning → bytes ≡ first ++ more → length bytes ≤ longest meaning.tag → IsFrame bytes (with_behind meaning more)
 frame_behind first more bytes meaning frame e short = record {
   spelled = subst (λ (xs : List ℕ). layers.Spells xs (with_behind meaning more)) (sym e) (layers_onward first more meaning frame.spelled);
@@ -77,13 +77,13 @@ joined meaning ether_type front bytes kind one both =
     both ∙ ap (λ (xs : List ℕ). xs ++ body_of meaning.content) (one ∙ ap (λ (n : ℕ). ethernet.write (record (header_of meaning) { ether_type = n }) []) kind)
     ∙ sym (ethernet_sound.local (header_of meaning) (body_of meaning.content))
 
--- both fit
+-- both parts fit
 pub both_fit : (meaning : Meaning) (ether_type : ℕ) → ether_type ≡ type_of meaning.content
     → ethernet.Fits (record (header_of meaning) { ether_type = ether_type }) → (content_under (type_of meaning.content)).Fits meaning.content → layers.Fits meaning
 unfolding layers
 both_fit meaning ether_type kind one other = (subst (λ (n : ℕ). ethernet.Fits (record (header_of meaning) { ether_type = n })) kind one, other)
 
--- how long an Ethernet header is
+-- the length of an Ethernet header
 abbrev header_size : Option ℕ → ℕ
 header_size None = 14
 header_size (Some tag) = 18
@@ -108,7 +108,7 @@ unfolding layers ethernet mac
 size_is meaning fits =
     omega (arith, fits.0.0, fits.0.1.0, tag_size_is meaning.tag meaning.content, content_size_is meaning.content fits.1)
 
--- what is written for a content, with more behind it, spells it: in real time with that behind it
+-- the octets written for a content, with more after them, spell that content with these octets added
 content_behind : (content : Content) (more : List ℕ) → (content_under (type_of content)).Fits content
     → (content_under (type_of content)).Spells (body_of content ++ more) (content_with content more)
 unfolding real_time arp datagram
@@ -120,7 +120,7 @@ content_behind (UdpDatagram source destination body) more fits =
     let s = (content_under_sound internet).written (UdpDatagram source destination body) fits in
     (s.0, s.1, loose_behind packet _ s.0 more packet_onward s.2)
 
--- the same of the layers
+-- the octets written for layers, with more after them, spell those layers with these octets added
 layers_behind : (meaning : Meaning) (more : List ℕ) → layers.Fits meaning → layers.Spells (layers.write meaning ++ more) (with_behind meaning more)
 unfolding layers
 layers_behind meaning more fits =
@@ -132,7 +132,7 @@ layers_behind meaning more fits =
     subst (λ (xs : List ℕ). ethernet.Spells xs header (body ++ more)) (sym parts) (ethernet_sound.written header (body ++ more) fits.0) in
     ((header, content_with meaning.content more), refl, (body ++ more, front, content_behind meaning.content more fits.1))
 
--- what is written is a frame, with more behind it up to the limit
+-- what is written is a frame, also with more octets after it, up to the limit
 pub written_is_frame : (meaning : Meaning) (more : List ℕ) → layers.Fits meaning → length (layers.write meaning) + length more ≤ longest meaning.tag → IsFrame (layers.write meaning ++ more) (with_behind meaning more)
 written_is_frame meaning more fits short = record {
   spelled = layers_behind meaning more fits;
@@ -172,7 +172,7 @@ is_sent meaning written frame room fits e f =
           rw parts (written_is_frame meaning (padding_of meaning ++ more) fits long);
     }
 
--- what fits and is sent is read back
+-- a frame that fits is read back after it is sent
 pub read_back : (meaning : Meaning) → FitsFrame meaning → layers.Fits meaning → IsReadBack meaning
 unfolding frame_bytes
 read_back meaning room fits =

@@ -211,9 +211,9 @@ pub layers_sound : IsSoundWhole layers
 unfolding layers
 layers_sound = seen_whole_sound _ _ _ (λ meaning. refl) (ends_by_sound _ _ ethernet_sound (λ (header : EthernetHeader). content_under_sound header.ether_type))
 
--- ---- more behind what is spelled
+-- ---- more octets after those that spell a value
 
--- what spells a content spells, with more behind it, that content with that behind
+-- octets that spell a content, with more after them, spell that content with these octets added
 record IsBehind (whole : Whole FrameFault Content) : Type 0 where
   behind : (bytes : List ℕ) (content : Content) (more : List ℕ) → whole.Spells bytes content → whole.Spells (bytes ++ more) (content_with content more)
 
@@ -251,7 +251,7 @@ content_under_behind ether_type =
     pick_behind (ether_type == vlan) _ _ (refused_behind fault.Tag) (pick_behind (ether_type == profinet) _ _ real_time_behind
     (pick_behind (ether_type == address_resolution) _ _ arp_behind (pick_behind (ether_type == internet) _ _ datagram_behind (refused_behind fault.EtherType))))
 
--- so do the layers
+-- the same for the layers
 pub layers_onward : (bytes more : List ℕ) (meaning : Meaning) → layers.Spells bytes meaning → layers.Spells (bytes ++ more) (with_behind meaning more)
 unfolding layers
 layers_onward bytes more meaning s = (
@@ -262,7 +262,7 @@ layers_onward bytes more meaning s = (
 
 -- ---- what two writers append
 
--- what is appended behind a value is what it is written in front of
+-- octets appended after a written value are what the value is written in front of
 pub put_behind : {A : Type 0} (codec : Codec FrameFault A) (value : A) (front mid end rest : List ℕ) → IsSound codec
     → mid ≡ front ++ codec.write value [] → end ≡ mid ++ rest → end ≡ front ++ codec.write value rest
 put_behind codec value front mid end rest sound one other =

@@ -8,12 +8,12 @@ use Rattle.frame_codec.specs.declared.fault.FrameFault.{FrameFault}
 use Rattle.frame_codec.specs.declared.fault.FrameFault.TheVariants.{TooShort}
 use Rattle.frame_codec.specs.Frame.{mac, tag_and_type, ethernet}
 
--- no EtherType is in fewer than two octets
+-- fewer than two octets hold no EtherType
 short_type : (bytes : List ℕ) → length bytes < 2 → tag_and_type.read bytes ≡ Err TooShort
 unfolding tag_and_type
 short_type bytes few = rw (lt-ltb (length bytes) 2 few) refl
 
--- what is too short behind an address is too short with it
+-- if the part after an address is too short, so is the whole
 short_behind : {A : Type 0} (codec : Codec FrameFault A) (size : ℕ) → ((bytes : List ℕ) → length bytes < size → codec.read bytes ≡ Err TooShort)
     → (bytes : List ℕ) → length bytes < 6 + size → (mac ⨾ codec).read bytes ≡ Err TooShort
 unfolding mac
@@ -23,7 +23,7 @@ short_behind codec size behind bytes few = by_length (ltb (length bytes) 6) refl
     by_length true e = rw e refl
     by_length false e = rw (e, behind (drop 6 bytes) (omega (arith, few, ltb-false (length bytes) 6 e, length-drop 6 bytes))) refl
 
--- no header is in fewer than 14 octets
+-- fewer than 14 octets hold no Ethernet header
 pub short_header : (bytes : List ℕ) → length bytes < 14 → ethernet.read bytes ≡ Err TooShort
 unfolding ethernet
 short_header bytes few = rw (short_behind (mac ⨾ tag_and_type) 8 (short_behind tag_and_type 2 short_type) bytes few) refl

@@ -24,14 +24,14 @@ pub carried_most : (n : ℕ) → carried n ≤ 65535
 carried_most zero = omega arith
 carried_most (suc n) = let e = carried_suc n in let below : n % 65535 < 65535 = mod-lt n (omega arith) in omega (arith, e, below)
 
--- 65,535 more or less does not count where there is something
+-- a multiple of 65,535 more does not change the carried sum of a number above 0
 pub carried_over : (times n : ℕ) → 0 < n → carried (65535 * times + n) ≡ carried n
 carried_over times zero some = absurd (omega (arith, some))
 carried_over times (suc n) some =
     let one : 65535 * times + suc n ≡ suc (65535 * times + n) = omega arith in
     ap carried one ∙ carried_suc (65535 * times + n) ∙ ap (λ (k : ℕ). k + 1) (mul-add-mod_self_left 65535 times n) ∙ sym (carried_suc n)
 
--- what was carried may be added to
+-- adding to a carried sum gives the carried sum of the total
 pub carried_on : (n m : ℕ) → carried (carried n + m) ≡ carried (n + m)
 carried_on zero m = refl
 carried_on (suc n) m =
@@ -45,12 +45,12 @@ carried_once n more most =
     let one : n ≡ 65535 * 1 + (n - 65535) = omega (arith, more) in
     sym (ap carried one ∙ carried_over 1 (n - 65535) (omega (arith, more)) ∙ carried_small (n - 65535) (omega (arith, most)))
 
--- nothing else has the sum 0
+-- only 0 has the sum 0
 pub carried_zero : (n : ℕ) → carried n ≡ 0 → n ≡ 0
 carried_zero zero e = refl
 carried_zero (suc n) e = absurd (let s = carried_suc n in omega (arith, e, s))
 
--- it is the same number modulo 65,535
+-- a carried sum equals the number modulo 65,535
 pub carried_equal : (n : ℕ) → carried n % 65535 ≡ n % 65535
 carried_equal zero = refl
 carried_equal (suc n) =
@@ -60,7 +60,7 @@ carried_equal (suc n) =
 
 -- ---- words
 
--- behind an even number of bytes the words go on
+-- after an even number of bytes, the words of the rest are added
 pub words_append : (pairs : ℕ) (xs ys : List ℕ) → length xs ≡ 2 * pairs → words_total (xs ++ ys) ≡ words_total xs + words_total ys
 words_append zero [] ys even = omega arith
 words_append zero (x ∷ xs) ys even = absurd (omega (arith, even))
@@ -82,7 +82,7 @@ word_is high low n e = omega (arith, e)
 pub word_of : (n : ℕ) (rest : List ℕ) → n < 256 ^ 2 → words_total (big_bytes 2 n ++ rest) ≡ n + words_total rest
 word_of n rest fits = ap (λ (k : ℕ). k + words_total rest) (word_is _ _ n (word_back n fits))
 
--- where all are 0, so is their sum
+-- if all octets are 0, so is their sum
 pub no_words : (bytes : List ℕ) → All (λ octet. octet ≡ 0) bytes → words_total bytes ≡ 0
 no_words [] all = refl
 no_words (high ∷ []) all = let h = All-head (λ octet. octet ≡ 0) high [] all in omega (arith, h)
@@ -93,7 +93,7 @@ no_words (high ∷ low ∷ rest) all =
     let e = no_words rest (All-tail (λ octet. octet ≡ 0) low rest others) in
     omega (arith, h, l, e)
 
--- and only there
+-- if the sum is 0, all octets are 0
 pub only_no_words : (bytes : List ℕ) → words_total bytes ≡ 0 → All (λ octet. octet ≡ 0) bytes
 only_no_words [] e = All-nil (λ octet. octet ≡ 0)
 only_no_words (high ∷ []) e = All-cons (λ octet. octet ≡ 0) high [] (omega (arith, e)) (All-nil (λ octet. octet ≡ 0))
@@ -103,7 +103,7 @@ only_no_words (high ∷ low ∷ rest) e =
 
 -- ---- a loop over the words
 
--- one word more
+-- one more word is added
 pub sum_goes_on : (bytes : List ℕ) (index total next word whole high low : ℕ) → 2 * index + 1 < length bytes
     → high ≡ get_or bytes (2 * index) 0 → low ≡ get_or bytes (2 * index + 1) 0 → word ≡ 256 * high + low → next ≡ carried (total + word)
     → carried (total + words_total (drop (2 * index) bytes)) ≡ whole → carried (next + words_total (drop (2 * (index + 1)) bytes)) ≡ whole
@@ -134,7 +134,7 @@ sum_ends_odd bytes index total next word whole high end h w n so_far =
     ap words_total (one ∙ ap (λ (xs : List ℕ). get_or bytes (2 * index) 0 ∷ xs) none) in
     n ∙ ap carried (omega (arith, parts, h, w)) ∙ so_far
 
--- a sum that goes on behind an even number of bytes
+-- a sum that is continued after an even number of bytes
 pub sum_parts : (front body : List ℕ) (first sum pairs : ℕ) → length front ≡ 2 * pairs → first ≡ ones_sum_of front
     → sum ≡ carried (first + words_total body) → sum ≡ ones_sum_of (front ++ body)
 unfolding ones_sum_of
@@ -144,7 +144,7 @@ sum_parts front body first sum pairs even one e =
 
 -- ---- what is sent
 
--- the sum with the checksum in its place
+-- the sum with the checksum in its field
 pub sealed_sum : (total : ℕ) → carried (total + complement (carried total)) ≡ 65535
 sealed_sum total =
     let most = carried_most total in
@@ -157,7 +157,7 @@ sealed_or total sum true is test =
     sym (carried_on total 65535) ∙ ap (λ (k : ℕ). carried (k + 65535)) whole
 sealed_or total sum false is test = ap (λ (k : ℕ). carried (total + complement k)) is ∙ sealed_sum total
 
--- the same where 65,535 is sent for 0
+-- the same if 65,535 is sent in place of 0
 pub sealed_sum_of : (total : ℕ) → carried (total + complement_of_sum (carried total)) ≡ 65535
 sealed_sum_of total = sealed_or total (carried total) (eqb (carried total) 65535) refl refl
 

@@ -35,21 +35,21 @@ address_resolution = 0x0806
 abbrev pub internet : ℕ
 internet = 0x0800
 
--- six octets
+-- a MAC address: six octets
 unfoldable pub mac : Codec FrameFault Mac
 mac = seen (λ octets. record { octets = octets }) (λ address. address.octets) (raw TooShort 6)
 
--- the tag's word and the EtherType of an Ethernet header, from its first EtherType and what follows a tag's
+-- the word of the tag, if there is one, and the EtherType, from the first EtherType and what follows a tag's
 abbrev pub tag_and_type_of : ℕ × Option (ℕ × ℕ) → Option ℕ × ℕ
 tag_and_type_of (first, None) = (None, first)
 tag_and_type_of (first, Some tagged) = (Some tagged.0, tagged.1)
 
--- the other way round
+-- the inverse of `tag_and_type_of`
 abbrev pub parts_of_tag : Option ℕ × ℕ → ℕ × Option (ℕ × ℕ)
 parts_of_tag (None, ether_type) = (ether_type, None)
 parts_of_tag (Some tag, ether_type) = (vlan, Some (tag, ether_type))
 
--- an EtherType, in front of which a tag may stand: its own EtherType and its word
+-- an EtherType, which a tag may precede: the tag's own EtherType and its word
 unfoldable pub tag_and_type : Codec FrameFault (Option ℕ × ℕ)
 tag_and_type = seen tag_and_type_of parts_of_tag
     (then_by (number TooShort 2) (λ first. when (first == vlan) (number TooShort 2 ⨾ number TooShort 2)))
@@ -62,13 +62,13 @@ ethernet = seen (λ x. record { destination = x.0; source = x.1.0; tag = x.1.1.0
 
 -- ---- the contents
 
--- the FrameID of a content of real time, and what is behind it
+-- the FrameID of a content of real time, and what follows it
 abbrev pub real_time_in : Content → Option (ℕ × List ℕ)
 real_time_in (RealTime frame_id body) = Some (frame_id, body)
 real_time_in (ArpPacket packet) = None
 real_time_in (UdpDatagram source destination body) = None
 
--- a FrameID, and all that is behind it
+-- a FrameID and all octets after it
 unfoldable pub real_time : Whole FrameFault Content
 real_time = variant (λ x. RealTime x.0 x.1) real_time_in (ends_by (number TooShort 2) (λ _. everything))
 
@@ -78,7 +78,7 @@ arp_in (RealTime frame_id body) = None
 arp_in (ArpPacket packet) = Some packet
 arp_in (UdpDatagram source destination body) = None
 
--- a packet of ARP; what is behind it is not looked at
+-- a packet of ARP; the octets after it are ignored
 unfoldable pub arp : Whole FrameFault Content
 arp = variant ArpPacket arp_in (loose arp_packet)
 
@@ -106,17 +106,17 @@ abbrev pub datagram_in : (InternetHeader × List ℕ) × (UdpHeader × List ℕ)
 datagram_in x =
     UdpDatagram (record { address = x.0.0.source; port = x.1.0.source }) (record { address = x.0.0.destination; port = x.1.0.destination }) x.1.1
 
--- a datagram of UDP in a packet of IPv4; what is behind the packet is not looked at
+-- a datagram of UDP in a packet of IPv4; the octets after the packet are ignored
 unfoldable pub datagram : Whole FrameFault Content
 datagram = variant datagram_in packet_in (loose packet)
 
--- the content behind an EtherType: behind a tag's own EtherType no second tag may stand
+-- the content under an EtherType; a second tag after the first is refused
 abbrev pub content_under : ℕ → Whole FrameFault Content
 content_under ether_type =
     pick (ether_type == vlan) (refused Tag) (pick (ether_type == profinet) real_time
     (pick (ether_type == address_resolution) arp (pick (ether_type == internet) datagram (refused EtherType))))
 
--- what follows the Ethernet header behind an EtherType, or why nothing that is read does
+-- the kind of content under an EtherType, or the fault of an EtherType that is not read
 abbrev pub kind_of : ℕ → Result ContentKind FrameFault
 kind_of ether_type =
     if ether_type == vlan then Err Tag
@@ -143,13 +143,13 @@ type_of (UdpDatagram source destination body) = internet
 abbrev pub header_of : Meaning → EthernetHeader
 header_of meaning = record { destination = meaning.destination; source = meaning.source; tag = meaning.tag; ether_type = type_of meaning.content }
 
--- the layers of a frame, however long it is
+-- the layers of a frame of any length
 unfoldable pub layers : Whole FrameFault Meaning
 layers = seen_whole (λ x. record { destination = x.0.destination; source = x.0.source; tag = x.0.tag; content = x.1 })
     (λ meaning. (header_of meaning, meaning.content))
     (ends_by ethernet (λ (header : EthernetHeader). content_under header.ether_type))
 
--- how long a frame may be: a tag is on top
+-- the maximum length of a frame; a tag adds four octets
 abbrev pub longest : Option ℕ → ℕ
 longest None = 1514
 longest (Some tag) = 1518
@@ -159,12 +159,13 @@ pub record IsFrame (bytes : List ℕ) (meaning : Meaning) : Type 0 where
   pub spelled : layers.Spells bytes meaning
   pub short : length bytes ≤ longest meaning.tag
 
--- the meaning of a frame, or its first fault: first the Ethernet header is read, then the length is judged, then the rest
+-- the meaning of a frame, or its first fault: the Ethernet header is read, then the length is judged, then the content
+-- is read
 unfoldable pub frame_of : List ℕ → Result Meaning FrameFault
 frame_of bytes = ethernet.read bytes >>= λ header.
     if nat_lt (longest header.0.tag) (length bytes) then Err TooLong else layers.read bytes
 
--- what a frame means whose content is still to be read, or why its content cannot be
+-- the meaning of a frame whose content is still to be read, or the fault of its content
 abbrev pub opened_as : OpenFrame → Result Meaning FrameFault
 opened_as frame = (content_as frame.kind).read frame.content.now >>= λ content.
     Ok (record { destination = frame.destination; source = frame.source; tag = frame.tag; content = content })
@@ -181,7 +182,7 @@ content_size (UdpDatagram source destination body) = 28 + length body
 abbrev pub FitsFrame : Meaning → Type 0
 FitsFrame meaning = content_size meaning.content ≤ 1500
 
--- the zeros behind a frame that would be shorter than 60 bytes
+-- the zeros after a frame that would be shorter than 60 bytes
 abbrev pub padding_of : Meaning → List ℕ
 padding_of meaning = replicate (60 - length (layers.write meaning)) 0
 
@@ -189,18 +190,18 @@ padding_of meaning = replicate (60 - length (layers.write meaning)) 0
 unfoldable pub frame_bytes : Meaning → List ℕ
 frame_bytes meaning = layers.write meaning ++ padding_of meaning
 
--- the content with more bytes behind it: all are of the content under EtherType 0x8892, and none is elsewhere
+-- the content with more bytes after it: under EtherType 0x8892 they belong to it, under another EtherType they do not
 abbrev pub content_with : Content → List ℕ → Content
 content_with (RealTime frame_id body) more = RealTime frame_id (body ++ more)
 content_with (ArpPacket packet) more = ArpPacket packet
 content_with (UdpDatagram source destination body) more = UdpDatagram source destination body
 
--- the meaning of a frame with more bytes behind it
+-- the meaning of a frame with more bytes after it
 abbrev pub with_behind : Meaning → List ℕ → Meaning
 with_behind meaning more = record meaning { content = content_with meaning.content more }
 
--- The frame that is sent for a meaning has 60 octets or more and no more than a frame may have. It is read as that meaning with its padding behind it,
--- and so it is with more behind it, up to the limit.
+-- The frame that is sent for a meaning has at least 60 octets and at most as many as a frame may have. It is read as
+-- that meaning with its padding added, also with more octets after it, up to the limit.
 pub record IsReadBack (meaning : Meaning) : Type 0 where
   pub least : 60 ≤ length (frame_bytes meaning)
   pub most : length (frame_bytes meaning) ≤ longest meaning.tag

@@ -1,4 +1,4 @@
--- Which FrameIDs are of cyclic frames, and which of alarms.
+-- The FrameIDs of cyclic frames and of alarms.
 use Rattle.std.specs.Prelude.{◌==◌, ◌&&◌, ◌||◌, ℕ, Bool, nat_le}
 
 -- FrameIDs of cyclic frames, of class 2 and of class 1, and of alarms of high and of low priority (IEC 61158-6-10, 4.7)

@@ -11,7 +11,7 @@ use Rattle.frame_codec.specs.declared.internet.InternetHeader.{InternetHeader}
 use Rattle.frame_codec.specs.declared.udp.UdpHeader.{UdpHeader}
 use Rattle.frame_codec.specs.Sum.{ones_sum_of, complement, complement_of_sum}
 
--- how much is behind a header of so many octets, by a length that counts the header too and is at least so great
+-- how many octets follow a header of this many octets, by a length that counts the header too and is at least `least`
 unfoldable pub size_behind : FrameFault → ℕ → ℕ → Codec FrameFault ℕ
 size_behind fault header least = seen (λ length. length - header) (λ size. size + header) (checked (λ length. nat_le least length) fault (number fault 2))
 
@@ -22,15 +22,15 @@ unfoldable pub internet_size : Codec FrameFault ℕ
 internet_size = seen (λ x. x.1.1.0) (λ size. (tt, (tt, (size, tt))))
     (fixed IpHeader 1 0x45 ⨾ unchecked IpHeader 1 0 ⨾ size_behind IpHeader 20 28 ⨾ unchecked IpHeader 2 0)
 
--- more fragments is 0 and the offset is 0; the two bits above them may be anything, and 'do not fragment' is written
+-- 'more fragments' and the offset are 0; the two bits above them have any value, and 'do not fragment' is written
 abbrev pub no_fragment : Codec FrameFault (Unit {0})
 no_fragment = seen (λ _. tt) (λ _. 0x4000) (checked (λ word. word % 0x4000 == 0) IpHeader (number IpHeader 2))
 
--- no fragment, any time to live, protocol 17
+-- not a fragment, any time to live, protocol 17
 unfoldable pub internet_way : Codec FrameFault (Unit {0})
 internet_way = seen (λ _. tt) (λ _. (tt, (tt, tt))) (no_fragment ⨾ unchecked IpHeader 1 64 ⨾ fixed IpHeader 1 17)
 
--- a header; its checksum is judged by all of its octets
+-- a header; its checksum is judged over all of its octets
 unfoldable pub internet_header : Codec FrameFault InternetHeader
 internet_header = seen (λ x. record { size = x.0; checksum = x.1.1.0; source = x.1.1.1.0; destination = x.1.1.1.1 })
     (λ header. (header.size, (tt, (header.checksum, (header.source, header.destination)))))
@@ -38,13 +38,13 @@ internet_header = seen (λ x. record { size = x.0; checksum = x.1.1.0; source = 
 
 -- ---- a datagram of UDP
 
--- the ports, the length, of at least 8 octets, and the checksum
+-- the ports, the length, which is at least 8 octets, and the checksum
 unfoldable pub udp_header : Codec FrameFault UdpHeader
 udp_header = seen (λ x. record { source = x.0; destination = x.1.0; size = x.1.1.0; checksum = x.1.1.1 })
     (λ header. (header.source, (header.destination, (header.size, header.checksum))))
     (number UdpLength 2 ⨾ number UdpLength 2 ⨾ size_behind UdpLength 8 8 ⨾ number UdpLength 2)
 
--- a header and the body, of the length that it says
+-- a header, and a body of the length that it says
 unfoldable pub udp : Codec FrameFault (UdpHeader × List ℕ)
 udp = then_by udp_header (λ header. raw UdpLength header.size)
 
@@ -52,7 +52,7 @@ udp = then_by udp_header (λ header. raw UdpLength header.size)
 abbrev pub pseudo : InternetHeader → UdpHeader → List ℕ
 pseudo internet header = internet.source ++ internet.destination ++ 0 ∷ 17 ∷ big_bytes 2 (header.size + 8)
 
--- no checksum, or the sum of the pseudo header and of all octets of the datagram is all ones
+-- there is no checksum, or the sum of the pseudo header and of all octets of the datagram is all ones
 abbrev pub passes : InternetHeader → UdpHeader → List ℕ → Bool
 passes internet header octets = (header.checksum == 0) || (ones_sum_of (pseudo internet header ++ octets) == 65535)
 
@@ -63,20 +63,20 @@ segment internet = seen (λ x. x.0) (λ datagram. (datagram, udp.write datagram 
 
 -- ---- a packet
 
--- what is behind a header, where the sum of its octets is all ones; what is behind the datagram is not looked at
+-- what follows a header, if the sum of the header's octets is all ones; the octets after the datagram are ignored
 abbrev pub inside : InternetHeader × List ℕ → Whole FrameFault (UdpHeader × List ℕ)
 inside header = allowed (ones_sum_of header.1 == 65535) IpChecksum (loose (segment header.0))
 
--- a header with its octets, and what is in the rest of the total length
+-- a header with its octets, and the content in the rest of the total length
 unfoldable pub packet : Codec FrameFault ((InternetHeader × List ℕ) × (UdpHeader × List ℕ))
 packet = then_by (kept internet_header) (λ header. cut IpHeader header.0.size (inside header))
 
 -- ---- what is written
 
--- the header of a packet with its checksum in place of the 0 that stands there
+-- the header of a packet with its checksum in place of the 0 in that field
 abbrev pub internet_sealed : InternetHeader → InternetHeader
 internet_sealed header = record header { checksum = complement (ones_sum_of (internet_header.write header [])) }
 
--- the header of a datagram with its checksum in place of the 0 that stands there
+-- the header of a datagram with its checksum in place of the 0 in that field
 abbrev pub udp_sealed : InternetHeader → UdpHeader → List ℕ → UdpHeader
 udp_sealed internet header body = record header { checksum = complement_of_sum (ones_sum_of (pseudo internet header ++ udp.write (header, body) [])) }

@@ -9,8 +9,8 @@ use Rattle.frame_codec.specs.declared.layered.Pieces.{Pieces}
 use Rattle.frame_codec.specs.declared.layered.RealTimeFrame.{RealTimeFrame}
 use Rattle.frame_codec.specs.declared.layered.Payload.TheVariants as payload
 
--- What a frame carries: under EtherType 0x8892 a FrameID and all bytes behind it, padding too; under 0x0806 a packet of
--- ARP; under 0x0800 a datagram of UDP, of which the lengths say where it ends.
+-- What a frame carries. Under EtherType 0x8892: a FrameID and all bytes after it, including padding. Under 0x0806: a
+-- packet of ARP. Under 0x0800: a datagram of UDP, whose lengths say where it ends.
 pub data Content : Type 0 where
   RealTime : (frame_id : ℕ) → (body : List ℕ) → Content
   ArpPacket : (arp : Arp) → Content
@@ -29,11 +29,11 @@ content_of (payload.RealTime frame_id body) = RealTime frame_id body.now
 content_of (payload.Arp arp) = ArpPacket arp
 content_of (payload.Udp udp) = UdpDatagram udp.source udp.destination udp.body.now
 
--- what layers mean, without where their bytes lie in memory
+-- the meaning of layers: their octets, independent of where they lie in memory
 abbrev pub meaning_of : Layered → Meaning
 meaning_of layered = record { destination = layered.destination; source = layered.source; tag = layered.tag; content = content_of layered.payload }
 
--- what pieces mean: their body is the one behind the other
+-- the meaning of pieces: their body is one piece after the other
 abbrev pub meaning_in : Pieces → Meaning
 meaning_in pieces = record { destination = pieces.destination; source = pieces.source; tag = pieces.tag; content = RealTime pieces.frame_id (pieces.front.now ++ pieces.behind.now) }
 
@@ -47,7 +47,7 @@ IsOther (RealTime frame_id body) = ⊥
 IsOther (ArpPacket arp) = ⊤
 IsOther (UdpDatagram source destination body) = ⊤
 
--- no frame of real-time data: one that carries other things, or none
+-- not a frame of real-time data: a frame with other content, or not a frame
 abbrev pub IsNoRealTime : {F : Type 0} → Result Meaning F → Type 0
 IsNoRealTime (Ok meaning) = IsOther meaning.content
 IsNoRealTime (Err fault) = ⊤

@@ -21,33 +21,33 @@ const INTERNET: u16 = 0x0800;
 /// A packet of ARP on Ethernet for IPv4 (RFC 826).
 #[derive(Clone, Copy, Debug, PartialEq, Eq)]
 pub struct Arp {
-    /// Whether it asks or answers.
+    /// Whether it is a request or a reply.
     pub operation: ArpOperation,
-    /// Who sends it.
+    /// The sender of the packet.
     pub sender: Holder,
-    /// Who is asked for, or answered.
+    /// The station that is asked for (request) or replied to (reply).
     pub target: Holder,
 }
 
-/// What a packet of ARP does.
+/// The operation of a packet of ARP.
 #[derive(Clone, Copy, Debug, PartialEq, Eq)]
 pub enum ArpOperation {
-    /// It asks who holds the target's address.
+    /// The sender asks who holds the target's address.
     Request = 1,
     /// The sender says that it holds its address.
     Reply = 2,
 }
 
-/// An IPv4 address and who holds it.
+/// An IPv4 address and the station that holds it.
 #[derive(Clone, Copy, Debug, PartialEq, Eq)]
 pub struct Holder {
-    /// The station. Zero as the target of a request, where it is not known.
+    /// The MAC address. Zero as the target of a request if it is not known.
     pub mac: Mac,
     /// The address, as its octets are sent.
     pub address: [u8; 4],
 }
 
-/// What has to stand in front, and what is behind it.
+/// The octets after the fixed head of a packet.
 #[tactic(auto, unfolding(crate::specs::Arp::arp_head))]
 fn head_at(bytes: &[u8]) -> Result<&[u8], FrameFault>
     ensures { Gives (λ x. (tt, x.now)) result (arp_head.read bytes.now) }
@@ -58,7 +58,7 @@ fn head_at(bytes: &[u8]) -> Result<&[u8], FrameFault>
     fixed_u8_at(rest, 4, FrameFault::Arp)
 }
 
-/// An operation.
+/// The operation and the octets after it.
 #[tactic(auto, unfolding(crate::specs::Arp::operation))]
 fn operation_at(bytes: &[u8]) -> Result<(ArpOperation, &[u8]), FrameFault>
     ensures { Gives (λ x. (x.0, x.1.now)) result (operation.read bytes.now) }
@@ -71,7 +71,7 @@ fn operation_at(bytes: &[u8]) -> Result<(ArpOperation, &[u8]), FrameFault>
     }
 }
 
-/// A station and its address.
+/// A station with its address, and the octets after them.
 #[tactic(auto, unfolding(crate::specs::Arp::holder))]
 fn holder_at(bytes: &[u8]) -> Result<(Holder, &[u8]), FrameFault>
     ensures { Gives (λ x. (x.0, x.1.now)) result (holder.read bytes.now) }
@@ -82,7 +82,7 @@ fn holder_at(bytes: &[u8]) -> Result<(Holder, &[u8]), FrameFault>
     Ok((Holder { mac, address }, rest))
 }
 
-/// A packet, and what is behind it.
+/// A packet and the octets after it.
 #[tactic(auto, unfolding(crate::specs::Arp::arp_packet))]
 pub(crate) fn arp_at(bytes: &[u8]) -> Result<(Arp, &[u8]), FrameFault>
     ensures { Gives (λ x. (x.0, x.1.now)) result (arp_packet.read bytes.now) }
@@ -101,7 +101,7 @@ pub(crate) fn arp_at(bytes: &[u8]) -> Result<(Arp, &[u8]), FrameFault>
     ))
 }
 
-/// Appends what stands in front.
+/// Appends the fixed head of a packet.
 #[tactic(auto, unfolding(crate::specs::Arp::arp_head))]
 fn put_head(frame: &mut Frame)
     requires { array_vec_len frame.old + 6 ≤ 1518 }

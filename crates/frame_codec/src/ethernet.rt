@@ -1,4 +1,4 @@
-//! What stands in front of the content.
+//! The Ethernet header and its VLAN tag.
 ghost use Rattle.std.specs.Prelude.{◌≡◌};
 ghost use Rattle.wire.specs.Codec.{Gives};
 ghost use Rattle.frame_codec.specs.Frame.{kind_of, mac, tag_and_type, ethernet, longest};
@@ -27,10 +27,10 @@ pub(crate) struct EthernetHeader {
     pub(crate) ether_type: u16,
 }
 
-/// What follows the Ethernet header, by its EtherType.
+/// The kind of content that follows the Ethernet header, by its EtherType.
 #[derive(Clone, Copy, Debug, PartialEq, Eq)]
 pub enum ContentKind {
-    /// 0x8892: a FrameID, and what it says of the octets behind it.
+    /// 0x8892: a FrameID, and the octets that it gives a meaning to.
     RealTime,
     /// 0x0806: a packet of ARP.
     Arp,
@@ -38,7 +38,7 @@ pub enum ContentKind {
     Internet,
 }
 
-/// What follows the Ethernet header behind this EtherType.
+/// The kind of content under this EtherType.
 #[inline(always)]
 pub(crate) fn content_kind(ether_type: u16) -> Result<ContentKind, FrameFault>
     ensures { result ≡ kind_of ether_type }
@@ -47,13 +47,13 @@ pub(crate) fn content_kind(ether_type: u16) -> Result<ContentKind, FrameFault>
         PROFINET => Ok(ContentKind::RealTime),
         ADDRESS_RESOLUTION => Ok(ContentKind::Arp),
         INTERNET => Ok(ContentKind::Internet),
-        // A second tag is told as such, though its frame may be of an EtherType that is read.
+        // A second tag is reported as such, even if the frame has an EtherType that this station reads.
         VLAN => Err(FrameFault::Tag),
         _ => Err(FrameFault::EtherType),
     }
 }
 
-/// How many octets a frame may have.
+/// The maximum length of a frame, in octets.
 pub(crate) fn longest_of(tag: Option<u16>) -> usize
     ensures { result ≡ longest tag }
 {
@@ -63,7 +63,7 @@ pub(crate) fn longest_of(tag: Option<u16>) -> usize
     }
 }
 
-/// An address.
+/// A MAC address and the octets after it.
 #[tactic(auto, unfolding(crate::specs::Frame::mac))]
 #[inline(always)]
 fn mac_at(bytes: &[u8]) -> Result<(Mac, &[u8]), FrameFault>
@@ -73,7 +73,7 @@ fn mac_at(bytes: &[u8]) -> Result<(Mac, &[u8]), FrameFault>
     Ok((Mac { octets }, rest))
 }
 
-/// The word of the tag, if there is one, and the EtherType.
+/// The word of the tag, if there is one, the EtherType, and the octets after it.
 #[tactic(auto, unfolding(crate::specs::Frame::tag_and_type))]
 #[inline(always)]
 fn tag_and_type_at(bytes: &[u8]) -> Result<(Option<u16>, u16, &[u8]), FrameFault>
@@ -88,13 +88,13 @@ fn tag_and_type_at(bytes: &[u8]) -> Result<(Option<u16>, u16, &[u8]), FrameFault
     Ok((Some(tag), ether_type, rest))
 }
 
-/// The Ethernet header, and the octets behind it.
+/// The Ethernet header and the octets after it.
 #[tactic(auto, using(crate::proofs::Short::short_header), unfolding(crate::specs::Frame::ethernet))]
 #[inline(always)]
 pub(crate) fn header_at(bytes: &[u8]) -> Result<(EthernetHeader, &[u8]), FrameFault>
     ensures { Gives (λ x. (x.0, x.1.now)) result (ethernet.read bytes.now) }
 {
-    // Judged once: neither address and no EtherType is too short behind this.
+    // One test of the length is enough: after it, neither address nor the EtherType can be too short.
     if bytes.len() < LEAST {
         return Err(FrameFault::TooShort);
     }

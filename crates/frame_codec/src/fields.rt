@@ -1,4 +1,4 @@
-//! Fields of which the value is judged.
+//! Fields whose value is judged.
 ghost use Rattle.std.specs.Prelude.{◌≡◌, ◌≤◌, ◌+◌, IfOk};
 ghost use Rattle.wire.specs.Codec.{Gives};
 ghost use Rattle.wire.specs.Checks.{fixed};
@@ -7,7 +7,7 @@ ghost use Rattle.frame_codec.specs.Internet.{size_behind};
 use crate::FrameFault;
 use wire::{u8_at, u16_at};
 
-/// What is behind a number of one octet that has to be this one.
+/// The octets after a number of one octet that must have this value.
 pub(crate) fn fixed_u8_at(bytes: &[u8], value: u8, fault: FrameFault) -> Result<&[u8], FrameFault>
     ensures { Gives (λ x. (tt, x.now)) result ((fixed fault 1 value).read bytes.now) }
 {
@@ -18,7 +18,7 @@ pub(crate) fn fixed_u8_at(bytes: &[u8], value: u8, fault: FrameFault) -> Result<
     Ok(rest)
 }
 
-/// What is behind a number of two octets that has to be this one.
+/// The octets after a number of two octets that must have this value.
 pub(crate) fn fixed_u16_at(bytes: &[u8], value: u16, fault: FrameFault) -> Result<&[u8], FrameFault>
     ensures { Gives (λ x. (tt, x.now)) result ((fixed fault 2 value).read bytes.now) }
 {
@@ -29,8 +29,8 @@ pub(crate) fn fixed_u16_at(bytes: &[u8], value: u16, fault: FrameFault) -> Resul
     Ok(rest)
 }
 
-/// How many octets are behind a header of `header` octets, by a length that counts these too and is at least `least`, and
-/// what is behind that length.
+/// How many octets follow a header of `header` octets, and the octets after the length field. The length field counts
+/// the header too and must be at least `least`.
 #[tactic(auto, unfolding(crate::specs::Internet::size_behind))]
 pub(crate) fn size_behind_at(
     bytes: &[u8],

@@ -1,4 +1,4 @@
-//! The room of a frame that is sent.
+//! The buffer of a frame that is sent.
 ghost use Rattle.std.specs.Prelude.{◌≡◌, ◌+◌, ◌≤◌, ◌<◌, ◌^◌, ◌++◌, [], length, take};
 ghost use Rattle.arrayvec.specs.ArrayVec.{array_vec_len};
 ghost use Rattle.byteorder.specs.Endian.{big_bytes};
@@ -6,9 +6,9 @@ ghost use Rattle.byteorder.specs.Endian.{big_bytes};
 use byteorder::{BigEndian, ByteOrder};
 use std::marker::Model;
 
-/// A frame that is sent: 60 to 1,518 octets, without the check sequence. Its room is used again and again: what is cleared stays in
-/// it until other octets are written over it, so that no frame costs a second pass over its room. A clause sees it as it sees an
-/// `ArrayVec`.
+/// A frame that is sent: 60 to 1,518 octets, without the check sequence. Its buffer is reused. What is cleared stays in
+/// it until other octets are written over it, so that no frame costs a second pass over the buffer. Clauses see it as
+/// an `ArrayVec`.
 #[derive(Drop)]
 pub struct Frame {
     room: [u8; 1518],
@@ -26,7 +26,7 @@ impl Model for Frame {
     ghost invariant = { λ frame. (length frame.room ≡ 1518) × (frame.used ≤ 1518) };
 }
 
-/// Writes octets from a place on, and leaves those before it.
+/// Writes octets from a position on, and keeps those before it.
 #[inline(always)]
 fn write_at(room: &mut [u8], start: usize, octets: &[u8])
     requires { start + length octets.now ≤ length room.old }
@@ -37,7 +37,7 @@ fn write_at(room: &mut [u8], start: usize, octets: &[u8])
 }
 
 impl Frame {
-    /// No octets.
+    /// An empty frame buffer.
     pub fn new() -> Frame
         ensures { result.items ≡ [] }
     {
@@ -47,7 +47,7 @@ impl Frame {
         }
     }
 
-    /// How many octets there are.
+    /// The number of octets.
     #[inline]
     pub fn len(&self) -> usize
         ensures value { result ≡ array_vec_len self.now }
@@ -65,7 +65,7 @@ impl Frame {
         &self.room[..self.used]
     }
 
-    /// Becomes a copy of another one.
+    /// Replaces the contents by a copy of another frame.
     pub fn copy(&mut self, frame: &Frame)
         ensures { self.new.items ≡ frame.now.items }
     {
@@ -73,7 +73,7 @@ impl Frame {
         self.append(frame.as_slice());
     }
 
-    /// Takes all octets out.
+    /// Removes all octets.
     #[inline(always)]
     pub fn clear(&mut self)
         ensures { self.new.items ≡ [] }

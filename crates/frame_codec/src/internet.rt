@@ -19,51 +19,51 @@ const VERSION_AND_LENGTH: u8 = 0x45;
 /// 'Do not fragment', and the offset 0.
 const DO_NOT_FRAGMENT: u16 = 0x4000;
 
-/// How many stations may pass a packet on.
+/// The time to live that is sent: how many stations may forward the packet.
 const TIME_TO_LIVE: u8 = 64;
 
-/// UDP, as a protocol.
+/// The protocol number of UDP.
 pub(crate) const UDP: u8 = 17;
 
-/// What a header says that hangs on the packet.
+/// The fields of a header that depend on the packet.
 #[derive(Clone, Copy)]
 pub(crate) struct InternetHeader {
-    /// How many octets are behind it.
+    /// The number of octets after the header.
     pub(crate) size: u16,
     pub(crate) checksum: u16,
     pub(crate) source: [u8; 4],
     pub(crate) destination: [u8; 4],
 }
 
-/// How many octets are behind the header, and what is behind the identification.
+/// How many octets follow the header, and the octets after the identification.
 #[tactic(auto, unfolding(crate::specs::Internet::internet_size))]
 fn size_at(bytes: &[u8]) -> Result<(u16, &[u8]), FrameFault>
     ensures { Gives (λ x. (x.0, x.1.now)) result (internet_size.read bytes.now) }
 {
     let rest = fixed_u8_at(bytes, VERSION_AND_LENGTH, FrameFault::IpHeader)?;
-    // The service is for those on the way, and plays no part at the end.
+    // The type of service concerns the routers on the way. The receiver ignores it.
     let (_service, rest) = u8_at(rest, FrameFault::IpHeader)?;
     let (size, rest) = size_behind_at(rest, 20, 28, FrameFault::IpHeader)?;
     let (_identification, rest) = u16_at(rest, FrameFault::IpHeader)?;
     Ok((size, rest))
 }
 
-/// What is behind the protocol: the packet is no fragment, and carries UDP.
+/// The octets after the protocol field. The packet is not a fragment and carries UDP.
 #[tactic(auto, unfolding(crate::specs::Internet::internet_way))]
 fn way_at(bytes: &[u8]) -> Result<&[u8], FrameFault>
     ensures { Gives (λ x. (tt, x.now)) result (internet_way.read bytes.now) }
 {
     let (fragment, rest) = u16_at(bytes, FrameFault::IpHeader)?;
-    // 'Do not fragment' and the reserved bit say nothing of this packet, so only 'more fragments' and the offset are judged.
+    // 'Do not fragment' and the reserved bit are ignored: only 'more fragments' and the offset are judged.
     if fragment % 0x4000 != 0 {
         return Err(FrameFault::IpHeader);
     }
-    // The packet has come: how many stations might still have passed it on plays no part.
+    // The packet has arrived, so the remaining time to live is ignored.
     let (_life, rest) = u8_at(rest, FrameFault::IpHeader)?;
     fixed_u8_at(rest, UDP, FrameFault::IpHeader)
 }
 
-/// A header, and what is behind it. Its checksum is not judged.
+/// A header and the octets after it. Its checksum is not judged.
 #[tactic(auto, unfolding(crate::specs::Internet::internet_header))]
 pub(crate) fn internet_header_at(bytes: &[u8]) -> Result<(InternetHeader, &[u8]), FrameFault>
     ensures { Gives (λ x. (x.0, x.1.now)) result (internet_header.read bytes.now) }
@@ -84,7 +84,7 @@ pub(crate) fn internet_header_at(bytes: &[u8]) -> Result<(InternetHeader, &[u8])
     ))
 }
 
-/// Appends what is in front of the fragment's word.
+/// Appends the fields before the fragment word.
 #[tactic(auto, unfolding(crate::specs::Internet::internet_size, crate::specs::Internet::size_behind))]
 fn put_size<const N: usize>(out: &mut ArrayVec<u8, N>, size: u16)
     requires room { array_vec_len out.old + 6 ≤ N }
@@ -100,7 +100,7 @@ fn put_size<const N: usize>(out: &mut ArrayVec<u8, N>, size: u16)
     append_u16(out, 0);
 }
 
-/// Appends the fragment's word, the life and the protocol.
+/// Appends the fragment word, the time to live and the protocol.
 #[tactic(auto, unfolding(crate::specs::Internet::internet_way))]
 fn put_way<const N: usize>(out: &mut ArrayVec<u8, N>)
     requires room { array_vec_len out.old + 4 ≤ N }
@@ -113,7 +113,7 @@ fn put_way<const N: usize>(out: &mut ArrayVec<u8, N>)
     append_u8(out, UDP);
 }
 
-/// Appends a header, with the checksum that it has.
+/// Appends a header with the checksum that it holds.
 #[tactic(auto, unfolding(crate::specs::Internet::internet_header))]
 pub(crate) fn put_internet_header<const N: usize>(
     out: &mut ArrayVec<u8, N>,
@@ -134,7 +134,7 @@ pub(crate) fn put_internet_header<const N: usize>(
 }
 
 impl InternetHeader {
-    /// The header with its checksum in place of the 0 that stands there.
+    /// The header with its checksum in place of the 0 in that field.
     pub(crate) fn seal(self) -> InternetHeader
         requires least { 8 ≤ self.size }
         requires most { self.size ≤ 1480 }

@@ -1,12 +1,12 @@
 use crate::{Arp, ContentKind, Udp};
 use pn_values::Mac;
 
-/// A frame by its layers.
+/// A frame, layer by layer.
 #[derive(Clone, Copy, Debug, PartialEq, Eq)]
 pub struct Layered<'a> {
-    /// To whom it goes.
+    /// The destination address.
     pub destination: Mac,
-    /// From whom it comes.
+    /// The source address.
     pub source: Mac,
     /// The tag control information of its VLAN tag (IEEE 802.1Q, 9.6), if it has one.
     pub tag: Option<u16>,
@@ -14,10 +14,10 @@ pub struct Layered<'a> {
     pub payload: Payload<'a>,
 }
 
-/// What a frame carries.
+/// The content of a frame.
 #[derive(Clone, Copy, Debug, PartialEq, Eq)]
 pub enum Payload<'a> {
-    /// EtherType 0x8892: the FrameID and all octets behind it, padding too.
+    /// EtherType 0x8892: the FrameID and all octets after it, including padding.
     RealTime { frame_id: u16, body: &'a [u8] },
     /// EtherType 0x0806: a packet of ARP.
     Arp(Arp),
@@ -25,49 +25,50 @@ pub enum Payload<'a> {
     Udp(Udp<'a>),
 }
 
-/// A frame of which the Ethernet header is read and the length judged. Its content is still to be read.
+/// A frame whose Ethernet header has been read and whose length has been judged. Its content is not read yet.
 #[derive(Clone, Copy, Debug, PartialEq, Eq)]
 pub struct OpenFrame<'a> {
-    /// To whom it goes.
+    /// The destination address.
     pub destination: Mac,
-    /// From whom it comes.
+    /// The source address.
     pub source: Mac,
     /// The tag control information of its VLAN tag (IEEE 802.1Q, 9.6), if it has one.
     pub tag: Option<u16>,
-    /// What its EtherType says that it carries.
+    /// The kind of content that its EtherType names.
     pub kind: ContentKind,
-    /// All octets behind the EtherType, padding too.
+    /// All octets after the EtherType, including padding.
     pub content: &'a [u8],
 }
 
-/// A frame of EtherType 0x8892 by its layers.
+/// A frame of EtherType 0x8892, layer by layer.
 #[derive(Clone, Copy, Debug, PartialEq, Eq)]
 pub struct RealTimeFrame<'a> {
-    /// To whom it goes.
+    /// The destination address.
     pub destination: Mac,
-    /// From whom it comes.
+    /// The source address.
     pub source: Mac,
     /// The tag control information of its VLAN tag (IEEE 802.1Q, 9.6), if it has one.
     pub tag: Option<u16>,
     /// The FrameID.
     pub frame_id: u16,
-    /// All octets behind it, padding too.
+    /// All octets after the FrameID, including padding.
     pub body: &'a [u8],
 }
 
-/// A frame of EtherType 0x8892 that is written of a body in two pieces, so that neither is copied before.
+/// A frame of EtherType 0x8892 to be written, with its body in two pieces, so that they need not be copied together
+/// first.
 #[derive(Clone, Copy, Debug, PartialEq, Eq)]
 pub struct Pieces<'a> {
-    /// To whom it goes.
+    /// The destination address.
     pub destination: Mac,
-    /// From whom it comes.
+    /// The source address.
     pub source: Mac,
     /// The tag control information of its VLAN tag (IEEE 802.1Q, 9.6), if it has one.
     pub tag: Option<u16>,
     /// The FrameID.
     pub frame_id: u16,
-    /// The octets behind the FrameID.
+    /// The first octets after the FrameID.
     pub front: &'a [u8],
-    /// The octets behind these.
+    /// The octets after `front`.
     pub behind: &'a [u8],
 }

@@ -1,8 +1,8 @@
 //! Ethernet frames (IEEE 802.3), with at most one VLAN tag (IEEE 802.1Q), that carry PROFINET real-time data
 //! (IEC 61158-6-10), ARP (RFC 826) or UDP (RFC 768) in IPv4 (RFC 791): from octets to layers and back.
 //!
-//! `inline(always)` stands where instructions were counted (`bench/figures/exchange.py`): what each frame of an exchange takes is one
-//! piece, and what is rare, `inline(never)`, stands outside of it.
+//! `inline(always)` is used where instructions were counted (`bench/figures/exchange.py`): the code for each frame of
+//! an exchange is one piece, and rare cases are outside of it (`inline(never)`).
 #![tactic(auto)]
 
 mod arp;
@@ -37,5 +37,5 @@ pub use sum::ones_sum;
 pub use udp::{Caller, Endpoint, RPC_PORT, Udp};
 pub use writing::write;
 
-/// The octets of a frame that came in: one more than any frame may have.
+/// The octets of a received frame. There is room for one more than a valid frame may have.
 pub type Bytes = ArrayVec<u8, 1519>;

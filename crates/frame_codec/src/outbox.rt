@@ -1,4 +1,4 @@
-//! What one event sends.
+//! The frames that one event sends.
 ghost use Rattle.std.specs.Prelude.{◌≡◌, ◌+◌, ◌<◌, ◌≤◌, ◌==◌, [], ◌∷◌, ◌++◌, length};
 ghost use Rattle.arrayvec.specs.ArrayVec.{array_vec_len};
 ghost use Rattle.frame_codec.specs.Meaning.{meaning_in, meaning_of};
@@ -8,8 +8,8 @@ use crate::writing::{fill, fill_pieces};
 use crate::{Frame, Layered, Pieces};
 use std::marker::Model;
 
-/// The frames that one event sends, at most four, in their order. They are written where they lie, and their room is used
-/// again. A clause sees them as it sees the frames of an `ArrayVec`.
+/// The frames that one event sends, at most four, in order. They are written in place, and their buffers are reused.
+/// Clauses see it as an `ArrayVec` of frames.
 #[derive(Drop)]
 pub struct Outbox {
     frames: [Frame; 4],
@@ -28,7 +28,7 @@ impl Model for Outbox {
 }
 
 impl Outbox {
-    /// Nothing to send.
+    /// An empty outbox.
     pub fn new() -> Outbox
         ensures { result.items ≡ [] }
     {
@@ -38,21 +38,21 @@ impl Outbox {
         }
     }
 
-    /// Takes all frames out.
+    /// Removes all frames.
     pub fn clear(&mut self)
         ensures { self.new.items ≡ [] }
     {
         self.used = 0;
     }
 
-    /// Whether there is no room for one more.
+    /// Whether the outbox is full: it holds four frames.
     pub fn is_full(&self) -> bool
         ensures { result ≡ (array_vec_len self.now == 4) }
     {
         self.used == 4
     }
 
-    /// How many frames there are.
+    /// The number of frames.
     pub fn len(&self) -> usize
         ensures value { result ≡ array_vec_len self.now }
         ensures most { result ≤ 4 }
@@ -68,14 +68,14 @@ impl Outbox {
         &self.frames[..self.used]
     }
 
-    /// Writes a frame behind the others, and behind it zeros up to 60 octets, the tag counted.
+    /// Appends a frame, padded with zeros to at least 60 octets, the tag included.
     pub fn put(&mut self, layered: &Layered)
         requires room { array_vec_len self.old < 4 }
-        // What is carried takes at most 1,500 octets, a FrameID and the headers of IPv4 and UDP counted.
+        // The content has at most 1,500 octets, including a FrameID or the headers of IPv4 and UDP.
         requires fits { FitsFrame (meaning_of layered.now) }
-        // The others stay, and each octet of the new one.
+        // The earlier frames stay, and each octet of the new frame is given.
         ensures items { self.new.items ≡ self.old.items ++ record { items = frame_bytes (meaning_of layered.now) } ∷ [] }
-        // It is read back.
+        // The new frame is read back.
         ensures again { IsReadBack (meaning_of layered.now) }
         ensures len { array_vec_len self.new ≡ array_vec_len self.old + 1 }
     {
@@ -85,15 +85,15 @@ impl Outbox {
         self.used += 1;
     }
 
-    /// Writes a frame of EtherType 0x8892 behind the others, its body in two pieces, and behind it zeros up to 60 octets, the tag
-    /// counted.
+    /// Appends a frame of EtherType 0x8892 with its body in two pieces, padded with zeros to at least 60 octets, the
+    /// tag included.
     #[inline]
     pub fn put_pieces(&mut self, pieces: &Pieces)
         requires room { array_vec_len self.old < 4 }
         requires fits { FitsFrame (meaning_in pieces.now) }
-        // The others stay, and each octet of the new one.
+        // The earlier frames stay, and each octet of the new frame is given.
         ensures items { self.new.items ≡ self.old.items ++ record { items = frame_bytes (meaning_in pieces.now) } ∷ [] }
-        // It is read back.
+        // The new frame is read back.
         ensures again { IsReadBack (meaning_in pieces.now) }
         ensures len { array_vec_len self.new ≡ array_vec_len self.old + 1 }
     {
@@ -103,10 +103,10 @@ impl Outbox {
         self.used += 1;
     }
 
-    /// Puts a copy of a frame behind the others.
+    /// Appends a copy of a frame.
     pub fn put_copy(&mut self, frame: &Frame)
         requires room { array_vec_len self.old < 4 }
-        // The others stay.
+        // The earlier frames stay, and the copy follows them.
         ensures items { self.new.items ≡ self.old.items ++ frame.now ∷ [] }
         ensures len { array_vec_len self.new ≡ array_vec_len self.old + 1 }
     {

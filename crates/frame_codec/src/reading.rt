@@ -14,7 +14,7 @@ use crate::{
 };
 use wire::{front, split, u16_at};
 
-/// The FrameID, and all that is behind it.
+/// The FrameID and all octets after it.
 #[tactic(auto, unfolding(crate::specs::Frame::real_time))]
 #[inline(always)]
 pub fn frame_id_at(content: &[u8]) -> Result<(u16, &[u8]), FrameFault>
@@ -23,7 +23,7 @@ pub fn frame_id_at(content: &[u8]) -> Result<(u16, &[u8]), FrameFault>
     u16_at(content, FrameFault::TooShort)
 }
 
-/// A packet of ARP. What is behind it is not looked at.
+/// A packet of ARP. The octets after it are ignored.
 #[tactic(auto, unfolding(crate::specs::Frame::arp))]
 #[inline(never)]
 pub fn packet_at(content: &[u8]) -> Result<Arp, FrameFault>
@@ -33,8 +33,8 @@ pub fn packet_at(content: &[u8]) -> Result<Arp, FrameFault>
     Ok(packet)
 }
 
-/// A datagram of UDP in a packet of IPv4. What is behind the packet is not looked at. First the header is judged, then
-/// whether all that it counts is there, then its checksum, and then what it carries.
+/// A datagram of UDP in a packet of IPv4. The octets after the packet are ignored. The header is judged first, then
+/// whether its whole length is present, then its checksum, and then its content.
 #[tactic(auto, unfolding(crate::specs::Frame::datagram, crate::specs::Internet::packet))]
 #[inline(never)]
 pub fn datagram_at(content: &[u8]) -> Result<Udp<'_>, FrameFault>
@@ -42,7 +42,8 @@ pub fn datagram_at(content: &[u8]) -> Result<Udp<'_>, FrameFault>
 {
     let (internet, rest) = internet_header_at(content)?;
     let (packet, _) = split(rest, internet.size as usize, FrameFault::IpHeader)?;
-    // The checksum is judged by the sum of all words, its own among them, so one that was sent as all ones passes where 0 was meant.
+    // The checksum is judged by the sum of all words, itself included. So a checksum sent as all ones in place of 0
+    // passes.
     if ones_sum(front(content, rest)) != 0xFFFF {
         return Err(FrameFault::IpChecksum);
     }
@@ -60,7 +61,7 @@ pub fn datagram_at(content: &[u8]) -> Result<Udp<'_>, FrameFault>
     })
 }
 
-/// The content of this kind.
+/// The content, read as this kind.
 #[inline(always)]
 fn payload_at(kind: ContentKind, content: &[u8]) -> Result<Payload<'_>, FrameFault>
     ensures { Gives content_of result ((content_as kind).read content.now) }
@@ -75,14 +76,14 @@ fn payload_at(kind: ContentKind, content: &[u8]) -> Result<Payload<'_>, FrameFau
     }
 }
 
-/// Reads the Ethernet header of a frame, and judges its length. Whoever takes kinds of content each on a way of its own reads the content
-/// by a call of its own: a `Layered` has room for each kind, and would be moved through memory.
+/// Reads the Ethernet header of a frame and judges its length. The content is read by a separate call: a `Layered` has
+/// room for each kind of content and would be moved through memory.
 #[inline(always)]
 #[tactic(auto, unfolding(crate::specs::Frame::frame_of, crate::specs::Frame::layers))]
 pub fn open(bytes: &[u8]) -> Result<OpenFrame<'_>, FrameFault>
-    // It is the frame that these octets are, if its content can be read.
+    // On success the octets are this frame, if its content can be read.
     ensures found { IfOk result (λ frame. frame_of bytes.now ≡ opened_as frame) }
-    // Which fault it is.
+    // On an error, this is the fault of the octets.
     ensures fault { IfErr result (λ fault. frame_of bytes.now ≡ Err fault) }
 {
     let (ethernet, content) = header_at(bytes)?;
@@ -99,7 +100,7 @@ pub fn open(bytes: &[u8]) -> Result<OpenFrame<'_>, FrameFault>
     })
 }
 
-/// The layers, or the first fault.
+/// The layers of the frame, or its first fault.
 #[inline(always)]
 fn layers_at(bytes: &[u8]) -> Result<Layered<'_>, FrameFault>
     ensures { Gives meaning_of result (frame_of bytes.now) }
@@ -114,32 +115,34 @@ fn layers_at(bytes: &[u8]) -> Result<Layered<'_>, FrameFault>
     })
 }
 
-/// Reads a frame. What is behind the innermost length is padding, and is no part of the meaning, except under EtherType
-/// 0x8892, where all is. A frame may be shorter than 60 octets.
+/// Reads a frame. The octets after the innermost length are padding and are ignored, except under EtherType 0x8892,
+/// where all octets belong to the content. A frame may be shorter than 60 octets.
 #[inline(always)]
 pub fn read(bytes: &[u8]) -> Result<Layered<'_>, FrameFault>
-    // What is read is spelled so.
+    // The octets are a frame of the meaning that is returned.
     ensures found { IfOk result (λ layered. IsFrame bytes.now (meaning_of layered)) }
-    // What is spelled so is read, and as nothing else.
+    // If the octets are a frame of some meaning, that meaning is returned.
     ensures only { (meaning : Meaning) → IsFrame bytes.now meaning → Gives meaning_of result (Ok meaning) }
-    // With anything behind it, up to the limit, it is read as the same, and under EtherType 0x8892 with that behind.
+    // With more octets after it, up to the limit, a frame is read as the same meaning. Under EtherType 0x8892 the added
+    // octets belong to its body.
     ensures behind { (first more : List ℕ) (meaning : Meaning) → IsFrame first meaning → bytes.now ≡ first ++ more →
         length bytes.now ≤ longest meaning.tag →
         Gives meaning_of result (Ok (with_behind meaning more)) }
-    // Which fault it is.
+    // The result is exactly the meaning of the octets, or their first fault.
     ensures exact { Gives meaning_of result (frame_of bytes.now) }
 {
     layers_at(bytes)
 }
 
-/// Reads a frame of EtherType 0x8892: what cyclic data, alarms and DCP come in. None is any other frame, or none: `read` tells which.
-/// It is a call of its own because a `Layered` has room for each kind of content, and would be moved through memory.
+/// Reads a frame of EtherType 0x8892: cyclic data, alarms and DCP. Returns `None` if the octets are not such a frame;
+/// `read` says why. It is a call of its own because a `Layered` has room for each kind of content and would be moved
+/// through memory.
 #[inline(always)]
 #[tactic(auto, unfolding(crate::specs::Frame::real_time, crate::specs::Frame::arp, crate::specs::Frame::datagram))]
 pub fn read_real_time(bytes: &[u8]) -> Option<RealTimeFrame<'_>>
-    // It is the frame that these octets are.
+    // On success the octets are the frame that is returned.
     ensures found { IfSome result (λ frame. frame_of bytes.now ≡ Ok (meaning_as frame)) }
-    // One that is there is found.
+    // `None` is returned only if the octets are not a frame of real-time data.
     ensures none { IfNone result (IsNoRealTime (frame_of bytes.now)) }
 {
     let Ok(frame) = open(bytes) else {

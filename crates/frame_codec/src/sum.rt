@@ -1,15 +1,15 @@
-//! The sum of the Internet's checksums (RFC 1071).
+//! The ones' complement sum of the Internet checksums (RFC 1071).
 ghost use Rattle.std.specs.Prelude.{◌≡◌, ◌≤◌, ◌+◌, ◌*◌, ◌%◌, All};
 ghost use Rattle.frame_codec.specs.Sum.{words_total, carried, ones_sum_of};
 
-/// The word of two octets.
+/// The word that two octets make, the high one first.
 fn word(high: u8, low: u8) -> u16
     ensures { result ≡ 256 * high + low }
 {
     256 * high as u16 + low as u16
 }
 
-/// A sum and one word more, the carry added at the low end.
+/// The sum with one more word, the carry added at the low end.
 fn plus(sum: u16, word: u16) -> u16
     ensures { result ≡ carried (sum + word) }
 {
@@ -21,7 +21,7 @@ fn plus(sum: u16, word: u16) -> u16
     }
 }
 
-/// A sum and the words of these octets more.
+/// The sum with the words of these octets added.
 pub(crate) fn sum_on(sum: u16, bytes: &[u8]) -> u16
     ensures { result ≡ carried (sum + words_total bytes.now) }
 {
@@ -35,12 +35,12 @@ pub(crate) fn sum_on(sum: u16, bytes: &[u8]) -> u16
     }
 }
 
-/// The ones' complement sum of the words of 16 bits, the high octet first; an odd last octet is followed by 0.
+/// The ones' complement sum of the 16-bit words, the high octet first. An odd last octet is followed by 0.
 pub fn ones_sum(bytes: &[u8]) -> u16
-    // Nothing but zeros has the sum 0, and all else one from 1 to 65,535.
+    // The sum is 0 if and only if all octets are 0.
     ensures zero { All (λ octet. octet ≡ 0) bytes.now → result ≡ 0 }
     ensures only_zero { result ≡ 0 → All (λ octet. octet ≡ 0) bytes.now }
-    // It is the sum of the words modulo 65,535.
+    // The sum is equal to the total of the words modulo 65,535.
     ensures equal { result % 65535 ≡ words_total bytes.now % 65535 }
     ensures exact { result ≡ ones_sum_of bytes.now }
 {

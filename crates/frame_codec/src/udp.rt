@@ -15,17 +15,17 @@ use arrayvec::ArrayVec;
 use pn_values::Mac;
 use wire::{append, append_u8, append_u16, front, split, u16_at};
 
-/// The port of UDP at which the calls of PROFINET are heard, of device and controller alike.
+/// The UDP port at which devices and controllers receive the calls of PROFINET.
 pub const RPC_PORT: u16 = 34964;
 
 /// A datagram of UDP (RFC 768) in a packet of IPv4 (RFC 791).
 #[derive(Clone, Copy, Debug, PartialEq, Eq)]
 pub struct Udp<'a> {
-    /// From where it comes.
+    /// The end that sent it.
     pub source: Endpoint,
-    /// To where it goes.
+    /// The end that it is sent to.
     pub destination: Endpoint,
-    /// What it carries: at most 1,472 octets in a frame.
+    /// The body: at most 1,472 octets in a frame.
     pub body: &'a [u8],
 }
 
@@ -39,7 +39,7 @@ pub struct Endpoint {
 }
 
 impl Endpoint {
-    /// Where calls are received at this address.
+    /// The endpoint at this address that receives calls.
     pub fn of_calls(address: [u8; 4]) -> Endpoint
         ensures { result ≡ calls_at address }
     {
@@ -50,26 +50,26 @@ impl Endpoint {
     }
 }
 
-/// Who sent a datagram.
+/// The sender of a datagram.
 #[derive(Clone, Copy, Debug, PartialEq, Eq)]
 pub struct Caller {
-    /// The station.
+    /// The MAC address.
     pub mac: Mac,
-    /// The address and the port there.
+    /// The IPv4 address and the port.
     pub endpoint: Endpoint,
 }
 
-/// What stands in front of a datagram.
+/// The fields of a UDP header.
 #[derive(Clone, Copy)]
 pub(crate) struct UdpHeader {
     pub(crate) source: u16,
     pub(crate) destination: u16,
-    /// How many octets are behind it.
+    /// The number of octets after the header.
     pub(crate) size: u16,
     pub(crate) checksum: u16,
 }
 
-/// A header, and what is behind it.
+/// A header and the octets after it.
 #[tactic(auto, unfolding(crate::specs::Internet::udp_header))]
 fn udp_header_at(bytes: &[u8]) -> Result<(UdpHeader, &[u8]), FrameFault>
     ensures gives { Gives (λ x. (x.0, x.1.now)) result (udp_header.read bytes.now) }
@@ -108,12 +108,12 @@ fn put_pseudo<const N: usize>(
     append_u16(out, header.size + 8);
 }
 
-/// Whether a datagram of these octets has no checksum, or one that is right.
+/// Whether a datagram of these octets has no checksum, or a correct one.
 fn passes(internet: &InternetHeader, header: &UdpHeader, octets: &[u8]) -> bool
     requires most { header.now.size + 8 ≤ 65535 }
     ensures { result ≡ passes_by internet.now header.now octets.now }
 {
-    // 0 says that the sender computed none, which UDP allows over IPv4.
+    // 0 means that the sender computed no checksum, which UDP allows over IPv4.
     if header.checksum == 0 {
         return true;
     }
@@ -122,7 +122,7 @@ fn passes(internet: &InternetHeader, header: &UdpHeader, octets: &[u8]) -> bool
     sum_on(ones_sum(pseudo.as_slice()), octets) == 0xFFFF
 }
 
-/// A datagram in the packet of this header, and its body. What is behind it is not looked at.
+/// A datagram in the packet of this header, and its body. The octets after it are ignored.
 #[tactic(auto, unfolding(crate::specs::Internet::udp))]
 pub(crate) fn segment_at<'a>(
     internet: &InternetHeader,
@@ -138,7 +138,7 @@ pub(crate) fn segment_at<'a>(
     Ok((header, body))
 }
 
-/// Appends a header, with the checksum that it has.
+/// Appends a header with the checksum that it holds.
 #[tactic(auto, unfolding(crate::specs::Internet::udp_header, crate::specs::Internet::size_behind))]
 pub(crate) fn put_udp_header<const N: usize>(out: &mut ArrayVec<u8, N>, header: &UdpHeader)
     requires room { array_vec_len out.old + 8 ≤ N }
@@ -165,13 +165,13 @@ impl UdpHeader {
         sum_on(ones_sum(octets.as_slice()), body)
     }
 
-    /// The header with its checksum in place of the 0 that stands there.
+    /// The header with its checksum in place of the 0 in that field.
     pub(crate) fn seal(self, internet: &InternetHeader, body: &[u8]) -> UdpHeader
         requires most { self.size ≤ 1472 }
         ensures { result ≡ udp_sealed internet.now self body.now }
     {
         let sum = self.sum_with(internet, body);
-        // 0 says that there is no checksum.
+        // 0 would mean that there is no checksum.
         let checksum = if sum == 0xFFFF { sum } else { 0xFFFF - sum };
         UdpHeader { checksum, ..self }
     }

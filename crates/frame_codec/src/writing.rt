@@ -45,7 +45,7 @@ fn put_tag_and_type(frame: &mut Frame, tag: Option<u16>, ether_type: u16)
     }
 }
 
-/// Appends an address, as two numbers, which stay out of memory: the octets of each are what they were made of.
+/// Appends an address as two numbers, which stay out of memory: the octets of each number are those it was made of.
 #[inline(always)]
 fn put_mac(frame: &mut Frame, mac: Mac)
     requires room { array_vec_len frame.old + 6 ≤ 1518 }
@@ -137,21 +137,21 @@ fn put_layers(frame: &mut Frame, layered: &Layered)
     put_content(frame, &layered.payload);
 }
 
-/// As many zeros as the least frame has octets.
+/// As many zeros as the shortest frame has octets.
 static ZEROS: [u8; 60] = [0; 60];
 
-/// Appends zeros up to 60 octets.
+/// Pads with zeros to at least 60 octets.
 #[inline(always)]
 fn pad(frame: &mut Frame)
     ensures { frame.new.items ≡ frame.old.items ++ replicate (60 - length frame.old.items) 0 }
 {
-    // Ethernet's least frame has 64 octets, 4 of them the check sequence, which the interface appends.
+    // The shortest frame of Ethernet has 64 octets, 4 of them the check sequence, which the interface appends.
     if frame.len() < 60 {
         frame.append(&ZEROS[frame.len()..]);
     }
 }
 
-/// Appends the layers, and behind them zeros up to 60 octets, to an empty frame.
+/// Appends the layers to an empty frame, padded with zeros to at least 60 octets.
 pub(crate) fn fill(frame: &mut Frame, layered: &Layered)
     requires empty { array_vec_len frame.old ≡ 0 }
     requires room { FitsFrame (meaning_of layered.now) }
@@ -177,7 +177,8 @@ fn put_body(frame: &mut Frame, pieces: &Pieces)
     frame.append(pieces.behind);
 }
 
-/// Appends the layers of a frame of EtherType 0x8892, its body in two pieces, and zeros up to 60 octets, to an empty frame.
+/// Appends the layers of a frame of EtherType 0x8892, its body in two pieces, to an empty frame, padded with zeros to
+/// at least 60 octets.
 #[inline(always)]
 pub(crate) fn fill_pieces(frame: &mut Frame, pieces: &Pieces)
     requires empty { array_vec_len frame.old ≡ 0 }
@@ -196,15 +197,16 @@ pub(crate) fn fill_pieces(frame: &mut Frame, pieces: &Pieces)
     pad(frame);
 }
 
-/// Writes a frame, and behind it zeros up to 60 octets, the tag counted.
+/// Returns the frame for these layers, padded with zeros to at least 60 octets, the tag included.
 pub fn write(layered: &Layered) -> Frame
-    // What is carried takes at most 1,500 octets, a FrameID and the headers of IPv4 and UDP counted.
+    // The content has at most 1,500 octets, including a FrameID or the headers of IPv4 and UDP.
     requires { FitsFrame (meaning_of layered.now) }
-    // The octets, each of them.
+    // The octets are exactly those of the frame for this meaning.
     ensures exact { result.items ≡ frame_bytes (meaning_of layered.now) }
-    // They spell what was given, with the padding.
+    // The octets are a frame of the given meaning with the padding added.
     ensures spelled { IsFrame result.items (with_behind (meaning_of layered.now) (padding_of (meaning_of layered.now))) }
-    // With more behind it, up to the limit, it is read as the same, and under EtherType 0x8892 with that behind.
+    // With more octets after it, up to the limit, the frame is read as the given meaning. Under EtherType 0x8892 the
+    // padding and the added octets belong to its body.
     ensures behind { (more : List ℕ) → length result.items + length more ≤ longest layered.now.tag →
         frame_of (result.items ++ more) ≡ Ok (with_behind (meaning_of layered.now) (padding_of (meaning_of layered.now) ++ more)) }
     ensures least { 60 ≤ length result.items }

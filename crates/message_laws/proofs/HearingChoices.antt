@@ -1,4 +1,4 @@
--- Choices by tests.
+-- Choices that tests make.
 use Rattle.std.proofs.Common.{◌≡◌, ◌==◌, ◌&&◌, ◌||◌, ◌≤◌, ◌⊎◌, inl, inr, ℕ, Bool, true, false, nat_le, List, [], ◌++◌, Result, Ok, Err, if◌then◌else◌, refl, sym, ap, ◌∙◌, arith}
 use Rattle.std.specs.Prelude.{IsErr}
 use Rattle.std.proofs.lemmas.Bool.{false≢true, leb-true, ne_eqb}
@@ -8,7 +8,7 @@ use Rattle.pn_alarms.specs.declared.pdu.PduType.{PduType}
 use Rattle.pn_alarms.specs.declared.pdu.PduType.TheVariants.{Data, Nack, Ack, Error}
 use Rattle.pn_alarms.specs.Format.{frame_id_of}
 
--- ---- of a device, which asks for DCP first, then for alarms, then for cyclic frames
+-- ---- of a device, which tests for DCP first, then for alarms, then for cyclic frames
 
 pub cyclic_chosen : {A : Type 0} (own cast first second alarm cyclic : Bool) (a b c d : A) → first ≡ false → second ≡ false → alarm ≡ false → cyclic ≡ true
     → (if (first && own) || (second && (own || cast)) then a else if own && alarm then b else if own && cyclic then c else d) ≡ (if own then c else d)
@@ -20,7 +20,7 @@ pub alarm_chosen : {A : Type 0} (own cast first second alarm cyclic : Bool) (a b
 alarm_chosen true cast first second alarm cyclic a b c d e f g = rw (e, f, g) refl
 alarm_chosen false cast first second alarm cyclic a b c d e f g = rw (e, f) refl
 
--- a request to all stations, and one to this device alone
+-- a request to all stations, and one to this device only
 pub cast_chosen : {A : Type 0} (own : Bool) (a b : A) → (if (false && own) || (true && (own || true)) then a else b) ≡ a
 cast_chosen true a b = refl
 cast_chosen false a b = refl
@@ -30,24 +30,24 @@ pub own_chosen : {A : Type 0} (own cast : Bool) (a b c d : A)
 own_chosen true cast a b c d = refl
 own_chosen false cast a b c d = refl
 
--- the same on either side
+-- both branches are the same
 pub same_chosen : {A : Type 0} (test : Bool) (a : A) → (if test then a else a) ≡ a
 same_chosen true a = refl
 same_chosen false a = refl
 
--- what holds of both holds of whichever is chosen
+-- what holds of both branches holds of the choice
 pub holds_if : {A : Type 0} (Holds : A → Type 0) (test : Bool) (one other : A) → Holds one → Holds other → Holds (if test then one else other)
 holds_if Holds true one other first second = first
 holds_if Holds false one other first second = second
 
 -- ---- what is read
 
--- what comes of each fault comes of what is no value
+-- what follows from each fault follows from an error
 pub faulty : {A E B : Type 0} (made : Result A E → B) (value : B) (read : Result A E) → ((fault : E) → made (Err fault) ≡ value) → IsErr read → made read ≡ value
 faulty made value (Ok found) each none = absurd (false≢true none)
 faulty made value (Err fault) each none = each fault
 
--- octets with nothing behind them
+-- the case without anything after the octets
 pub bare : {A : Type 0} (f : List ℕ → A) (octets : List ℕ) (value : A) → f (octets ++ []) ≡ value → f octets ≡ value
 bare f octets value e = ap f (sym (append-nil octets)) ∙ e
 
@@ -85,7 +85,7 @@ no_alarm frame_id e =
     let most = below frame_id e in
     neither (frame_id == 0xFC01) (frame_id == 0xFE01) (ne_eqb frame_id 0xFC01 (λ same. omega (arith, most, same))) (ne_eqb frame_id 0xFE01 (λ same. omega (arith, most, same)))
 
--- the FrameID of an alarm frame is none of DCP and none of cyclic frames
+-- the FrameID of an alarm frame is not one of DCP or of cyclic frames
 pub alarm_is : (kind : PduType) → is_alarm (frame_id_of kind) ≡ true
 alarm_is Data = refl
 alarm_is Nack = refl

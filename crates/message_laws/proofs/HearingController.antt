@@ -66,7 +66,7 @@ alarm_heard reads mine destination source tag kind body header told is says =
     ∙ ap (λ (h : Heard). mine_hears mine destination h)
     (alarm_is source kind (padded source destination tag (frame_id_of kind) body) ∙ ap (λ (r : Result (Header × ToController) AlarmFault). heard_alarm source r) (says (padding_of (carrying destination source tag (RealTime (frame_id_of kind) body)))))
 
--- answers of DCP: to an Identify, and to a Get or a Set
+-- responses of DCP: to an Identify, and to a Get or a Set
 pub identify_is : (source : Mac) (body : List ℕ) → heard_real_time source 65279 body ≡ heard_answer source (answer_of 65279 body)
 unfolding heard_real_time
 identify_is source body = refl
@@ -101,7 +101,7 @@ body_heard reads mine destination source from to body heard is says =
     ap (λ (r : Result Meaning FrameFault). heard_read mine r) (reads destination source None from to body is)
     ∙ ap (λ (h : Heard). mine_told mine destination to h) says
 
--- nothing was said to anybody
+-- the case that nothing was said
 pub nothing_told : (mine : Controller) (destination : Mac) (to : Endpoint) → mine_told mine destination to Nothing ≡ Nothing
 nothing_told mine destination to =
     ap (λ (h : Heard). mine_hears mine destination h) (same_chosen (is_to mine.address to) Nothing) ∙ same_chosen (pointwise nat_eq destination.octets mine.mac.octets) Nothing
@@ -133,7 +133,7 @@ other_is reads differ meant caller call is =
     faulty (λ (first : Result Call RpcFault). heard_first caller first (response_of octets)) (heard_response (response_of octets)) (call_of controllers octets) (λ fault. refl) (meant octets call read)
     ∙ faulty (λ (second : Result Answered RpcFault). heard_response second) Nothing (response_of octets) (λ fault. refl) (differ devices octets call read)
 
--- ---- real-time data is no call
+-- ---- real-time data is not a call
 
 uncalled_answer : (source : Mac) (read : Result Told DcpFault) → IsUncalled (heard_answer source read)
 uncalled_answer source (Ok answer) = tt

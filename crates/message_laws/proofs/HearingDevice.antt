@@ -99,7 +99,7 @@ ready_said reads differ meant call is =
     faulty (λ (first : Result Call RpcFault). said_first first (response_of octets)) (said_else (response_of octets)) (call_of Device octets) (λ fault. refl) (meant octets call read)
     ∙ faulty (λ (second : Result Answered RpcFault). said_else second) Garbled (response_of octets) (λ fault. refl) (differ Controller octets call read)
 
--- ---- real-time data is never told
+-- ---- real-time data is never a call or a response
 
 untold_request : (source : Mac) (read : Result Asked DcpFault) → IsUntold (heard_request source read)
 untold_request source (Ok request) = tt

@@ -66,7 +66,7 @@ CallsAreNoResponses = (interface : Interface) (bytes : List ℕ) (call : Asked) 
 abbrev pub ResponsesAreNoCalls : Type 0
 ResponsesAreNoCalls = (interface : Interface) (bytes : List ℕ) (response : Answered) → response_of bytes ≡ Ok response → IsErr (call_of interface bytes)
 
--- what one interface reads as a call the other does not
+-- a call that is read at one interface is not read at the other
 abbrev pub DeviceIsMeant : Type 0
 DeviceIsMeant = (bytes : List ℕ) (call : Asked) → call_of Device bytes ≡ Ok call → IsErr (call_of Controller bytes)
 

@@ -33,7 +33,7 @@ use Rattle.message_laws.proofs.HearingGiven.{DataIsRead}
 use Rattle.message_laws.proofs.HearingChoices.{cast_chosen, own_chosen}
 use Rattle.message_laws.proofs.HearingDevice.{data_heard}
 
--- what is written of a request is read as it, and fits a frame
+-- a written request is read back, and fits a frame
 abbrev pub RequestsAreRead : Type 0
 RequestsAreRead = (asked : Asked) (more : List ℕ) → CanBeAsked asked → request_of (frame_id_of asked.service) (request_bytes asked ++ more) ≡ Ok asked
 

@@ -1,4 +1,4 @@
--- Each call of a controller over a plan can be sent.
+-- Each call of a controller for its plan can be sent.
 use Rattle.std.proofs.Common.{◌≡◌, ◌≤◌, ◌<◌, ◌+◌, ℕ, zero, suc, List, [], ◌∷◌, ◌++◌, length, Option, Some, None, true, refl, ap, ◌∙◌, arith}
 use Rattle.std.specs.List.{slice_get}
 use Rattle.std.proofs.lemmas.Bool.{leb-true}
@@ -64,7 +64,7 @@ header_is setup request good numbered = record {
 
 -- ---- the blocks
 
--- how long the ARBlockReq is hangs on the length of the ARUUID alone
+-- the length of the ARBlockReq depends only on the length of the ARUUID
 ar_size : (parts : Parts) (ar : List ℕ) → length ar ≡ 16 → block_size (is.ArBlockReq (ar_block parts ar)) ≡ block_size (is.ArBlockReq (ar_block parts some_uuid))
 unfolding block_size fields_of body version ar_block_req ar_uuid initiator_mac
 ar_size parts ar sixteen = rw sixteen refl

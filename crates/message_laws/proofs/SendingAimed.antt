@@ -1,4 +1,4 @@
--- To whom a controller sends goes on to be known.
+-- A controller keeps a valid address of the station that it sends to.
 use Rattle.std.proofs.Common.{◌≡◌, ◌⊎◌, inl, inr, ◌+◌, ◌==◌, ℕ, Option, Some, None, unwrap_or, refl, sym, subst, arith}
 use Rattle.std.specs.List.{AllByRecursion}
 use Rattle.pn_values.specs.declared.mac.Mac.{Mac}
@@ -35,7 +35,7 @@ use Rattle.message_laws.specs.sending.Addressed.{IsAimed, IsAimedAt, IsDirection
 use Rattle.message_laws.specs.sending.Sized.{AreFew, IsFew}
 use Rattle.message_laws.proofs.SendingSizes.{BlocksAreLong, CameSo, Stays, all_append, answer_can, due_all, frame_stays, given_stays, named_so, numbered, sequence_few, writing_few}
 
--- a turn after which it is known, and each message of which goes to a station
+-- a turn after which this address is valid, and each message of which goes to a station
 pub record IsSent (mac : Mac) (turn : Turn) : Type 0 where
   pub live : IsAimed turn.live
   pub sent : AllByRecursion (IsAimedAt mac) turn.sent

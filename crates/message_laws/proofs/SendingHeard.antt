@@ -1,4 +1,4 @@
--- What a controller hears of what a device can send has its sizes.
+-- What a controller hears of the messages that a device can send has its sizes.
 use Rattle.std.proofs.Common.{◌≡◌, nat_eq, Bool, true, false, if◌then◌else◌, sym, subst}
 use Rattle.std.specs.Cmp.Lexicographic.{pointwise}
 use Rattle.pn_values.specs.declared.mac.Mac.{Mac}

@@ -1,4 +1,4 @@
--- How long what a controller sends is.
+-- The lengths of what a controller sends.
 use Rattle.std.proofs.Common.{◌≡◌, ◌≤◌, ◌<◌, ◌+◌, ◌%◌, ◌&&◌, nat_eq, nat_lt, ℕ, Bool, true, false, List, [], ◌∷◌, ◌++◌, length, Option, Some, None, Result, Ok, Err, if◌then◌else◌, unwrap_or, refl, sym, ap, ◌∙◌, arith}
 use Rattle.std.specs.List.{AllByRecursion}
 use Rattle.std.specs.Cmp.Lexicographic.{pointwise, same_text}
@@ -60,7 +60,7 @@ pub next_short : (last : Option ℕ) → IsShort last → next_number last < 655
 next_short None is = omega arith
 next_short (Some number) is = let below : (number + 1) % 0x8000 < 0x8000 = mod-lt (number + 1) (omega arith) in omega (arith, below)
 
--- ---- the answer to ApplicationReady
+-- ---- the response to ApplicationReady
 
 done_size : (block : ControlBlock) → length block.ar_uuid ≡ 16 → block_size (is.ApplicationReadyRes block) ≡ 32
 unfolding block_size fields_of body version control command
@@ -111,7 +111,7 @@ pub due_all : (P : Sent → Type 0) (test : Bool) (sent : List Sent) → AllByRe
 due_all P true sent is = is
 due_all P false sent is = tt
 
--- ---- what comes
+-- ---- what arrives
 
 -- what holds of what is heard
 abbrev pub CameSo : (Heard → Type 0) → Came → Type 0
@@ -122,7 +122,7 @@ CameSo P Halts = Unit {0}
 
 -- ---- cyclic frames
 
--- neither a frame that is heard nor a value that is given changes the route, or how much is sent
+-- neither a frame that is heard nor a value that is set changes the route or the length of what is sent
 pub record Stays (before after : Cyclic) : Type 0 where
   pub route : after.route ≡ before.route
   pub long : after.shown.data_length ≡ before.shown.data_length

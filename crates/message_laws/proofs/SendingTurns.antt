@@ -1,4 +1,4 @@
--- What a controller keeps has its sizes, and so has what it sends.
+-- The state of a controller has its sizes, and so has what it sends.
 use Rattle.std.proofs.Common.{◌≡◌, ◌⊎◌, inl, inr, ◌≤◌, ◌<◌, ◌+◌, ◌==◌, ℕ, Bool, true, false, length, Option, Some, None, if◌then◌else◌, unwrap_or, refl, sym, subst, arith}
 use Rattle.std.specs.List.{AllByRecursion}
 use Rattle.std.proofs.Math.Nat.{max-le}
@@ -43,7 +43,7 @@ use Rattle.message_laws.specs.sending.Messages.{CanBeSent, IsWay}
 use Rattle.message_laws.specs.sending.Sized.{AreFew, IsAckOrNone, IsFew, IsLive, IsNoted, IsShort, IsSized, IsSizedEvent}
 use Rattle.message_laws.proofs.SendingSizes.{BlocksAreLong, CameSo, Stays, all_append, answer_can, body_few, due_all, frame_stays, given_stays, named_so, next_short, numbered, sequence_few, writing_few}
 
--- a turn after which all has its sizes
+-- a turn after which everything has its size
 pub record IsRight (setup : Setup) (turn : Turn) : Type 0 where
   pub live : IsLive turn.live
   pub sent : AllByRecursion (CanBeSent setup) turn.sent

@@ -1,8 +1,8 @@
-//! Hearing laws, and no code: what either end hears of each message of the other end, and of its own.
+//! Hearing laws: what either end hears of each message of the other end, and of its own. This crate has no code.
 //!
-//! A message is a meaning with one way to octets (`bytes_of`), and what is heard of octets hangs on these alone. Each law says of a kind
-//! of message what a device hears of its octets, and what a controller does. A message that can be sent is heard as itself where it is
-//! meant, and as nothing anywhere else.
+//! A message is a meaning that is sent in exactly one way (`bytes_of`), and what is heard of octets depends on the
+//! octets only. Each law is about one kind of message: what a device and a controller hear of its octets. A message
+//! that can be sent is heard as itself by the station that it is meant for, and as nothing by others.
 
 mod alarms;
 mod calls;

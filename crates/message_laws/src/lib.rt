@@ -1,8 +1,7 @@
-//! Hearing laws, and no code: what either end hears of each message of the other end, and of its own.
+//! Laws of the messages between a device and its controller, proved of the machines' definitions; the functions have no code.
 //!
-//! A message is a meaning with one way to octets (`bytes_of`), and what is heard of octets hangs on these alone. Each law says of a kind
-//! of message what a device hears of its octets, and what a controller does. A message that can be sent is heard as itself where it is
-//! meant, and as nothing anywhere else.
+//! `hearing` says what each end reads from the octets of a message, `sending` what each end sends and to whom, and `turns` what
+//! holds for a controller over any events.
 #![tactic(auto)]
 
 mod hearing;

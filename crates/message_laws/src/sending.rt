@@ -1,4 +1,5 @@
-//! Laws of what a controller sends, and no code: each frame is one of its messages, and each of these can be sent.
+//! Laws of what a controller sends: each frame is one of its messages, and each message can be sent. This crate has no
+//! code.
 
 mod addressed;
 mod law;

@@ -1,4 +1,4 @@
--- One move more.
+-- One more move is played.
 use Rattle.std.proofs.Common.{ℕ, List, [], ◌∷◌, ◌++◌, refl, subst}
 use Rattle.flash_model.specs.declared.flash.Flash.{Ghosts as Flash}
 use Rattle.network_world.specs.declared.moves.Move.{Move}

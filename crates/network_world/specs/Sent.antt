@@ -1,4 +1,4 @@
--- What was ever sent.
+-- All frames that were ever sent.
 use Rattle.std.specs.Prelude.{ℕ, List, map}
 use Rattle.arrayvec.specs.ArrayVec.{ArrayVec}
 
@@ -6,7 +6,7 @@ use Rattle.arrayvec.specs.ArrayVec.{ArrayVec}
 abbrev pub octets_of : List (ArrayVec ℕ) → List (List ℕ)
 octets_of frames = map (λ frame. frame.items) frames
 
--- frames, and for how many more there is room
+-- the frames, and how many more there is room for
 pub record Sent : Type 0 where
   pub frames : List (List ℕ)
   pub room : ℕ

@@ -1,4 +1,4 @@
--- Both ends of a network, and the worlds that moves make.
+-- Both ends of a network, and the worlds that moves lead to.
 use Rattle.std.specs.Prelude.{◌≡◌, ◌++◌, ◌&&◌, ℕ, Bool, true, false, not, List, [], ◌∷◌, slice_get, Option, Some, None, Result, Ok, Err}
 use Rattle.flash_model.specs.declared.flash.Flash.{Ghosts as Flash}
 use Rattle.frame_codec.specs.declared.fault.FrameFault.{FrameFault}
@@ -24,13 +24,13 @@ use Rattle.network_world.specs.declared.moves.Move.{Move}
 use Rattle.network_world.specs.declared.moves.Move.TheVariants as move
 use Rattle.network_world.specs.Sent.{Sent}
 
--- a device over a flash, its controller, and the octets of each frame that either ever sent, the first one first
+-- a device with its flash, its controller, and the octets of each frame that either end ever sent, in order
 pub record World (F : Type 0) : Type 0 where
   pub device : State F
   pub controller : Controlling
   pub sent : List (List ℕ)
 
--- the world of these
+-- the world with these parts
 abbrev pub world_of : {F : Type 0} → State F → Controlling → Sent → World F
 world_of device controller sent = record { device = device; controller = controller; sent = sent.frames }
 
@@ -45,7 +45,7 @@ abbrev pub is_cyclic_read : Result Meaning FrameFault → Bool
 is_cyclic_read (Ok meaning) = is_cyclic_content meaning.content
 is_cyclic_read (Err fault) = false
 
--- whether octets are a cyclic frame, to whomever it goes
+-- whether octets are a cyclic frame, to any destination
 unfoldable pub is_cyclic_frame : List ℕ → Bool
 is_cyclic_frame octets = is_cyclic_read (frame_of octets)
 
@@ -59,19 +59,19 @@ is_ended Waiting = false
 is_ended Exchanging = false
 is_ended (Ended cause) = true
 
--- whether an end has left the relation of this controller: the device that has none, or one of another ARUUID, and a controller that
--- ended
+-- Whether an end has left the relation of this controller: a device without a relation or with one of another ARUUID,
+-- and a controller whose relation ended.
 abbrev pub has_left : {F : Type 0} → State F → Controlling → End → Bool
 has_left device controller Device = not (is_relation (uuid_of device.live.rest.link) controller.setup.ar)
 has_left device controller Controller = is_ended controller.live.phase
 
--- whether a frame that comes to an end is skipped
+-- whether a frame that is delivered to an end is skipped
 abbrev pub is_skipped : {F : Type 0} → State F → Controlling → End → List ℕ → Bool
 is_skipped device controller end octets = is_cyclic_frame octets && has_left device controller end
 
--- ---- what a move does
+-- ---- the effect of a move
 
--- A device heard this, whatever its flash did: it made a step, and what it sent stands behind all that was sent.
+-- A device heard this, whatever its flash did: it made a step, and its frames are appended to all that were sent.
 pub record IsHeard {F : Type 0} {S : ℕ} (as_flash : Flash F S) (before : State F) (sent : List (List ℕ)) (heard : Heard) (after : State F) (all : List (List ℕ)) : Type 0 where
   pub frames : List (List ℕ)
   pub note : Note
@@ -83,7 +83,7 @@ pub record AtDevice {F : Type 0} {S : ℕ} (as_flash : Flash F S) (before : Worl
   pub hears : IsHeard as_flash before.device before.sent heard after.device after.sent
   pub controller : after.controller ≡ before.controller
 
--- the controller took an event, and nothing else changed
+-- the controller handled an event, and nothing else changed
 abbrev pub at_controller : {F : Type 0} → World F → ControllerEvent → World F
 at_controller before event = record {
   device = before.device;
@@ -91,25 +91,25 @@ at_controller before event = record {
   sent = before.sent ++ (step_of before.controller event).frames;
 }
 
--- octets come to an end from the network, or were skipped
+-- octets are delivered to an end from the network, or were skipped
 abbrev pub Comes : {F : Type 0} {S : ℕ} → Flash F S → Bool → World F → End → List ℕ → World F → Type 0
 Comes as_flash true before end octets after = after ≡ before
 Comes as_flash false before Device octets after =
     AtDevice as_flash before (heard_of before.device.station.identity (Frame (record { items = octets }))) after
 Comes as_flash false before Controller octets after = after ≡ at_controller before (controller.Frame (record { items = octets }))
 
--- a frame comes to an end, if there is one
+-- a frame is delivered to an end, if it exists
 abbrev pub Delivers : {F : Type 0} {S : ℕ} → Flash F S → Option (List ℕ) → World F → End → World F → Type 0
 Delivers as_flash None before end after = after ≡ before
 Delivers as_flash (Some octets) before end after =
     Comes as_flash (is_skipped before.device before.controller end octets) before end octets after
 
--- a unit of time is over at an end
+-- a unit of time passes at an end
 abbrev pub Passes : {F : Type 0} {S : ℕ} → Flash F S → World F → End → World F → Type 0
 Passes as_flash before Device after = AtDevice as_flash before Ticks after
 Passes as_flash before Controller after = after ≡ at_controller before controller.Tick
 
--- the end whose move it is: it alone steps, and it alone sends
+-- the end whose move it is: only this end steps and sends
 abbrev pub end_at : Move → End
 end_at (move.Deliver end number) = end
 end_at (move.Tick end) = end
@@ -127,7 +127,7 @@ Happens as_flash before (move.Alarm slot subslot octets) after = AtDevice as_fla
 Happens as_flash before (move.Give slot subslot value) after = after ≡ at_controller before (controller.Give slot subslot value)
 Happens as_flash before move.Stop after = after ≡ at_controller before controller.Stop
 
--- moves are made, one behind the other: a world that they allow
+-- moves are made, one after the other: the world that they lead to
 abbrev pub Played : {F : Type 0} {S : ℕ} → Flash F S → World F → List Move → World F → Type 0
 Played as_flash before [] after = after ≡ before
 Played {F} as_flash before (one ∷ moves) after =

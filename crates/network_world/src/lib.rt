@@ -1,7 +1,7 @@
-//! A device, its controller, and a network between them that may lose, repeat and reorder whatever either sends: any moves are
-//! played, and what comes of them is a world that the moves allow.
+//! A device, its controller, and a network between them that may lose, repeat and reorder everything that either sends.
+//! Any moves can be played, and the result is a world that the moves allow.
 //!
-//! A clause sees a world as the device, the controller, and the octets of each frame that either ever sent, the first one first.
+//! Clauses see a world as the device, the controller, and the octets of each frame that either end ever sent, in order.
 #![tactic(auto)]
 
 mod moves;

@@ -9,20 +9,20 @@ pub enum End {
     Controller,
 }
 
-/// What may happen.
+/// A move: one thing that may happen.
 #[derive(Drop)]
 pub enum Move {
-    /// The frame of this number, of all that either end ever sent, comes to this end. One that there is not is skipped, and so is a
-    /// cyclic frame to an end that has left its relation.
+    /// The frame with this number, among all that either end ever sent, is delivered to this end. It is skipped if it
+    /// does not exist, and so is a cyclic frame to an end that has left its relation.
     Deliver(End, usize),
-    /// A unit of 31.25 microseconds is over at this end.
+    /// A unit of 31.25 microseconds passes at this end.
     Tick(End),
-    /// The application of the device gives the input of the submodule in this slot and subslot.
+    /// The device's application sets the input of the submodule in this slot and subslot.
     Input(u16, u16, Bytes),
-    /// The application of the device raises a process alarm of the submodule in this slot and subslot, with these octets.
+    /// The device's application raises a process alarm of the submodule in this slot and subslot, with these octets.
     Alarm(u16, u16, Bytes),
-    /// The application of the controller gives the output of the submodule in this slot and subslot.
+    /// The controller's application sets the output of the submodule in this slot and subslot.
     Give(u16, u16, Bytes),
-    /// The application of the controller stops it.
+    /// The controller's application stops it.
     Stop,
 }

@@ -1,4 +1,4 @@
-//! Every frame that was ever sent.
+//! All frames that were ever sent.
 ghost use Rattle.std.specs.Prelude.{◌≡◌, ◌+◌, ◌≤◌, ◌++◌, ◌∷◌, [], length, option_map, slice_get, OnOk};
 ghost use Rattle.std.specs.Option.{option_copied};
 ghost use Rattle.std.specs.Vec.{vec_capacity, vec_len};
@@ -8,15 +8,15 @@ use frame_codec::{Frame, Outbox};
 use std::alloc::{AllocError, Global};
 use std::marker::Model;
 
-/// How many frames one event sends at most.
+/// The maximum number of frames that one event sends.
 const MOST_FRAMES: usize = 4;
 
-/// Every frame that was ever sent, in order. A clause sees their octets, and for how many more there is room.
+/// All frames that were ever sent, in order. Clauses see their octets, and how many more there is room for.
 #[derive(Drop)]
 pub(crate) struct SentFrames {
-    /// The frame with which the controller begins, in a field of its own, so that it takes no memory.
+    /// The opening frame of the controller. It is a field of its own so that it needs no memory.
     opening: Frame,
-    /// The frames behind it.
+    /// The frames after it.
     others: Vec<Frame>,
 }
 
@@ -43,7 +43,7 @@ fn copy_of(frame: &Frame) -> Frame
     copy
 }
 
-/// Puts copies of frames behind others. There is room for them.
+/// Appends copies of frames. There must be room.
 fn append(all: &mut Vec<Frame>, frames: &[Frame])
     requires room { vec_len all.old + length frames.now ≤ vec_capacity all.old }
     ensures { octets_of all.new.items ≡ octets_of all.old.items ++ octets_of frames.now }
@@ -53,7 +53,7 @@ fn append(all: &mut Vec<Frame>, frames: &[Frame])
     }
 }
 
-/// The item of this number, if there is one.
+/// The item at this index, if it exists.
 fn item_at<T>(list: &[T], number: usize) -> Option<&T>
     ensures { option_copied result ≡ slice_get list.now number }
 {
@@ -65,7 +65,7 @@ fn item_at<T>(list: &[T], number: usize) -> Option<&T>
 }
 
 impl SentFrames {
-    /// Nothing but this frame was sent.
+    /// The frames if only this one was sent.
     pub(crate) fn new(alloc: Global, opening: Frame) -> Self
         ensures { result.frames ≡ opening.items ∷ [] }
     {
@@ -75,7 +75,7 @@ impl SentFrames {
         }
     }
 
-    /// The frame of this number, if there is one. They are numbered from 0.
+    /// The frame with this number, counted from 0, if it exists.
     pub(crate) fn at(&self, number: usize) -> Option<&Frame>
         ensures { option_map (λ frame. frame.now.items) result ≡ slice_get self.now.frames number }
     {
@@ -86,7 +86,7 @@ impl SentFrames {
         }
     }
 
-    /// Makes room for what one event may send.
+    /// Makes room for the frames that one event may send.
     pub(crate) fn make_room(&mut self) -> Result<(), AllocError>
         ensures same { self.new.frames ≡ self.old.frames }
         ensures room { OnOk result (4 ≤ self.new.room) }
@@ -94,7 +94,7 @@ impl SentFrames {
         self.others.reserve(MOST_FRAMES)
     }
 
-    /// Puts what an event sent behind all that was sent before. There is room for it.
+    /// Appends the frames that an event sent. There must be room.
     pub(crate) fn keep(&mut self, outbox: &Outbox)
         requires room { 4 ≤ self.old.room }
         ensures { self.new.frames ≡ self.old.frames ++ octets_of outbox.now.items }

@@ -1,4 +1,4 @@
-//! Both ends, and every frame that either ever sent.
+//! Both ends, and all frames that either ever sent.
 ghost use Rattle.std.specs.Prelude.{◌≡◌, ◌≤◌, ◌<◌, ◌++◌, ◌∷◌, [], ℕ, length, option_map, slice_get, take, OnErr, OnOk};
 ghost use Rattle.controller_core.specs.Machine.{opening_of, step_of};
 ghost use Rattle.device_frames.specs.Heard.{heard_of};
@@ -15,8 +15,8 @@ use records::is_relation;
 use std::alloc::{AllocError, Global};
 use std::marker::Model;
 
-/// A device, its controller, and every frame that either ever sent. The device has the flash that it was given, which may fail and
-/// may lose power.
+/// A device, its controller, and all frames that either ever sent. The device keeps the flash that it was given, which
+/// may fail and may lose power.
 #[derive(Drop)]
 pub struct World<F: Flash<S>, const S: usize> {
     device: Device<F, S>,
@@ -32,7 +32,7 @@ impl<F: Flash<S>, const S: usize> Model for World<F, S> {
     ghost view = { λ world. world_of world.device world.controller world.sent };
 }
 
-/// The same octets, as an event has them.
+/// A buffer with these octets, for an event.
 fn bytes_of(octets: &[u8]) -> Bytes
     requires { length octets.now ≤ 1519 }
     ensures { result.items ≡ octets.now }
@@ -42,7 +42,7 @@ fn bytes_of(octets: &[u8]) -> Bytes
     bytes
 }
 
-/// Whether this is a cyclic frame, to whomever it goes.
+/// Whether this is a cyclic frame, to any destination.
 #[tactic(auto, unfolding(crate::specs::World::is_cyclic_frame))]
 fn is_cyclic_frame(octets: &[u8]) -> bool
     ensures { result ≡ is_cyclic_frame octets.now }
@@ -60,7 +60,8 @@ fn is_ended(state: State) -> bool
     matches!(state, State::Ended(_))
 }
 
-/// Whether a frame that comes to an end is skipped: a cyclic frame to an end that has left the relation of this controller.
+/// Whether a frame that is delivered to an end is skipped: a cyclic frame to an end that has left the relation of this
+/// controller.
 fn is_skipped<F: Flash<S>, const S: usize>(
     device: &Device<F, S>,
     controller: &Controller,
@@ -78,7 +79,7 @@ fn is_skipped<F: Flash<S>, const S: usize>(
     }
 }
 
-/// An event at the device. There is room for what it sends.
+/// Handles an event at the device. There must be room for what it sends.
 fn happen_at_device<F: Flash<S>, const S: usize>(
     device: &mut Device<F, S>,
     sent: &mut SentFrames,
@@ -93,7 +94,7 @@ fn happen_at_device<F: Flash<S>, const S: usize>(
     sent.keep(&outbox);
 }
 
-/// An event at the controller. There is room for what it sends.
+/// Handles an event at the controller. There must be room for what it sends.
 fn happen_at_controller(controller: &mut Controller, sent: &mut SentFrames, event: &ControllerEvent)
     requires room { 4 ≤ sent.old.room }
     ensures state { controller.new ≡ (step_of controller.old event.now).controller }
@@ -104,7 +105,7 @@ fn happen_at_controller(controller: &mut Controller, sent: &mut SentFrames, even
     sent.keep(&outbox);
 }
 
-/// A frame comes to an end, unless it is skipped.
+/// Delivers a frame to an end, unless it is skipped.
 fn come<F: Flash<S>, const S: usize>(
     device: &mut Device<F, S>,
     controller: &mut Controller,
@@ -125,7 +126,7 @@ fn come<F: Flash<S>, const S: usize>(
     }
 }
 
-/// A unit of time is over at an end.
+/// Lets a unit of time pass at an end.
 fn pass<F: Flash<S>, const S: usize>(
     device: &mut Device<F, S>,
     controller: &mut Controller,
@@ -142,7 +143,7 @@ fn pass<F: Flash<S>, const S: usize>(
     }
 }
 
-/// The frame of this number comes to an end, if there is one.
+/// Delivers the frame with this number to an end, if it exists.
 fn deliver<F: Flash<S>, const S: usize>(
     device: &mut Device<F, S>,
     controller: &mut Controller,
@@ -161,7 +162,7 @@ fn deliver<F: Flash<S>, const S: usize>(
     come(device, controller, sent, end, bytes);
 }
 
-/// A move is made. There is room for what it sends.
+/// Makes a move. There must be room for what it sends.
 fn happen<F: Flash<S>, const S: usize>(
     device: &mut Device<F, S>,
     controller: &mut Controller,
@@ -192,7 +193,7 @@ fn happen<F: Flash<S>, const S: usize>(
 }
 
 impl<F: Flash<S>, const S: usize> World<F, S> {
-    /// A world in which nothing was sent but the frame with which the controller begins. It takes no memory.
+    /// A world in which only the opening frame of the controller was sent. It needs no memory.
     pub fn new(alloc: Global, device: Device<F, S>, controller: Controller) -> Self
         ensures { result ≡ record { device = device; controller = controller; sent = opening_of controller ∷ [] } }
     {
@@ -218,20 +219,20 @@ impl<F: Flash<S>, const S: usize> World<F, S> {
         &self.controller
     }
 
-    /// The frame of this number, of all that either end ever sent, if there is one. They are numbered from 0, in the order in which
-    /// they were sent.
+    /// The frame with this number among all that either end ever sent, if it exists. They are counted from 0, in the
+    /// order in which they were sent.
     pub fn sent(&self, number: usize) -> Option<&Frame>
         ensures { option_map (λ frame. frame.now.items) result ≡ slice_get self.now.sent number }
     {
         self.sent.at(number)
     }
 
-    /// Plays moves, one behind the other, whatever the flash does. For want of memory it ends in front of a move, and the moves before
-    /// it stand.
+    /// Plays moves, one after the other, whatever the flash does. If memory runs out, it stops before a move, and the
+    /// moves before it are kept.
     pub fn play(&mut self, moves: &[Move]) -> Result<(), AllocError>
-        // Each move does what it is, one behind the other.
+        // On success every move was made, one after the other.
         ensures played { OnOk result (Played F.Flash self.old moves.now self.new) }
-        // So do those of a front, where memory ends.
+        // If memory ran out, a prefix of the moves was made, which lacks at least the last one.
         ensures front { OnErr result ((count : ℕ) × (count < length moves.now)
             × Played F.Flash self.old (take count moves.now) self.new) }
     {
@@ -241,7 +242,7 @@ impl<F: Flash<S>, const S: usize> World<F, S> {
         Ok(())
     }
 
-    // One move, where there is memory for all that it may send.
+    // Makes one move, if there is memory for all that it may send.
     fn make(&mut self, one: &Move) -> Result<(), AllocError>
         ensures made { OnOk result (Happens F.Flash self.old one.now self.new) }
         ensures same { OnErr result (self.new ≡ self.old) }

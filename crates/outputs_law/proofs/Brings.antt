@@ -1,4 +1,5 @@
--- Which frames bring outputs to a device: of all that either end sends, a frame of outputs alone, and it brings the octets of its image.
+-- The frames that bring outputs to a device: of all that either end sends, only a frame of outputs does, and it brings
+-- the octets of its image.
 use Rattle.std.proofs.Common.{◌≡◌, ◌⊎◌, inl, inr, ◌==◌, ◌&&◌, ◌||◌, ◌<◌, ℕ, Bool, true, false, cond, nat_lt, nat_eq, List, [], ◌∷◌, ◌++◌, length, take, drop, map, Option, Some, None, Result, Ok, Err, refl, sym, ap, subst, ◌∙◌, append_assoc, arith}
 use Rattle.std.specs.Cmp.Lexicographic.{pointwise}
 use Rattle.std.specs.List.{AllByRecursion}
@@ -57,7 +58,7 @@ holds_if : {A : Type 0} (P : A → Type 0) (b : Bool) (x y : A) → P x → P y 
 holds_if P true x y one other = one
 holds_if P false x y one other = other
 
--- ---- the octets in front of a body
+-- ---- the octets at the front of a body
 
 abbrev raw_if : ℕ → List ℕ → Bool → Result (List ℕ × List ℕ) ShortFrame
 raw_if n bytes b = cond b (Err short) (Ok (take n bytes, drop n bytes))
@@ -98,7 +99,7 @@ octets_length : (shown : Image) → length (octets_of shown) ≡ shown.data_leng
 unfolding octets_of
 octets_length shown = length-map-range_with_len (octet_at shown.cells) 0 shown.data_length
 
--- a message that is no answer again, or one of which nothing is brought
+-- a message that is not a repeated response, or one that brings nothing
 abbrev pub IsKnown : Outputs Image Image → Sent → Type 0
 IsKnown rules (IdentifyAnswer asker running xid) = Unit {0}
 IsKnown rules (GetAnswer asker running request) = Unit {0}
@@ -114,7 +115,7 @@ and_false : (a b : Bool) → b ≡ false → (a && b) ≡ false
 and_false true b e = e
 and_false false b e = refl
 
--- a route by which a controller sends: the address of its partner and both tags have their sizes
+-- a route on which a controller sends: the address of its partner and both tags have their sizes
 pub record IsWay (route : Route) : Type 0 where
   pub partner : IsMac route.partner
   pub sent_tag : route.sent_tag < 65536
@@ -129,7 +130,7 @@ IsAddressed (Confirms route header ack) = IsWay route
 IsAddressed (Replies route header) = IsWay route
 IsAddressed (Leaves route header reason) = IsWay route
 
--- outputs that are sent are what is kept of them then
+-- the outputs that are sent are those of the current image
 abbrev pub IsNow : Image → Message → Type 0
 IsNow shown (Cycles route other counter) = other ≡ shown
 IsNow shown (Requests device request) = Unit {0}
@@ -155,7 +156,7 @@ module _ (setup : Setup) (identity : Identity) where
   alarm_none source (Ok x) = refl
   alarm_none source (Err fault) = refl
 
-  -- of real-time data, what a cyclic frame of it would bring, or nothing
+  -- what a cyclic frame of real-time data would bring, or nothing
   abbrev IsAtMost : Mac → ℕ → List ℕ → Heard → Type 0
   IsAtMost source frame_id body heard = IsNone heard ⊎ (brought_in setup heard ≡ brought_in setup (Cyclic source frame_id body))
 
@@ -186,7 +187,7 @@ module _ (setup : Setup) (identity : Identity) where
   abbrev Brings : (Heard → Type 0) → Meaning → Type 0
   Brings P meaning = P (heard_of identity (Frame (record { items = frame_bytes meaning })))
 
-  -- by what is read of it
+  -- from what is read of it
   by_read : (P : Heard → Type 0) (meaning : Meaning) (read : Result Meaning FrameFault) → IsReadAs meaning (rest_of meaning) read → P Unreadable
       → ((content : Content) → (content_under (type_of meaning.content)).read (rest_of meaning) ≡ Ok content → P (heard_content identity meaning.destination meaning.source content))
       → P (heard_frame identity read)
@@ -202,7 +203,7 @@ module _ (setup : Setup) (identity : Identity) where
   by_frame sound P meaning one other tagged unreadable each =
       by_read P meaning (frame_of (frame_bytes meaning)) (reads_as sound meaning one other tagged) unreadable each
 
-  -- real-time data is heard as such, under the number that its FrameID's two octets are
+  -- real-time data is heard as such, under the number of its FrameID
   real_time_heard : IsSound ethernet → (P : Heard → Type 0) (destination source : Mac) (tag : Option ℕ) (frame_id : ℕ) (body : List ℕ) → IsMac destination → IsMac source → IsTag tag → P Unreadable
       → P (heard_content identity destination source (RealTime (big_number 2 (big_bytes 2 frame_id)) (body ++ padding_of (carrying destination source tag (RealTime frame_id body)))))
       → Brings P (carrying destination source tag (RealTime frame_id body))
@@ -228,7 +229,7 @@ module _ (setup : Setup) (identity : Identity) where
       let meaning = carrying destination source tag (ArpPacket packet) in
       by_frame sound IsNone meaning one other tagged refl (λ content read. other_none destination source content (arp_other (rest_of meaning) content read))
 
-  -- nothing is brought by real-time data of another station than the partner, or of another FrameID
+  -- real-time data of another station than the partner, or with another FrameID, brings nothing
   data_silent : IsSound ethernet → (destination source : Mac) (tag : Option ℕ) (frame_id : ℕ) (body : List ℕ) → IsMac destination → IsMac source → IsTag tag
       → is_of_partner (route_for setup) source (big_number 2 (big_bytes 2 frame_id)) ≡ false
       → BringsNone rules (frame_bytes (carrying destination source tag (RealTime frame_id body)))

@@ -1,4 +1,4 @@
--- The octets of an image hold each of its cells, where its places are apart and inside.
+-- The octets of an image hold each of its cells, if its places are apart and inside.
 use Rattle.std.proofs.Common.{◌≡◌, ℕ, ◌+◌, ◌-◌, ◌<◌, ◌++◌, Bool, true, false, cond, List, [], ◌∷◌, length, take, drop, map, get_or, nat_le, nat_lt, refl, sym, ap, ◌∙◌, arith}
 use Rattle.std.specs.List.{AllByRecursion, range_with_len}
 use Rattle.std.proofs.lemmas.Bool.{and_parts, and_from, leb-true, le-leb, ltb-true, lt-ltb}
@@ -24,14 +24,14 @@ uncovered_of place k off = by_test (is_covered place k) refl
     by_test true e = absurd (off (covers_of place k e))
     by_test false e = refl
 
--- the octet that a cell has at a place
+-- the octet of a cell at an index
 abbrev octet_in : Cell → ℕ → ℕ
 octet_in cell k = get_or (cell.value ++ cell.status ∷ []) (k - cell.place.offset) 0
 
 abbrev place_in : Cell → Place
 place_in cell = cell.place
 
--- a cell's octets lie where its place is
+-- the octets of a cell lie at its place
 abbrev IsLaid : List Cell → Cell → Type 0
 IsLaid cells cell = (k : ℕ) → Covers cell.place k → octet_at cells k ≡ octet_in cell k
 
@@ -97,7 +97,7 @@ module _ (n : ℕ) (all : List Cell) where
       ap (λ (c : Cell). c ∷ map (λ (other : Cell). cell_of octets other.place) cells) (cell_held cell laid.0 inside.0 solid.0 full.0)
       ∙ ap (λ (cs : List Cell). cell ∷ cs) (cells_held cells laid.1 inside.1 solid.1 full.1)
 
--- the cells that the octets of an image hold are its own
+-- the cells in the octets of an image are its own
 pub image_held : (shown : Shown) → AreAllApart (map (λ (cell : Cell). cell.place) shown.cells) → AllByRecursion (IsInside shown.data_length) (map (λ (cell : Cell). cell.place) shown.cells)
     → AllByRecursion IsSolid (map (λ (cell : Cell). cell.place) shown.cells) → AllByRecursion IsFull shown.cells
     → map (λ (cell : Cell). cell_of (octets_of shown) cell.place) shown.cells ≡ shown.cells

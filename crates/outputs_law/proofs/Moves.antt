@@ -1,4 +1,4 @@
--- What a controller sends of its outputs behind moves is what was given with them.
+-- After moves, a controller sends as outputs the values that they set.
 use Rattle.std.proofs.Common.{◌≡◌, ◌==◌, ◌&&◌, ◌+◌, ◌-◌, ◌≤◌, ◌++◌, ℕ, Bool, true, false, cond, List, [], ◌∷◌, length, map, Option, Some, None, refl, sym, ap, subst, ◌∙◌, arith}
 use Rattle.std.specs.Prelude.{unwrap_or}
 use Rattle.std.specs.List.{AllByRecursion}
@@ -20,11 +20,11 @@ use Rattle.outputs_law.specs.Given.{cell_of_kind, given_by, image_given, last_gi
 use Rattle.outputs_law.proofs.Held.{IsFull, image_held}
 use Rattle.outputs_law.proofs.Values.{cells_given, cells_of, first_cells, now_given, places_are}
 
--- each submodule has one place for its output at most
+-- each submodule has at most one place for its output
 abbrev pub ArePlacedOnce : Setup → Type 0
 ArePlacedOnce setup = (slot subslot : ℕ) → times_listed Data slot subslot (places_for setup) ≤ 1
 
--- what the controller sends of its outputs behind a move
+-- the outputs that the controller sends after a move
 abbrev pub shown_with : Live → Move → Image
 shown_with live (move.Give slot subslot value) = (given live slot subslot value.items).cyclic.shown
 shown_with live (move.Deliver end number) = live.cyclic.shown
@@ -33,7 +33,7 @@ shown_with live (move.Input slot subslot value) = live.cyclic.shown
 shown_with live (move.Alarm slot subslot octets) = live.cyclic.shown
 shown_with live move.Stop = live.cyclic.shown
 
--- one move more
+-- one more move
 last_more : (place : Place) (last : Option (List ℕ)) (moves : List Move) (one : Move) → last_given place last (moves ++ one ∷ []) ≡ given_by place one (last_given place last moves)
 last_more place last [] one = refl
 last_more place last (other ∷ moves) one = last_more place (given_by place other last) moves one
@@ -48,14 +48,14 @@ cells_same given other same (place ∷ places) =
 abbrev image_with : Setup → List Cell → Image
 image_with setup cells = record { data_length = (zeros_for setup).data_length; cells = cells }
 
--- a move that gives nothing
+-- a move that sets nothing
 still : (setup : Setup) (moves : List Move) (one : Move) → ((place : Place) (last : Option (List ℕ)) → given_by place one last ≡ last) → image_given setup moves ≡ image_given setup (moves ++ one ∷ [])
 still setup moves one none =
     ap (λ (cs : List Cell). image_with setup cs)
     (cells_same (λ place. last_given place None moves) (λ place. last_given place None (moves ++ one ∷ []))
     (λ place. sym (last_more place None moves one ∙ none place (last_given place None moves))) (places_for setup))
 
--- behind a value that is given
+-- after a value is set
 given_image : (setup : Setup) → ArePlacedOnce setup → (moves : List Move) (live : Live) → live.cyclic.shown ≡ image_given setup moves → (slot subslot : ℕ) (value : List ℕ)
     → (given live slot subslot value).cyclic.shown ≡ image_with setup (cells_of (now_given slot subslot value (λ place. last_given place None moves)) (places_for setup))
 given_image setup once moves live was slot subslot value =
@@ -79,7 +79,7 @@ given_image setup once moves live was slot subslot value =
         ∙ (image_if (has_size (length value) (cell_at Data slot subslot (image_given setup moves).cells))
         ∙ ap (λ (cs : List Cell). image_with setup cs) (cells_given slot subslot value (λ place. last_given place None moves) (places_for setup) (once slot subslot))))
 
--- behind a move
+-- after a move
 pub given_more : (setup : Setup) → ArePlacedOnce setup → (moves : List Move) (live : Live) → live.cyclic.shown ≡ image_given setup moves → (one : Move)
     → shown_with live one ≡ image_given setup (moves ++ one ∷ [])
 given_more setup once moves live was (move.Give slot subslot value) =
@@ -93,11 +93,11 @@ given_more setup once moves live was (move.Input slot subslot value) = was ∙ s
 given_more setup once moves live was (move.Alarm slot subslot octets) = was ∙ still setup moves (move.Alarm slot subslot octets) (λ place last. refl)
 given_more setup once moves live was move.Stop = was ∙ still setup moves move.Stop (λ place last. refl)
 
--- before any
+-- before any move
 pub first_image : (setup : Setup) → (first_live setup.plan).cyclic.shown ≡ image_given setup []
 first_image setup = ap (λ (cs : List Cell). image_with setup cs) (first_cells (places_for setup))
 
--- ---- what is shown of it
+-- ---- what is shown of the outputs
 
 abbrev IsFit : Place → Option (List ℕ) → Type 0
 IsFit place None = Unit {0}
@@ -132,7 +132,7 @@ all_full : (moves : List Move) (places : List Place) → AllByRecursion IsFull (
 all_full moves [] = tt
 all_full moves (place ∷ places) = (full_kind place.kind place (last_given place None moves) (all_fit place None moves tt), all_full moves places)
 
--- the places of a plan's outputs: apart, inside the frame, and each of an octet at least
+-- the places of a plan's outputs: apart, inside the frame, and each of at least one octet
 pub record ArePlaced (setup : Setup) : Type 0 where
   pub apart : AreAllApart (places_for setup)
   pub inside : AllByRecursion (IsInside (zeros_for setup).data_length) (places_for setup)
@@ -149,7 +149,7 @@ taken_at octets given (place ∷ places) =
     head_same : (cell_of_kind place.kind place (given place)).place ∷ map (λ (cell : Cell). cell.place) (cells_of given places) ≡ place ∷ places → (cell_of_kind place.kind place (given place)).place ≡ place
     head_same e = cc
 
--- a device that takes the octets of this image shows it
+-- a device that accepts the octets of this image shows it
 pub image_shown : (setup : Setup) → ArePlaced setup → (moves : List Move) → with_frame (octets_of (image_given setup moves)) (zeros_for setup) ≡ image_given setup moves
 image_shown setup placed moves =
     let values : Place → Option (List ℕ) = λ place. last_given place None moves in

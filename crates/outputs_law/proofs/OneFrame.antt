@@ -1,4 +1,4 @@
--- All outputs that are shown come from one frame, which brings what was given until then.
+-- All outputs that are shown come from one frame, which brings the values set before it was sent.
 use Rattle.std.proofs.Common.{◌≡◌, ◌++◌, ℕ, Bool, true, false, List, [], ◌∷◌, map, Option, Some, None, refl, sym, ap, subst, ◌∙◌}
 use Rattle.std.specs.Prelude.{nat_eq, option_map, slice_get}
 use Rattle.std.specs.Cmp.Lexicographic.{pointwise, same_text}
@@ -31,7 +31,7 @@ use Rattle.outputs_law.proofs.Worlds.{TurnsSo, first_same, given_in_run, last_sh
 -- ---- lists
 
 module _ {A B : Type 0} (f : A → B) where
-  -- where what is made of each item of a list is divided, the list is
+  -- if the image of a list under a map is divided, so is the list
   pub record Divides (run : List A) (before : List B) (x : B) (later : List B) : Type 0 where
     pub front : List A
     pub one : A
@@ -59,7 +59,7 @@ module _ {A B : Type 0} (f : A → B) where
 
 -- ---- moves
 
--- as a small machine sees them
+-- moves, as a small machine sees them
 abbrev seen : {F : Type 0} → Move × World F → small.Move × Shown Image Image
 seen one = (move_of one.0, shown_of one.1)
 

@@ -1,4 +1,4 @@
--- The places of a plan's outputs: apart, inside the frame, each of an octet at least, and each once.
+-- The places of a plan's outputs: apart, inside the frame, each of at least one octet, and each once.
 use Rattle.std.proofs.Common.{◌≡◌, ◌+◌, ◌≤◌, ◌++◌, ℕ, Bool, true, false, cond, List, [], ◌∷◌, Option, Some, None, option_map, arith}
 use Rattle.std.specs.Prelude.{is_some}
 use Rattle.std.specs.List.{AllByRecursion}

@@ -1,4 +1,5 @@
--- What is read of a frame that was written, whatever it carries: it is between the same stations, and carries the same kind of content.
+-- What is read of a written frame, whatever it carries: it is between the same stations, and carries the same kind of
+-- content.
 use Rattle.std.proofs.Common.{◌≡◌, ℕ, Bool, true, false, cond, nat_lt, List, [], ◌++◌, length, drop, Option, Some, None, Result, Ok, Err, if◌then◌else◌, refl, sym, ap, subst, ◌∙◌, append_assoc, arith}
 use Rattle.wire.specs.Codec.{Codec, IsSound, ◌>>=◌}
 use Rattle.wire.specs.Formats.{big_bytes, big_number}
@@ -12,7 +13,7 @@ use Rattle.frame_codec.specs.Internet.{packet}
 use Rattle.wire.specs.Whole.{loose}
 use Rattle.codec_laws.specs.frames.Sendable.{IsMac, IsTag}
 
--- what a format is of
+-- the type of the values of a format
 abbrev ValueOf : {F A : Type 0} → Codec F A → Type 0
 ValueOf {A = A} codec = A
 
@@ -34,7 +35,7 @@ header_fits : (meaning : Meaning) → IsMac meaning.destination → IsMac meanin
 unfolding ethernet mac
 header_fits meaning destination source tag = (destination, (source, tag_fits meaning.tag meaning.content tag))
 
--- what stands behind the Ethernet header
+-- the octets after the Ethernet header
 abbrev pub rest_of : Meaning → List ℕ
 rest_of meaning = (content_under (type_of meaning.content)).write meaning.content ++ padding_of meaning
 
@@ -54,7 +55,7 @@ header_read sound meaning one other tagged =
 
 -- ---- the frame
 
--- what was read is between these stations, and its content is what stands behind the Ethernet header
+-- what was read is between these stations, and its content is what follows the Ethernet header
 abbrev pub IsReadAs : Meaning → List ℕ → Result Meaning FrameFault → Type 0
 IsReadAs meaning rest (Ok found) =
     (found.destination ≡ meaning.destination) × (found.source ≡ meaning.source) × ((content_under (type_of meaning.content)).read rest ≡ Ok found.content)
@@ -72,7 +73,7 @@ judged : (meaning : Meaning) (rest : List ℕ) (long : Bool) (r : Result Meaning
 judged meaning rest true r is = tt
 judged meaning rest false r is = is
 
--- the Ethernet header in front decides
+-- the Ethernet header at the front decides
 under : (meaning : Meaning) (bytes rest : List ℕ) → ethernet.read bytes ≡ Ok (header_of meaning, rest) → IsReadAs meaning rest (frame_of bytes)
 unfolding frame_of layers
 under meaning bytes rest e =
@@ -101,7 +102,7 @@ unfolding datagram
 datagram_other bytes content e =
     other_made {A = ValueOf packet} ((loose packet).read bytes) (λ x. datagram_in x) content (λ x. tt) e
 
--- the octets of a FrameID and what is behind them
+-- the octets of a FrameID and those after them
 abbrev number_if : ℕ → List ℕ → Bool → Result (ℕ × List ℕ) FrameFault
 number_if frame_id behind b = cond b (Err TooShort) (Ok (big_number 2 (big_bytes 2 frame_id ++ behind), drop 2 (big_bytes 2 frame_id ++ behind)))
 
@@ -116,7 +117,7 @@ real_time_if : (frame_id : ℕ) (behind : List ℕ) (content : Content) (b : Boo
 real_time_if frame_id behind content true e = absurd cc
 real_time_if frame_id behind content false e = sym (same_ok (RealTime (big_number 2 (big_bytes 2 frame_id)) behind) content e)
 
--- real-time data is read with all that stands behind the two octets of its FrameID
+-- real-time data is read with all octets after the two of its FrameID
 pub real_time_is : (frame_id : ℕ) (behind : List ℕ) (content : Content) → real_time.read (big_bytes 2 frame_id ++ behind) ≡ Ok content
     → content ≡ RealTime (big_number 2 (big_bytes 2 frame_id)) behind
 unfolding real_time

@@ -1,4 +1,4 @@
--- Each turn of a device, as far as its outputs go.
+-- Each turn of a device, as far as its outputs are concerned.
 use Rattle.std.proofs.Common.{◌≡◌, ◌⊎◌, inl, inr, ℕ, Bool, true, false, cond, List, [], ◌∷◌, map, Option, Some, None, option_map, Result, Ok, Err, refl, sym, ap, subst, ◌∙◌}
 use Rattle.std.specs.Prelude.{is_some, nat_eq}
 use Rattle.std.specs.List.{AllByRecursion}
@@ -55,7 +55,7 @@ use Rattle.std.proofs.Common.{zero, suc, take}
 
 -- ---- an end of cyclic data
 
--- what is taken, from whom, and by which counter, is as it was
+-- the accepted image, its source and its counter are unchanged
 record IsSame (before after : Cyclic) : Type 0 where
   route : after.route ≡ before.route
   last : after.hearing.last ≡ before.hearing.last
@@ -64,7 +64,7 @@ record IsSame (before after : Cyclic) : Type 0 where
 same : (cyclic : Cyclic) → IsSame cyclic cyclic
 same cyclic = record { route = refl; last = refl; taken = refl }
 
--- a frame, and then another: as the other alone
+-- a frame followed by another one has the same effect as the second one
 cells_again : (octets others : List ℕ) (cells : List Cell) → map (λ (cell : Cell). cell_of octets cell.place) (map (λ (cell : Cell). cell_of others cell.place) cells) ≡ map (λ (cell : Cell). cell_of octets cell.place) cells
 cells_again octets others [] = refl
 cells_again octets others (cell ∷ cells) = ap (λ (more : List Cell). cell_of octets cell.place ∷ more) (cells_again octets others cells)
@@ -78,7 +78,7 @@ held_last false hearing = refl
 
 -- ---- a relation
 
--- it ends, or what it takes is as it was
+-- the relation ends, or what it accepts is unchanged
 abbrev IsSameIn : Option Link → Link → Type 0
 IsSameIn None after = ⊥
 IsSameIn (Some before) after = IsSame before.flow.cyclic after.flow.cyclic
@@ -101,11 +101,11 @@ stays_by : (before after : Option Link) → IsSameOr before after → Stays befo
 stays_by before after (inl same) = standing_same before after same
 stays_by before after (inr ends) = subst (λ (l : Option Link). Stays before l) (sym ends) tt
 
--- it became this
+-- the relation became this
 becomes_so : (before after : Option Link) (link now : Link) → before ≡ Some link → after ≡ Some now → IsSame link.flow.cyclic now.flow.cyclic → Stays before after
 becomes_so before after link now was is same = subst (λ (l : Option Link). Stays l after) (sym was) (subst (λ (l : Option Link). Stays (Some link) l) (sym is) same)
 
--- an alarm is no frame of outputs
+-- an alarm does not change the outputs
 abbrev IsSameFlow : Link → Option Flow → Type 0
 IsSameFlow link None = Unit {0}
 IsSameFlow link (Some flow) = IsSame link.flow.cyclic flow.cyclic
@@ -130,7 +130,7 @@ bind_ok (Err why) f y e = absurd cc
 same_ok : {A B : Type 0} (x y : A) → ◌≡◌ {A = Result A B} (Ok x) (Ok y) → x ≡ y
 same_ok x y e = cc
 
--- no relation is made while one stands
+-- no relation is made while another exists
 none_beside : (standing : List ℕ) (pieces : List Piece) (request : Request) → request_in (Some standing) pieces ≡ Ok request → ⊥
 unfolding request_in
 none_beside standing [] request e = absurd cc
@@ -146,7 +146,7 @@ unfolding request_of
 made_from None blocks request asked is reads = same_ok request asked (sym is ∙ reads)
 made_from (Some link) blocks request asked is reads = absurd (none_beside link.request.ar.uuid (pieces_of blocks) request is)
 
--- ---- answers that are kept
+-- ---- responses that are stored
 
 all_taken : {A : Type 0} (P : A → Type 0) (count : ℕ) (xs : List A) → AllByRecursion P xs → AllByRecursion P (take count xs)
 all_taken P zero xs all = tt
@@ -154,7 +154,7 @@ all_taken P (suc count) [] all = tt
 all_taken P (suc count) (x ∷ xs) all = (all.0, all_taken P count xs all.1)
 
 module _ (P : List ℕ → Type 0) where
-  -- of each answer that is kept
+  -- a property of each response that is stored
   abbrev AreKept : List Answer → Type 0
   AreKept calls = AllByRecursion (λ (kept : Answer). P kept.frame) calls
 
@@ -186,7 +186,7 @@ module _ (setup : Setup) (station : Station) where
   abbrev rules : Outputs Image Image
   rules = outputs_of setup station.identity
 
-  -- what is taken is of the plan
+  -- what is accepted is of the plan
   pub record IsOurs (cyclic : Cyclic) : Type 0 where
     pub route : cyclic.route ≡ route_for setup
     pub size : cyclic.taken.data_length ≡ (zeros_for setup).data_length
@@ -196,11 +196,11 @@ module _ (setup : Setup) (station : Station) where
   IsOursIn None = Unit {0}
   IsOursIn (Some link) = IsOurs link.flow.cyclic
 
-  -- the answers that are kept bring no outputs
+  -- the responses that are stored bring no outputs
   abbrev pub AreKeptSilent : List Answer → Type 0
   AreKeptSilent calls = AreKept (BringsNone rules) calls
 
-  -- a frame is accepted, which brings these octets
+  -- a frame that brings these octets is accepted
   pub record Accepts (brought : Option (List ℕ)) (after : Option Link) : Type 0 where
     pub octets : List ℕ
     pub brings : brought ≡ Some octets
@@ -226,7 +226,7 @@ module _ (setup : Setup) (station : Station) where
     places = λ octets. ap (λ (image : Image). with_frame octets image) stays.taken ∙ ours.places octets;
   }
 
-  -- what a step does, to which these octets are brought
+  -- the effect of a step to which these octets are brought
   pub record Goes (brought : Option (List ℕ)) (before after : Rest) (sent : List Sent) : Type 0 where
     pub shows : ShowsIn brought before.link after.link
     pub ours : IsOursIn after.link
@@ -284,7 +284,7 @@ module _ (setup : Setup) (station : Station) where
 
     module _ (live : Live) (heard : Heard) (ours : IsOursIn live.rest.link) (silent : AreKeptSilent live.rest.calls)
         (planned : IsPlanned (rules_of setup station) setup.activity station.real heard) where
-      -- what is shown behind a turn, and that it is of the plan
+      -- what is shown after a turn, and that it is of the plan
       abbrev ShowsSo : Option Link → Type 0
       ShowsSo after = ShowsIn (brought_in setup heard) live.rest.link after × IsOursIn after
 

@@ -1,4 +1,4 @@
--- Whoever is heard has an address of Ethernet of six octets: so it is of all that is read.
+-- Each station that is heard has a MAC address of six octets, since all that are read have.
 use Rattle.std.proofs.Common.{◌≡◌, ◌==◌, ℕ, Bool, true, false, cond, nat_lt, nat_eq, List, length, Option, Some, None, Result, Ok, Err, refl, sym, ap, ◌∙◌}
 use Rattle.std.specs.Cmp.Lexicographic.{pointwise}
 use Rattle.wire.specs.Codec.{IsSoundWhole, ◌>>=◌}
@@ -116,7 +116,7 @@ six_heard : IsSoundWhole layers → (mine : Controller) (octets : List ℕ) → 
 unfolding heard_of
 six_heard sound mine octets = six_read sound mine octets (frame_of octets) refl
 
--- whatever happens to a controller
+-- any event at a controller
 pub six_event : IsSoundWhole layers → (setup : Setup) (event : Event) → IsSixAt setup event
 six_event sound setup (Frame bytes) = six_heard sound setup.plan.controller bytes.items
 six_event sound setup Tick = tt

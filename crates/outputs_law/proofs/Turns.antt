@@ -1,4 +1,5 @@
--- Each turn of a controller, as far as outputs go: it goes on as the controller of a plan, and its messages go to stations.
+-- Each turn of a controller, as far as outputs are concerned: it stays a controller of the plan, and its messages go to
+-- stations.
 use Rattle.std.proofs.Common.{◌≡◌, ◌⊎◌, inl, inr, ◌&&◌, ◌+◌, ℕ, Bool, true, false, cond, List, [], ◌∷◌, ◌++◌, Option, Some, None, Result, Ok, Err, refl, subst, ap, ◌∙◌, sym, length, unwrap_or, arith}
 use Rattle.std.specs.Prelude.{if◌then◌else◌}
 use Rattle.std.specs.List.{AllByRecursion}
@@ -50,7 +51,7 @@ use Rattle.message_laws.specs.turns.Turns.{Came, Hears, Passes, Gets, Halts, IsK
 use Rattle.message_laws.specs.turns.Turns as sort
 use Rattle.outputs_law.proofs.Brings.{IsAddressed, IsNow, IsWay}
 
--- a controller that sends to stations, with an image of so many octets
+-- a controller that sends to stations, with an image of this many octets
 pub record IsKeptAs (many : ℕ) (station : Mac) (route : Route) (shown : Image) : Type 0 where
   pub device : IsMac station
   pub way : IsWay route
@@ -59,11 +60,11 @@ pub record IsKeptAs (many : ℕ) (station : Mac) (route : Route) (shown : Image)
 abbrev pub IsKept : ℕ → Live → Type 0
 IsKept size live = IsKeptAs size live.device live.cyclic.route live.cyclic.shown
 
--- a message of it
+-- a message of this controller
 abbrev pub IsSaid : Image → Sent → Type 0
 IsSaid shown message = IsNow shown message × IsAddressed message
 
--- who is heard has an address of six octets
+-- the station that is heard has a MAC address of six octets
 abbrev pub IsSix : Heard → Type 0
 IsSix Nothing = Unit {0}
 IsSix (Answers source answer) = IsMac source
@@ -78,14 +79,14 @@ IsSixAt setup Ticks = Unit {0}
 IsSixAt setup (Give slot subslot value) = Unit {0}
 IsSixAt setup Stop = Unit {0}
 
--- what is sent of outputs behind an event: a value that is given is
+-- the outputs that are sent after an event; a value that is set is among them
 abbrev pub shown_behind : Live → Event → Image
 shown_behind live (Frame bytes) = live.cyclic.shown
 shown_behind live Ticks = live.cyclic.shown
 shown_behind live (Give slot subslot value) = (given live slot subslot value.items).cyclic.shown
 shown_behind live Stop = live.cyclic.shown
 
--- who is heard then has an address of six octets, and no output is given
+-- the station that is heard then has a MAC address of six octets, and no output is set
 abbrev IsSixIn : Came → Type 0
 IsSixIn (Hears heard) = IsSix heard
 IsSixIn Passes = Unit {0}
@@ -97,7 +98,7 @@ abbrev pub KindsSo : Type 0
 KindsSo = (setup : Setup) (live : Live) (event : Event) → IsTurn setup live (came_by setup event) (turn_of setup live event)
 
 module _ (size : ℕ) where
-  -- a turn of it, behind which it goes on so, and this is what it sends of its outputs
+  -- a turn of the controller, after which it goes on like this, and the outputs that it sends are these
   pub record Tells (shown : Image) (turn : Turn) : Type 0 where
     pub told : AllByRecursion (IsSaid turn.live.cyclic.shown) turn.sent
     pub kept : IsKept size turn.live
@@ -127,7 +128,7 @@ module _ (size : ℕ) where
   taken_tells live alarm Again k = record { told = ((tt, k.way), tt); same = refl; kept = k }
   taken_tells live alarm Refused k = record { told = ((tt, k.way), tt); same = refl; kept = k }
 
-  -- a cyclic frame changes neither the route nor what is sent
+  -- a cyclic frame changes neither the route nor the outputs
   read_keeps : (cyclic : Cyclic) (read : Result (List ℕ × CyclicTail) ShortFrame)
       → ((behind_read cyclic read).route ≡ cyclic.route) × ((behind_read cyclic read).shown ≡ cyclic.shown)
   read_keeps cyclic (Ok x) = by_news (is_new cyclic x.1)

@@ -1,4 +1,4 @@
--- What a controller sends of its outputs is what was given, and what a device shows of them is what the controller sent.
+-- A controller sends the values that were set, and a device shows the values that the controller sent.
 use Rattle.std.proofs.Common.{◌≡◌, ◌==◌, ◌&&◌, ◌+◌, ◌-◌, ◌≤◌, ℕ, Bool, true, false, cond, List, [], ◌∷◌, length, map, replicate, Option, Some, None, refl, sym, ap, ◌∙◌, arith}
 use Rattle.std.specs.Prelude.{option_map}
 use Rattle.std.proofs.lemmas.List.{length-replicate}
@@ -12,9 +12,9 @@ use Rattle.cyclic_exchange.specs.Process.{with_good}
 use Rattle.controller_core.specs.Machine.{first_status}
 use Rattle.outputs_law.specs.Given.{cell_of_kind, output_at, value_or_zeros, zeros_at}
 
--- ---- cells that are given
+-- ---- cells of values that were set
 
--- what lies at each place, of these values
+-- the cell at each place, with these values
 abbrev pub cells_of : (Place → Option (List ℕ)) → List Place → List Cell
 cells_of given places = map (λ place. cell_of_kind place.kind place (given place)) places
 
@@ -33,7 +33,7 @@ places_are given (place ∷ places) =
     ap (λ (p : Place). p ∷ map (λ (cell : Cell). cell.place) (cells_of given places)) (kind_place place.kind place (given place))
     ∙ ap (λ (ps : List Place). place ∷ ps) (places_are given places)
 
--- ---- what is shown of them
+-- ---- what is shown of the cells
 
 zeros_shown : (place : Place) → replicate (length (zeros_at place)) 0 ≡ zeros_at place
 zeros_shown place = ap (λ (n : ℕ). replicate n 0) (length-replicate {A = ℕ} (place.size - 1) 0)
@@ -45,7 +45,7 @@ value_shown Data place None at e = zeros_shown place
 value_shown Iocs place given at e = absurd cc
 
 module _ (slot subslot : ℕ) where
-  -- each output of cells that are given, and of zeros
+  -- each output of cells with these values, and with zeros
   pub outputs_shown : (given : Place → Option (List ℕ)) (places : List Place)
       → option_map output_of (cell_at Data slot subslot (cells_of given places)) ≡ option_map (λ place. value_or_zeros place (given place)) (place_at Data slot subslot places)
   outputs_shown given [] = refl
@@ -73,7 +73,7 @@ module _ (slot subslot : ℕ) where
       by_test true rest = ap (λ (v : List ℕ). Some v) (zeros_shown place)
       by_test false rest = rest
 
--- ---- the beginning
+-- ---- the start
 
 first_is : (kind : PlaceKind) (place : Place) → place.kind ≡ kind → first_cell first_status place ≡ cell_of_kind kind place None
 first_is Data place is = ap (λ (k : PlaceKind). let c : Cell = record { place = place; value = replicate (place.size - 1) 0; status = first_status k place.slot place.subslot } in c) is
@@ -85,13 +85,13 @@ first_cells (place ∷ places) =
     ap (λ (c : Cell). c ∷ map (first_cell first_status) places) (first_is place.kind place refl)
     ∙ ap (λ (cs : List Cell). cell_of_kind place.kind place None ∷ cs) (first_cells places)
 
--- ---- a value is given
+-- ---- a value is set
 
 -- whether a place is that of an output
 abbrev is_there : ℕ → ℕ → Place → Bool
 is_there slot subslot place = is_of Data slot subslot place
 
--- the value that is given then
+-- the values after one is set
 abbrev pub now_given : ℕ → ℕ → List ℕ → (Place → Option (List ℕ)) → Place → Option (List ℕ)
 now_given slot subslot value given place =
     cond (((place.slot == slot) && (place.subslot == subslot)) && (place.size == length value + 1)) (Some value) (given place)
@@ -125,7 +125,7 @@ module _ (slot subslot : ℕ) (value : List ℕ) where
   other_cell Data place given false fits e = refl
   other_cell Iocs place given at fits e = refl
 
-  -- this place, by whether the value has its length
+  -- this place, by whether the value has the right length
   fits_cell : (kind : PlaceKind) (place : Place) (given : Option (List ℕ)) (at : Bool) → (is_same_kind Data kind && at) ≡ true
       → with_good value (cell_of_kind kind place given) ≡ cell_of_kind kind place (cond (at && true) (Some value) given)
   fits_cell Data place given true e = ap (λ (p : Place). let c : Cell = record { place = p; value = value; status = good } in c) (output_place place given)
@@ -169,7 +169,7 @@ module _ (slot subslot : ℕ) (value : List ℕ) where
                   ∙ ap (λ (cs : List Cell). cell place ∷ cs) rest.change_same;
             }
 
-    -- the cells behind a value that is given: where the output has its length, and else as they were
+    -- the cells after a value is set: changed if the value has the output's length, else unchanged
     abbrev behind : Bool → List Place → List Cell
     behind fits places = cond fits (map change (cells_of given places)) (cells_of given places)
 

@@ -1,4 +1,4 @@
--- Each move of a world shows and gives outputs as the small machines do.
+-- Each move of a world shows and sets outputs as the small machines do.
 use Rattle.std.proofs.Common.{◌≡◌, ◌⊎◌, inl, inr, ℕ, Bool, true, false, List, [], ◌∷◌, ◌++◌, map, Option, Some, None, refl, sym, ap, subst, ◌∙◌, append_assoc, arith}
 use Rattle.std.specs.Prelude.{slice_get, nat_eq}
 use Rattle.std.specs.Cmp.Lexicographic.{pointwise}
@@ -52,7 +52,8 @@ frames_are : (old : Controlling) (event : Event) → (step_of old event).frames 
 unfolding step_of
 frames_are old event = refl
 
--- the relation is that of the plan, the answers that are kept bring no outputs, and the controller goes on as that of the plan
+-- the relation is that of the plan, the stored responses bring no outputs, and the controller goes on as that of the
+-- plan
 record HoldsBy (setup : Setup) (station : Station) (link_is : Option Link) (calls : List Answer) (live : ControllerLive) : Type 0 where
   ours : IsOursIn setup station link_is
   calls_silent : AreKeptSilent setup station calls
@@ -101,7 +102,7 @@ module _ (turns : TurnsSo) (kinds : KindsSo) (sound : IsSound ethernet) (whole :
   abbrev Holds : World F → Type 0
   Holds w = HoldsBy w.controller.setup w.device.station w.device.live.rest.link w.device.live.rest.calls w.controller.live
 
-  -- what a move leaves of the world, that it is a step, and what the controller sends of its outputs then
+  -- the effect of a move on the world, that it is a step, and the outputs that the controller sends then
   record Refines (before after : World F) (shown : Image) (steps : Type 0) : Type 0 where
     is : steps
     shown_is : after.controller.live.cyclic.shown ≡ shown
@@ -243,7 +244,7 @@ module _ (turns : TurnsSo) (kinds : KindsSo) (sound : IsSound ethernet) (whole :
           runs rules one.1 run (still ∙ same) step.holds made.1 meant.1,
         )
 
-    -- what the controller sends of its outputs at each point of a run: what was given until then
+    -- at each point of a run, the controller sends the outputs set before it
     given_at : (setup : Setup) (places_once : ArePlacedOnce setup) (so_far : List Move) (before : World F) (run : List (Move × World F)) → Holds before → before.controller.live.cyclic.shown ≡ image_given setup so_far
         → AreMade as_flash before run → AreMeant before run
         → (front : List (Move × World F)) (one : Move × World F) (later : List (Move × World F)) → run ≡ front ++ one ∷ later
@@ -262,7 +263,7 @@ module _ (turns : TurnsSo) (kinds : KindsSo) (sound : IsSound ethernet) (whole :
         (append_assoc so_far (next.0 ∷ []) (moves_of (front ++ one ∷ []))
         ∙ ap (λ (x : Move × World F). so_far ++ x.0 ∷ moves_of (front ++ one ∷ [])) same)
 
-  -- ---- the beginning
+  -- ---- the start
 
   module _ (setup : Setup) (identity : Identity) (apart : pointwise nat_eq identity.mac.octets setup.plan.controller.mac.octets ≡ false) (six : IsMac setup.plan.controller.mac)
       (first : World F) (begins : Begins setup identity first) where

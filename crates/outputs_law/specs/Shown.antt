@@ -1,4 +1,4 @@
--- The outputs of a device, over the worlds of a plan.
+-- The outputs of a device, in the worlds of a plan.
 use Rattle.std.specs.Prelude.{ℕ, Bool, false, List, map, Option, Some, None, is_some, Result, Ok, Err, if◌then◌else◌}
 use Rattle.pn_values.specs.declared.identity.Identity.{Identity}
 use Rattle.connect_blocks.specs.declared.iocr.IocrType.TheVariants.{Output}
@@ -23,11 +23,11 @@ use Rattle.startup_law.specs.View.{move_of}
 
 -- ---- the outputs of a plan
 
--- what the device of a plan shows before it took a frame: zeros, at each place of the plan's outputs
+-- what the device of a plan shows before it accepted a frame: zeros, at each place of the plan's outputs
 abbrev pub zeros_for : Setup → Image
 zeros_for setup = first_taken (iocr_for setup.plan Output).layout
 
--- from whom the device of a plan takes frames, and under which FrameID
+-- the station and the FrameID from which the device of a plan accepts frames
 abbrev pub route_for : Setup → Route
 route_for setup = route_of (request_for setup.plan setup.ar)
 
@@ -36,13 +36,14 @@ abbrev pub octets_in : Result (List ℕ × CyclicTail) ShortFrame → Option (Li
 octets_in (Ok x) = Some x.0
 octets_in (Err short) = None
 
--- those that are brought by what is heard: a cyclic frame of the relation brings some
+-- the octets that are brought by what is heard: a cyclic frame of the relation brings some
 abbrev pub brought_in : Setup → Heard → Option (List ℕ)
 brought_in setup (Cyclic source frame_id body) =
     if is_of_partner (route_for setup) source frame_id then octets_in (cyclic_of (zeros_for setup).data_length body) else None
 brought_in setup heard = None
 
--- zeros, what is shown of octets, which octets the controller sends of an image, and which of them a frame brings
+-- the functions for outputs: zeros, what is shown for octets, which octets the controller sends for an image, and which
+-- octets a frame brings
 abbrev pub outputs_of : Setup → Identity → Outputs Image Image
 outputs_of setup identity = record {
   zeros = zeros_for setup;
@@ -53,15 +54,15 @@ outputs_of setup identity = record {
 
 -- ---- what is shown in a world
 
--- whether a relation accepted a cyclic frame: the counter of the last one is kept then
+-- whether a relation has accepted a cyclic frame: then the counter of the last one is stored
 abbrev pub has_accepted : Link → Bool
 has_accepted link = is_some link.flow.cyclic.hearing.last
 
--- the image of which its outputs are read
+-- the image from which the outputs of a relation are read
 abbrev pub taken_in : Link → Image
 taken_in link = link.flow.cyclic.taken
 
--- the same where there may be no relation: none was accepted then, and the image is zeros
+-- the same if there may be no relation: without one, no frame was accepted and the image is zeros
 abbrev pub accepted_in : Option Link → Bool
 accepted_in None = false
 accepted_in (Some link) = has_accepted link
@@ -78,6 +79,6 @@ shown_of world = record {
   sent = world.sent;
 }
 
--- a run, as far as outputs go
+-- a run, as far as outputs are concerned
 abbrev pub shown_run : {F : Type 0} → List (Move × World F) → List (small.Move × Shown Image Image)
 shown_run run = map (λ one. (move_of one.0, shown_of one.1)) run

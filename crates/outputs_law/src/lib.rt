@@ -1,4 +1,5 @@
-//! Both ends of a network: what holds of what they exchange, in the worlds that moves make. Laws, and no code.
+//! Both ends of a network: what holds of the data that they exchange, in the worlds that moves lead to. This crate has
+//! laws only and no code.
 #![tactic(auto)]
 
 mod outputs;

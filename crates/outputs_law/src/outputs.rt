@@ -1,4 +1,4 @@
-//! The law of outputs, of the worlds that moves make.
+//! The law of outputs, for the worlds that moves lead to.
 ghost use Rattle.std.specs.Prelude.{◌≡◌, List, ℕ, Some, false, true};
 ghost use Rattle.relations.specs.Exchanged.{output_in};
 ghost use Rattle.relations.specs.Link.{Link};
@@ -18,16 +18,17 @@ use plans::packed_places_are_asked;
 use pn_values::Identity;
 use startup_law::worlds_start_up;
 
-/// Outputs of this set-up at this device, over the worlds of any moves, whatever the flash of the device does.
+/// The outputs of this set-up at this device, in the worlds of any moves, whatever the flash of the device does.
 pub fn worlds_show_what_is_given<F: Flash<S>, const S: usize>(setup: &Setup, identity: &Identity)
-    // While the device has accepted no cyclic frame in its relation, all outputs that it shows are zeros.
+    // As long as the device has accepted no cyclic frame in its relation, all outputs that it shows are zeros.
     ensures zeros { CanMeet setup.now identity.now →
         (first : World F) (run : List (Move × World F)) → Begins setup.now identity.now first
         → AreMade F.Flash first run
         → (link : Link) → (last_world first run).device.live.rest.link ≡ Some link → has_accepted link ≡ false
         → (slot subslot : ℕ) → output_in slot subslot (Some link) ≡ zero_for setup.now slot subslot }
-    // From then on all of them come from one frame, which the controller sent with a move of its own and which came to the device with a
-    // later move. Each is the value that was given last for its submodule when the frame was sent, or zeros if none was.
+    // After that, all outputs come from one frame, which the controller sent with one of its moves and which was
+    // delivered to the device by a later move. Each is the value set last for its submodule when the frame was sent, or
+    // zeros if none was set.
     ensures values { CanMeet setup.now identity.now →
         (first : World F) (run : List (Move × World F)) → Begins setup.now identity.now first
         → AreMade F.Flash first run

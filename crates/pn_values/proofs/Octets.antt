@@ -1,4 +1,4 @@
--- Octets are the same where the numbers that they make are.
+-- Octets are equal if and only if the numbers that they make are.
 use Rattle.std.proofs.Common.{◌≡◌, nat_eq, ℕ, ◌+◌, ◌*◌, ◌<◌, length, Bool, true, false, List, [], ◌∷◌, slice_index_or, arith, refl, sym, ap, ◌∙◌}
 use Rattle.std.specs.Cmp.Lexicographic.{pointwise, same_text}
 use Rattle.std.proofs.lemmas.Cmp.{nat_list_eq_equiv}
@@ -8,7 +8,7 @@ use Rattle.std.proofs.lemmas.Bool.{eqb-true, eq-eqb}
 digit : (a u r s : ℕ) → a < 256 → u < 256 → a + r * 256 ≡ u + s * 256 → (a ≡ u) × (r ≡ s)
 digit a u r s i j e = (omega (arith, i, j, e), omega (arith, i, j, e))
 
--- a test of two numbers is a test of two lists that are the same where these are
+-- if numbers are equal exactly when lists are, the tests of both agree
 pub alike : (o p : List ℕ) (n m : ℕ) → (n ≡ m → o ≡ p) → (o ≡ p → n ≡ m) → nat_eq n m ≡ pointwise nat_eq o p
 alike o p n m there back = cases (nat_eq n m) (pointwise nat_eq o p) refl refl
   where
@@ -32,7 +32,7 @@ listed (a ∷ b ∷ c ∷ d ∷ []) l = absurd (omega (arith, l))
 listed (a ∷ b ∷ c ∷ d ∷ e ∷ []) l = absurd (omega (arith, l))
 listed (a ∷ b ∷ c ∷ d ∷ e ∷ f ∷ g ∷ more) l = absurd (omega (arith, l))
 
--- the lowest octets of three numbers, and what is above them
+-- the lowest octets of three numbers, and the parts above them
 three : (a b c d u v w x : ℕ) → a < 256 → b < 256 → c < 256 → u < 256 → v < 256 → w < 256
     → a + b * 256 + c * 65536 + d * 16777216 ≡ u + v * 256 + w * 65536 + x * 16777216 → (a ≡ u) × (b ≡ v) × (c ≡ w) × (d ≡ x)
 three a b c d u v w x i j k l m n e =
@@ -41,7 +41,7 @@ three a b c d u v w x i j k l m n e =
     let third = digit c w d x k n second.1 in
     (first.0, second.0, third.0, third.1)
 
--- six octets are the same where their first four and their last two are
+-- six octets are equal if and only if their first four and their last two are
 pub six : (o p : List ℕ) → length o ≡ 6 → length p ≡ 6
     → slice_index_or o 0 0 < 256 → slice_index_or o 1 0 < 256 → slice_index_or o 2 0 < 256 → slice_index_or o 4 0 < 256
     → slice_index_or p 0 0 < 256 → slice_index_or p 1 0 < 256 → slice_index_or p 2 0 < 256 → slice_index_or p 4 0 < 256

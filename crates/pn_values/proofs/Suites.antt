@@ -1,4 +1,4 @@
--- The test of a suite says yes exactly to a suite that a station may have.
+-- The test of a suite is true exactly for a suite that a station may have.
 use Rattle.std.proofs.Common.{◌≡◌, ◌+◌, ◌^◌, ◌<◌, ◌≤◌, ◌&&◌, ℕ, Bool, List, [], ◌∷◌, length, get_or, refl, sym, ap, ◌∙◌, subst, arith, eqb, leb, zero-add}
 use Rattle.std.specs.Prelude.{slice_index}
 use Rattle.std.specs.Bool.{Decides}
@@ -12,7 +12,7 @@ use Rattle.pn_values.specs.IpSuite.{Suite, zero_suite, IsMask, IsHost, IsSuite, 
 Decides-leb : (a b : ℕ) → Decides (leb a b) (a ≤ b)
 Decides-leb a b = grind (arith, nat_tests)
 
--- the sum that makes a mask of so many zeros
+-- the sum that shows a mask with this many zeros
 abbrev is_ones : ℕ → ℕ → Bool
 is_ones number zeros = eqb (number + 2 ^ zeros) (2 ^ 32)
 

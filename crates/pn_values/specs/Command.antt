@@ -1,4 +1,4 @@
--- What a command makes of the settings.
+-- The effect of a command on the settings.
 use Rattle.std.specs.Prelude.{[], ◌∷◌, List, replicate, true, false}
 use Rattle.pn_values.specs.IpSuite.{zero_suite}
 use Rattle.pn_values.specs.declared.settings.Settings.{Settings}
@@ -23,7 +23,8 @@ without_texts settings =
 abbrev pub without_address : Settings → Settings
 without_address settings = record settings { name = []; suite = zero_suite }
 
--- what is stored after the command: a value that is not permanent is gone with the power, so none is stored
+-- what is stored after the command: a value that is not permanent is lost with the power, so the stored value is
+-- cleared
 abbrev pub apply : Command → Settings → Settings
 apply (SetName true name) settings = record settings { name = name }
 apply (SetName false name) settings = record settings { name = [] }
@@ -43,7 +44,7 @@ show ResetApplication settings = without_texts settings
 show ResetCommunication settings = without_address settings
 show ResetAll settings = without_texts (without_address settings)
 
--- what is stored after commands, the first of them first
+-- what is stored after several commands, in order
 abbrev pub fold_of : List Command → Settings → Settings
 fold_of [] settings = settings
 fold_of (command ∷ commands) settings = fold_of commands (apply command settings)

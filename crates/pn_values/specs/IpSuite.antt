@@ -4,7 +4,7 @@ use Rattle.std.specs.List.{list_any, range_with_len}
 use Rattle.std.specs.Cmp.Lexicographic.{pointwise}
 use Rattle.std.specs.Int.{w32, from_be_bytes}
 
--- address, subnet mask and gateway, each of four octets as they are sent
+-- address, subnet mask and gateway, each four octets in network order
 pub record Suite : Type 0 where
   pub address : List ℕ
   pub mask : List ℕ
@@ -14,19 +14,19 @@ pub record Suite : Type 0 where
 abbrev pub zero_suite : Suite
 zero_suite = record { address = replicate 4 0; mask = replicate 4 0; gateway = replicate 4 0 }
 
--- ones and then zeros: 2 ^ 32 less a power of two
+-- ones and then zeros: 2 ^ 32 minus a power of two
 abbrev pub IsMask : List ℕ → Type 0
 IsMask mask = (zeros : ℕ) × (zeros ≤ 32) × (from_be_bytes w32 mask + 2 ^ zeros ≡ 2 ^ 32)
 
--- a byte that an address of a host begins with
+-- a byte that the address of a host may begin with
 abbrev pub IsHost : ℕ → Type 0
 IsHost byte = ((1 ≤ byte) × (byte ≤ 126)) ⊎ ((128 ≤ byte) × (byte ≤ 223))
 
--- what a station may have
+-- an IP suite that a station may have
 abbrev pub IsSuite : Suite → Type 0
 IsSuite suite = IsMask suite.mask × ((suite ≡ zero_suite) ⊎ IsHost (slice_index suite.address 0))
 
--- ---- the same as tests, by which a function of the specs decides
+-- ---- the same as tests, for functions of the specs
 
 -- ones and then zeros
 abbrev pub is_mask : List ℕ → Bool
@@ -36,7 +36,7 @@ is_mask mask = list_any (λ zeros. from_be_bytes w32 mask + 2 ^ zeros == 2 ^ 32)
 abbrev pub is_zero : List ℕ → Bool
 is_zero octets = pointwise nat_eq octets (0 ∷ 0 ∷ 0 ∷ 0 ∷ [])
 
--- a byte that an address of a host begins with
+-- a byte that the address of a host may begin with
 abbrev pub is_host : ℕ → Bool
 is_host byte = (nat_le 1 byte && nat_le byte 126) || (nat_le 128 byte && nat_le byte 223)
 

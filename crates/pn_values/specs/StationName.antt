@@ -1,4 +1,4 @@
--- What a NameOfStation is (IEC 61158-6-10, 4.3.1.4.15): labels, joined by dots.
+-- The rules of a NameOfStation (IEC 61158-6-10, 4.3.1.4.15): labels, joined by dots.
 use Rattle.std.specs.Prelude.{◌≡◌, ◌≢◌, ◌⊎◌, ◌≤◌, ◌<◌, ◌==◌, ℕ, Bool, List, [], ◌∷◌, ◌++◌, length, take, All, nat_le, ◌||◌, ◌&&◌, IsTrue, if◌then◌else◌, slice_get, Some}
 
 -- the ASCII codes of '-' and '.'
@@ -15,17 +15,17 @@ is_digit byte = nat_le 48 byte && nat_le byte 57
 abbrev pub is_label_byte : ℕ → Bool
 is_label_byte byte = (nat_le 97 byte && nat_le byte 122) || is_digit byte || byte == hyphen
 
--- a byte put before the first of some labels
+-- a byte put at the front of the first label
 abbrev pub onto_first : ℕ → List (List ℕ) → List (List ℕ)
 onto_first byte [] = (byte ∷ []) ∷ []
 onto_first byte (label ∷ labels) = (byte ∷ label) ∷ labels
 
--- the labels of a text: what its dots part, so a text of n dots has n + 1 labels
+-- the labels of a text, which dots separate: a text with n dots has n + 1 labels
 abbrev pub labels_of : List ℕ → List (List ℕ)
 labels_of [] = [] ∷ []
 labels_of (byte ∷ bytes) = if byte == dot then [] ∷ labels_of bytes else onto_first byte (labels_of bytes)
 
--- all of them digits, and so many
+-- exactly this many digits
 abbrev pub IsDigits : ℕ → List ℕ → Type 0
 IsDigits count label = (length label ≡ count) × All (λ byte. IsTrue (is_digit byte)) label
 
@@ -33,7 +33,7 @@ IsDigits count label = (length label ≡ count) × All (λ byte. IsTrue (is_digi
 abbrev pub IsAddressPart : List ℕ → Type 0
 IsAddressPart label = (0 < length label) × (length label ≤ 3) × All (λ byte. IsTrue (is_digit byte)) label
 
--- 1 to 63 bytes of a to z, 0 to 9 and '-', which is neither the first nor the last
+-- 1 to 63 bytes of a to z, 0 to 9 and '-'; the first and the last are not '-'
 pub record IsLabel (label : List ℕ) : Type 0 where
   pub some : 0 < length label
   pub short : length label ≤ 63
@@ -45,7 +45,7 @@ pub record IsLabel (label : List ℕ) : Type 0 where
 abbrev pub LooksLikeAddress : List (List ℕ) → Type 0
 LooksLikeAddress labels = (length labels ≡ 4) × All IsAddressPart labels
 
--- "port-" and three digits, or that and '-' and five digits more
+-- "port-" and three digits, optionally followed by '-' and five digits
 abbrev pub IsPort : List ℕ → Type 0
 IsPort label = (digits : List ℕ) × IsDigits 3 digits
     × ((label ≡ (112 ∷ 111 ∷ 114 ∷ 116 ∷ hyphen ∷ []) ++ digits)
@@ -58,6 +58,6 @@ pub record IsStationName (bytes : List ℕ) : Type 0 where
   pub no_address : ¬ LooksLikeAddress (labels_of bytes)
   pub no_port : ¬ All IsPort (take 1 (labels_of bytes))
 
--- a NameOfStation, or none
+-- a NameOfStation, or no name
 abbrev pub IsNameOrNone : List ℕ → Type 0
 IsNameOrNone bytes = (bytes ≡ []) ⊎ IsStationName bytes

@@ -1,30 +1,30 @@
-// What changes the settings.
+// Commands that change the settings.
 ghost use Rattle.std.specs.Prelude.{◌≡◌};
 ghost use Rattle.pn_values.specs.Command.{apply, show, without_texts as no_texts, without_address as no_address};
 
 use crate::{ImValue, IpSuite, Padded, Settings, StationName};
 
-/// A change of the settings that a station was asked for: by DCP Set (IEC 61158-6-10, 4.3) or by a Write of an I&M
+/// A change of the settings that a station is asked for by DCP Set (IEC 61158-6-10, 4.3) or by a Write of an I&M
 /// record.
 #[derive(Drop)]
 pub enum Command {
-    /// The station name, kept over a power failure or not.
+    /// The station name; `permanent` says whether it is kept over a power failure.
     SetName { permanent: bool, name: StationName },
-    /// The IP suite, kept over a power failure or not.
+    /// The IP suite; `permanent` says whether it is kept over a power failure.
     SetIp { permanent: bool, suite: IpSuite },
     /// An I&M text.
     SetIm(ImValue),
-    /// ResetToFactory mode 1: the I&M texts become blank, and I&M4 zeros.
+    /// ResetToFactory mode 1: the I&M texts become blank, and I&M4 becomes zeros.
     ResetApplication,
     /// ResetToFactory mode 2: no name and no address.
     ResetCommunication,
-    /// FactoryReset: both of these.
+    /// FactoryReset: both resets.
     ResetAll,
 }
 
 impl Command {
-    /// The stored settings after the command. One that is not permanent leaves the stored value empty, so that it is
-    /// gone after a power failure.
+    /// The stored settings after the command. A value that is not permanent clears the stored one, so that it is lost
+    /// with the power.
     pub fn apply(&self, settings: Settings) -> Settings
         ensures { result ≡ apply self.now settings }
     {
@@ -41,7 +41,7 @@ impl Command {
         }
     }
 
-    /// The running settings after the command, which are the new values whether they are kept or not.
+    /// The running settings after the command: the new values, permanent or not.
     pub fn show(&self, settings: Settings) -> Settings
         ensures { result ≡ show self.now settings }
     {

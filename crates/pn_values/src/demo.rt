@@ -1,5 +1,5 @@
-//! The demo station: what it is, and what is plugged in it. Scripts are run on it, and tests, tables and benches take it where any station
-//! would do.
+//! The demo station: its identity, and the modules that are plugged in it. Scripts run on it, and tests, tables and
+//! benches use it if any station will do.
 
 mod modules;
 mod station;

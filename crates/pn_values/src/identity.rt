@@ -1,10 +1,10 @@
 use crate::Mac;
 use arrayvec::ArrayVec;
 
-/// What a device is, from the factory on: its DCP identity (IEC 61158-6-10, 4.3.1.4) and its I&M0 (5.2.3.22).
+/// The fixed identity of a device: its DCP identity (IEC 61158-6-10, 4.3.1.4) and its I&M0 (5.2.3.22).
 #[derive(Drop)]
 pub struct Identity {
-    /// Its Ethernet address.
+    /// The MAC address.
     pub mac: Mac,
     /// DeviceVendorValue: the station type, at most 25 bytes of text.
     pub station_type: ArrayVec<u8, 25>,
@@ -12,9 +12,9 @@ pub struct Identity {
     pub device_id: u16,
     /// DeviceInstance.
     pub instance: u16,
-    /// OrderID, filled up with spaces.
+    /// OrderID, padded with spaces.
     pub order_id: [u8; 20],
-    /// SerialNumber, filled up with spaces.
+    /// SerialNumber, padded with spaces.
     pub serial_number: [u8; 16],
     pub hardware_revision: u16,
     /// SoftwareRevision: a letter and three numbers.

@@ -3,7 +3,7 @@ ghost use Rattle.std.specs.Prelude.{◌≡◌, length, replicate};
 
 use std::marker::Model;
 
-/// An I&M text of `N` bytes, filled up with spaces where its writer filled it up. A clause sees its bytes.
+/// An I&M text of `N` bytes, padded with spaces by its writer. Clauses see its bytes.
 #[derive(Clone, Copy)]
 pub struct Padded<const N: usize> {
     bytes: [u8; N],
@@ -27,21 +27,21 @@ impl<const N: usize> Padded<N> {
         Padded { bytes }
     }
 
-    /// Spaces alone: what a device has before anything is written.
+    /// A text of spaces: the initial value of a device.
     pub fn blank() -> Padded<N>
         ensures { result ≡ replicate N 32 }
     {
         Padded { bytes: [b' '; N] }
     }
 
-    /// Zeros alone: an I&M4 before anything is written.
+    /// A text of zeros: the initial I&M4.
     pub fn zero() -> Padded<N>
         ensures { result ≡ replicate N 0 }
     {
         Padded { bytes: [0; N] }
     }
 
-    /// Its `N` bytes.
+    /// The `N` bytes.
     pub fn as_bytes(&self) -> &[u8]
         ensures value { result.now ≡ self.now }
         ensures length { length self.now ≡ N }

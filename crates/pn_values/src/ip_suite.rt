@@ -4,8 +4,8 @@ ghost use Rattle.pn_values.specs.IpSuite.{IsMask, IsSuite, is_suite, zero_suite}
 
 use std::marker::Model;
 
-/// The IP suite of a station (IEC 61158-6-10, 4.3.1.4.11): address, subnet mask and gateway, each of four octets
-/// as they are sent. A clause sees the three as lists.
+/// The IP suite of a station (IEC 61158-6-10, 4.3.1.4.11): address, subnet mask and gateway, each four octets in
+/// network order. Clauses see them as three lists.
 #[derive(Clone, Copy)]
 pub struct IpSuite {
     address: [u8; 4],
@@ -37,8 +37,9 @@ impl IpSuite {
         }
     }
 
-    /// The suite of these, if there is one: the mask is ones and then zeros, and all three are zero or the address
-    /// begins with a byte from 1 to 126 or from 128 to 223. The gateway is free.
+    /// The suite with these parts, or `None` if a station may not have it. The mask must be ones and then zeros. All
+    /// three must be zero, or the address must begin with a byte from 1 to 126 or from 128 to 223. The gateway is not
+    /// checked.
     pub fn new(address: [u8; 4], mask: [u8; 4], gateway: [u8; 4]) -> Option<IpSuite>
         ensures valid { IsSome result ↔ IsSuite (record { address = address; mask = mask; gateway = gateway }) }
         ensures test { is_some result ≡ is_suite (record { address = address; mask = mask; gateway = gateway }) }
@@ -47,7 +48,7 @@ impl IpSuite {
         suite_of(address, mask, gateway)
     }
 
-    /// The IP address; zeros where there is none.
+    /// The IP address. Zeros mean that there is none.
     pub fn address(&self) -> [u8; 4]
         ensures value { result ≡ self.now.address }
         ensures valid { IsSuite self.now }
@@ -64,7 +65,7 @@ impl IpSuite {
         self.mask
     }
 
-    /// The default gateway; the address itself or zeros where there is none.
+    /// The default gateway. The address itself, or zeros, mean that there is none.
     pub fn gateway(&self) -> [u8; 4]
         ensures value { result ≡ self.now.gateway }
         ensures length { length self.now.gateway ≡ 4 }
@@ -73,7 +74,7 @@ impl IpSuite {
     }
 }
 
-/// The suite of these, if there is one.
+/// The suite with these parts, or `None` if a station may not have it.
 fn suite_of(address: [u8; 4], mask: [u8; 4], gateway: [u8; 4]) -> Option<IpSuite>
     ensures valid { IsSome result ↔ IsSuite (record { address = address; mask = mask; gateway = gateway }) }
     ensures value { IfSome result (λ suite. suite ≡ record { address = address; mask = mask; gateway = gateway }) }

@@ -1,5 +1,5 @@
-//! The values of a PROFINET IO device that have a meaning of their own: addresses, the station name, I&M texts,
-//! the settings that survive a power failure, the commands that change them, and what a device is made of.
+//! The values of a PROFINET IO device: addresses, the station name, I&M texts, the settings that survive a power
+//! failure, the commands that change them, and the modules of a device.
 #![tactic(auto)]
 
 mod command;

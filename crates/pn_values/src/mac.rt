@@ -1,15 +1,15 @@
-//! An Ethernet address.
+//! A MAC address.
 ghost use Rattle.std.specs.Prelude.{◌≡◌, nat_eq};
 ghost use Rattle.std.specs.Cmp.Lexicographic.{pointwise};
 
-/// An Ethernet address (IEEE 802): six octets, as they are sent.
+/// A MAC address (IEEE 802): six octets, as they are sent.
 #[derive(Clone, Copy, Debug, PartialEq, Eq)]
 pub struct Mac {
     pub octets: [u8; 6],
 }
 
 impl Mac {
-    /// Whether it is the same, as `==` says: by two numbers and not octet by octet, since each frame asks it.
+    /// Whether two addresses are equal. It compares two numbers and not each octet, since this is done for each frame.
     #[inline(always)]
     pub fn is(&self, other: &Mac) -> bool
         ensures { result ≡ pointwise nat_eq self.now.octets other.now.octets }

@@ -1,6 +1,6 @@
 use arrayvec::ArrayVec;
 
-/// What is plugged in a device: at most 16 modules, in slots 0 to 15.
+/// The modules that are plugged in a device: at most 16, in slots 0 to 15.
 #[derive(Drop)]
 pub struct Real {
     pub modules: ArrayVec<RealModule, 16>,
@@ -30,11 +30,11 @@ pub struct RealSubmodule {
     pub parameters: ArrayVec<ParameterRecord, 2>,
 }
 
-/// A parameter record that a submodule takes.
+/// A parameter record that a submodule accepts.
 #[derive(Clone, Copy, Default)]
 pub struct ParameterRecord {
     /// Index of the record, 0 to 32,767.
     pub index: u16,
-    /// Its exact length, 1 to 64 bytes.
+    /// The exact length, 1 to 64 bytes.
     pub length: u16,
 }

@@ -1,9 +1,9 @@
 use crate::Command;
 
-/// BlockError of the answer to one block of a Set (IEC 61158-6-10, 4.3.1.4.6).
+/// BlockError of the response to one block of a Set (IEC 61158-6-10, 4.3.1.4.6).
 #[derive(Clone, Copy, Debug, Default, PartialEq, Eq)]
 pub enum BlockError {
-    /// Done.
+    /// The block was carried out.
     #[default]
     Done = 0,
     /// The option is not supported.
@@ -12,26 +12,26 @@ pub enum BlockError {
     Suboption = 2,
     /// The length or the value is not valid.
     Value = 3,
-    /// There is no room for it any more.
+    /// There is no more room for the value.
     Exhausted = 4,
-    /// It could not be stored.
+    /// The value could not be stored.
     Local = 5,
-    /// Not while an application relation exists.
+    /// The value cannot be set while an application relation exists.
     InOperation = 6,
 }
 
-/// What one block of a Set comes to.
+/// What one block of a Set asks for, or its error.
 #[derive(Drop)]
 pub enum SetItem {
     /// A command to carry out.
     Ask(Command),
-    /// The lamp is to flash: nothing is stored, and the answer is `Done`.
+    /// The signal lamp must flash. Nothing is stored, and the response is `Done`.
     Signal,
-    /// An answer that asks for nothing at all.
+    /// The block is answered with this error, and nothing is done.
     Answer(BlockError),
 }
 
-// `ArrayVec` asks for a default of its elements; nothing else does.
+// Only `ArrayVec` needs a default of its elements.
 impl Default for SetItem {
     ghost use Rattle.std.specs.Prelude.{◌≡◌};
     ghost use Rattle.pn_values.specs.declared.set_item.SetItem.TheVariants.{Answer};

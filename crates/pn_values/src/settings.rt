@@ -1,10 +1,10 @@
-// What a station keeps over a power failure.
+// The settings that a station keeps over a power failure.
 ghost use Rattle.std.specs.Prelude.{◌≡◌};
 ghost use Rattle.pn_values.specs.Settings.{factory_settings};
 
 use crate::{IpSuite, Padded, StationName};
 
-/// What a station keeps over a power failure: its name, its IP suite and the I&M texts.
+/// The settings that a station keeps over a power failure: its name, its IP suite and the I&M texts.
 #[derive(Drop)]
 pub struct Settings {
     pub name: StationName,
@@ -16,7 +16,7 @@ pub struct Settings {
 }
 
 impl Settings {
-    /// As it leaves the factory: no name, no address, texts of spaces, and an I&M4 of zeros.
+    /// The factory settings: no name, no address, texts of spaces, and an I&M4 of zeros.
     pub fn factory() -> Settings
         ensures { result ≡ factory_settings }
     {
@@ -30,7 +30,7 @@ impl Settings {
         }
     }
 
-    /// The same settings. They are not `Clone`: a clone may fail for want of memory, and this cannot.
+    /// A copy of the settings. They are not `Clone`: a clone may run out of memory, and this cannot.
     pub fn copy(&self) -> Settings
         ensures { result ≡ self.now }
     {

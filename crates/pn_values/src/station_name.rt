@@ -5,8 +5,8 @@ ghost use Rattle.pn_values.specs.StationName.{IsNameOrNone, IsStationName};
 use arrayvec::ArrayVec;
 use std::marker::Model;
 
-/// A NameOfStation (IEC 61158-6-10, 4.3.1.4.15): 1 to 240 bytes in labels that dots part, or no name at all.
-/// A clause sees its bytes.
+/// A NameOfStation (IEC 61158-6-10, 4.3.1.4.15), which has 1 to 240 bytes in labels that dots separate, or no name.
+/// Clauses see its bytes.
 #[derive(Drop)]
 pub struct StationName {
     text: ArrayVec<u8, 240>,
@@ -24,7 +24,7 @@ impl Model for StationName {
 }
 
 impl StationName {
-    /// No name: the device of a station that was not named yet.
+    /// No name: the value for a station that has not been named yet.
     pub fn none() -> StationName
         ensures { result ≡ [] }
     {
@@ -33,7 +33,7 @@ impl StationName {
         }
     }
 
-    /// The name of these bytes. The crate `station_names` has the test.
+    /// The name with these bytes. The crate `station_names` has the test.
     pub fn of(bytes: &[u8]) -> StationName
         requires { IsStationName bytes.now }
         ensures { result ≡ bytes.now }
@@ -43,7 +43,7 @@ impl StationName {
         }
     }
 
-    /// Its bytes; none where there is no name.
+    /// The bytes of the name; empty if there is no name.
     pub fn as_bytes(&self) -> &[u8]
         ensures value { result.now ≡ self.now }
         ensures valid { IsNameOrNone self.now }
@@ -52,7 +52,7 @@ impl StationName {
         self.text.as_slice()
     }
 
-    /// The same name. It is not `Clone`: a clone may fail for want of memory, and this cannot.
+    /// A copy of the name. It is not `Clone`: a clone may run out of memory, and this cannot.
     pub fn copy(&self) -> StationName
         ensures { result ≡ self.now }
     {
@@ -62,7 +62,7 @@ impl StationName {
     }
 }
 
-/// The bytes of a name in a buffer of their own.
+/// A buffer with the bytes of a name.
 fn text_of(bytes: &[u8]) -> ArrayVec<u8, 240>
     requires { length bytes.now ≤ 240 }
     ensures { result.items ≡ bytes.now }

@@ -1,5 +1,7 @@
-//! How calls of PROFINET IO come out (PNIOStatus, IEC 61158-6-10, 5.2.6): the operations of a device, why each is refused, and
-//! the four octets by which the answer says so.
+//! Records and the calls that read and write them (IEC 61158-6-10, 5.2.3 and 5.2.6): how a Read or Write names its relation
+//! and its place, what the device answers, and the PNIOStatus of each refusal.
+//!
+//! `status` has the operations and their faults, `calls` the blocks that a call has, `reads` and `writes` the two services.
 #![tactic(auto)]
 
 mod calls;

@@ -1,16 +1,16 @@
--- A call that was answered, and comes again while its activity is held, is answered by the same frame or not at all.
+-- If an answered call comes again while its activity is held, it is answered by the same frame or not at all.
 use Rattle.std.proofs.Common.{◌≡◌, ◌≢◌, ℕ, zero, suc, ◌-◌, ◌<◌, ◌≤◌, ◌⊎◌, inl, inr, Bool, true, false, cond, eqb, ltb, List, [], ◌∷◌, take, Option, Some, None, refl, sym, ap, subst, ◌∙◌, arith}
 use Rattle.std.specs.Prelude.{IsSome, nat_eq}
 use Rattle.std.specs.Cmp.Lexicographic.{pointwise, same_text, other_text}
 use Rattle.std.proofs.lemmas.Bool.{false≢true, eqb-true, eq-eqb, lt-ltb, ltb-true, ltb-false}
 use Rattle.rpc_core.specs.Cache.{Kept, Told, new, again, old, is_of, kept_of, told_by, looked, without, kept_more, behind_told, behind_call, answer_of, behind_calls, HoldsThrough, IsFaithful}
 
--- an activity is the same as itself
+-- an activity equals itself
 is_itself : (activity : List ℕ) (b : Bool) → b ≡ pointwise nat_eq activity activity → b ≡ true
 is_itself activity true e = refl
 is_itself activity false e = absurd (other_text activity activity e refl)
 
--- ---- what is kept of an activity
+-- ---- the response of an activity
 
 kept_first : (kept : Kept) (others : List Kept) (activity : List ℕ) → activity ≡ kept.activity → kept_of activity (kept ∷ others) ≡ Some kept
 kept_first kept others activity same = rw same (rw (is_itself kept.activity (pointwise nat_eq kept.activity kept.activity) refl) refl)
@@ -27,7 +27,7 @@ kept_take activity (suc n) [] held = refl
 kept_take activity (suc n) (kept ∷ others) held =
     kept_step (is_of activity kept) kept (kept_of activity (take n others)) (kept_of activity others) held (kept_take activity n others)
 
--- another activity is not found where this one was taken out
+-- another activity is not found in what was removed for this one
 kept_other : (activity : List ℕ) (kept : Kept) (others : List Kept) (b : Bool) → b ≡ is_of activity kept → kept.activity ≢ activity
     → cond b (Some kept) (kept_of activity others) ≡ kept_of activity others
 kept_other activity kept others true e differs = absurd (differs (same_text kept.activity activity e))
@@ -44,7 +44,7 @@ kept_without activity other [] differs = refl
 kept_without activity other (kept ∷ others) differs =
     without_step activity other kept others (is_of other kept) differs (kept_without activity other others differs) refl
 
--- the answer to a call of another activity is kept, and what is kept of this one stays or goes
+-- the response to a call of another activity is stored, and the response of this one stays or is dropped
 kept_apart : (most : ℕ) (activity : List ℕ) (call : Kept) (cache : List Kept) → call.activity ≢ activity
     → IsSome (kept_of activity (kept_more most call cache)) → kept_of activity (kept_more most call cache) ≡ kept_of activity cache
 kept_apart most activity call cache differs held =
@@ -52,9 +52,9 @@ kept_apart most activity call cache differs held =
     let passed : kept_of activity (call ∷ rest) ≡ kept_of activity rest = kept_other activity call rest (is_of activity call) refl differs in
     passed ∙ kept_take activity (most - 1) (without call.activity cache) (subst (λ (o : Option Kept). IsSome o) passed held) ∙ kept_without activity call.activity cache differs
 
--- ---- what is told
+-- ---- what the cache says
 
--- an answer that is this one, or one to a later call
+-- this response, or one to a later call
 abbrev Follows : ℕ → List ℕ → Kept → Type 0
 Follows sequence frame kept = ((kept.sequence ≡ sequence) × (kept.frame ≡ frame)) ⊎ (sequence < kept.sequence)
 
@@ -63,7 +63,7 @@ record Holds (activity : List ℕ) (sequence : ℕ) (frame : List ℕ) (cache : 
   is : kept_of activity cache ≡ Some kept
   follows : Follows sequence frame kept
 
--- what is told of a call by an answer of its activity
+-- what a response says of a call of its activity
 pub told_again : (kept : Kept) (sequence : ℕ) → sequence ≡ kept.sequence → told_by sequence (Some kept) ≡ again kept.frame
 told_again kept sequence e = rw (eq-eqb sequence kept.sequence e) refl
 
@@ -74,7 +74,7 @@ told_old kept sequence less = step (eqb sequence kept.sequence) refl
     step true e = absurd (omega (arith, less, eqb-true sequence kept.sequence (sym e)))
     step false e = rw (lt-ltb sequence kept.sequence less) refl
 
--- what an answer tells, by which of the two numbers is greater
+-- the cases by which of the two numbers is greater
 data Case (kept : Kept) (sequence : ℕ) : Type 0 where
   later : told_by sequence (Some kept) ≡ new → kept.sequence < sequence → Case kept sequence
   same : told_by sequence (Some kept) ≡ again kept.frame → sequence ≡ kept.sequence → Case kept sequence
@@ -96,7 +96,7 @@ case_of : (kept : Kept) (sequence : ℕ) → Case kept sequence
 case_of kept sequence = case_by kept sequence (eqb sequence kept.sequence) (ltb sequence kept.sequence) refl refl
 
 module _ (most : ℕ) (activity : List ℕ) (sequence : ℕ) (frame : List ℕ) where
-  -- what is held of the activity behind a call of the activity
+  -- what is held of the activity after a call of the activity
   own_call : (call : Kept) (cache : List Kept) → activity ≡ call.activity → Holds activity sequence frame cache → Holds activity sequence frame (behind_call most call cache)
   own_call call cache same_as holds = by (case_of holds.kept call.sequence)
     where
@@ -116,7 +116,7 @@ module _ (most : ℕ) (activity : List ℕ) (sequence : ℕ) (frame : List ℕ) 
       by (same told e) = rw (found, told) holds
       by (earlier told) = rw (found, told) holds
 
-  -- and behind a call of another
+  -- what is held of the activity after a call of another one
   other_call : (call : Kept) (cache : List Kept) → call.activity ≢ activity → (told : Told) → IsSome (kept_of activity (behind_told most call cache told))
       → Holds activity sequence frame cache → Holds activity sequence frame (behind_told most call cache told)
   other_call call cache differs new held holds = record {
@@ -144,7 +144,7 @@ module _ (most : ℕ) (activity : List ℕ) (sequence : ℕ) (frame : List ℕ) 
   all_calls (call ∷ calls) cache held holds =
       all_calls calls (behind_call most call cache) held.1 (one_call call cache (now_held calls (behind_call most call cache) held.1) holds)
 
-  -- the answer is the same, or there is none
+  -- the response is the same, or there is none
   told_at_last : (cache : List Kept) → Holds activity sequence frame cache → IsFaithful frame (looked activity sequence cache)
   told_at_last cache holds = by holds.follows
     where
@@ -152,7 +152,7 @@ module _ (most : ℕ) (activity : List ℕ) (sequence : ℕ) (frame : List ℕ) 
       by (inl is) = rw (holds.is, told_again holds.kept sequence (sym is.0)) is.1
       by (inr less) = rw (holds.is, told_old holds.kept sequence less) tt
 
--- a call that is answered is held so
+-- equal optional frames are equal frames
 some_is : (x y : List ℕ) → Some x ≡ Some y → x ≡ y
 some_is x y e = cc
 
@@ -179,7 +179,7 @@ first_held most call cache frame answered = by (kept_of call.activity cache) ref
     by None e = fresh (rw e refl)
     by (Some kept) e = known kept e (case_of kept call.sequence)
 
--- a call that was answered, and comes again behind any calls while its activity is held
+-- an answered call that comes again after any calls, while its activity is held
 pub faithful : (most : ℕ) (cache calls : List Kept) (call : Kept) (frame : List ℕ) → answer_of call cache ≡ Some frame
     → HoldsThrough most call.activity calls (behind_call most call cache)
     → IsFaithful frame (looked call.activity call.sequence (behind_calls most calls (behind_call most call cache)))
@@ -187,7 +187,7 @@ faithful most cache calls call frame answered held =
     told_at_last most call.activity call.sequence frame (behind_calls most calls (behind_call most call cache))
     (all_calls most call.activity call.sequence frame calls (behind_call most call cache) held (first_held most call cache frame answered))
 
--- so is one that is looked up
+-- the same for a call that is looked up
 pub faithful_told : (most : ℕ) (activity : List ℕ) (sequence : ℕ) (now_is : List Kept) (told : Told) → looked activity sequence now_is ≡ told
     → (cache calls : List Kept) (call : Kept) (frame : List ℕ) → call.activity ≡ activity → call.sequence ≡ sequence → answer_of call cache ≡ Some frame
     → HoldsThrough most call.activity calls (behind_call most call cache) → now_is ≡ behind_calls most calls (behind_call most call cache) → IsFaithful frame told
@@ -197,7 +197,7 @@ faithful_told most activity sequence now_is told t cache calls call frame ea es 
     ∙ ap (λ (s : ℕ). looked activity s behind) es ∙ ap (λ (ks : List Kept). looked activity sequence ks) (sym is) ∙ t in
     subst (λ (x : Told). IsFaithful frame x) same_told (faithful most cache calls call frame answered held)
 
--- a call with a greater number than the one that was answered is new
+-- a call with a greater number than the answered one is new
 new_by : (kept : Kept) (sequence : ℕ) (b l : Bool) → eqb sequence kept.sequence ≡ b → ltb sequence kept.sequence ≡ l → kept.sequence < sequence → told_by sequence (Some kept) ≡ new
 new_by kept sequence true l e f less = absurd (omega (arith, less, eqb-true sequence kept.sequence e))
 new_by kept sequence false true e f less = absurd (omega (arith, less, ltb-true sequence kept.sequence f))

@@ -1,4 +1,4 @@
--- What can be sent can be written, and is read.
+-- What can be sent can be written and is read back.
 use Rattle.std.proofs.Common.{◌≡◌, ◌≤◌, ◌<◌, ◌^◌, ◌+◌, ℕ, List, [], ◌++◌, length, Option, Some, Ok, refl, arith}
 use Rattle.rpc_core.specs.declared.header.CallHeader.{CallHeader}
 use Rattle.rpc_core.specs.declared.interface.Interface.{Interface}
@@ -15,7 +15,7 @@ use Rattle.rpc_core.specs.Sendable.{CanBeAnswered, CanBeCalled, IsHeader, IsStat
 
 -- ---- the header
 
--- what stands in front of the identifiers of a call, and of a response
+-- the opening of the header of a call, and of a response
 pub request_opening_fits : opening.Fits (record { version = 4; packet_type = 0; flags = 0x20; representation = 0 })
 unfolding opening
 request_opening_fits = (omega arith, (omega arith, (omega arith, (refl, (omega arith, refl)))))
@@ -65,7 +65,7 @@ response_read answer more is =
 
 -- ---- how long they are
 
--- a header takes 80 octets
+-- a header has 80 octets
 head_size : (packet_type flags size : ℕ) (header : CallHeader) → IsHeader header → head.size (head_for packet_type flags header size) ≡ 80
 unfolding head opening names turn extent uuid ordered
 head_size packet_type flags size header is = omega (arith, is.object, is.interface, is.activity)

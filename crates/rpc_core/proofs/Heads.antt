@@ -1,4 +1,4 @@
--- One header stands in front of octets, and it says whether they are a call or a response, and to whom.
+-- Octets have at most one header, and it says whether they are a call or a response, and for which interface.
 use Rattle.std.proofs.Common.{◌≡◌, ◌==◌, ◌&&◌, nat_eq, nat_le, ℕ, Bool, true, false, List, [], ◌∷◌, ◌++◌, Option, Some, None, Result, Ok, Err, refl, sym, ap, subst, ◌∙◌, append_assoc, arith}
 use Rattle.std.specs.Prelude.{IsErr}
 use Rattle.std.specs.Cmp.Lexicographic.{pointwise, same_text}
@@ -21,7 +21,7 @@ use Rattle.rpc_core.specs.Response.{Answered, IsResponse, response, response_bod
 use Rattle.rpc_core.proofs.Sound.{call_takes, head_sound, opening_sound, response_takes}
 use Rattle.rpc_core.proofs.Fits.{request_opening_fits, response_opening_fits}
 
--- what a format is of
+-- the type of the values of a format
 abbrev ValueOf : {F A : Type 0} → Codec F A → Type 0
 ValueOf {A = A} codec = A
 
@@ -31,12 +31,12 @@ Head = ValueOf head
 abbrev Opening : Type 0
 Opening = ValueOf opening
 
--- a result is an error if it is no value
+-- a result that is not a value is an error
 pub no_value : {A F : Type 0} (result : Result A F) → ((value : A) → result ≡ Ok value → ⊥) → IsErr result
 no_value (Ok value) none = absurd (none value refl)
 no_value (Err reason) none = refl
 
--- the middle one of three tests
+-- the second of three tests
 middle : (a b c : Bool) → (a && b && c) ≡ true → b ≡ true
 middle a true c e = refl
 middle true false c e = absurd cc
@@ -44,7 +44,7 @@ middle false false c e = absurd cc
 
 -- ---- the header of octets
 
--- A header stands in front of these octets, with this packet type, and where an interface has to be meant, it is.
+-- These octets have a header with this packet type, and with this interface if one is given.
 pub record IsHeaded (bytes : List ℕ) (packet_type : ℕ) (interface : Option Interface) : Type 0 where
   pub header : Head
   pub inside : List ℕ
@@ -57,7 +57,7 @@ cut_off_sound : IsSound cut_off
 unfolding cut_off
 cut_off_sound = then_by_sound _ _ (checked_sound _ fault.Short head head_sound) (λ (h : Head). raw_sound fault.Short h.extent.length)
 
--- the header in front of a call, and of a response
+-- the header of a call, and of a response
 pub call_headed : (interface : Interface) (bytes : List ℕ) (asked : Asked) → IsCall interface bytes asked → (h : IsHeaded bytes 0 (Some interface)) × (asked.header ≡ header_of h.header)
 unfolding IsCall call pdu
 call_headed interface bytes asked s = (
@@ -83,19 +83,19 @@ response_headed bytes answer s = record {
   served = s.1.2.1.0;
 }
 
--- there is one header
+-- octets have at most one header
 one_header : (bytes : List ℕ) (first second : ℕ) (one other : Option Interface) (a : IsHeaded bytes first one) (b : IsHeaded bytes second other) → a.header ≡ b.header
 one_header bytes first second one other a b =
     ap (λ (x : (Head × List ℕ) × List ℕ). x.0.0)
     (ok_is {F = RpcFault} ((a.header, a.inside), a.rest) ((b.header, b.inside), b.rest)
     (sym (cut_off_sound.again bytes (a.header, a.inside) a.rest a.spells) ∙ cut_off_sound.again bytes (b.header, b.inside) b.rest b.spells))
 
--- a version test says the packet type
+-- the version test pins the packet type
 typed : (packet_type : ℕ) (header : Head) → is_version packet_type header ≡ true → header.opening.packet_type ≡ packet_type
 typed packet_type header e =
     eqb-true _ _ (middle (header.opening.version == 4) (header.opening.packet_type == packet_type) (header.extent.authentication == 0) e)
 
--- octets are no call and response
+-- octets are not both a call and a response
 never_both : (bytes : List ℕ) (interface : Option Interface) → IsHeaded bytes 0 interface → IsHeaded bytes 2 None → ⊥
 never_both bytes interface a b =
     let same = ap (λ (h : Head). h.opening.packet_type) (one_header bytes 0 2 interface None a b) in
@@ -115,7 +115,7 @@ no_call interface bytes answer e =
 
 -- ---- the interface
 
--- the interface that is served is named
+-- a call names the interface that is served
 naming : (interface : Interface) (header : Head) → is_served (Some interface) header ≡ true → header.names.interface ≡ interface_uuid interface
 naming interface header e = same_text header.names.interface (interface_uuid interface) (sym e)
 
@@ -124,7 +124,7 @@ call_names interface bytes asked e =
     let h = call_headed interface bytes asked (call_takes interface bytes asked e) in
     ap (λ x. x.interface) h.1 ∙ naming interface h.0.header h.0.served
 
--- the two interfaces have two names
+-- the two interfaces have different identifiers
 two_names : interface_uuid Device ≡ interface_uuid Controller → ⊥
 two_names e = absurd cc
 
@@ -144,7 +144,7 @@ controller_alone bytes asked e =
 
 -- ---- what is written
 
--- these octets begin with what stands in front of the identifiers
+-- these octets begin with this opening of a header
 Opens : List ℕ → Opening → Type 0
 Opens bytes value = (rest : List ℕ) × (bytes ≡ opening.write value rest)
 
@@ -160,7 +160,7 @@ response_opens : (answer : Answered) (more : List ℕ) → Opens (response_bytes
 unfolding Opens response_bytes response pdu cut_off head
 response_opens answer more = (_, behind_opening (record { version = 4; packet_type = 2; flags = 0x0A; representation = 0 }) _ more)
 
--- the header in front of octets begins as they do
+-- the header of octets begins as they do
 opened : (bytes : List ℕ) (packet_type : ℕ) (interface : Option Interface) (value : Opening) (h : IsHeaded bytes packet_type interface) → Opens bytes value → opening.Fits value → h.header.opening ≡ value
 unfolding Opens cut_off head
 opened bytes packet_type interface value h opens fits =

@@ -82,7 +82,7 @@ any_onward size written = seen_onward _ (λ _. written) _ (raw_onward fault.Shor
 
 -- ---- the header
 
--- two formats, one behind the other
+-- two formats, one after the other
 both : {A B : Type 0} (first : Codec RpcFault A) (second : Codec RpcFault B) → IsSound first → IsSound second → IsSound (first ⨾ second)
 both first second one other = then_by_sound first (λ _. second) one (λ _. other)
 
@@ -177,7 +177,7 @@ unfolding status
 status_sound Big = seen_sound _ _ _ (λ _. refl) (both _ _ one_sound (both _ _ one_sound (both _ _ one_sound one_sound)))
 status_sound Little = seen_sound _ _ _ (λ _. refl) (both _ _ one_sound (both _ _ one_sound (both _ _ one_sound one_sound)))
 
--- blocks that are counted as they are written are there again
+-- blocks with the counts that are written are read back
 counted : (maximum : ℕ) (blocks : Option (List ℕ)) → blocks_in (counts_of (record { maximum = maximum; blocks = blocks })) (octets_of blocks) ≡ blocks
 counted maximum (Some blocks) = rw (eq-eqb (length blocks) (length blocks) refl, le-leb (length blocks) (length blocks) (omega arith), take_all (length blocks) blocks (omega arith)) refl
 counted maximum None = refl

@@ -1,4 +1,4 @@
--- What is written is spelled.
+-- What is written is spelled by the octets.
 use Rattle.std.proofs.Common.{◌≡◌, ℕ, ◌≤◌, true, List, [], ◌++◌, length, Option, Some, None, refl, sym, ap, subst, ◌∙◌, append_assoc, arith, ◌<◌, ◌^◌, Bor}
 use Rattle.std.specs.Prelude.{nat_eq, IsSome, unwrap_or}
 use Rattle.std.specs.Option.{option_map}
@@ -28,14 +28,14 @@ use Rattle.rpc_core.proofs.Sound.{opening_sound, names_sound, turn_sound, head_s
 
 -- ---- the header
 
--- identifiers that are equal one by one
+-- identifiers whose octets are equal are equal
 pub names_same : (n : Names) (header : CallHeader) → n.object ≡ header.object → n.interface ≡ header.interface → n.activity ≡ header.activity
     → n ≡ record { object = header.object; interface = header.interface; activity = header.activity }
 names_same n header e1 e2 e3 = ap (λ (object : List ℕ). record { object = object; interface = n.interface; activity = n.activity }) e1
     ∙ ap (λ (interface : List ℕ). record { object = header.object; interface = interface; activity = n.activity }) e2
     ∙ ap (λ (activity : List ℕ). record { object = header.object; interface = header.interface; activity = activity }) e3
 
--- four parts, one behind the other, are a header
+-- four parts, one after the other, are a header
 pub head_joined : (packet_type flags size : ℕ) (header : CallHeader) (names_are : Names) (a b d out : List ℕ) → let h = head_for packet_type flags header size in
     names_are ≡ h.names → a ≡ opening.write h.opening [] → b ≡ a ++ (names Big).write names_are [] → d ≡ b ++ (turn Big).write h.turn []
     → out ≡ d ++ (extent Big).write h.extent [] → out ≡ head.write h []
@@ -60,7 +60,7 @@ head_fits packet_type flags size header names_are same a b d e = (a, (subst (λ 
 
 -- ---- the tests
 
--- a header that is written passes the tests in front of a body of its length
+-- a header that is written passes the tests, before a body of its length
 pub pdu_fits : (packet_type flags size : ℕ) (interface : Option Interface) (header : CallHeader) (inside : List ℕ)
     → is_version packet_type (head_for packet_type flags header size) ≡ true → is_whole (head_for packet_type flags header size) ≡ true
     → is_served interface (head_for packet_type flags header size) ≡ true → length inside ≡ size → 20 ≤ size
@@ -71,7 +71,7 @@ pdu_fits packet_type flags size interface header inside version whole served lon
 
 -- ---- the body
 
--- a word, the counts and the blocks, one behind the other, are a body behind a header
+-- a word, the counts and the blocks, one after the other, are a body
 pub body_joined : {A : Type 0} (word : Codec RpcFault A) (value : A) (maximum : ℕ) (blocks front a out : List ℕ) → IsSound word
     → let args : Args = record { maximum = maximum; blocks = Some blocks } in
     a ≡ front ++ word.write value [] → out ≡ (a ++ (counts Big).write (counts_of args) []) ++ blocks
@@ -86,7 +86,7 @@ body_joined word value maximum blocks front a out sound e1 e2 =
     sound.local value ((counts Big).write c blocks) ∙ ap (λ (xs : List ℕ). w ++ xs) ((counts_sound Big).local c blocks) in
     whole ∙ append_assoc (front ++ w) n blocks ∙ append_assoc front w (n ++ blocks) ∙ sym (ap (λ (xs : List ℕ). front ++ xs) parts)
 
--- how long a body is whose word has four octets
+-- the length of a body whose word has four octets
 pub body_long : {A : Type 0} (word : Codec RpcFault A) (value : A) (maximum : ℕ) (blocks : List ℕ) → IsSound word → word.size value ≡ 4
     → length ((body word Big).write (value, record { maximum = maximum; blocks = Some blocks })) ≡ body_size (length blocks)
 unfolding body counts ordered
@@ -112,7 +112,7 @@ word_size : (value : ℕ) → (ordered Big 4).size value ≡ 4
 unfolding ordered
 word_size value = refl
 
--- what the parts of a response make
+-- the parts of a response make the response
 pub response_exact : (r : Answered) (a out : List ℕ) → a ≡ head.write (head_for 2 0x0A r.header (body_size (length r.blocks))) []
     → out ≡ a ++ (body (status Big) Big).write (r.status, args_for r.maximum_count r.blocks) → out ≡ response_bytes r
 unfolding response_bytes response
@@ -133,7 +133,7 @@ pub response_spelled : (r : Answered) (out : List ℕ) → response.Fits r → o
 unfolding IsResponse response_bytes
 response_spelled r out fits e = subst (λ (bytes : List ℕ). (loose response).Spells bytes r) (sym e) ((loose_sound response response_sound).written r fits)
 
--- what the parts of a call make
+-- the parts of a call make the call
 pub call_exact : (interface : Interface) (call_is : Asked) (blocks a out : List ℕ) → call_is.blocks ≡ Some blocks
     → a ≡ head.write (head_for 0 0x20 call_is.header (body_size (length blocks))) []
     → out ≡ a ++ (body (ordered Big 4) Big).write (call_is.args_maximum, args_for call_is.args_maximum blocks) → out ≡ call_bytes interface call_is
@@ -171,7 +171,7 @@ pub word_fits : (value : ℕ) → value < 256 ^ 4 → (ordered Big 4).Fits value
 unfolding ordered
 word_fits value fits = fits
 
--- blocks that are there
+-- a call that has blocks
 pub blocks_there : (blocks : Option (Bor (List ℕ))) (default one : Bor (List ℕ)) → IsSome blocks → one ≡ unwrap_or blocks default → option_map (λ (b : Bor (List ℕ)). b.now) blocks ≡ Some one.now
 blocks_there (Some b) default one there e = ap (λ (x : Bor (List ℕ)). Some x.now) (sym e)
 blocks_there None default one there e = absurd (false≢true there)

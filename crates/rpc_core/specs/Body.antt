@@ -17,7 +17,7 @@ counts order = seen
     (λ c. (c.length, (c.maximum, (c.offset, c.actual))))
     (ordered order 4 ⨾ ordered order 4 ⨾ ordered order 4 ⨾ ordered order 4)
 
--- PNIOStatus, a word whose four octets turn round
+-- PNIOStatus: a word, so the byte order applies to its four octets
 unfoldable pub status : Order → Codec RpcFault Status
 status Big = seen
     (λ x. record { code = x.0; decode = x.1.0; code1 = x.1.1.0; code2 = x.1.1.1 })
@@ -28,26 +28,26 @@ status Little = seen
     (λ s. (s.code2, (s.code1, (s.decode, s.code))))
     (one ⨾ one ⨾ one ⨾ one)
 
--- MaximumCount, and the blocks where they are counted well
+-- MaximumCount, and the blocks if their counts are right
 pub record Args : Type 0 where
   pub maximum : ℕ
   pub blocks : Option (List ℕ)
 
--- the blocks in front of what is there, if they start at 0, are counted twice alike and are all there
+-- the blocks at the front of the octets, if Offset is 0, ArgsLength equals ActualCount, and all blocks are present
 abbrev pub blocks_in : Counts → List ℕ → Option (List ℕ)
 blocks_in c bytes = if (c.offset == 0) && (c.length == c.actual) && nat_le c.length (length bytes) then Some (take c.length bytes) else None
 
--- the octets of blocks, which are none where they are not counted well
+-- the octets of the blocks; empty if their counts are wrong
 abbrev pub octets_of : Option (List ℕ) → List ℕ
 octets_of (Some blocks) = blocks
 octets_of None = []
 
--- the Offset of blocks, by which those are known that are not counted well
+-- the Offset of the blocks, which is not 0 if their counts are wrong
 abbrev pub offset_of : Option (List ℕ) → ℕ
 offset_of (Some blocks) = 0
 offset_of None = 1
 
--- how blocks are counted
+-- the counts of the blocks
 abbrev pub counts_of : Args → Counts
 counts_of args = record {
   length = length (octets_of args.blocks);
@@ -56,13 +56,13 @@ counts_of args = record {
   actual = length (octets_of args.blocks);
 }
 
--- a word of its own, four counts, the blocks, and anything behind them
+-- a word of its own, four counts, the blocks, and anything after them
 unfoldable pub body : {A : Type 0} → Codec RpcFault A → Order → Whole RpcFault (A × Args)
 body word order = seen_whole
     (λ x. (x.0.0, record { maximum = x.0.1.maximum; blocks = blocks_in x.0.1 x.1 }))
     (λ x. ((x.0, counts_of x.1), octets_of x.1.blocks))
     (ends_by (word ⨾ counts order) (λ _. everything))
 
--- how long a body is that carries so many octets of blocks
+-- the length of a body with this many octets of blocks
 abbrev pub body_size : ℕ → ℕ
 body_size carried = 20 + carried

@@ -1,50 +1,50 @@
--- The answers that are kept, and what they tell of a call that comes.
+-- The responses that are stored, and what they say of a call.
 use Rattle.std.specs.Prelude.{◌≡◌, ◌-◌, ◌==◌, ℕ, Bool, List, [], ◌∷◌, take, nat_eq, nat_lt, Option, Some, None, IsSome, if◌then◌else◌}
 use Rattle.std.specs.Cmp.Lexicographic.{pointwise}
 
--- an answer that is kept: the call that it answered, and its frame
+-- a stored response: the call that it answers, and its frame
 pub record Kept : Type 0 where
   pub activity : List ℕ
   pub sequence : ℕ
   pub frame : List ℕ
 
--- what is told of a call: it is new, it was answered by this frame, or a later one of its activity was answered
+-- what the cache says of a call: it is new, it was answered by this frame, or a later call of its activity was answered
 pub data Told : Type 0 where
   new : Told
   again : List ℕ → Told
   old : Told
 
--- whether an answer is one of this activity
+-- whether a response is one of this activity
 abbrev pub is_of : List ℕ → Kept → Bool
 is_of activity kept = pointwise nat_eq kept.activity activity
 
--- the answer that is kept of an activity
+-- the stored response of an activity
 abbrev pub kept_of : List ℕ → List Kept → Option Kept
 kept_of activity [] = None
 kept_of activity (kept ∷ others) = if is_of activity kept then Some kept else kept_of activity others
 
--- what an answer tells of a call of its activity
+-- what a response says of a call of its activity
 abbrev pub told_by : ℕ → Option Kept → Told
 told_by sequence None = new
 told_by sequence (Some kept) = if sequence == kept.sequence then again kept.frame else (if nat_lt sequence kept.sequence then old else new)
 
--- what a cache tells of a call
+-- what a cache says of a call
 abbrev pub looked : List ℕ → ℕ → List Kept → Told
 looked activity sequence cache = told_by sequence (kept_of activity cache)
 
--- a cache without what it keeps of an activity
+-- a cache without the response of an activity
 abbrev pub without : List ℕ → List Kept → List Kept
 without activity [] = []
 without activity (kept ∷ others) = if is_of activity kept then others else kept ∷ without activity others
 
--- a cache of at most so many activities, the newest first, with one more answer: it takes the place of the one of its
--- activity, or else of the one that was kept longest ago
+-- A cache of at most this many activities, the newest first, with one more response. It replaces the response of its
+-- activity, or else the one that was stored longest ago.
 abbrev pub kept_more : ℕ → Kept → List Kept → List Kept
 kept_more most kept cache = kept ∷ take (most - 1) (without kept.activity cache)
 
 -- ---- calls one after another
 
--- the cache behind a call, whose answer would be this: only a new call changes it
+-- the cache after a call, given its response: only a new call changes the cache
 abbrev pub behind_told : ℕ → Kept → List Kept → Told → List Kept
 behind_told most call cache new = kept_more most call cache
 behind_told most call cache (again frame) = cache
@@ -62,17 +62,17 @@ told_frame call old = None
 abbrev pub answer_of : Kept → List Kept → Option (List ℕ)
 answer_of call cache = told_frame call (looked call.activity call.sequence cache)
 
--- the cache behind calls
+-- the cache after calls
 abbrev pub behind_calls : ℕ → List Kept → List Kept → List Kept
 behind_calls most [] cache = cache
 behind_calls most (call ∷ calls) cache = behind_calls most calls (behind_call most call cache)
 
--- the cache holds an activity before, between and behind these calls
+-- the cache holds an activity before, between and after these calls
 abbrev pub HoldsThrough : ℕ → List ℕ → List Kept → List Kept → Type 0
 HoldsThrough most activity [] cache = IsSome (kept_of activity cache)
 HoldsThrough most activity (call ∷ calls) cache = IsSome (kept_of activity cache) × HoldsThrough most activity calls (behind_call most call cache)
 
--- a call that was answered by this frame, and comes again: it is answered by the same frame, or not at all
+-- a call that was answered by this frame and comes again is answered by the same frame or not at all
 abbrev pub IsFaithful : List ℕ → Told → Type 0
 IsFaithful frame new = ⊥
 IsFaithful frame (again same) = same ≡ frame

@@ -15,30 +15,30 @@ use Rattle.rpc_core.specs.Header.{order_of, header_of, head_for}
 use Rattle.rpc_core.specs.Pdu.{pdu}
 use Rattle.rpc_core.specs.Body.{Args, octets_of, body, body_size}
 
--- what a call asks: its blocks are none where they are not counted well
+-- the contents of a call; it has no blocks if their counts are wrong
 pub record Asked : Type 0 where
   pub header : CallHeader
   pub args_maximum : ℕ
   pub blocks : Option (List ℕ)
 
--- a call without where its blocks lie in memory
+-- the contents of a call, independent of the place of its blocks in memory
 abbrev pub asked : Call → Asked
 asked call = record { header = call.header; args_maximum = call.args_maximum; blocks = option_map (λ blocks. blocks.now) call.blocks }
 
--- ArgsMaximum and the blocks, in the order of the header
+-- ArgsMaximum and the blocks, in the byte order of the header
 abbrev pub call_body : Head → Whole RpcFault (ℕ × Args)
 call_body h = body (ordered (order_of h.opening.representation) 4) (order_of h.opening.representation)
 
--- what a header and a body ask
+-- the call of a header and a body
 abbrev pub asked_by : Head × (ℕ × Args) → Asked
 asked_by x = record { header = header_of x.0; args_maximum = x.1.0; blocks = x.1.1.blocks }
 
--- the header and the body of a call, whose MaximumCount repeats ArgsMaximum
+-- the header and the body of a call; its MaximumCount repeats ArgsMaximum
 abbrev pub parts_of_call : Asked → Head × (ℕ × Args)
 parts_of_call call =
     (head_for 0 0x20 call.header (body_size (length (octets_of call.blocks))), (call.args_maximum, record { maximum = call.args_maximum; blocks = call.blocks }))
 
--- a call to this interface, in front of anything
+-- a call to this interface, with anything after it
 unfoldable pub call : Interface → Codec RpcFault Asked
 call interface = seen asked_by parts_of_call (within (pdu 0 (Some interface)) call_body)
 
@@ -46,7 +46,7 @@ call interface = seen asked_by parts_of_call (within (pdu 0 (Some interface)) ca
 unfoldable pub IsCall : Interface → List ℕ → Asked → Type 0
 IsCall interface bytes meaning = (loose (call interface)).Spells bytes meaning
 
--- the call that octets are, or their first fault
+-- the call that the octets are, or their first fault
 unfoldable pub call_of : Interface → List ℕ → Result Asked RpcFault
 call_of interface bytes = (loose (call interface)).read bytes
 

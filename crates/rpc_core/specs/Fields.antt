@@ -1,4 +1,4 @@
--- Fields whose octets stand in either order (C706, 14.1).
+-- Fields in either byte order (C706, 14.1).
 use Rattle.std.specs.Prelude.{◌≡◌, ◌^◌, ◌<◌, ℕ, List, ◌∷◌, ◌++◌, length, Ok}
 use Rattle.byteorder.specs.Endian.{little_number, little_bytes}
 use Rattle.wire.specs.Codec.{Codec, ◌>>=◌}
@@ -12,7 +12,7 @@ use Rattle.rpc_core.specs.declared.fields.Order.TheVariants.{Big, Little}
 abbrev pub one : Codec RpcFault ℕ
 one = number Short 1
 
--- a number in so many octets, the lowest first
+-- a number of this many octets, the lowest first
 abbrev pub little : ℕ → Codec RpcFault ℕ
 little size = record {
   Spells = λ bytes value rest. (front : List ℕ) × (length front ≡ size) × (bytes ≡ front ++ rest) × (value ≡ little_number size front);
@@ -22,12 +22,12 @@ little size = record {
   read = λ bytes. (raw Short size).read bytes >>= λ x. Ok (little_number size x.0, x.1);
 }
 
--- a number in so many octets, in this order
+-- a number of this many octets, in this byte order
 unfoldable pub ordered : Order → ℕ → Codec RpcFault ℕ
 ordered Big size = number Short size
 ordered Little size = little size
 
--- an identifier whose first three fields, of four, two and two octets, are turned round
+-- an identifier with its first three fields, of four, two and two octets, byte-swapped
 abbrev pub turned : List ℕ → List ℕ
 turned (a ∷ b ∷ c ∷ d ∷ e ∷ f ∷ g ∷ h ∷ others) = d ∷ c ∷ b ∷ a ∷ f ∷ e ∷ h ∷ g ∷ others
 turned octets = octets
@@ -37,6 +37,6 @@ unfoldable pub uuid : Order → Codec RpcFault (List ℕ)
 uuid Big = raw Short 16
 uuid Little = seen turned turned (raw Short 16)
 
--- so many octets that are read with any value and written as these
+-- this many octets that are read with any value and written as these
 abbrev pub any : ℕ → List ℕ → Codec RpcFault (Unit {0})
 any size written = seen (λ _. tt) (λ _. written) (raw Short size)

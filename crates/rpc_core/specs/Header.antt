@@ -13,7 +13,7 @@ use Rattle.rpc_core.specs.declared.header.Extent.{Extent}
 use Rattle.rpc_core.specs.declared.header.Head.{Head}
 use Rattle.rpc_core.specs.Fields.{one, ordered, uuid, any}
 
--- the order under the first octet of a representation, whose high half is 1 for little endian
+-- the byte order under the first octet of a representation, whose high half is 1 for little endian
 abbrev pub order_of : ℕ → Order
 order_of representation = if representation / 16 == 1 then Little else Big
 
@@ -45,14 +45,14 @@ extent order = seen
     (λ e. (tt, (e.length, (e.fragment, (e.authentication, tt)))))
     (any 4 (255 ∷ 255 ∷ 255 ∷ 255 ∷ []) ⨾ ordered order 2 ⨾ ordered order 2 ⨾ one ⨾ any 1 (0 ∷ []))
 
--- the header: its numbers and identifiers stand in the order that its representation says
+-- the header: its numbers and identifiers have the byte order that its representation says
 unfoldable pub head : Codec RpcFault Head
 head = seen
     (λ x. record { opening = x.0; names = x.1.0; turn = x.1.1.0; extent = x.1.1.1 })
     (λ h. (h.opening, (h.names, (h.turn, h.extent))))
     (then_by opening (λ (o : Opening). names (order_of o.representation) ⨾ turn (order_of o.representation) ⨾ extent (order_of o.representation)))
 
--- what a call and its response share
+-- the fields that a call and its response share
 abbrev pub header_of : Head → CallHeader
 header_of h = record {
   object = h.names.object;
@@ -62,7 +62,7 @@ header_of h = record {
   operation = h.turn.operation;
 }
 
--- what is written in front of a body of this length: version 4, big endian, no fragment and no authentication
+-- the header before a body of this length: version 4, big endian, no fragment and no authentication
 abbrev pub head_for : ℕ → ℕ → CallHeader → ℕ → Head
 head_for packet_type flags header size = record {
   opening = record { version = 4; packet_type = packet_type; flags = flags; representation = 0 };

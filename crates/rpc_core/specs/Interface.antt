@@ -3,7 +3,7 @@ use Rattle.std.specs.Prelude.{ℕ, List, [], ◌∷◌}
 use Rattle.rpc_core.specs.declared.interface.Interface.{Interface}
 use Rattle.rpc_core.specs.declared.interface.Interface.TheVariants.{Device, Controller}
 
--- the last octet of the first field, by which the two differ
+-- the last octet of the first field, in which the two identifiers differ
 abbrev pub interface_digit : Interface → ℕ
 interface_digit Device = 1
 interface_digit Controller = 2

@@ -1,4 +1,4 @@
--- What calls and responses have in common: a header that passes its tests, and a body of the length that it says.
+-- What calls and responses have in common: a header that passes its tests, and a body of the stated length.
 use Rattle.std.specs.Prelude.{◌/◌, ◌%◌, ◌==◌, ◌&&◌, ℕ, Bool, true, List, length, nat_le, nat_lt, nat_eq, Option, Some, None}
 use Rattle.std.specs.Cmp.Lexicographic.{pointwise}
 use Rattle.wire.specs.Codec.{Codec}
@@ -11,7 +11,7 @@ use Rattle.rpc_core.specs.declared.interface.Interface.{Interface}
 use Rattle.rpc_core.specs.Header.{head}
 use Rattle.rpc_core.specs.Interface.{interface_uuid}
 
--- the header, and a body of at least 20 octets, which is all of what the header's length counts
+-- the header, and a body of at least 20 octets, which is everything that the header's length counts
 unfoldable pub cut_off : Codec RpcFault (Head × List ℕ)
 cut_off = then_by (checked (λ (h : Head). nat_le 20 h.extent.length) fault.Short head) (λ (h : Head). raw fault.Short h.extent.length)
 
@@ -19,15 +19,15 @@ cut_off = then_by (checked (λ (h : Head). nat_le 20 h.extent.length) fault.Shor
 abbrev pub is_version : ℕ → Head → Bool
 is_version packet_type h = (h.opening.version == 4) && (h.opening.packet_type == packet_type) && (h.extent.authentication == 0)
 
--- big endian or little endian
+-- whether the representation is big endian or little endian
 abbrev pub is_known : Head → Bool
 is_known h = nat_lt (h.opening.representation / 16) 2
 
--- neither the flag of a fragment, which is worth 4, nor a fragment's number
+-- the fragment flag, whose value is 4, is not set and the fragment's number is 0
 abbrev pub is_whole : Head → Bool
 is_whole h = (h.opening.flags / 4 % 2 == 0) && (h.extent.fragment == 0)
 
--- the interface that is served, where one has to be meant
+-- the interface is the one that is served, if one is given
 abbrev pub is_served : Option Interface → Head → Bool
 is_served None h = true
 is_served (Some interface) h = pointwise nat_eq h.names.interface (interface_uuid interface)

@@ -16,14 +16,14 @@ use Rattle.rpc_core.specs.Pdu.{pdu}
 use Rattle.rpc_core.specs.Body.{Args, status, body, body_size}
 use Rattle.rpc_core.specs.Call.{Asked}
 
--- what a response says
+-- the contents of a response
 pub record Answered : Type 0 where
   pub header : CallHeader
   pub status : Status
   pub maximum_count : ℕ
   pub blocks : List ℕ
 
--- a response without where its blocks lie in memory
+-- the contents of a response, independent of the place of its blocks in memory
 abbrev pub answered : Response → Answered
 answered response = record {
   header = response.header;
@@ -32,7 +32,7 @@ answered response = record {
   blocks = response.blocks.now;
 }
 
--- whether a call was done: PNIOStatus is 0
+-- whether a call succeeded: PNIOStatus is 0
 abbrev pub is_done : Status → Bool
 is_done status = (status.code == 0) && ((status.decode == 0) && ((status.code1 == 0) && (status.code2 == 0)))
 
@@ -40,11 +40,11 @@ is_done status = (status.code == 0) && ((status.decode == 0) && ((status.code1 =
 abbrev pub answer_to : Asked → Status → List ℕ → Answered
 answer_to call status blocks = record { header = call.header; status = status; maximum_count = call.args_maximum; blocks = blocks }
 
--- PNIOStatus and the blocks, in the order of the header
+-- PNIOStatus and the blocks, in the byte order of the header
 abbrev pub response_body : Head → Whole RpcFault (Status × Args)
 response_body h = body (status (order_of h.opening.representation)) (order_of h.opening.representation)
 
--- what a header and a body answer, if the blocks are counted well
+-- the response of a header and a body, if the counts of the blocks are right
 abbrev pub answered_by : Head × (Status × Args) → Option Answered
 answered_by x = option_map (λ blocks. record { header = header_of x.0; status = x.1.0; maximum_count = x.1.1.maximum; blocks = blocks }) x.1.1.blocks
 
@@ -53,7 +53,7 @@ abbrev pub parts_of_response : Answered → Head × (Status × Args)
 parts_of_response response =
     (head_for 2 0x0A response.header (body_size (length response.blocks)), (response.status, record { maximum = response.maximum_count; blocks = Some response.blocks }))
 
--- a response, in front of anything
+-- a response, with anything after it
 unfoldable pub response : Codec RpcFault Answered
 response = named answered_by parts_of_response fault.Args (within (pdu 2 None) response_body)
 
@@ -61,7 +61,7 @@ response = named answered_by parts_of_response fault.Args (within (pdu 2 None) r
 unfoldable pub IsResponse : List ℕ → Answered → Type 0
 IsResponse bytes meaning = (loose response).Spells bytes meaning
 
--- the response that octets are, or their first fault
+-- the response that the octets are, or their first fault
 unfoldable pub response_of : List ℕ → Result Answered RpcFault
 response_of bytes = (loose response).read bytes
 

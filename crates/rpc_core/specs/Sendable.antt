@@ -26,7 +26,7 @@ pub record IsStatus (status : Status) : Type 0 where
   pub code1 : status.code1 < 256
   pub code2 : status.code2 < 256
 
--- a call to this interface that can be sent: it has blocks
+-- a call to this interface that can be sent; it has blocks
 pub record CanBeCalled (interface : Interface) (call : Asked) : Type 0 where
   pub header : IsHeader call.header
   pub named : call.header.interface ≡ interface_uuid interface

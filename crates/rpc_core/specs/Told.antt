@@ -1,4 +1,4 @@
--- What the answer of a look tells, without where its frame lies in memory.
+-- What a look-up says, independent of the place of its frame in memory.
 use Rattle.rpc_core.specs.declared.cache.Looked.{Looked}
 use Rattle.rpc_core.specs.declared.cache.Looked.TheVariants as looked
 use Rattle.rpc_core.specs.Cache.{Told, new, again, old}

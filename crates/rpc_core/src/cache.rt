@@ -1,4 +1,4 @@
-//! The cache of answers: of each of the last activities, the answer to its last call (C706, 9.5.5).
+//! The cache of responses: for each of the last activities, the response to its last call (C706, 9.5.5).
 ghost use Rattle.std.specs.Prelude.{◌≡◌, ◌+◌, ◌-◌, ◌<◌, ◌≤◌, ℕ, true, false, List, [], ◌∷◌, length, take, slice_index, Some, IfSome};
 ghost use Rattle.std.specs.Prelude.{IfNone};
 ghost use Rattle.std.specs.List.{remove};
@@ -13,18 +13,18 @@ use std::array;
 use std::marker::Model;
 use uuid::Uuid;
 
-/// What a cache tells of a call.
+/// What a cache knows of a call.
 #[derive(Clone, Copy)]
 pub enum Looked<'a> {
-    /// It is new, and has to be answered.
+    /// The call is new and must be answered.
     New,
-    /// It was answered by this frame, which answers it again.
+    /// The call was answered by this frame, which must be sent again.
     Again(&'a Frame),
-    /// A later call of its activity was answered. It gets no answer.
+    /// A later call of its activity was already answered. No answer is sent.
     Old,
 }
 
-/// An answer, and the call that it answered.
+/// A response, and the call that it answers.
 #[derive(Drop)]
 struct Slot {
     activity: [u8; 16],
@@ -33,7 +33,7 @@ struct Slot {
 }
 
 impl Slot {
-    /// Nothing.
+    /// An empty slot.
     fn new() -> Self {
         Slot {
             activity: [0; 16],
@@ -42,7 +42,7 @@ impl Slot {
         }
     }
 
-    /// Puts an answer into the slot.
+    /// Stores a response in the slot.
     fn fill(&mut self, activity: &[u8; 16], sequence: u32, frame: &Frame)
         ensures { kept_in self.new ≡ record { activity = activity.now; sequence = sequence; frame = frame.now.items } }
     {
@@ -52,15 +52,15 @@ impl Slot {
     }
 }
 
-/// The answers to the last calls of at most `N` activities.
+/// The responses to the last calls of at most `N` activities.
 #[derive(Drop)]
 pub struct CallCache<const N: usize> {
     slots: [Slot; N],
-    /// The slots that are used, the newest answer first.
+    /// The slots in use, the newest response first.
     order: ArrayVec<usize, N>,
 }
 
-// Clauses see the answers, the newest first.
+// Clauses see the responses, the newest first.
 impl<const N: usize> Model for CallCache<N> {
     ghost use Rattle.std.specs.Prelude.{◌≡◌, ◌≤◌, List, length};
     ghost use Rattle.rpc_core.specs.Cache.{Kept};
@@ -74,7 +74,7 @@ impl<const N: usize> Model for CallCache<N> {
     ghost invariant = { λ c. (length c.slots ≡ N) × (length c.order.items ≤ N) × IsTidy (length c.order.items) c.order.items };
 }
 
-/// The place in the order of the answer to an activity.
+/// The position in the order of the response to an activity.
 fn place_of(slots: &[Slot], order: &[usize], activity: &[u8; 16]) -> Option<usize>
     requires { (k : ℕ) → k < length order.now → slice_index order.now k < length slots.now }
     ensures before { IfSome result (λ place. (k : ℕ) → k < place →
@@ -92,7 +92,7 @@ fn place_of(slots: &[Slot], order: &[usize], activity: &[u8; 16]) -> Option<usiz
     None
 }
 
-/// Takes out of the order the slot that is written next: the one at this place, or one that is not used, or the oldest.
+/// Removes from the order the slot that is written next: the one at this position, or an unused one, or the oldest.
 fn take_slot<const N: usize>(order: &mut ArrayVec<usize, N>, place: Option<usize>) -> usize
     requires some { 0 < N }
     requires fits { array_vec_len order.old ≤ N }
@@ -121,11 +121,11 @@ impl<const N: usize> CallCache<N> {
         }
     }
 
-    /// What is told of the call of this number within an activity.
+    /// What the cache knows of the call with this number within an activity.
     pub fn look(&self, activity: &Uuid, sequence: u32) -> Looked<'_>
         ensures told { looked activity.now sequence self.now ≡ told result }
-        // A call that was answered, and comes again behind any calls while its activity is held, is answered by the same frame or,
-        // where a later call of its activity was answered, not at all.
+        // If an answered call comes again, after any calls during which its activity is held, the result is the same
+        // frame or, if a later call of its activity was answered, no answer.
         ensures faithful { (cache calls : List Kept) (call : Kept) (frame : List ℕ) → call.activity ≡ activity.now →
             call.sequence ≡ sequence →
             answer_of call cache ≡ Some frame → HoldsThrough N call.activity calls (behind_call N call cache) →
@@ -139,16 +139,16 @@ impl<const N: usize> CallCache<N> {
         if sequence == slot.sequence {
             return Looked::Again(&slot.frame);
         }
-        // Answering it again would hand its caller the answer to another call.
+        // To answer it again would hand its caller the response to another call.
         if sequence < slot.sequence {
             return Looked::Old;
         }
         Looked::New
     }
 
-    /// Keeps the answer to a call as its frame, so that a call that is repeated is answered alike whatever has changed since. It takes the
-    /// place of the answer that is kept of its activity or, where there is none and the cache is full, of the answer that was kept longest
-    /// ago.
+    /// Stores the response to a call as its frame, so that a repeated call gets the same response whatever has changed
+    /// since. It replaces the response of its activity or, if there is none and the cache is full, the response that
+    /// was stored longest ago.
     pub fn keep(&mut self, activity: &Uuid, sequence: u32, frame: &Frame)
         requires { 0 < N }
         ensures { self.new ≡ kept_more N (record { activity = activity.now; sequence = sequence; frame = frame.now.items }) self.old }

@@ -19,15 +19,15 @@ pub(crate) const REQUEST: u8 = 0;
 #[derive(Clone, Copy)]
 pub struct Call<'a> {
     pub header: CallHeader,
-    /// How many octets the answer may have. It limits none, and the response repeats it.
+    /// The maximum length of the response. It is not enforced here; the response repeats it.
     pub args_maximum: u32,
-    /// The blocks. There are none where Offset is not 0, or ArgsLength differs from ActualCount or exceeds what is there: that is
-    /// `RpcFault::Args`, which is answered.
+    /// The blocks. `None` if Offset is not 0, or if ArgsLength differs from ActualCount or exceeds the octets present.
+    /// That is `RpcFault::Args`, which is answered.
     pub blocks: Option<&'a [u8]>,
 }
 
 impl Call<'_> {
-    /// The response to the call.
+    /// The response to this call.
     pub fn response<'b>(&self, status: Status, blocks: &'b [u8]) -> Response<'b>
         ensures { answered result ≡ answer_to (asked self.now) status blocks.now }
     {
@@ -65,17 +65,17 @@ fn call_in(interface: Interface, bytes: &[u8]) -> Result<Call<'_>, RpcFault>
     })
 }
 
-/// Reads a call to this interface from a datagram. What is behind the body's length, and behind the blocks, is not read. Of the
-/// faults the first in their order counts. Numbers are read in big endian where the representation is neither.
+/// Reads a call to this interface from a datagram. Octets after the body's length, and after the blocks, are ignored.
+/// The first fault in their order is returned. Numbers are read in big endian if the representation is neither.
 pub fn read_call(interface: Interface, bytes: &[u8]) -> Result<Call<'_>, RpcFault>
-    // What is read is spelled so.
+    // The octets spell the call that is returned.
     ensures found { IfOk result (λ found. IsCall interface bytes.now (asked found)) }
-    // What is spelled so is read, and as nothing else.
+    // If the octets spell a call, that call is returned.
     ensures only { (meaning : Asked) → IsCall interface bytes.now meaning → Gives asked result (Ok meaning) }
-    // With anything behind it, too.
+    // The same holds with anything after the call.
     ensures behind { (first more : List ℕ) (meaning : Asked) → IsCall interface first meaning → bytes.now ≡ first ++ more →
         Gives asked result (Ok meaning) }
-    // Which fault it is.
+    // The result is exactly the call of the octets, or their first fault.
     ensures exact { Gives asked result (call_of interface bytes.now) }
 {
     call_in(interface, bytes)

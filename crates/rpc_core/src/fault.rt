@@ -1,12 +1,13 @@
 ghost use Rattle.std.specs.Prelude.{◌≡◌};
 ghost use Rattle.rpc_core.specs.Fault.{fault_number};
 
-/// Why octets are no call or no response. The first in this order counts.
+/// Why octets are not a call or a response. The first fault in this order is returned.
 #[derive(Clone, Copy, Debug, PartialEq, Eq)]
 pub enum RpcFault {
-    /// The header of 80 octets is not whole, or the body's length is below 20 or more than what follows the header.
+    /// The header of 80 octets is incomplete, or the body's length is below 20 or above the number of octets after the
+    /// header.
     Short,
-    /// The version is not 4, the packet type is not the one that is read, or there is authentication.
+    /// The version is not 4, the packet type is not the expected one, or there is authentication.
     Version,
     /// The integer representation is neither big endian (0) nor little endian (1).
     Representation,
@@ -14,12 +15,12 @@ pub enum RpcFault {
     Fragment,
     /// The interface is not the one that is served.
     Interface,
-    /// Offset is not 0, or ArgsLength differs from ActualCount or exceeds what is there.
+    /// Offset is not 0, or ArgsLength differs from ActualCount or exceeds the octets present.
     Args,
 }
 
 impl RpcFault {
-    /// The fault's number, from 1.
+    /// The number of the fault, from 1.
     pub fn number(self) -> u8
         ensures { result ≡ fault_number self }
     {

@@ -1,4 +1,4 @@
-//! Readers of fields in either order of octets.
+//! Readers of fields in either byte order.
 ghost use Rattle.std.specs.Prelude.{[]};
 ghost use Rattle.wire.specs.Codec.{Gives};
 ghost use Rattle.rpc_core.specs.Fields.{one, ordered, uuid, any};
@@ -8,23 +8,23 @@ use byteorder::{ByteOrder, LittleEndian};
 use uuid::Uuid;
 use wire::{octets_at, split};
 
-/// In which order the octets of a number stand (C706, 14.1).
+/// The byte order of a number (C706, 14.1).
 #[derive(Clone, Copy, Debug, PartialEq, Eq)]
 pub(crate) enum Order {
-    /// The highest first.
+    /// The highest octet first.
     Big,
-    /// The lowest first.
+    /// The lowest octet first.
     Little,
 }
 
-/// A number of one octet, and what is behind it.
+/// A number of one octet, and the octets after it.
 pub(crate) fn u8_at(bytes: &[u8]) -> Result<(u8, &[u8]), RpcFault>
     ensures { Gives (λ x. (x.0, x.1.now)) result (one.read bytes.now) }
 {
     wire::u8_at(bytes, RpcFault::Short)
 }
 
-/// A number of two octets, and what is behind it.
+/// A number of two octets, and the octets after it.
 #[tactic(auto, unfolding(crate::specs::Fields::ordered))]
 pub(crate) fn u16_at(order: Order, bytes: &[u8]) -> Result<(u16, &[u8]), RpcFault>
     ensures { Gives (λ x. (x.0, x.1.now)) result ((ordered order 2).read bytes.now) }
@@ -38,7 +38,7 @@ pub(crate) fn u16_at(order: Order, bytes: &[u8]) -> Result<(u16, &[u8]), RpcFaul
     }
 }
 
-/// A number of four octets, and what is behind it.
+/// A number of four octets, and the octets after it.
 #[tactic(auto, unfolding(crate::specs::Fields::ordered))]
 pub(crate) fn u32_at(order: Order, bytes: &[u8]) -> Result<(u32, &[u8]), RpcFault>
     ensures { Gives (λ x. (x.0, x.1.now)) result ((ordered order 4).read bytes.now) }
@@ -52,7 +52,7 @@ pub(crate) fn u32_at(order: Order, bytes: &[u8]) -> Result<(u32, &[u8]), RpcFaul
     }
 }
 
-/// The octets of an identifier in big endian, and what is behind it.
+/// The octets of an identifier in big endian, and the octets after it.
 #[tactic(auto, unfolding(crate::specs::Fields::uuid))]
 pub(crate) fn uuid_at(order: Order, bytes: &[u8]) -> Result<([u8; 16], &[u8]), RpcFault>
     ensures { Gives (λ x. (x.0, x.1.now)) result ((uuid order).read bytes.now) }
@@ -64,7 +64,7 @@ pub(crate) fn uuid_at(order: Order, bytes: &[u8]) -> Result<([u8; 16], &[u8]), R
     }
 }
 
-/// What is behind so many octets that are not looked at.
+/// The octets after `size` octets that are ignored.
 pub(crate) fn any_at(bytes: &[u8], size: usize) -> Result<&[u8], RpcFault>
     ensures { Gives (λ x. (tt, x.now)) result ((any size []).read bytes.now) }
 {

@@ -7,22 +7,22 @@ use crate::RpcFault;
 use crate::fields::{Order, any_at, u8_at, u16_at, u32_at, uuid_at};
 use uuid::Uuid;
 
-/// What a call and its response share.
+/// The fields that a call and its response share.
 #[derive(Clone, Copy, Debug, PartialEq, Eq)]
 pub struct CallHeader {
-    /// The object that is asked. It is not checked.
+    /// The object that is called. It is not checked.
     pub object: Uuid,
-    /// The interface that is meant.
+    /// The interface that is called.
     pub interface: Uuid,
-    /// Who asks, and for what series of calls.
+    /// The activity: the caller and its series of calls.
     pub activity: Uuid,
     /// The number of the call within its activity.
     pub sequence: u32,
-    /// What is asked for.
+    /// The operation that is called.
     pub operation: u16,
 }
 
-/// What stands in front of the identifiers.
+/// The fields before the identifiers.
 #[derive(Clone, Copy)]
 pub(crate) struct Opening {
     pub(crate) version: u8,
@@ -39,14 +39,14 @@ pub(crate) struct Names {
     pub(crate) activity: [u8; 16],
 }
 
-/// Which call it is, and what it asks for.
+/// The number of the call, and its operation.
 #[derive(Clone, Copy)]
 pub(crate) struct Turn {
     pub(crate) sequence: u32,
     pub(crate) operation: u16,
 }
 
-/// How much follows the header, and as what.
+/// The length and kind of what follows the header.
 #[derive(Clone, Copy)]
 pub(crate) struct Extent {
     pub(crate) length: u16,
@@ -54,7 +54,7 @@ pub(crate) struct Extent {
     pub(crate) authentication: u8,
 }
 
-/// All that is read of a header.
+/// All fields that are read of a header.
 #[derive(Clone, Copy)]
 pub(crate) struct Head {
     pub(crate) opening: Opening,
@@ -64,7 +64,7 @@ pub(crate) struct Head {
 }
 
 impl Head {
-    /// The part that a call and its response share.
+    /// The fields that a call and its response share.
     pub(crate) fn header(&self) -> CallHeader
         ensures { result ≡ header_of self.now }
     {
@@ -78,11 +78,11 @@ impl Head {
     }
 }
 
-/// The order of octets under the first octet of a representation.
+/// The byte order under the first octet of a representation.
 pub(crate) fn order_under(representation: u8) -> Order
     ensures { result ≡ order_of representation }
 {
-    // Whatever is neither order is read as big endian, and refused once the header is judged.
+    // An unknown representation is read as big endian, and refused when the header is judged.
     if representation / 16 == 1 {
         Order::Little
     } else {
@@ -90,7 +90,7 @@ pub(crate) fn order_under(representation: u8) -> Order
     }
 }
 
-/// Version, packet type, flags and representation, and what is behind them.
+/// Version, packet type, flags and representation, and the octets after them.
 #[tactic(auto, unfolding(crate::specs::Header::opening))]
 fn opening_at(bytes: &[u8]) -> Result<(Opening, &[u8]), RpcFault>
     ensures { Gives (λ x. (x.0, x.1.now)) result (opening.read bytes.now) }
@@ -112,7 +112,7 @@ fn opening_at(bytes: &[u8]) -> Result<(Opening, &[u8]), RpcFault>
     ))
 }
 
-/// Object, interface and activity, and what is behind them.
+/// Object, interface and activity, and the octets after them.
 #[tactic(auto, unfolding(crate::specs::Header::names))]
 fn names_at(order: Order, bytes: &[u8]) -> Result<(Names, &[u8]), RpcFault>
     ensures { Gives (λ x. (x.0, x.1.now)) result ((names order).read bytes.now) }
@@ -130,7 +130,7 @@ fn names_at(order: Order, bytes: &[u8]) -> Result<(Names, &[u8]), RpcFault>
     ))
 }
 
-/// Sequence number and operation, and what is behind them.
+/// Sequence number and operation, and the octets after them.
 #[tactic(auto, unfolding(crate::specs::Header::turn))]
 fn turn_at(order: Order, bytes: &[u8]) -> Result<(Turn, &[u8]), RpcFault>
     ensures { Gives (λ x. (x.0, x.1.now)) result ((turn order).read bytes.now) }
@@ -147,7 +147,7 @@ fn turn_at(order: Order, bytes: &[u8]) -> Result<(Turn, &[u8]), RpcFault>
     ))
 }
 
-/// The body's length, the fragment's number and the authentication, and what is behind them.
+/// The body's length, the fragment's number and the authentication, and the octets after them.
 #[tactic(auto, unfolding(crate::specs::Header::extent))]
 fn extent_at(order: Order, bytes: &[u8]) -> Result<(Extent, &[u8]), RpcFault>
     ensures { Gives (λ x. (x.0, x.1.now)) result ((extent order).read bytes.now) }
@@ -167,7 +167,7 @@ fn extent_at(order: Order, bytes: &[u8]) -> Result<(Extent, &[u8]), RpcFault>
     ))
 }
 
-/// The header, and what is behind it.
+/// The header, and the octets after it.
 #[tactic(auto, unfolding(crate::specs::Header::head))]
 pub(crate) fn head_at(bytes: &[u8]) -> Result<(Head, &[u8]), RpcFault>
     ensures { Gives (λ x. (x.0, x.1.now)) result (head.read bytes.now) }

@@ -13,7 +13,7 @@ pub enum Interface {
 }
 
 impl Interface {
-    /// The identifier by which a call names it.
+    /// The identifier of the interface in a call.
     pub fn uuid(self) -> Uuid
         ensures { result ≡ interface_uuid self }
     {

@@ -1,5 +1,6 @@
-//! Calls of PROFINET IO: connectionless DCE/RPC (The Open Group C706, chapter 12; IEC 61158-6-10, 4.10) in UDP datagrams. Calls and
-//! their answers as values, in either order of octets, and the cache of the answers that a station keeps.
+//! Calls of PROFINET IO: connectionless DCE/RPC (The Open Group C706, chapter 12; IEC 61158-6-10, 4.10) in UDP
+//! datagrams. It has calls and their responses as values, in either byte order, and the cache of the responses that a
+//! station stores.
 #![tactic(auto)]
 
 mod cache;

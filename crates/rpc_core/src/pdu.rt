@@ -19,7 +19,7 @@ pub(crate) struct Counts {
     pub(crate) actual: u32,
 }
 
-/// The header, the body that its length counts, and what is behind that.
+/// The header, the body that its length counts, and the octets after that.
 #[tactic(auto, unfolding(crate::specs::Pdu::cut_off))]
 fn cut_off_at(bytes: &[u8]) -> Result<(Head, &[u8], &[u8]), RpcFault>
     ensures { Gives (λ x. ((x.0, x.1.now), x.2.now)) result (cut_off.read bytes.now) }
@@ -32,7 +32,7 @@ fn cut_off_at(bytes: &[u8]) -> Result<(Head, &[u8], &[u8]), RpcFault>
     Ok((head, body, rest))
 }
 
-/// Version 4, this packet type, no authentication.
+/// Whether the version is 4, the packet type is this one, and there is no authentication.
 fn has_version(packet_type: u8, head: &Head) -> bool
     ensures { result ≡ is_version packet_type head.now }
 {
@@ -41,25 +41,25 @@ fn has_version(packet_type: u8, head: &Head) -> bool
         && head.extent.authentication == 0
 }
 
-/// No fragment.
+/// Whether the datagram is not a fragment.
 fn is_complete(head: &Head) -> bool
     ensures { result ≡ is_whole head.now }
 {
     head.opening.flags / 4 % 2 == 0 && head.extent.fragment == 0
 }
 
-/// The interface is the one that is served, where one has to be meant.
+/// Whether the interface is the one that is served, if one is given.
 fn serves(interface: Option<Interface>, head: &Head) -> bool
     ensures { result ≡ is_served interface head.now }
 {
     match interface {
-        // A response is told apart by its activity, and stations differ in which interface they name.
+        // A response is identified by its activity, and stations differ in which interface they name.
         None => true,
         Some(served) => head.names.interface == served.uuid().into_bytes(),
     }
 }
 
-/// A header that passes its tests, its body, and what is behind that.
+/// A header that passes its tests, its body, and the octets after that.
 #[tactic(auto, unfolding(crate::specs::Pdu::pdu))]
 pub(crate) fn pdu_at(
     packet_type: u8,
@@ -72,7 +72,8 @@ pub(crate) fn pdu_at(
     if !has_version(packet_type, &head) {
         return Err(RpcFault::Version);
     }
-    // Numbers before it were read in big endian where it is neither, so that a short or foreign datagram is told as that.
+    // Numbers before it were read in big endian if it is neither, so that a short or foreign datagram is reported as
+    // such.
     if head.opening.representation / 16 >= 2 {
         return Err(RpcFault::Representation);
     }
@@ -85,7 +86,7 @@ pub(crate) fn pdu_at(
     Ok((head, body, rest))
 }
 
-/// ArgsLength, MaximumCount, Offset and ActualCount, and what is behind them.
+/// ArgsLength, MaximumCount, Offset and ActualCount, and the octets after them.
 #[tactic(auto, unfolding(crate::specs::Body::counts))]
 pub(crate) fn counts_at(order: Order, bytes: &[u8]) -> Result<(Counts, &[u8]), RpcFault>
     ensures { Gives (λ x. (x.0, x.1.now)) result ((counts order).read bytes.now) }
@@ -105,7 +106,7 @@ pub(crate) fn counts_at(order: Order, bytes: &[u8]) -> Result<(Counts, &[u8]), R
     ))
 }
 
-/// The blocks in front of what is there, if they start at 0, are counted twice alike and are all there.
+/// The blocks at the front of the octets, if Offset is 0, ArgsLength equals ActualCount, and all blocks are present.
 pub(crate) fn blocks_of<'a>(counts: &Counts, bytes: &'a [u8]) -> Option<&'a [u8]>
     ensures { option_map (λ blocks. blocks.now) result ≡ blocks_in counts.now bytes.now }
 {

@@ -13,21 +13,21 @@ use crate::pdu::{blocks_of, counts_at, pdu_at};
 /// The packet type of a response (C706, 12.5.2.2).
 pub(crate) const RESPONSE: u8 = 2;
 
-/// PNIOStatus (IEC 61158-6-10, 5.2.6): how a call came out. All four are 0 where it was done.
+/// PNIOStatus (IEC 61158-6-10, 5.2.6): the outcome of a call. All four octets are 0 if it succeeded.
 #[derive(Clone, Copy, Debug, PartialEq, Eq)]
 pub struct Status {
     /// ErrorCode: which kind of call failed.
     pub code: u8,
-    /// ErrorDecode: how the other two are meant.
+    /// ErrorDecode: how to read the other two.
     pub decode: u8,
-    /// ErrorCode1: who found the error.
+    /// ErrorCode1: which part found the error.
     pub code1: u8,
     /// ErrorCode2: which error it is.
     pub code2: u8,
 }
 
 impl Status {
-    /// Whether the call was done.
+    /// Whether the call succeeded.
     pub fn is_done(self) -> bool
         ensures { result ≡ is_done self }
     {
@@ -38,7 +38,7 @@ impl Status {
 /// A response.
 #[derive(Clone, Copy)]
 pub struct Response<'a> {
-    /// That of the call.
+    /// The header of the call.
     pub header: CallHeader,
     pub status: Status,
     /// ArgsMaximum of the call.
@@ -46,7 +46,7 @@ pub struct Response<'a> {
     pub blocks: &'a [u8],
 }
 
-/// PNIOStatus, and what is behind it.
+/// PNIOStatus, and the octets after it.
 #[tactic(auto, unfolding(crate::specs::Body::status))]
 fn status_at(order: Order, bytes: &[u8]) -> Result<(Status, &[u8]), RpcFault>
     ensures { Gives (λ x. (x.0, x.1.now)) result ((status order).read bytes.now) }
@@ -102,17 +102,18 @@ fn response_in(bytes: &[u8]) -> Result<Response<'_>, RpcFault>
     })
 }
 
-/// Reads a response from a datagram, to whatever interface. What is behind the body's length, and behind the blocks, is not read.
-/// Of the faults the first in their order counts. Numbers are read in big endian where the representation is neither.
+/// Reads a response from a datagram, for any interface. Octets after the body's length, and after the blocks, are
+/// ignored. The first fault in their order is returned. Numbers are read in big endian if the representation is
+/// neither.
 pub fn read_response(bytes: &[u8]) -> Result<Response<'_>, RpcFault>
-    // What is read is spelled so.
+    // The octets spell the response that is returned.
     ensures found { IfOk result (λ found. IsResponse bytes.now (answered found)) }
-    // What is spelled so is read, and as nothing else.
+    // If the octets spell a response, that response is returned.
     ensures only { (meaning : Answered) → IsResponse bytes.now meaning → Gives answered result (Ok meaning) }
-    // With anything behind it, too.
+    // The same holds with anything after the response.
     ensures behind { (first more : List ℕ) (meaning : Answered) → IsResponse first meaning → bytes.now ≡ first ++ more →
         Gives answered result (Ok meaning) }
-    // Which fault it is.
+    // The result is exactly the response of the octets, or their first fault.
     ensures exact { Gives answered result (response_of bytes.now) }
 {
     response_in(bytes)

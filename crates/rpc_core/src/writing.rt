@@ -70,7 +70,7 @@ fn put_extent(out: &mut Datagram, value: &Extent)
     ensures len { array_vec_len out.new ≡ array_vec_len out.old + 10 }
     ensures fits { (extent Big).Fits value.now }
 {
-    // No hint of an interface or an activity: hints save a look-up that no station here makes.
+    // There is no hint of an interface or an activity: hints save a look-up that no station here makes.
     append(out, &[0xFF; 4]);
     append_u16(out, value.length);
     append_u16(out, value.fragment);
@@ -78,7 +78,7 @@ fn put_extent(out: &mut Datagram, value: &Extent)
     append(out, &[0]);
 }
 
-/// Appends the header in front of a body that carries so many octets of blocks.
+/// Appends the header before a body with `carried` octets of blocks.
 fn put_head(out: &mut Datagram, packet_type: u8, flags: u8, header: &CallHeader, carried: usize)
     requires empty { out.old.items ≡ [] }
     requires room { carried ≤ 1372 }
@@ -120,7 +120,7 @@ fn put_head(out: &mut Datagram, packet_type: u8, flags: u8, header: &CallHeader,
     );
 }
 
-/// Appends how the blocks are counted.
+/// Appends the counts of the blocks.
 #[tactic(auto, unfolding(crate::specs::Body::counts, crate::specs::Fields::ordered))]
 fn put_counts(out: &mut Datagram, value: &Counts)
     requires { array_vec_len out.old + 16 ≤ 1472 }
@@ -134,7 +134,7 @@ fn put_counts(out: &mut Datagram, value: &Counts)
     append_u32(out, value.actual);
 }
 
-/// Appends how blocks are counted, and the blocks.
+/// Appends the counts of the blocks, and the blocks.
 fn put_blocks(out: &mut Datagram, maximum: u32, blocks: &[u8])
     requires room { array_vec_len out.old + length blocks.now + 16 ≤ 1472 }
     ensures items { out.new.items ≡ (out.old.items
@@ -170,18 +170,18 @@ fn put_status(out: &mut Datagram, value: Status)
 
 /// Writes a call into an empty datagram, in big endian.
 pub fn write_request(call: &Call, datagram: &mut Datagram)
-    // Nothing is there yet.
+    // The datagram is empty.
     requires empty { datagram.old.items ≡ [] }
-    // It has blocks.
+    // The call has blocks.
     requires whole { IsSome call.now.blocks }
-    // They have at most 1,372 octets.
+    // The blocks have at most 1,372 octets.
     requires room { IfSome call.now.blocks (λ blocks. length blocks.now ≤ 1372) }
-    // The octets, each of them, whichever interface is served.
+    // The octets are exactly those of the call, whichever interface is served.
     ensures exact { (interface : Interface) → datagram.new.items ≡ call_bytes interface (asked call.now) }
-    // They spell what was given, to the interface that it names.
+    // The octets spell the given call, to the interface that it names.
     ensures spelled { (interface : Interface) → call.now.header.interface ≡ interface_uuid interface →
         IsCall interface datagram.new.items (asked call.now) }
-    // With anything behind it, it is read as that.
+    // With anything after them, the octets are read as the given call.
     ensures behind { (interface : Interface) (more : List ℕ) → call.now.header.interface ≡ interface_uuid interface →
         call_of interface (datagram.new.items ++ more) ≡ Ok (asked call.now) }
 {
@@ -193,15 +193,15 @@ pub fn write_request(call: &Call, datagram: &mut Datagram)
 
 /// Writes a response into an empty datagram, in big endian.
 pub fn write_response(response: &Response, datagram: &mut Datagram)
-    // Nothing is there yet.
+    // The datagram is empty.
     requires empty { datagram.old.items ≡ [] }
     // The blocks have at most 1,372 octets.
     requires room { length response.now.blocks.now ≤ 1372 }
-    // The octets, each of them.
+    // The octets are exactly those of the response.
     ensures exact { datagram.new.items ≡ response_bytes (answered response.now) }
-    // They spell what was given.
+    // The octets spell the given response.
     ensures spelled { IsResponse datagram.new.items (answered response.now) }
-    // With anything behind it, it is read as that.
+    // With anything after them, the octets are read as the given response.
     ensures behind { (more : List ℕ) → response_of (datagram.new.items ++ more) ≡ Ok (answered response.now) }
 {
     put_head(

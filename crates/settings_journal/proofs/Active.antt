@@ -1,4 +1,4 @@
--- An image has one start: which sector is active, and what it gives.
+-- An image has one start: one active sector and one result.
 use Rattle.std.proofs.Common.{◌≡◌, ◌≢◌, ◌⊎◌, ◌<◌, ◌≤◌, ℕ, List, refl, sym, ap, subst, ◌∙◌, inl, inr, arith, Option, Some, None, lit<}
 use Rattle.pn_values.specs.Settings.{factory_settings}
 use Rattle.pn_values.specs.declared.settings.Settings.{Settings}
@@ -11,19 +11,19 @@ use Rattle.settings_journal.specs.Image.{head_in, slots_of, left_in, room_of, Is
 use Rattle.settings_journal.proofs.Parts.{Spells-same}
 use Rattle.settings_journal.proofs.Slots.{After-same}
 
--- one sector is active
+-- at most one sector is active
 pub active_same : (image : Image) (s t : Sector) → IsActive image s → IsActive image t → s ≡ t
 active_same image First First a b = refl
 active_same image Second Second a b = refl
 active_same image First Second a b = absurd (omega (arith, a.newest b.counts, b.newest a.counts))
 active_same image Second First a b = absurd (omega (arith, a.newest b.counts, b.newest a.counts))
 
--- where no gate is open no sector is active
+-- if no gate is open, no sector is active
 pub closed_none : (image : Image) (s : Sector) → IsClosed image → ¬ Counts (head_in image s)
 closed_none image First closed counts = closed.first counts.gate
 closed_none image Second closed counts = closed.second counts.gate
 
--- a sector is read as one settings
+-- a sector is read as at most one value of settings
 pub Reads-same : (sector : List ℕ) (x y : Settings) → Reads sector x → Reads sector y → x ≡ y
 Reads-same sector x y p q =
     let base = Spells-same (head_of sector) p.base q.base p.spells q.spells in
@@ -32,7 +32,7 @@ Reads-same sector x y p q =
 reads_same : (image : Image) (s t : Sector) (x y : Settings) → s ≡ t → Reads (sector_of image s) x → Reads (sector_of image t) y → x ≡ y
 reads_same image s t x y e p q = Reads-same (sector_of image t) x y (subst (λ u. Reads (sector_of image u) x) e p) q
 
--- an image has one start
+-- an image has at most one start
 pub start_same : (image : Image) (a b : Option Sector) (x y : Settings) (g h m n : ℕ) → StartsAt image a x g m → StartsAt image b y h n → (x ≡ y) × (g ≡ h) × (m ≡ n)
 start_same image None None x y g h m n p q = (p.1 ∙ sym q.1, p.2 ∙ sym q.2, p.3 ∙ sym q.3)
 start_same image None (Some t) x y g h m n p q = absurd (closed_none image t p.0 q.0.counts)
@@ -41,7 +41,7 @@ start_same image (Some s) (Some t) x y g h m n p q =
     let e = active_same image s t p.0 q.0 in
     (reads_same image s t x y e p.1 q.1, p.2 ∙ ap (λ u. generation_at (head_in image u)) e ∙ sym q.2, p.3 ∙ ap (λ u. left_in (sector_of image u)) e ∙ sym q.3)
 
--- what can be read is what the start gives
+-- if the image can be read, the start gives what is read
 pub known : (image : Image) (a : Option Sector) (x y : Settings) (g m room slots : ℕ) → slots ≡ slots_of image.first → StartsAt image a x g m → StartsWith image y room → (x ≡ y) × (room_of slots g m ≡ room)
 known image a x y g m room slots few p q =
     let same = start_same image a q.0 x y g q.1 m q.2 p q.3 in
@@ -51,7 +51,7 @@ known image a x y g m room slots few p q =
 pub starts_with : (image : Image) (a : Option Sector) (x : Settings) (g m size : ℕ) → IsImage size image → StartsAt image a x g m → StartsWith image x (room_of (slots_in size) g m)
 starts_with image a x g m size sized p = (a, g, m, p, ap (λ n. room_of (slots_in n) g m) (sym sized.first_size))
 
--- what a journal left has a start
+-- an image that a journal left has a start
 pub left_starts : (image : Image) → LeftByDevice image → (a : Option Sector) × (x : Settings) × (g : ℕ) × (m : ℕ) × StartsAt image a x g m
 left_starts image (None, left) = (None, factory_settings, 0, 0, (left, refl, refl, refl))
 left_starts image (Some s, left) = (Some s, left.settings.0, generation_at (head_in image s), left_in (sector_of image s), (left.active, left.settings.1, refl, refl))
@@ -71,7 +71,7 @@ open_closed image closed (inr e) = closed.second e
 foreign_reads : (image : Image) (s t : Sector) (x : Settings) → s ≡ t → Reads (sector_of image s) x → ((y : Settings) → ¬ Reads (sector_of image t) y) → ⊥
 foreign_reads image s t x e p none = none x (subst (λ u. Reads (sector_of image u) x) e p)
 
--- what is foreign has no start
+-- a foreign image has no start
 pub foreign_none : (image : Image) (a : Option Sector) (x : Settings) (g n : ℕ) → IsForeign image → StartsAt image a x g n → ⊥
 foreign_none image None x g n (inl tie) p = closed_none image First p.0 tie.0
 foreign_none image (Some s) x g n (inl tie) p = active_first image s p.0 tie.0 tie.1 tie.2
@@ -89,7 +89,7 @@ erased_gate size wide e =
     let gate : gate_of (head_of (erased size)) ≡ 255 = get_or-take 512 (erased size) 511 0 (lit< tt) ∙ get_or-replicate size 511 255 0 inside in
     absurd (zero≢255 (sym e ∙ gate))
 
--- a flash that was never written is as from the factory
+-- a flash that was never written starts with the factory settings
 pub blank_starts : (size : ℕ) (image : Image) → IsSectorSize size → image ≡ record { first = erased size; second = erased size } → LeftByDevice image × StartsWith image factory_settings (capacity size)
 unfolding capacity
 blank_starts size image wide e =

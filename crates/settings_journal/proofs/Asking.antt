@@ -1,4 +1,4 @@
--- What the calls of a commit ask of the flash.
+-- The calls that a commit makes to the flash.
 use Rattle.std.proofs.Common.{ℕ, zero, suc, None, subst, ◌≡◌, ◌≢◌, ◌+◌, ◌-◌, ◌∙◌, List, [], ◌∷◌, ◌++◌, Option, Some, refl, sym, ap}
 use Rattle.std.specs.Prelude.{Result, Ok, Err, OnErr}
 use Rattle.std.proofs.lemmas.List.{append-nil}
@@ -16,12 +16,12 @@ use Rattle.settings_journal.specs.Image.{spare}
 use Rattle.settings_journal.specs.Slot.{entry_of}
 use Rattle.settings_journal.proofs.Writes.{sector_size}
 
--- calls that passed, one that failed, and what follows
+-- calls that passed, one that failed, and the rest
 pub front : (old new : Image) (passed rest : List Call) (failed : Call) → IsCutShort (all_carried_out old passed) failed new
     → IsFront old (passed ++ failed ∷ []) ((passed ++ failed ∷ []) ++ rest) new
 front old new passed rest failed left = record { passed = passed; failed = failed; are = refl; rest = rest; whole = refl; left = left }
 
--- all of them were asked for, and the last one passed or failed
+-- all of the calls were made, and the last one passed or failed
 pub asked_all : {T E : Type 0} (result : Result T E) (old new : Image) (passed : List Call) (last : Call) → OnErr result (IsCutShort (all_carried_out old passed) last new)
     → IsAskedFor result old (passed ++ last ∷ []) (passed ++ last ∷ []) new
 asked_all (Ok done) old new passed last left = refl
@@ -35,7 +35,7 @@ erase_short size old new sector sized torn = subst (λ n. Torn sector 0 n (erase
 pub erase_done : (size : ℕ) (old new : Image) (sector : Sector) → IsImage size old → new ≡ with_sector old sector (erased size) → new ≡ carried_out old (Erases sector)
 erase_done size old new sector sized is = is ∙ ap (λ n. with_sector old sector (erased n)) (sym (sector_size size old sector sized))
 
--- the calls of a commit where a slot is left
+-- the calls of a commit if a slot is left
 pub calls_slot : (slots : ℕ) (active : Option Sector) (sector : Sector) (generation free number : ℕ) (before : Settings) (command : Command) (entry : List ℕ)
     → active ≡ Some sector → free ≢ 0 → number ≡ slots - free → entry ≡ entry_of command → slot_calls sector number entry ≡ calls_of slots active generation free before command
 calls_slot slots active sector generation zero number before command entry is some n e = absurd (some refl)
@@ -48,13 +48,13 @@ none_calls slots None generation free before command e = refl
 none_calls slots (Some sector) generation free before command e =
     sym (ap (λ f. calls_of slots (Some sector) generation f before command) e)
 
--- and where none is
+-- the calls of a commit if no slot is left
 pub calls_base : (slots : ℕ) (active : Option Sector) (sector : Sector) (generation free number : ℕ) (before next : Settings) (command : Command) (base : List ℕ)
     → free ≡ 0 → sector ≡ spare active → number ≡ generation + 1 → next ≡ apply command before → base ≡ base_of number next → base_calls sector base ≡ calls_of slots active generation free before command
 calls_base slots active sector generation free number before next command base none s n x b =
     ap (λ t. base_calls t base) s ∙ ap (base_calls (spare active)) (b ∙ ap (λ k. base_of k next) n ∙ ap (base_of (generation + 1)) x) ∙ none_calls slots active generation free before command none
 
--- what was asked for, in other words
+-- the same calls under other names
 pub asked_as : {T E : Type 0} (result : Result T E) (old new : Image) (all these calls : List Call) → all ≡ these → IsAskedFor result old all calls new → IsAskedFor result old these calls new
 asked_as result old new all these calls e part = subst (λ a. IsAskedFor result old a calls new) e part
 

@@ -1,4 +1,4 @@
--- What is written as the entry of a command is read as a command of the same effect.
+-- The entry that is written for a command is read as a command of the same effect.
 use Rattle.std.proofs.Common.{◌≡◌, ◌+◌, ◌≤◌, ℕ, suc, List, [], ◌++◌, length, take, drop, get_or, refl, sym, ap, subst, ◌∙◌, arith, Option, Some, None, true, lit≤}
 use Rattle.std.specs.Prelude.{nat_le, slice_range, Bool, false, ◌==◌}
 use Rattle.std.proofs.lemmas.Bool.{cond-true}
@@ -21,7 +21,7 @@ same_true a b e = grind (arith, e)
 few_true : (n : ℕ) → n ≤ 240 → nat_le n 240 ≡ true
 few_true n h = grind arith
 
--- a slot whose payload is not too long keeps what its kind and its payload say
+-- a slot whose payload is not too long holds the command that its kind and its payload say
 command_is : (version : Version) (slot : List ℕ) → get_or slot 1 0 ≤ 240 → command_in version slot ≡ command_of version (get_or slot 0 0) (take (get_or slot 1 0) (drop 2 slot))
 command_is version slot short = cond-true (nat_le (get_or slot 1 0) 240) (command_of version (get_or slot 0 0) (take (get_or slot 1 0) (drop 2 slot))) None (few_true (get_or slot 1 0) short)
 
@@ -44,11 +44,11 @@ pub kept_entry : (kind : ℕ) (payload : List ℕ) (command kept : Command) → 
 kept_entry kind payload command kept short e valid same =
     λ slot has. (kept, record { is = entry_read slot kind payload short has.front ∙ e; valid = valid }, same)
 
--- a payload that is as long as it has to be
+-- a payload of the required length
 pub sized_is : (size : ℕ) (payload : List ℕ) (command : Command) → length payload ≡ size → sized size payload command ≡ Some command
 sized_is size payload command e = cond-true (length payload == size) (Some command) None (same_true (length payload) size e)
 
--- the parts of a suite, one behind the other
+-- the parts of a suite, one after the other
 pub suite_parts : (suite : Suite) → length suite.address ≡ 4 → length suite.mask ≡ 4 → length suite.gateway ≡ 4
     → suite_in (suite.address ++ suite.mask ++ suite.gateway) ≡ suite
 suite_parts suite a m g =

@@ -1,4 +1,4 @@
--- Where the calls of a commit are cut off, what is left is what a write that failed may leave.
+-- If the calls of a commit are cut off, the chip is in a state that a failed write may leave.
 use Rattle.std.proofs.Common.{◌≡◌, ◌≢◌, ◌⊎◌, ℕ, suc, ◌+◌, ◌-◌, ◌<◌, ◌≤◌, List, [], ◌∷◌, length, take, drop, refl, sym, ap, subst, ◌∙◌, inl, inr, arith, lit≤, Some, None}
 use Rattle.std.proofs.lemmas.List.{length-append, length-take, length-drop, length-replicate}
 use Rattle.pn_values.specs.declared.command.Command.{Command}
@@ -19,13 +19,13 @@ use Rattle.settings_journal.proofs.Asking.{calls_slot, calls_base}
 use Rattle.settings_journal.proofs.Storing.{slot_first, in_slot, slot_kept_at, none_free, base_written, base_kept}
 use Rattle.settings_journal.proofs.Writes.{IsWritten, HasFront, IsInSlot, sector_with, other_with, sector_size, erase_rises, program_closed, written_long, opened, half_opened, in_slot_then, in_slot_done, in_slot_torn, keeps_others, entry_closed, entry_there, slot_opened, slot_half}
 
--- bytes put over others are as many
+-- the length stays when bytes are programmed over others
 anded_length : (xs ys : List ℕ) → length (anded xs ys) ≡ length xs
 anded_length [] ys = refl
 anded_length (x ∷ xs) [] = refl
 anded_length (x ∷ xs) (y ∷ ys) = ap suc (anded_length xs ys)
 
--- and a sector stays as long
+-- the length of a sector stays when it is programmed
 programmed_length : (sector : List ℕ) (place : ℕ) (bytes : List ℕ) → length (programmed sector place bytes) ≡ length sector
 programmed_length sector place bytes =
     let parts = length-append (take place sector) (anded (drop place sector) bytes) in
@@ -34,7 +34,7 @@ programmed_length sector place bytes =
     let left = length-drop place sector in
     parts ∙ omega (arith, front, back, left)
 
--- what the write of a base, or of a slot, leaves of one sector, and that the other one stays
+-- what writing a base or a slot leaves of one sector, while the other one is unchanged
 pub record LeavesBase (image chip : Image) (sector : Sector) (base : List ℕ) : Type 0 where
   pub here : MayLeave (sector_of image sector) base (sector_of chip sector)
   pub behind : sector_of chip (other sector) ≡ sector_of image (other sector)
@@ -134,7 +134,7 @@ module _ (size : ℕ) (sector : Sector) (number : ℕ) (image chip : Image) (ent
         behind = ap (λ i. sector_of i (other sector)) e ∙ other_with entered sector _ ∙ other_with image sector _;
       }
 
--- the calls of a slot, as a commit asks for them
+-- the calls that write a slot, as a commit makes them
 pub safe_slot : (image : Image) (position : Position) (sector : Sector) (before next : Settings) (command : Command) (entry : List ℕ) (size spot : ℕ) → position.active ≡ Some sector → position.free ≢ 0
     → IsSectorSize size → IsImage size image → IsBefore image position command before next → IsEntryOf entry command → entry ≡ entry_of command → AreBytes entry → length entry ≤ 242 → spot ≡ slots_in size - position.free
     → AreSafe image (calls_of (slots_in size) position.active position.generation position.free before command) before next
@@ -154,7 +154,7 @@ writes_slot slots position sector before command entry spot is some spelled shor
     let these = calls_slot slots position.active sector position.generation position.free spot before command entry is some n spelled in
     subst AreWrites these (omega (arith, short), (lit≤ tt, tt))
 
--- and those of a base
+-- the calls that write a base, as a commit makes them
 pub writes_base : (image : Image) (slots : ℕ) (position : Position) (sector : Sector) (before next : Settings) (command : Command) (base : List ℕ) (generation : ℕ) → (position.active ≡ None) ⊎ (position.free ≡ 0)
     → IsBefore image position command before next → sector ≡ spare position.active → generation ≡ position.generation + 1 → base ≡ base_of generation next → length base ≡ 437
     → AreWrites (calls_of slots position.active position.generation position.free before command)
@@ -175,6 +175,6 @@ safe_base image position sector before next command base size generation used fe
     let w = base_written image chip position sector before next command size generation base used few chip_sized b is n spelled valid l.behind l.here in
     base_kept image chip position.active before next position.generation position.free (slots_in size) w left
 
--- the same by another name of the settings that the command makes
+-- the same under another name of the settings that the command makes
 pub safe_as : (image : Image) (calls : List Call) (before next made : Settings) → next ≡ made → AreSafe image calls before next → AreSafe image calls before made
 safe_as image calls before next made e safe = subst (AreSafe image calls before) e safe

@@ -1,4 +1,4 @@
--- A base and its parts: what spells settings, and that it spells no others.
+-- A base and its parts: which settings it spells, and that it spells no others.
 use Rattle.std.proofs.Common.{◌≡◌, ℕ, ◌+◌, ◌-◌, ◌<◌, ◌≤◌, List, [], ◌∷◌, ◌++◌, length, take, drop, get_or, replicate, refl, sym, ap, subst, ◌∙◌, inl, inr, arith, lit<, lit≤}
 use Rattle.std.specs.Prelude.{slice_range}
 use Rattle.std.specs.Int.{w16, to_be_bytes, from_be_bytes}
@@ -15,11 +15,11 @@ use Rattle.settings_journal.specs.declared.head.Version.TheVariants.{One, Two}
 use Rattle.settings_journal.specs.Head.{magic_of, version_at, generation_at, front_of, base_of, im4_at, name_field, HasName, IsSettings, Spells}
 use Rattle.settings_journal.proofs.Rising.{stored_bytes}
 
--- a range of so many places
+-- a range of this many positions
 pub range_at : (xs : List ℕ) (from upto size : ℕ) → upto - from ≡ size → slice_range xs from upto ≡ take size (drop from xs)
 range_at xs from upto size e = ap (λ n. take n (drop from xs)) e
 
--- a front is a shorter front and what stands behind that
+-- a prefix is a shorter prefix and the rest of it
 front_more : (xs : List ℕ) (i j : ℕ) → i ≤ j → take j xs ≡ take i xs ++ slice_range xs i j
 front_more xs i j h =
     let e = take-append-drop i (take j xs) in
@@ -27,7 +27,7 @@ front_more xs i j h =
     let b = between_is xs i j in
     cc
 
--- two lists that end in as many items are one in both parts
+-- two lists whose ends have equal lengths are equal in both parts
 split_back : (xs ys ps qs : List ℕ) → xs ++ ys ≡ ps ++ qs → length ys ≡ length qs → (xs ≡ ps) × (ys ≡ qs)
 split_back xs ys ps qs e l =
     let n : length xs ≡ length ps = omega (arith, length-append xs ys, length-append ps qs, ap length e, l) in
@@ -62,7 +62,7 @@ made f a x b y c d e g u v w z h i j k l m = cc
 made_three : {C D : Type 0} (f : C → C → C → D) (a b c u v w : C) → a ≡ u → b ≡ v → c ≡ w → f a b c ≡ f u v w
 made_three f a b c u v w h i j = cc
 
--- the parts of the front of a base, each at its place
+-- the parts of the first 383 bytes of a base, each at its offset
 pub record Parts (head : List ℕ) (version : Version) (generation : ℕ) (settings : Settings) : Type 0 where
   pub front : take 4 head ≡ magic_of version
   pub stored : slice_range head 4 6 ≡ to_be_bytes w16 (65535 - generation)
@@ -108,7 +108,7 @@ pub length-base_of : (generation : ℕ) (settings : Settings) → IsSettings set
 length-base_of generation settings valid =
     omega (arith, length-append (front_of Two generation settings) settings.im4, length-front_of Two generation settings valid, valid.im4)
 
--- the parts of what is the front of a base
+-- the parts of the first 383 bytes of a base
 pub parts_from_front : (head : List ℕ) (version : Version) (generation : ℕ) (settings : Settings) → IsSettings settings → take 383 head ≡ front_of version generation settings → Parts head version generation settings
 unfolding front_of
 parts_from_front head version generation settings valid base =
@@ -137,7 +137,7 @@ parts_from_front head version generation settings valid base =
       im3 = p10.1;
     }
 
--- settings that agree in each part are the same
+-- settings that agree in each part are equal
 pub settings_same : (s t : Settings) → s.name ≡ t.name → s.suite ≡ t.suite → s.im1 ≡ t.im1 → s.im2 ≡ t.im2 → s.im3 ≡ t.im3 → s.im4 ≡ t.im4 → s ≡ t
 settings_same s t e f g h i j =
     let build : List ℕ → Suite → List ℕ → List ℕ → List ℕ → List ℕ → Settings = λ name suite im1 im2 im3 im4. record { name = name; suite = suite; im1 = im1; im2 = im2; im3 = im3; im4 = im4 } in
@@ -148,11 +148,11 @@ suite_same s t e f g =
     let build : List ℕ → List ℕ → List ℕ → Suite = λ address mask gateway. record { address = address; mask = mask; gateway = gateway } in
     made_three build _ _ _ _ _ _ e f g
 
--- one base has one name
+-- a base has at most one name
 name_same : (head name other : List ℕ) → HasName head name → HasName head other → name ≡ other
 name_same head name other p q = (split_back _ _ _ _ (sym p.field ∙ q.field) (same_zeros name other (sym p.length ∙ q.length))).0
 
--- one head spells one settings
+-- a head spells at most one value of settings
 pub Spells-same : (head : List ℕ) (s t : Settings) → Spells head s → Spells head t → s ≡ t
 Spells-same head s t p q =
     let a = parts_from_front head _ _ s p.valid p.front in
@@ -161,7 +161,7 @@ Spells-same head s t p q =
     (suite_same _ _ (sym a.address ∙ b.address) (sym a.mask ∙ b.mask) (sym a.gateway ∙ b.gateway))
     (sym a.im1 ∙ b.im1) (sym a.im2 ∙ b.im2) (sym a.im3 ∙ b.im3) (p.im4 ∙ sym q.im4)
 
--- two bytes that are read as a number are those of that number
+-- two bytes that are read as a number are the bytes of that number
 pub stored_is : (head : List ℕ) → 383 ≤ length head → AreBytes head → slice_range head 4 6 ≡ to_be_bytes w16 (65535 - generation_at head)
 stored_is head l bytes =
     let e = stored_bytes head in
@@ -169,13 +169,13 @@ stored_is head l bytes =
     let low = bytes 5 in
     sym (be_bytes_2 (slice_range head 4 6) (65535 - generation_at head) (length_range head 4 6 l (lit≤ tt)) (λ k. range_byte head 4 6 k bytes) (omega arith))
 
--- a base gives its generation back
+-- the generation of a base is read back
 pub generation_at_base : (head : List ℕ) (version : Version) (generation : ℕ) (settings : Settings) → generation ≤ 65535 → Parts head version generation settings → generation_at head ≡ generation
 generation_at_base head version generation settings le p =
     let e = ap (from_be_bytes w16) p.stored ∙ from_be_bytes-to_be_bytes_2 (65535 - generation) (omega arith) in
     ap (λ n. 65535 - n) e ∙ omega arith
 
--- what has the parts of valid settings spells them
+-- a head with the parts of valid settings spells them
 pub spelled_by_parts : (head : List ℕ) (settings : Settings) → 383 ≤ length head → IsNameOrNone settings.name → IsSuite settings.suite → Parts head (version_at head) (generation_at head) settings
     → length settings.im4 ≡ 54 → settings.im4 ≡ im4_at (version_at head) head → Spells head settings
 spelled_by_parts head settings l name suite p long im4 = record {
@@ -198,7 +198,7 @@ length-im4_at : (version : Version) (head : List ℕ) → 437 ≤ length head �
 length-im4_at One head l = length-replicate {A = ℕ} 54 0
 length-im4_at Two head l = simp (length-take, length-drop) (omega arith)
 
--- what a reader of the parts makes of them is spelled
+-- what a reader makes of the parts is spelled by the head
 pub decoded : (head name im1 im2 im3 im4 a m g : List ℕ) (suite : Suite) → 437 ≤ length head → AreBytes head → take 4 head ≡ magic_of (version_at head)
     → IsNameOrNone name × HasName head name → a ≡ slice_range head 247 251 → m ≡ slice_range head 251 255 → g ≡ slice_range head 255 259
     → IsSuite (record { address = a; mask = m; gateway = g }) → suite ≡ record { address = a; mask = m; gateway = g }
@@ -218,7 +218,7 @@ decoded head name im1 im2 im3 im4 a m g suite l bytes front named ea em eg valid
       im3 = sym e3;
     }) (ap length e4 ∙ length-im4_at (version_at head) head l) e4
 
--- what is spelled is what a reader of the parts makes of them
+-- what the head spells is what a reader makes of the parts
 pub decoded_only : (head name im1 im2 im3 im4 a m g : List ℕ) (suite : Suite) (settings : Settings) → Spells head settings
     → (HasName head settings.name → name ≡ settings.name) → a ≡ slice_range head 247 251 → m ≡ slice_range head 251 255 → g ≡ slice_range head 255 259
     → suite ≡ record { address = a; mask = m; gateway = g } → im1 ≡ slice_range head 259 313 → im2 ≡ slice_range head 313 329 → im3 ≡ slice_range head 329 383 → im4 ≡ im4_at (version_at head) head
@@ -229,7 +229,7 @@ decoded_only head name im1 im2 im3 im4 a m g suite settings s named ea em eg es 
     (suite_same _ _ (ap (λ s. s.address) es ∙ ea ∙ p.address) (ap (λ s. s.mask) es ∙ em ∙ p.mask) (ap (λ s. s.gateway) es ∙ eg ∙ p.gateway))
     (e1 ∙ p.im1) (e2 ∙ p.im2) (e3 ∙ p.im3) (e4 ∙ sym s.im4)
 
--- the suite that is spelled is the one at its places
+-- the suite that is spelled is the one at its offsets
 pub spelled_suite : (head a m g : List ℕ) (settings : Settings) → Spells head settings
     → a ≡ slice_range head 247 251 → m ≡ slice_range head 251 255 → g ≡ slice_range head 255 259
     → IsSuite (record { address = a; mask = m; gateway = g })
@@ -237,15 +237,15 @@ spelled_suite head a m g settings s ea em eg =
     let p = parts_from_front head _ _ settings s.valid s.front in
     subst IsSuite (sym (suite_same _ settings.suite (ea ∙ p.address) (em ∙ p.mask) (eg ∙ p.gateway))) s.valid.suite
 
--- the name that is spelled is the one at its place
+-- the name that is spelled is the one at its offset
 pub spelled_name : (head : List ℕ) (settings : Settings) → Spells head settings → HasName head settings.name
 spelled_name head settings s = (parts_from_front head _ _ settings s.valid s.front).name
 
--- what is left of zeros behind a name
+-- the rest of the zeros after a name
 pub zeros_behind : (size n : ℕ) → n ≤ size → take {A = ℕ} (size - n) (drop n (replicate size 0)) ≡ replicate (size - n) 0
 zeros_behind size n h = let e = drop-replicate {X = ℕ} n size 0 in rw e (take_all (size - n) (replicate (size - n) 0) (omega (arith, length-replicate {A = ℕ} (size - n) 0)))
 
--- one more piece at the end of what was put so far
+-- one more piece at the end of those put so far
 pub put_more : {old new xs piece ys : List ℕ} → old ≡ xs → new ≡ old ++ piece → piece ≡ ys → new ≡ xs ++ ys
 put_more e f g = cc
 

@@ -1,4 +1,4 @@
--- From the slots that were read one by one to what a sector is read as.
+-- From the slots that are read one by one to what a sector is read as.
 use Rattle.std.proofs.Common.{◌≡◌, ◌+◌, ◌<◌, ℕ, suc, List, length, refl, sym, ap, subst, ◌∙◌, arith, Option, Some, None}
 use Rattle.std.specs.Prelude.{MatchOption}
 use Rattle.pn_values.specs.declared.settings.Settings.{Settings}
@@ -10,7 +10,7 @@ use Rattle.settings_journal.specs.Image.{slots_of, left_in, Reads}
 use Rattle.settings_journal.proofs.Parts.{Spells-same}
 use Rattle.settings_journal.proofs.Slots.{After-front, After-same}
 
--- one slot more
+-- one more slot is read
 pub after_more : (version : Version) (sector slot : List ℕ) (number : ℕ) (base x y : Settings) → After version sector number base x → slot ≡ slot_at sector number → Follows version slot x y → After version sector (number + 1) base y
 after_more version sector slot number base x y p e f =
     let one : suc number ≡ number + 1 = omega arith in
@@ -21,7 +21,7 @@ next_more sector slot number next now p e is =
     let one : suc number ≡ number + 1 = omega arith in
     subst (λ n. now ≡ next_slot sector n) one (is ∙ ap (λ s. next_behind s number next) e ∙ ap (next_behind (slot_at sector number) number) p)
 
--- where a slot makes nothing of the settings, all of them make nothing of the base
+-- if a slot cannot be applied, all slots together cannot be
 pub none_after : (version : Version) (sector slot : List ℕ) (number total : ℕ) (base x : Settings) → number < total → After version sector number base x → slot ≡ slot_at sector number
     → ((y : Settings) → ¬ Follows version slot x y) → (z : Settings) → ¬ After version sector total base z
 none_after version sector slot number total base x lt p e none =
@@ -54,11 +54,11 @@ module _ (sector head : List ℕ) (version : Version) (size : ℕ) (is : head �
   left_as next free n e =
       e ∙ ap (left_by version (slots_in size)) n ∙ ap (λ k. left_by version k (next_slot sector k)) slots ∙ ap (λ v. free_in v sector (slots_of sector)) claimed
 
--- what is not spelled is not read
+-- if the head spells no settings, the sector is not read as any
 pub unspelled : (sector head : List ℕ) → head ≡ head_of sector → ((settings : Settings) → ¬ Spells head settings) → (settings : Settings) → ¬ Reads sector settings
 unspelled sector head is none = λ settings r. none r.base (subst (λ h. Spells h r.base) (sym is) r.spells)
 
--- what the slots make of a base
+-- the settings that the slots make of a base
 abbrev pub IsFound : Version → List ℕ → ℕ → Settings → Settings → Option ℕ → Type 0
 IsFound version sector count base after found =
     MatchOption found ((settings : Settings) → ¬ After version sector count base settings)

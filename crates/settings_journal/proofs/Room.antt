@@ -1,4 +1,4 @@
--- How many commits are left: fewer than 32 bits count.
+-- The number of commits left fits in 32 bits.
 use Rattle.std.proofs.Common.{◌≡◌, ◌+◌, ◌*◌, ◌≤◌, ℕ, ap, arith, Bool, false, Option, Some, None}
 use Rattle.std.proofs.Math.Nat.{mul-le-mul}
 use Rattle.pn_values.specs.declared.settings.Settings.{Settings}

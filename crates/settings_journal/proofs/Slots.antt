@@ -1,4 +1,4 @@
--- What slots make of a base: one thing, whatever stands in those that are closed.
+-- The effect of slots on a base: it is unique, and closed slots have none.
 use Rattle.std.proofs.Common.{◌≡◌, ◌≢◌, ◌<◌, ◌≤◌, ℕ, zero, suc, List, get_or, refl, sym, ap, subst, ◌∙◌, inl, inr, arith, Some, true, false, lit<, lit≤}
 use Rattle.std.specs.Cmp.Lexicographic.{same_text}
 use Rattle.std.proofs.lemmas.Bool.{cases_eq, cases_Bool, cond_both, cond-true, cond-false, false_from_ne_true}
@@ -12,7 +12,7 @@ use Rattle.settings_journal.specs.Slot.{slot_at, slot_gate, Follows, After, is_b
 some_same : {A : Type 0} (a b : A) → Some a ≡ Some b → a ≡ b
 some_same a b e = cc
 
--- one slot makes one settings of another
+-- one slot turns settings into at most one value
 Follows-same : (version : Version) (slot : List ℕ) (a b x y : Settings) → a ≡ b → Follows version slot a x → Follows version slot b y → x ≡ y
 Follows-same version slot a b x y e (inl p) (inl q) = p.1 ∙ e ∙ sym q.1
 Follows-same version slot a b x y e (inl p) (inr q) = absurd (p.0 q.0)
@@ -21,13 +21,13 @@ Follows-same version slot a b x y e (inr p) (inr q) =
     let same : p.1.0 ≡ q.1.0 = some_same _ _ (sym p.1.1.is ∙ q.1.1.is) in
     p.1.2 ∙ ap (λ c. apply c a) same ∙ ap (apply q.1.0) e ∙ sym q.1.2
 
--- and so do all of them
+-- the same for all slots together
 pub After-same : (version : Version) (sector : List ℕ) (count : ℕ) (a b x y : Settings) → a ≡ b → After version sector count a x → After version sector count b y → x ≡ y
 After-same version sector zero a b x y e p q = p ∙ e ∙ sym q
 After-same version sector (suc count) a b x y e p q =
     Follows-same version (slot_at sector count) p.0 q.0 x y (After-same version sector count a b p.0 q.0 e p.1 q.1) p.2 q.2
 
--- what many slots make begins with what the first of them make
+-- the effect of many slots begins with the effect of the first ones
 pub After-front : (version : Version) (sector : List ℕ) (count total : ℕ) (base x : Settings) → count ≤ total → After version sector total base x → (y : Settings) × After version sector count base y
 After-front version sector count zero base x le p =
     let e : count ≡ 0 = omega (arith, le) in
@@ -38,13 +38,13 @@ After-front version sector count (suc total) base x le p =
       | inr ne ↦ After-front version sector count total base p.0 (omega (arith, ne, le)) p.1
     ]
 
--- slots that are the same make the same
+-- equal slots have the same effect
 pub After-slots : (version : Version) (old new : List ℕ) (count : ℕ) (base x : Settings) → ((k : ℕ) → k < count → slot_at new k ≡ slot_at old k) → After version old count base x → After version new count base x
 After-slots version old new zero base x same p = p
 After-slots version old new (suc count) base x same p =
     (p.0, After-slots version old new count base p.0 (λ k h. same k (omega arith)) p.1, subst (λ slot. Follows version slot p.0 x) (sym (same count (omega arith))) p.2)
 
--- closed slots behind the first ones make nothing more
+-- closed slots after the first ones change nothing
 pub After-closed : (version : Version) (sector : List ℕ) (count total : ℕ) (base x : Settings) → count ≤ total → ((k : ℕ) → count ≤ k → k < total → slot_gate (slot_at sector k) ≢ 0) → After version sector count base x → After version sector total base x
 After-closed version sector count zero base x le closed p =
     let e : count ≡ 0 = omega (arith, le) in
@@ -94,7 +94,7 @@ blank_from slot e = same_text slot (erased 256) (sym e)
 pub open_not : (slot : List ℕ) → slot_gate slot ≡ 0 → is_blank slot ≡ false
 open_not slot gate = false_from_ne_true (is_blank slot) (λ e. blank_closed slot (blank_from slot e) gate)
 
--- blank slots make nothing of a base
+-- blank slots change nothing
 pub After-blank : (version : Version) (sector : List ℕ) (count : ℕ) (base : Settings) → ((k : ℕ) → k < count → slot_at sector k ≡ erased 256) → After version sector count base base
 After-blank version sector zero base blank = refl
 After-blank version sector (suc count) base blank =
@@ -107,7 +107,7 @@ next_le sector zero = lit≤ tt
 next_le sector (suc count) =
     cond_both (is_blank (slot_at sector count)) (next_slot sector count) (suc count) (λ n. n ≤ suc count) (λ _. (let h = next_le sector count in omega arith)) (λ _. omega arith)
 
--- from the next one on each slot is blank
+-- from the next slot on each slot is blank
 pub next_blank : (sector : List ℕ) (count k : ℕ) → next_slot sector count ≤ k → k < count → slot_at sector k ≡ erased 256
 next_blank sector zero k le lt = absurd (omega arith)
 next_blank sector (suc count) k le lt =
@@ -123,13 +123,13 @@ next_blank sector (suc count) k le lt =
           absurd (omega (arith, e, le, lt)))
     ]
 
--- where each slot is blank the first one is the next
+-- if each slot is blank, the first one is the next
 pub next_none : (sector : List ℕ) (count : ℕ) → ((k : ℕ) → k < count → slot_at sector k ≡ erased 256) → next_slot sector count ≡ 0
 next_none sector zero blank = refl
 next_none sector (suc count) blank =
     cond-true _ _ _ (blank_is (slot_at sector count) (blank count (omega arith))) ∙ next_none sector count (λ k h. blank k (omega arith))
 
--- where a slot is not blank and those behind it are, the one behind it is the next
+-- if a slot is not blank and those after it are, the one after it is the next
 pub next_after : (sector : List ℕ) (count k : ℕ) → k < count → is_blank (slot_at sector k) ≡ false → ((j : ℕ) → k < j → j < count → slot_at sector j ≡ erased 256) → next_slot sector count ≡ suc k
 next_after sector zero k lt used blank = absurd (omega arith)
 next_after sector (suc count) k lt used blank =

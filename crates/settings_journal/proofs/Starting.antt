@@ -12,11 +12,11 @@ use Rattle.settings_journal.specs.Head.{gate_of}
 use Rattle.settings_journal.specs.Image.{head_in, left_in, IsActive, Reads, StartsAt, IsForeign}
 use Rattle.settings_journal.specs.Start.{IsNewest, IsNewestOf, HasNoNewest}
 
--- what a start gives
+-- the result of a start
 abbrev pub IsStart : Image → Option Start → Type 0
 IsStart image found = MatchOption found (IsForeign image) (λ start. StartsAt image start.position.active start.settings start.position.generation start.position.free)
 
--- what a start from an active sector gives
+-- the result of a start from an active sector
 abbrev pub IsRead : Image → Sector → ℕ → Option Start → Type 0
 IsRead image sector generation found =
     MatchOption found ((settings : Settings) → ¬ Reads (sector_of image sector) settings)
@@ -50,21 +50,21 @@ module _ (image : Image) (first second : List ℕ) (here : first ≡ head_in ima
       subst (λ s. StartsAt image s.position.active s.settings s.position.generation s.position.free) (sym factory)
       (record { first = λ e. gates.0 (ap gate_of here ∙ e); second = λ e. gates.1 (ap gate_of there ∙ e) }, refl, refl, refl)
 
--- the same of a read that may fail, over an image that the reads before it left alone
+-- the same for a read that may fail, on an image that the earlier reads left unchanged
 pub started_ok : (image between : Image) (sector : Sector) (head behind : List ℕ) (generation : ℕ) (result : Result (Option Start) FlashFault) → between ≡ image
     → head ≡ head_in image sector → behind ≡ head_in image (other sector) → IsNewest head behind generation → IfOk result (IsRead between sector generation) → IfOk result (IsStart image)
 started_ok image between sector head behind generation (Ok found) same here there newest read =
     started image sector head behind generation here there newest found (subst (λ i. IsRead i sector generation found) same read)
 started_ok image between sector head behind generation (Err fault) same here there newest read = tt
 
--- the newest one, at a sector that is known
+-- the newest head, at a known sector
 pub newest_first : (first second : List ℕ) (sector : Sector) (generation : ℕ) → sector ≡ First → IsNewestOf first second sector generation → IsNewest first second generation
 newest_first first second sector generation e newest = subst (λ s. IsNewestOf first second s generation) e newest
 
 pub newest_second : (first second : List ℕ) (sector : Sector) (generation : ℕ) → sector ≡ Second → IsNewestOf first second sector generation → IsNewest second first generation
 newest_second first second sector generation e newest = subst (λ s. IsNewestOf first second s generation) e newest
 
--- of a start that is known
+-- the same for a known start
 pub start_some : (image : Image) (found : Option Start) (x : Start) → found ≡ Some x → IsStart image found → StartsAt image x.position.active x.settings x.position.generation x.position.free
 start_some image found x e said = subst (IsStart image) e said
 

@@ -1,4 +1,4 @@
--- What the store of a command makes of an image, whether its calls ended or failed.
+-- What the store of a command makes of an image, whether its calls succeeded or failed.
 use Rattle.std.proofs.Common.{◌≡◌, ◌≢◌, ◌⊎◌, ℕ, suc, ◌+◌, ◌-◌, ◌*◌, ◌<◌, ◌≤◌, List, refl, sym, ap, subst, ◌∙◌, inl, inr, arith, Option, Some, None}
 use Rattle.std.proofs.lemmas.Bool.{cases_eq}
 use Rattle.pn_values.specs.Command.{apply}
@@ -34,7 +34,7 @@ pub other_other : (sector : Sector) → other (other sector) ≡ sector
 other_other First = refl
 other_other Second = refl
 
--- with any of its bits risen, the head does not count or is older
+-- whichever of its bits rise, the head does not count or is older
 abbrev pub IsStale : ℕ → List ℕ → Type 0
 IsStale generation head = (risen : List ℕ) → Rises head risen → IsOlder generation risen
 
@@ -71,9 +71,9 @@ module _ (old : Image) (active : Option Sector) (settings : Settings) (generatio
   generation_before before (inl (sector, is, e)) = generation_of_active sector before is e
   generation_before before (inr (first, second, e)) = rw e (generation_of_none first second)
 
--- ---- a base is there
+-- ---- a base is stored
 
--- A base with the next settings was to be written into the spare sector, and this is what the write left.
+-- The write of a base with the next settings into the spare sector, and what it left.
 pub record Written (old new : Image) (active : Option Sector) (settings next : Settings) (generation free slots : ℕ) : Type 0 where
   pub few : generation < 65535
   pub starts : StartsAt old active settings generation free
@@ -82,7 +82,7 @@ pub record Written (old new : Image) (active : Option Sector) (settings next : S
   pub slots_is : slots ≡ slots_of (sector_of new (spare active))
   pub left : MayLeave (sector_of old (spare active)) (base_of (generation + 1) next) (sector_of new (spare active))
 
--- what the calls of a store say, as one record
+-- the facts about the calls of a store, as one record
 pub Written-from : (old new : Image) (active : Option Sector) (settings next : Settings) (generation free slots : ℕ) (sector : Sector) (bytes : List ℕ)
     → sector ≡ spare active → bytes ≡ base_of (generation + 1) next → IsSettings next → generation < 65535 → StartsAt old active settings generation free
     → slots ≡ slots_of (sector_of new sector)
@@ -100,7 +100,7 @@ Written-from old new active settings next generation free slots sector bytes is 
 pub base_at : (new : Image) (sector spared : Sector) (bytes base : List ℕ) → sector ≡ spared → bytes ≡ base → IsBase (sector_of new sector) bytes → IsBase (sector_of new spared) base
 base_at new sector spared bytes base e f there = subst (λ s. IsBase (sector_of new s) base) e (subst (IsBase (sector_of new sector)) f there)
 
--- a sector of version 2 has those slots left that stand behind the last one in use
+-- in a sector of version 2 the slots after the last one in use are left
 left_two : (sector : List ℕ) → version_at (head_of sector) ≡ Two → left_in sector ≡ slots_of sector - next_slot sector (slots_of sector)
 left_two sector two = ap (λ v. free_in v sector (slots_of sector)) two
 
@@ -157,7 +157,7 @@ left_at : (image : Image) (sector : Sector) → IsActive image sector → LeftBy
 left_at image sector is (None, closed) = absurd (closed_none image sector closed is.counts)
 left_at image sector is (Some one, left) = subst (IsLeft image) (active_same image one sector left.active is) left
 
--- what stands in the sector now has risen, or its gate is closed; and so it stays as more bits rise
+-- the contents of the sector have risen or its gate is closed, and this stays so as more bits rise
 abbrev pub IsHarmless : List ℕ → List ℕ → Type 0
 IsHarmless old new = (risen : List ℕ) → Rises new risen → Rises old risen ⊎ (gate_of risen ≢ 0)
 
@@ -175,7 +175,7 @@ harmless_gate : (old new : List ℕ) → IsHarmless old new → gate_of old ≢ 
 harmless_gate old new harmless closed e =
     elim (harmless new (Rises-refl new)) [ inl r ↦ closed (gate-risen old new r e) | inr still ↦ still e ]
 
--- an active sector that is read as settings, with a stale one beside it
+-- an active sector that is read as settings, next to a stale one
 kept_at : (new : Image) (sector : Sector) (settings before next : Settings) → IsActive new sector → Reads (sector_of new sector) settings → IsStale (generation_at (head_in new sector)) (head_in new (other sector))
     → (settings ≡ before) ⊎ (settings ≡ next) → IsKept new before next
 kept_at new sector settings before next active reads stale which =
@@ -210,7 +210,7 @@ module _ (old new : Image) (settings next : Settings) (generation free : ℕ) (l
   as_before None starts harmless behind = as_before_closed starts harmless behind
   as_before (Some sector) starts harmless behind = as_before_active sector starts harmless (subst (λ t. sector_of new t ≡ sector_of old t) (other_other sector) behind)
 
--- whatever the write of a base left: a start gives the settings from before, or the next ones
+-- whatever the write of a base left, a start gives the settings from before or the next ones
 pub base_kept : (old new : Image) (active : Option Sector) (settings next : Settings) (generation free slots : ℕ) → Written old new active settings next generation free slots → LeftByDevice old → IsKept new settings next
 base_kept old new active settings next generation free slots w left =
     elim w.left [
@@ -221,7 +221,7 @@ base_kept old new active settings next generation free slots w left =
       ]
     ]
 
--- a journal that stands on the image, before any command
+-- the same for a journal before any command
 pub still_kept : (image : Image) (active : Option Sector) (settings next : Settings) (generation free : ℕ) → StartsAt image active settings generation free → LeftByDevice image → IsKept image settings next
 still_kept image active settings next generation free starts left =
     record { left = left; boots = inl (room_of (slots_of image.first) generation free, (active, generation, free, starts, refl)) }
@@ -233,7 +233,8 @@ two_from : (version : Version) (sector : List ℕ) (count : ℕ) → free_in ver
 two_from One sector count some = absurd (some refl)
 two_from Two sector count some = refl
 
--- What is known of the first slot that is left: its sector has version 2, it lies in the sector, and from it on all are blank.
+-- The facts about the first slot that is left: its sector has version 2, it lies in the sector, and from it on all
+-- slots are blank.
 pub record FirstFree (sector : List ℕ) (slots free : ℕ) : Type 0 where
   pub two : version_at (head_of sector) ≡ Two
   pub few : free ≤ slots
@@ -253,7 +254,7 @@ first_free sector slots free size some left =
       blank = λ k h l. next_blank sector (slots_of sector) k (omega (arith, is, size, le, h)) (omega (arith, size, l));
     }
 
--- An entry was to be written into the first slot that is left.
+-- The write of an entry into the first slot that is left.
 pub record InSlot (old new : Image) (sector : Sector) (before next : Settings) (command : Command) (entry : List ℕ) (generation free slots : ℕ) : Type 0 where
   pub starts : StartsAt old (Some sector) before generation free
   pub some : free ≢ 0
@@ -263,7 +264,7 @@ pub record InSlot (old new : Image) (sector : Sector) (before next : Settings) (
   pub others : KeepsOthers (slots - free) (sector_of old sector) (sector_of new sector)
   pub behind : sector_of new (other sector) ≡ sector_of old (other sector)
 
--- what the slot makes of the settings before
+-- the effect of the slot on the settings before
 follows_entry : (version : Version) (slot entry : List ℕ) (command : Command) (before next : Settings) → version ≡ Two → IsEntryOf entry command → next ≡ apply command before → HasEntry slot entry → Follows version slot before next
 follows_entry version slot entry command before next two is e there =
     let kept = is slot there in
@@ -296,7 +297,7 @@ module _ (old new : Image) (sector : Sector) (before next : Settings) (command :
       After-slots version (sector_of old sector) (sector_of new sector) number w.starts.1.base before (λ k h. same k (λ i. absurd (omega (arith, i, h))))
       (After-open version (sector_of old sector) number (slots_of (sector_of old sector)) w.starts.1.base before (omega (arith, w.slots_is)) (λ k h l. blank_closed _ (free_is.blank k h (omega (arith, w.slots_is, l)))) w.starts.1.after)
 
-  -- the sector is read as what the slot makes of the settings before
+  -- the sector is read as the settings that the slot makes
   reads_as : (settings : Settings) → Follows version (slot_at (sector_of new sector) number) before settings → Reads (sector_of new sector) settings
   reads_as settings follows =
       let next_number : After version (sector_of new sector) (suc number) w.starts.1.base settings = (before, upto, follows) in
@@ -325,7 +326,7 @@ module _ (old new : Image) (sector : Sector) (before next : Settings) (command :
       let was = left_at old sector w.starts.0 left in
       subst (λ h. IsStale (generation_at h) (head_in new (other sector))) (sym head) (subst (IsStale (generation_at (head_in old sector))) (sym behind_head) was.stale)
 
-  -- the entry is there
+  -- the case that the entry is stored
   pub slot_starts : HasEntry (slot_at (sector_of new sector) number) entry → StartsAt new (Some sector) next generation (free - 1)
   slot_starts there =
       let next_number = next_after (sector_of new sector) (slots_of (sector_of new sector)) number (omega (arith, size, free_is.inside))
@@ -334,7 +335,7 @@ module _ (old new : Image) (sector : Sector) (before next : Settings) (command :
       let rest : free - 1 ≡ left_in (sector_of new sector) = omega (arith, left_two (sector_of new sector) two, next_number, size, free_is.few, w.some) in
       (active_now, reads_as next (follows_entry version _ entry command before next free_is.two w.of_command w.next_is there), generation_is, rest)
 
-  -- whatever the write left: a start gives the settings from before, or the next ones
+  -- whatever the write left, a start gives the settings from before or the next ones
   pub slot_kept : MayLeaveSlot entry (slot_at (sector_of new sector) number) → LeftByDevice old → IsKept new before next
   slot_kept (inl closed) left = kept_at new sector before before next active_now (reads_as before (inl (closed, refl))) (stale_now left) (inl refl)
   slot_kept (inr there) left =
@@ -350,7 +351,7 @@ slot_room slots generation free some = omega (arith, some)
 
 -- ---- what the code says, as the records above
 
--- where a slot is left, what is known of the first one
+-- the facts about the first slot that is left, if there is one
 pub slot_first : (image : Image) (active : Option Sector) (sector : Sector) (before : Settings) (generation free size : ℕ) → active ≡ Some sector → free ≢ 0 → IsImage size image → StartsAt image active before generation free
     → FirstFree (sector_of image sector) (slots_in size) free
 slot_first image active sector before generation free size is some sized starts =
@@ -391,7 +392,7 @@ pub slot_kept_at : (old new : Image) (sector : Sector) (before next : Settings) 
 slot_kept_at old new sector before next command entry generation free slots spot w n may =
     slot_kept old new sector before next command entry generation free slots w (subst (λ k. MayLeaveSlot entry (slot_at (sector_of new sector) k)) n may)
 
--- where no slot is left, or no sector is active, none is counted
+-- if no slot is left, or no sector is active, none is counted
 pub none_free : (image : Image) (active : Option Sector) (before : Settings) (generation free : ℕ) → StartsAt image active before generation free → (active ≡ None) ⊎ (free ≡ 0) → free ≡ 0
 none_free image active before generation free starts (inl e) = (subst (λ a. StartsAt image a before generation free) e starts).3
 none_free image active before generation free starts (inr e) = e
@@ -404,7 +405,7 @@ few_here : (generation free : ℕ) → generation ≤ 65535 → (generation ≡ 
 few_here generation free le few none =
     elim (cases_eq generation 65535) [ inl e ↦ absurd (few e none) | inr ne ↦ omega (arith, le, ne) ]
 
--- a base was to be written, since no slot is left
+-- the write of a base, since no slot is left
 pub base_written : (old new : Image) (position : Position) (sector : Sector) (before next : Settings) (command : Command) (size generation : ℕ) (bytes : List ℕ)
     → (position.active ≡ None) ⊎ (position.free ≡ 0) → (position.generation ≡ 65535 → position.free ≢ 0) → IsImage size new → IsBefore old position command before next
     → sector ≡ spare position.active → generation ≡ position.generation + 1 → bytes ≡ base_of generation next → IsSettings next
@@ -436,7 +437,7 @@ pub with_slot_is : (active : Option Sector) (free : ℕ) → free ≢ 0 → Matc
 with_slot_is None free some = inl refl
 with_slot_is (Some sector) free some = (refl, some)
 
--- a commit that begins where the journal stands
+-- a commit that begins at the journal's position
 pub before : (image : Image) (position : Position) (command : Command) (settings copy next : Settings) → StartsAt image position.active settings position.generation position.free → next ≡ apply command copy → copy ≡ settings → IsBefore image position command settings next
 before image position command settings copy next starts is same = record { starts = starts; next_is = is ∙ ap (apply command) same }
 

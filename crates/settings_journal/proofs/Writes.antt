@@ -1,4 +1,4 @@
--- What the calls of a write leave, each whether it ended or failed.
+-- What the calls of a write leave, whether each succeeded or failed.
 use Rattle.std.proofs.Common.{◌≡◌, ◌≢◌, ◌⊎◌, ℕ, suc, ◌+◌, ◌-◌, ◌%◌, ◌<◌, ◌≤◌, List, [], ◌∷◌, length, take, drop, get_or, replicate, refl, sym, ap, subst, ◌∙◌, inl, inr, arith, lit<, lit≤, min, zero}
 use Rattle.std.specs.Prelude.{bit_and, false, Result, Ok, Err, OnOk, OnErr}
 use Rattle.std.specs.Result.{is_err}
@@ -74,7 +74,7 @@ low_byte n h = omega arith
 masked : (n : ℕ) → n < 256 → bit_and 255 n ≡ n
 masked n h = and_comm 255 n ∙ and_mask n 8 ∙ low_byte n h
 
--- over bytes that are FF they are as they were programmed
+-- programming over bytes that are FF stores the programmed bytes
 anded_entry : (xs bytes : List ℕ) → AreBytes bytes → take (length bytes) xs ≡ replicate (length bytes) 255 → take (length bytes) (anded xs bytes) ≡ bytes
 anded_entry xs [] small blank = refl
 anded_entry [] (b ∷ bs) small blank = absurd (let e = ap length blank in cc)
@@ -96,11 +96,11 @@ module _ (sector : List ℕ) (place : ℕ) (bytes : List ℕ) (inside : place �
   from_place : drop place (programmed sector place bytes) ≡ anded (drop place sector) bytes
   from_place = drop_at (take place sector) (anded (drop place sector) bytes) place long
 
-  -- in front of the place nothing changes
+  -- before the position nothing changes
   pub programmed_front : (k : ℕ) → k ≤ place → take k (programmed sector place bytes) ≡ take k sector
   programmed_front k h = take-append-le k (take place sector) (anded (drop place sector) bytes) (omega (arith, long)) ∙ take-take k place sector h
 
-  -- and behind the bytes nothing does
+  -- after the programmed bytes nothing changes
   pub programmed_behind : (k : ℕ) → place + length bytes ≤ k → drop k (programmed sector place bytes) ≡ drop k sector
   programmed_behind k h =
       let e : place + (k - place) ≡ k = omega arith in
@@ -108,7 +108,7 @@ module _ (sector : List ℕ) (place : ℕ) (bytes : List ℕ) (inside : place �
       ∙ drop-drop (k - place) place sector in
       subst (λ j. drop j (programmed sector place bytes) ≡ drop j sector) e new
 
-  -- where the bytes were FF they are as they were programmed
+  -- where the bytes were FF, the programmed bytes are stored
   pub programmed_entry : AreBytes bytes → take (length bytes) (drop place sector) ≡ replicate (length bytes) 255 → take (length bytes) (drop place (programmed sector place bytes)) ≡ bytes
   programmed_entry small blank = ap (take (length bytes)) from_place ∙ anded_entry (drop place sector) bytes small blank
 
@@ -121,7 +121,7 @@ gate_programmed : (sector : List ℕ) (place : ℕ) → place ≤ length sector 
 gate_programmed sector place inside =
     get_or-append_right (take place sector) (anded (drop place sector) (0 ∷ [])) place place 0 (length-take place sector ∙ omega arith) (omega arith) ∙ ap (λ n. get_or (anded (drop place sector) (0 ∷ [])) n 0) (omega arith) ∙ zero_anded (drop place sector)
 
--- what stands behind a place is the same at each place there
+-- lists that agree from a position on agree at each later one
 behind : (end : ℕ) (xs ys : List ℕ) (place : ℕ) → end ≤ place → drop end xs ≡ drop end ys → get_or xs place 0 ≡ get_or ys place 0
 behind end xs ys place h e =
     let p : end + (place - end) ≡ place = omega arith in
@@ -129,17 +129,17 @@ behind end xs ys place h e =
     let b = rw p at (get_or-drop end ys (place - end) 0) in
     sym a ∙ ap (λ zs. get_or zs (place - end) 0) e ∙ b
 
--- a front that is the same has the same parts
+-- equal prefixes have equal parts
 front_part : (front : ℕ) (xs ys : List ℕ) (place size : ℕ) → place + size ≤ front → take front xs ≡ take front ys → take size (drop place xs) ≡ take size (drop place ys)
 front_part front xs ys place size h e =
     let shorter = sym (take-take (place + size) front xs h) ∙ ap (take (place + size)) e ∙ take-take (place + size) front ys h in
     sym (drop-take place size xs) ∙ ap (drop place) shorter ∙ drop-take place size ys
 
--- a shorter front of it is the same too
+-- their shorter prefixes are equal too
 front_of_front : (front k : ℕ) (xs ys : List ℕ) → k ≤ front → take front xs ≡ take front ys → take k xs ≡ take k ys
 front_of_front front k xs ys h e = sym (take-take k front xs h) ∙ ap (take k) e ∙ take-take k front ys h
 
--- and so is what stands farther behind
+-- the parts farther on are equal too
 behind_part : (end place : ℕ) (xs ys : List ℕ) → end ≤ place → drop end xs ≡ drop end ys → drop place xs ≡ drop place ys
 behind_part end place xs ys h e =
     let p : end + (place - end) ≡ place = omega arith in
@@ -150,7 +150,7 @@ behind_part end place xs ys h e =
 zero≢255 : ◌≡◌ {A = ℕ} 0 255 → ⊥
 zero≢255 e = cc
 
--- where the program of the base failed, the gate is as the erase left it
+-- if the program of the base failed, the gate is as the erase left it
 pub program_closed : (size : ℕ) (sector : Sector) (erased_image new : Image) (finished : List ℕ) (end : ℕ) → IsSectorSize size → sector_of erased_image sector ≡ erased size
     → end ≤ 511 → Torn sector 0 end finished erased_image new → gate_of (head_in new sector) ≢ 0
 program_closed size sector image new finished end wide blank before torn e =
@@ -185,14 +185,14 @@ written size sector blank new base wide empty small l sized e = written_long siz
 front_of_head : (sector base : List ℕ) → take 437 sector ≡ base → take 437 (head_of sector) ≡ base
 front_of_head sector base e = take-take 437 512 sector (lit≤ tt) ∙ e
 
--- the slots of a sector that is erased behind its head
+-- the slots of a sector that is erased after its head
 blank_slot : (size : ℕ) (sector : List ℕ) → IsSectorSize size → length sector ≡ size → drop 512 sector ≡ drop 512 (erased size) → (number : ℕ) → number < slots_of sector → slot_at sector number ≡ erased 256
 blank_slot size sector wide long same number inside =
     let few : number < slots_in size = subst (λ n. number < slots_in n) long inside in
     let room : 256 ≤ size - place_of number = omega (arith, wide.whole, few) in
     ap (take 256) (behind_part 512 (place_of number) sector (erased size) (omega arith) same ∙ drop-replicate {X = ℕ} (place_of number) size 255) ∙ take-replicate 256 (size - place_of number) 255 room
 
--- the gate opened, and the base counts
+-- the gate was opened, and the base counts
 pub opened : (size : ℕ) (sector : Sector) (full new : Image) (base : List ℕ) → IsSectorSize size → IsImage size new → IsWritten size (sector_of full sector) base
     → new ≡ with_sector full sector (programmed (sector_of full sector) 511 (0 ∷ [])) → IsBase (sector_of new sector) base
 opened size sector full new base wide sized w e =
@@ -204,7 +204,7 @@ opened size sector full new base wide sized w e =
       blank = blank_slot size (sector_of new sector) wide (sector_size size new sector sized) (ap (drop 512) is ∙ programmed_behind (sector_of full sector) 511 (0 ∷ []) inside 512 (lit≤ tt) ∙ w.behind);
     }
 
--- the gate's call failed: it opened, or it is closed
+-- the call for the gate failed: the gate is open or closed
 pub half_opened : (size : ℕ) (sector : Sector) (full new : Image) (finished base old : List ℕ) → IsSectorSize size → IsImage size new → IsWritten size (sector_of full sector) base
     → Torn sector 511 512 finished full new → MayLeave old base (sector_of new sector)
 half_opened size sector full new finished base old wide sized w torn =
@@ -220,11 +220,11 @@ half_opened size sector full new finished base old wide sized w torn =
 
 -- ---- a slot
 
--- its gate is the byte of the sector that is 255 behind its begin
+-- the gate of a slot is the byte of the sector 255 after the slot's start
 slot_gate_is : (sector : List ℕ) (number : ℕ) → slot_gate (slot_at sector number) ≡ get_or sector (place_of number + 255) 0
 slot_gate_is sector number = get_or-take 256 (drop (place_of number) sector) 255 0 (lit< tt) ∙ get_or-drop (place_of number) sector 255 0
 
--- only the bytes of one slot were touched
+-- only the bytes of one slot changed
 pub record IsInSlot (number : ℕ) (old new : List ℕ) : Type 0 where
   pub front : take (place_of number) new ≡ take (place_of number) old
   pub behind : drop (place_of number + 256) new ≡ drop (place_of number + 256) old
@@ -232,14 +232,14 @@ pub record IsInSlot (number : ℕ) (old new : List ℕ) : Type 0 where
 pub in_slot_then : (number : ℕ) (old between new : List ℕ) → IsInSlot number old between → IsInSlot number between new → IsInSlot number old new
 in_slot_then number old between new p q = record { front = q.front ∙ p.front; behind = q.behind ∙ p.behind }
 
--- a program of bytes of the slot, which ended
+-- a program of bytes in a slot that succeeded
 pub in_slot_done : (number place : ℕ) (sector bytes : List ℕ) → place ≤ length sector → place_of number ≤ place → place + length bytes ≤ place_of number + 256 → IsInSlot number sector (programmed sector place bytes)
 in_slot_done number place sector bytes inside from upto = record {
   front = programmed_front sector place bytes inside (place_of number) from;
   behind = programmed_behind sector place bytes inside (place_of number + 256) upto;
 }
 
--- and one that failed
+-- a program of bytes in a slot that failed
 pub in_slot_torn : (number start end : ℕ) (finished old new : List ℕ) → place_of number ≤ start → end ≤ place_of number + 256 → TornSector start end finished old new → IsInSlot number old new
 in_slot_torn number start end finished old new from upto torn = record {
   front = front_of_front start (place_of number) new old from torn.before;
@@ -260,14 +260,14 @@ keeps_others number size old new l m kept = record {
   others = λ k ne. other_slot number k old new kept ne;
 }
 
--- where the program of the entry failed, the gate is as it was
+-- if the program of the entry failed, the gate is unchanged
 pub entry_closed : (number end : ℕ) (finished old new : List ℕ) → slot_at old number ≡ erased 256 → end ≤ place_of number + 255 → TornSector (place_of number) end finished old new → slot_gate (slot_at new number) ≢ 0
 entry_closed number end finished old new blank upto torn e =
     let was : slot_gate (slot_at old number) ≡ 255 = ap (λ slot. get_or slot 255 0) blank ∙ get_or-replicate {A = ℕ} 256 255 255 0 (lit< tt) in
     let here = behind end new old (place_of number + 255) upto torn.behind in
     zero≢255 (sym e ∙ slot_gate_is new number ∙ here ∙ sym (slot_gate_is old number) ∙ was)
 
--- the entry stands at the slot's begin
+-- the entry is at the start of the slot
 abbrev pub HasFront : List ℕ → ℕ → List ℕ → Type 0
 HasFront sector number entry = take (length entry) (drop (place_of number) sector) ≡ entry
 
@@ -282,14 +282,14 @@ front_stays number old new entry short same there =
     take-take (length entry) 256 (drop (place_of number) new) (omega arith)
     ∙ front_part (place_of number + 255) new old (place_of number) (length entry) (omega arith) same ∙ there
 
--- the gate opened, and the entry counts
+-- the gate was opened, and the entry counts
 pub slot_opened : (number : ℕ) (sector entry : List ℕ) → place_of number + 255 ≤ length sector → length entry ≤ 242 → HasFront sector number entry → HasEntry (slot_at (programmed sector (place_of number + 255) (0 ∷ [])) number) entry
 slot_opened number sector entry inside short there = record {
   front = front_stays number sector (programmed sector (place_of number + 255) (0 ∷ [])) entry short (programmed_front sector (place_of number + 255) (0 ∷ []) inside (place_of number + 255) (omega arith)) there;
   gate = slot_gate_is (programmed sector (place_of number + 255) (0 ∷ [])) number ∙ gate_programmed sector (place_of number + 255) inside;
 }
 
--- the gate's call failed: it opened, or it is closed
+-- the call for the gate failed: the gate is open or closed
 pub slot_half : (number end : ℕ) (finished old new entry : List ℕ) → length entry ≤ 242 → HasFront old number entry → TornSector (place_of number + 255) end finished old new → MayLeaveSlot entry (slot_at new number)
 slot_half number end finished old new entry short there torn =
     elim (cases_eq (slot_gate (slot_at new number)) 0) [
@@ -297,7 +297,7 @@ slot_half number end finished old new entry short there torn =
       | inr ne ↦ inl ne
     ]
 
--- what holds of a call that ended, and of one that failed, holds
+-- what holds of a call that succeeded and of one that failed holds
 pub either : {T E P Q R : Type 0} (result : Result T E) → (P → R) → (Q → R) → OnOk result P → OnErr result Q → R
 either (Ok done) f g p q = f p
 either (Err fault) f g p q = g q

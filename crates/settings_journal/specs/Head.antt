@@ -19,7 +19,7 @@ magic_of version = 80 ∷ 78 ∷ 74 ∷ number_of version ∷ []
 abbrev pub head_of : List ℕ → List ℕ
 head_of sector = take 512 sector
 
--- the version that a head claims, by the byte behind "PNJ"
+-- the version that a head claims, by the byte after "PNJ"
 abbrev pub version_at : List ℕ → Version
 version_at head = if slice_index head 3 == 1 then One else Two
 
@@ -27,11 +27,11 @@ version_at head = if slice_index head 3 == 1 then One else Two
 abbrev pub gate_of : List ℕ → ℕ
 gate_of head = slice_index head 511
 
--- the generation, which is stored as what is left of 65,535: bits that rise make it smaller
+-- the generation, which is stored as 65,535 minus it: bits that rise make it smaller
 abbrev pub generation_at : List ℕ → ℕ
 generation_at head = 65535 - from_be_bytes w16 (slice_range head 4 6)
 
--- the gate is open, magic and version are right and the generation is at least 1
+-- the gate is open, magic and version are right, and the generation is at least 1
 pub record Counts (head : List ℕ) : Type 0 where
   pub gate : gate_of head ≡ 0
   pub magic : take 4 head ≡ magic_of (version_at head)
@@ -49,39 +49,39 @@ pub record IsSettings (settings : Settings) : Type 0 where
   pub im3 : length settings.im3 ≡ 54
   pub im4 : length settings.im4 ≡ 54
 
--- a name in 240 bytes, filled up with zeros
+-- a name in 240 bytes, padded with zeros
 abbrev pub name_field : List ℕ → List ℕ
 name_field name = name ++ replicate (240 - length name) 0
 
--- the 383 bytes that a base has in both versions: magic and version, generation, length of the name, the name and zeros,
--- suite, I&M1 to I&M3
+-- The first 383 bytes of a base, the same in both versions: magic and version, generation, length of the name, the name
+-- and zeros, the IP suite, I&M1 to I&M3.
 unfoldable pub front_of : Version → ℕ → Settings → List ℕ
 front_of version generation settings =
     magic_of version ++ to_be_bytes w16 (65535 - generation) ++ (length settings.name ∷ []) ++ name_field settings.name
     ++ settings.suite.address ++ settings.suite.mask ++ settings.suite.gateway ++ settings.im1 ++ settings.im2 ++ settings.im3
 
--- the 437 bytes of a base as it is written, in version 2: I&M4 stands behind them
+-- the 437 bytes of a base as it is written, in version 2: I&M4 follows the first 383
 abbrev pub base_of : ℕ → Settings → List ℕ
 base_of generation settings = front_of Two generation settings ++ settings.im4
 
--- the I&M4 of a head: version 1 has none, which is read as zeros
+-- the I&M4 of a head; version 1 has none, which is read as zeros
 abbrev pub im4_at : Version → List ℕ → List ℕ
 im4_at One head = replicate 54 0
 im4_at Two head = slice_range head 383 437
 
--- the base has this name: its length, and the name and zeros
+-- the base holds this name: its length, and the name and zeros
 pub record HasName (head name : List ℕ) : Type 0 where
   pub short : length name ≤ 240
   pub length : slice_index head 6 ≡ length name
   pub field : slice_range head 7 247 ≡ name_field name
 
--- the base of the head is that of these settings
+-- the base of the head holds these settings
 pub record Spells (head : List ℕ) (settings : Settings) : Type 0 where
   pub valid : IsSettings settings
   pub front : take 383 head ≡ front_of (version_at head) (generation_at head) settings
   pub im4 : settings.im4 ≡ im4_at (version_at head) head
 
--- each bit is as it was, or rose from 0 to 1
+-- each bit is unchanged or rose from 0 to 1
 pub record Rises (old new : List ℕ) : Type 0 where
   pub length : length new ≡ length old
   pub each : (place bit : ℕ) → (bit_at (slice_index new place) bit ≡ bit_at (slice_index old place) bit) ⊎ (bit_at (slice_index new place) bit ≡ 1)

@@ -1,4 +1,4 @@
--- What an image of two sectors is to the journal: which sector is active, and what a start makes of it.
+-- What an image of two sectors means to the journal: which sector is active, and what a start makes of it.
 use Rattle.std.specs.Prelude.{◌≡◌, ◌≢◌, ◌⊎◌, ◌+◌, ◌-◌, ◌*◌, ◌≤◌, ℕ, Bool, true, false, List, length, Option, Some, None}
 use Rattle.pn_values.specs.Settings.{factory_settings}
 use Rattle.pn_values.specs.declared.settings.Settings.{Settings}
@@ -12,7 +12,7 @@ use Rattle.settings_journal.specs.Slot.{After, free_in}
 abbrev pub head_in : Image → Sector → List ℕ
 head_in image sector = head_of (sector_of image sector)
 
--- how many slots a sector has
+-- the number of slots of a sector
 abbrev pub slots_of : List ℕ → ℕ
 slots_of sector = slots_in (length sector)
 
@@ -21,7 +21,7 @@ pub record IsActive (image : Image) (sector : Sector) : Type 0 where
   pub counts : Counts (head_in image sector)
   pub newest : IsOlder (generation_at (head_in image sector)) (head_in image (other sector))
 
--- no gate is open, so no sector counts, and none was ever to
+-- no gate is open, so no sector counts
 pub record IsClosed (image : Image) : Type 0 where
   pub first : gate_of (head_in image First) ≢ 0
   pub second : gate_of (head_in image Second) ≢ 0
@@ -31,7 +31,7 @@ abbrev pub spare : Option Sector → Sector
 spare None = First
 spare (Some active) = other active
 
--- a sector is read as these settings: what its base spells, and its slots make of it
+-- a sector is read as these settings: those of its base, changed by its slots
 pub record Reads (sector : List ℕ) (settings : Settings) : Type 0 where
   pub base : Settings
   pub spells : Spells (head_of sector) base
@@ -41,20 +41,20 @@ pub record Reads (sector : List ℕ) (settings : Settings) : Type 0 where
 abbrev pub left_in : List ℕ → ℕ
 left_in sector = free_in (version_at (head_of sector)) sector (slots_of sector)
 
--- The image is read as these settings, with this generation and so many slots left: what the active sector is read as; or,
--- where no gate is open, what a station leaves the factory with.
+-- The image is read as these settings, with this generation and this many slots left: what the active sector is read
+-- as, or, if no gate is open, the factory settings.
 abbrev pub StartsAt : Image → Option Sector → Settings → ℕ → ℕ → Type 0
 StartsAt image (Some sector) settings generation free =
     IsActive image sector × Reads (sector_of image sector) settings × (generation ≡ generation_at (head_in image sector)) × (free ≡ left_in (sector_of image sector))
 StartsAt image None settings generation free = IsClosed image × (settings ≡ factory_settings) × (generation ≡ 0) × (free ≡ 0)
 
--- How many commits there is room for, in sectors of so many slots: one in each slot that is left, and with each generation
--- that is left one for a base and one for each slot behind it.
+-- How many commits there is room for, in sectors of this many slots: one for each slot left, and for each generation
+-- left one for a base and one for each slot after it.
 abbrev pub room_of : ℕ → ℕ → ℕ → ℕ
 room_of slots generation free = (65535 - generation) * (slots + 1) + free
 
--- How many commits are left, of so much room: that many further ones are accepted while no flash call fails. After a commit
--- that failed none is, until the next start.
+-- How many commits are left, with this room: this many more are accepted as long as no flash call fails. After a commit
+-- that failed none is left, until the next start.
 abbrev pub commits_left : Bool → ℕ → ℕ
 commits_left true room = 0
 commits_left false room = room
@@ -67,7 +67,7 @@ capacity size = room_of (slots_in size) 0 0
 abbrev pub IsAmple : ℕ → Type 0
 IsAmple size = 65535 ≤ capacity size
 
--- The image is read as these settings, and there is room for so many commits.
+-- The image is read as these settings, and there is room for this many commits.
 abbrev pub StartsWith : Image → Settings → ℕ → Type 0
 StartsWith image settings room =
     (active : Option Sector) × (generation : ℕ) × (free : ℕ) × StartsAt image active settings generation free × (room ≡ room_of (slots_of image.first) generation free)
@@ -76,16 +76,16 @@ StartsWith image settings room =
 abbrev pub BootsTo : Image → Settings → Type 0
 BootsTo image settings = (room : ℕ) × StartsWith image settings room
 
--- No journal of this layout left the image: two sectors count with one generation, or none counts and a gate is open,
--- or what the active one holds are no settings.
+-- No journal of this layout left the image: two sectors count with the same generation, or none counts and a gate is
+-- open, or the contents of the active one are not settings.
 abbrev pub IsForeign : Image → Type 0
 IsForeign image =
     (Counts (head_in image First) × Counts (head_in image Second) × (generation_at (head_in image First) ≡ generation_at (head_in image Second)))
     ⊎ ((¬ Counts (head_in image First)) × (¬ Counts (head_in image Second)) × ((gate_of (head_in image First) ≡ 0) ⊎ (gate_of (head_in image Second) ≡ 0)))
     ⊎ ((sector : Sector) × IsActive image sector × ((settings : Settings) → ¬ Reads (sector_of image sector) settings))
 
--- The sector is active and is read as settings, and the other one, with any of its bits risen as an erase that was cut short
--- leaves them, does not count or is older.
+-- The sector is active and is read as settings. The other one does not count or is older, whichever of its bits rise,
+-- as an interrupted erase leaves them.
 pub record IsLeft (image : Image) (sector : Sector) : Type 0 where
   pub active : IsActive image sector
   pub settings : (settings : Settings) × Reads (sector_of image sector) settings
@@ -95,7 +95,7 @@ abbrev pub LeftAt : Image → Option Sector → Type 0
 LeftAt image (Some sector) = IsLeft image sector
 LeftAt image None = IsClosed image
 
--- Left by this device: blank, or what its commits leave, whichever of their calls failed.
+-- Left by this device: blank, or as its commits leave it, whichever of their calls failed.
 abbrev pub LeftByDevice : Image → Type 0
 LeftByDevice image = (active : Option Sector) × LeftAt image active
 

@@ -1,4 +1,4 @@
--- The slots of a sector: 256 bytes each, behind the head. A slot keeps a command, and its gate makes the command count.
+-- The slots of a sector: 256 bytes each, after the head. A slot holds a command, and its gate makes the command count.
 use Rattle.std.specs.Prelude.{◌≡◌, ◌≢◌, ◌⊎◌, ◌+◌, ◌-◌, ◌*◌, ◌==◌, if◌then◌else◌, ℕ, zero, suc, Bool, true, false, List, [], ◌∷◌, ◌++◌, length, take, drop, slice_index, Option, Some, None, nat_eq, nat_le}
 use Rattle.std.specs.Cmp.Lexicographic.{pointwise}
 use Rattle.pn_values.specs.Command.{apply}
@@ -12,7 +12,7 @@ use Rattle.flash_model.specs.Image.{erased}
 use Rattle.settings_journal.specs.declared.head.Version.{Version}
 use Rattle.settings_journal.specs.declared.head.Version.TheVariants.{One, Two}
 
--- where a slot begins in its sector
+-- the offset of a slot in its sector
 abbrev pub place_of : ℕ → ℕ
 place_of number = 512 + 256 * number
 
@@ -30,7 +30,7 @@ slot_gate slot = slice_index slot 255
 abbrev pub entry : ℕ → List ℕ → List ℕ
 entry kind payload = kind ∷ length payload ∷ payload
 
--- The entry of a command. Of a value that is not kept only its kind is.
+-- The entry of a command. If its value is not stored, the entry has only the kind.
 abbrev pub entry_of : Command → List ℕ
 entry_of (SetName true name) = entry 1 name
 entry_of (SetName false name) = entry 2 []
@@ -51,20 +51,20 @@ pub record HasEntry (slot entry : List ℕ) : Type 0 where
 
 -- ---- what is read
 
--- the command of a payload that has to be so long
+-- the command, if the payload has the required length
 abbrev pub sized : ℕ → List ℕ → Command → Option Command
 sized size payload command = if length payload == size then Some command else None
 
--- address, mask and gateway, one behind the other
+-- address, mask and gateway, one after the other
 abbrev pub suite_in : List ℕ → Suite
 suite_in payload = record { address = take 4 payload; mask = take 4 (drop 4 payload); gateway = take 4 (drop 8 payload) }
 
--- the I&M4 of a slot, which version 1 does not have
+-- the command that sets I&M4; version 1 has none
 abbrev pub im4_in : Version → List ℕ → Option Command
 im4_in One payload = None
 im4_in Two payload = sized 54 payload (SetIm (Im4 payload))
 
--- the command of a kind and a payload, if there is such a kind and the payload is as long as it has to be
+-- the command of a kind and a payload, if the kind exists and the payload has the required length
 abbrev pub command_of : Version → ℕ → List ℕ → Option Command
 command_of version kind payload =
     if kind == 1 then Some (SetName true payload)
@@ -85,7 +85,7 @@ abbrev pub command_in : Version → List ℕ → Option Command
 command_in version slot =
     if nat_le (slice_index slot 1) 240 then command_of version (slice_index slot 0) (take (slice_index slot 1) (drop 2 slot)) else None
 
--- a name and a suite that are kept are those that a station may have
+-- a name or a suite that is stored is one that a station may have
 abbrev pub IsCommand : Command → Type 0
 IsCommand (SetName true name) = IsNameOrNone name
 IsCommand (SetName false name) = Unit {0}
@@ -96,27 +96,28 @@ IsCommand ResetApplication = Unit {0}
 IsCommand ResetCommunication = Unit {0}
 IsCommand ResetAll = Unit {0}
 
--- the command that is meant, where it is one; none where none is meant, or what is meant is none
+-- the given command if it is valid; none if no command is given or it is not valid
 abbrev pub IsJudged : Option Command → Option Command → Type 0
 IsJudged meant (Some command) = (meant ≡ Some command) × IsCommand command
 IsJudged meant None = (command : Command) → meant ≡ Some command → ¬ IsCommand command
 
--- the open slot keeps this command
+-- the open slot holds this command
 pub record Keeps (version : Version) (slot : List ℕ) (command : Command) : Type 0 where
   pub is : command_in version slot ≡ Some command
   pub valid : IsCommand command
 
--- a slot with the entry keeps a command that makes of any settings what this command makes of them
+-- a slot with the entry holds a command with the same effect on any settings as this command
 abbrev pub IsEntryOf : List ℕ → Command → Type 0
 IsEntryOf entry command =
     (slot : List ℕ) → HasEntry slot entry → (kept : Command) × Keeps Two slot kept × ((settings : Settings) → apply kept settings ≡ apply command settings)
 
--- A slot makes the one of the other: a closed one changes nothing, and what an open one keeps is applied.
+-- A slot turns the first settings into the second: a closed slot changes nothing, and the command of an open one is
+-- applied.
 abbrev pub Follows : Version → List ℕ → Settings → Settings → Type 0
 Follows version slot old new =
     ((slot_gate slot ≢ 0) × (new ≡ old)) ⊎ ((slot_gate slot ≡ 0) × ((command : Command) × Keeps version slot command × (new ≡ apply command old)))
 
--- so many slots of a sector, in order, make the one of the other
+-- this many slots of a sector, in order, turn the first settings into the second
 abbrev pub After : Version → List ℕ → ℕ → Settings → Settings → Type 0
 After version sector zero base settings = settings ≡ base
 After version sector (suc count) base settings =
@@ -126,11 +127,11 @@ After version sector (suc count) base settings =
 abbrev pub is_blank : List ℕ → Bool
 is_blank slot = pointwise nat_eq slot (erased 256)
 
--- the next slot behind a slot of this number: the one behind it, where it is in use
+-- the next slot, given a slot of this number: the one after it if it is in use
 abbrev pub next_behind : List ℕ → ℕ → ℕ → ℕ
 next_behind slot number next = if is_blank slot then next else suc number
 
--- of so many slots, the one behind the last that holds a byte other than FF
+-- among this many slots, the one after the last that holds a byte other than FF
 abbrev pub next_slot : List ℕ → ℕ → ℕ
 next_slot sector zero = 0
 next_slot sector (suc count) = next_behind (slot_at sector count) count (next_slot sector count)

@@ -1,4 +1,4 @@
--- What a start makes of two heads, before it looks at the settings.
+-- What a start makes of two heads, before it reads the settings.
 use Rattle.std.specs.Prelude.{◌≡◌, ◌⊎◌, ℕ, List, Option, Some, None}
 use Rattle.flash_model.specs.declared.flash.Sector.{Sector}
 use Rattle.flash_model.specs.declared.flash.Sector.TheVariants.{First, Second}
@@ -15,12 +15,12 @@ pub record IsNewest (head behind : List ℕ) (generation : ℕ) : Type 0 where
   pub newest : IsOlder (generation_at head) behind
   pub is : generation ≡ generation_at head
 
--- of two heads, the one of this sector
+-- the head of this sector is the newest of the two
 abbrev pub IsNewestOf : List ℕ → List ℕ → Sector → ℕ → Type 0
 IsNewestOf first second First generation = IsNewest first second generation
 IsNewestOf first second Second generation = IsNewest second first generation
 
--- neither is: both count with one generation, or none counts
+-- neither head is the newest: both count with the same generation, or none counts
 abbrev pub HasNoNewest : List ℕ → List ℕ → Type 0
 HasNoNewest first second =
     (Counts first × Counts second × (generation_at first ≡ generation_at second)) ⊎ ((¬ Counts first) × (¬ Counts second))

@@ -1,4 +1,4 @@
-// What the journal asks of the flash: to read a head and slots, and to write a base or a slot.
+// The journal's access to the flash: it reads a head and slots, and writes a base or a slot.
 ghost use Rattle.std.specs.Prelude.{◌≡◌, ◌<◌, ◌≤◌, List, [], false, length, IsOk, OnOk, IfOk, MatchOption};
 ghost use Rattle.pn_values.specs.declared.settings.Settings.{Settings};
 ghost use Rattle.flash_model.specs.Calls.{Call};
@@ -31,7 +31,7 @@ pub(crate) fn read_head<F: Flash<S>, const S: usize>(
     Ok(head)
 }
 
-/// How many slots a sector of this size has.
+/// The number of slots of a sector of this size.
 pub(crate) fn slots_of(size: usize) -> usize
     requires { 512 ≤ size }
     ensures { result ≡ slots_in size }
@@ -39,8 +39,9 @@ pub(crate) fn slots_of(size: usize) -> usize
     (size - HEAD) / SLOT
 }
 
-/// Applies to the settings of a base what the open slots of its sector keep, in order. Gives the slot behind the last one
-/// that holds a byte other than FF, so that a write which was cut short is never written over. None where an open one keeps no command.
+/// Applies the commands in the open slots of a sector to the settings of its base, in order. Returns the slot after the
+/// last one that holds a byte other than FF, so that an interrupted write is never written over. Returns `None` if an
+/// open slot does not hold a command.
 pub(crate) fn read_slots<F: Flash<S>, const S: usize>(
     flash: &mut F,
     sector: Sector,
@@ -62,7 +63,7 @@ pub(crate) fn read_slots<F: Flash<S>, const S: usize>(
     let mut next = 0;
     for number in 0..slots_of(S) {
         read_slot(flash, sector, number, &mut slot)?;
-        // A slot that was cut short counts as written: what is torn in it could read as something else under a second write.
+        // A slot whose write was interrupted counts as written: a second write over it could make something else of it.
         next = behind(&slot, number, next);
         let Some(()) = follow(version, &slot, settings) else {
             return Ok(None);
@@ -89,8 +90,8 @@ fn read_slot<F: Flash<S>, const S: usize>(
     flash.read(sector, HEAD + SLOT * number, slot)
 }
 
-/// Writes a base into a sector. The gate opens last and by a call of its own, so that a base which was cut short never
-/// counts.
+/// Writes a base into a sector. The gate is opened last and by a call of its own, so that a base whose write was
+/// interrupted never counts.
 pub(crate) fn write_base<F: Flash<S>, const S: usize>(
     flash: &mut F,
     sector: Sector,
@@ -107,14 +108,14 @@ pub(crate) fn write_base<F: Flash<S>, const S: usize>(
     ensures lost { StaysLost (F.is_lost flash.old) (F.is_lost flash.new) result }
     ensures reliable { F.is_reliable flash.old → IsOk result × F.is_reliable flash.new }
 {
-    // The sector is erased first: its old gate must be gone before any octet of the new base is there.
+    // The sector is erased first: its old gate must be gone before any octet of the new base is written.
     flash.erase(sector)?;
     flash.program(sector, 0, base)?;
     flash.program(sector, GATE, &[OPEN])
 }
 
-/// Writes an entry into a blank slot. Its gate opens last and by a call of its own, so that an entry which was cut short
-/// never counts.
+/// Writes an entry into a blank slot. Its gate is opened last and by a call of its own, so that an entry whose write
+/// was interrupted never counts.
 pub(crate) fn write_slot<F: Flash<S>, const S: usize>(
     flash: &mut F,
     sector: Sector,

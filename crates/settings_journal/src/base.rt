@@ -1,4 +1,4 @@
-// The base of a sector: a generation and the settings in 437 bytes.
+// The base of a sector: a generation and the settings, in 437 bytes.
 ghost use Rattle.std.specs.Prelude.{◌≡◌, ◌↔◌, ◌+◌, ◌≤◌, ◌++◌, ℕ, List, length, replicate, slice_range, take, IsTrue, IfSome};
 ghost use Rattle.pn_values.specs.StationName.{IsNameOrNone};
 ghost use Rattle.pn_values.specs.declared.settings.Settings.{Settings};
@@ -8,10 +8,10 @@ use crate::head::{HEAD, Version, magic, part, version_of};
 use arrayvec::ArrayVec;
 use pn_values::{IpSuite, Padded, Settings, StationName};
 
-/// How many bytes a base has.
+/// The length of a base in bytes.
 pub(crate) const BASE: usize = 437;
 
-// Where the fields of a base begin, behind magic, version and generation.
+// The offsets of the fields of a base, after magic, version and generation.
 const NAME_LENGTH: usize = 6;
 
 const NAME: usize = 7;
@@ -30,11 +30,11 @@ const IM3: usize = 329;
 
 const IM4: usize = 383;
 
-/// How many bytes there are for a name.
+/// The length of the name field in bytes.
 const NAME_FIELD: usize = ADDRESS - NAME;
 
-/// The base with this generation and these settings. What it keeps of the generation is how many are left, so that bits
-/// which rise in an erase that is cut short can only make a sector older.
+/// The base with this generation and these settings. It stores how many generations are left, so that bits that rise in
+/// an interrupted erase can only make a sector older.
 pub(crate) fn encode(generation: u16, settings: &Settings) -> ArrayVec<u8, BASE>
     ensures value { result.items ≡ base_of generation settings.now }
     ensures valid { IsSettings settings.now }
@@ -42,7 +42,7 @@ pub(crate) fn encode(generation: u16, settings: &Settings) -> ArrayVec<u8, BASE>
 {
     let name = settings.name.as_bytes();
     let mut base = ArrayVec::new();
-    // Version 1 is read and never written, so that a station comes to version 2 with its next base.
+    // Version 1 is only read, so a station comes to version 2 with its next base.
     put(&mut base, &magic(Version::Two));
     put(&mut base, &(u16::MAX - generation).to_be_bytes());
     put(&mut base, &[name.len() as u8]);
@@ -65,7 +65,7 @@ fn put(base: &mut ArrayVec<u8, BASE>, bytes: &[u8])
     let _ = base.try_extend_from_slice(bytes);
 }
 
-// The name, and zeros up to the end of its field.
+// Appends the name, and zeros up to the end of its field.
 fn put_name(base: &mut ArrayVec<u8, BASE>, name: &[u8])
     requires room { length base.old.items + 240 ≤ 437 }
     requires short { length name.now ≤ 240 }
@@ -75,7 +75,7 @@ fn put_name(base: &mut ArrayVec<u8, BASE>, name: &[u8])
     put(base, &[0; NAME_FIELD][name.len()..]);
 }
 
-/// The settings that the base of a head spells, if it spells any. Their generation is not looked at.
+/// The settings that the base of a head spells, if it spells any. Their generation is ignored.
 pub(crate) fn decode(head: &[u8; HEAD]) -> Option<Settings>
     requires { take 4 head.now ≡ magic_of (version_at head.now) }
     ensures spelled { IfSome result (λ settings. Spells head.now settings) }
@@ -93,18 +93,18 @@ pub(crate) fn decode(head: &[u8; HEAD]) -> Option<Settings>
     })
 }
 
-// The I&M4 in the base, which version 1 does not have.
+// The I&M4 in the base; version 1 has none.
 fn im4_of(head: &[u8; HEAD]) -> Padded<54>
     ensures { result ≡ im4_at (version_at head.now) head.now }
 {
     match version_of(head) {
-        // I&M4 that was never kept is as one that was never set.
+        // An I&M4 that was never stored is like one that was never set.
         Version::One => Padded::zero(),
         Version::Two => Padded::new(part(head, IM4)),
     }
 }
 
-// The name in the base, with zeros alone behind it.
+// The name in the base. Only zeros may follow it in its field.
 fn name_of(head: &[u8; HEAD]) -> Option<StationName>
     ensures named { IfSome result (λ name. IsNameOrNone name × HasName head.now name) }
     ensures only { (name : List ℕ) → IsNameOrNone name → HasName head.now name → result ≡ Some name }

@@ -1,9 +1,9 @@
-/// One who puts into a flash what a chip holds.
+/// A source that fills a flash with the contents of a chip.
 pub trait Fill<F> {
-    /// What a flash becomes.
+    /// The relation between the flash before and after.
     ghost post: { Self → F → F → Type 0 };
 
-    /// Puts it there.
+    /// Fills the flash.
     fn fill(&self, flash: &mut F)
         ensures { post self.now flash.old flash.new };
 }

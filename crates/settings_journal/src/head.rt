@@ -3,29 +3,30 @@ ghost use Rattle.std.specs.Prelude.{◌≡◌, ◌↔◌, ◌+◌, ◌≤◌, sl
 ghost use Rattle.settings_journal.specs.Head.{gate_of, magic_of, version_at};
 ghost use Rattle.settings_journal.specs.Start.{IsReadAs};
 
-/// How many bytes of a sector the journal reads: the base, and the gate behind it.
+/// How many bytes at the start of a sector the journal reads: the base and the gate after it.
 pub(crate) const HEAD: usize = 512;
 
-/// The version of a layout. Version 1 has no I&M4; it is read, and never written.
+/// The version of a layout. Version 1 has no I&M4. It is read but never written.
 #[derive(Clone, Copy)]
 pub(crate) enum Version {
     One,
     Two,
 }
 
-/// Where the gate is.
+/// The offset of the gate.
 pub(crate) const GATE: usize = 511;
 
-/// What the gate is when the base in front of it counts.
+/// The value of an open gate: the base before it counts.
 pub(crate) const OPEN: u8 = 0;
 
-// Where the version is.
+// The offset of the version.
 const VERSION: usize = 3;
 
-// Where two bytes, the higher first, keep how many generations are left.
+// The offset of two bytes, the higher first, that store how many generations are left.
 const LEFT: usize = 4;
 
-/// The generation of a head that counts: its gate is open, magic and version are right, and the generation is not 0.
+/// The generation of a head that counts: its gate is open, its magic and version are right, and its generation is not
+/// 0.
 pub(crate) fn generation_of(head: &[u8; HEAD]) -> Option<u16>
     ensures { IsReadAs head.now result }
 {
@@ -33,7 +34,7 @@ pub(crate) fn generation_of(head: &[u8; HEAD]) -> Option<u16>
         return None;
     }
     let generation = u16::MAX - u16::from_be_bytes(part(head, LEFT));
-    // 0 is what erased octets say: no base has it, so an erased sector never counts.
+    // Erased octets say 0. No base has generation 0, so an erased sector never counts.
     (generation > 0).then_some(generation)
 }
 
@@ -65,7 +66,7 @@ pub(crate) fn is_open(head: &[u8; HEAD]) -> bool
     head[GATE] == OPEN
 }
 
-/// So many bytes of the head, from a place on.
+/// `N` bytes of the head from an offset on.
 pub(crate) fn part<const N: usize>(head: &[u8; HEAD], place: usize) -> [u8; N]
     requires { place + N ≤ 512 }
     ensures { result ≡ slice_range head.now place (place + N) }

@@ -1,4 +1,4 @@
-// A slot of a sector: an entry with a command, and a gate behind it.
+// A slot of a sector: an entry with a command, and a gate after it.
 ghost use Rattle.std.specs.Prelude.{◌≡◌, ◌≢◌, ◌<◌, ◌≤◌, ◌++◌, length, true, Some, MatchOption};
 ghost use Rattle.pn_values.specs.Command.{apply};
 ghost use Rattle.pn_values.specs.IpSuite.{IsSuite};
@@ -11,19 +11,19 @@ use crate::head::{OPEN, Version};
 use arrayvec::ArrayVec;
 use pn_values::{Command, ImValue, IpSuite, Padded, Settings, StationName};
 
-/// How many bytes a slot has.
+/// The length of a slot in bytes.
 pub(crate) const SLOT: usize = 256;
 
-/// Where the gate of a slot is.
+/// The offset of the gate of a slot.
 pub(crate) const SLOT_GATE: usize = 255;
 
-/// How many bytes an entry has at most: its kind, the length of its payload, and a name.
+/// The maximum length of an entry: its kind, the length of its payload, and a name.
 pub(crate) const ENTRY: usize = 2 + MOST;
 
-// How many bytes a payload has at most.
+// The maximum length of a payload.
 const MOST: usize = 240;
 
-// What an erase leaves.
+// An erased slot.
 const BLANK: [u8; SLOT] = [0xFF; SLOT];
 
 /// The entry of a command: its kind, the length of the payload, and the payload.
@@ -69,7 +69,7 @@ fn entry(kind: u8, payload: &[u8]) -> ArrayVec<u8, ENTRY>
     entry
 }
 
-// Address, mask and gateway, one behind the other.
+// Address, mask and gateway, one after the other.
 fn octets_of(suite: &IpSuite) -> ArrayVec<u8, 12>
     ensures value { result.items ≡ suite.now.address ++ suite.now.mask ++ suite.now.gateway }
     ensures length { length result.items ≡ 12 }
@@ -85,8 +85,8 @@ fn octets_of(suite: &IpSuite) -> ArrayVec<u8, 12>
     octets
 }
 
-/// Makes of the settings what a slot makes of them: a closed one changes nothing, and what an open one keeps is applied.
-/// None where an open one keeps no command.
+/// Applies a slot to the settings: a closed slot changes nothing, and the command in an open slot is applied. Returns
+/// `None` if an open slot does not hold a command.
 pub(crate) fn follow(version: Version, slot: &[u8; SLOT], settings: &mut Settings) -> Option<()>
     ensures { MatchOption result ((next : Settings) →
         ¬ Follows version slot.now settings.old next) (λ _. Follows version slot.now settings.old settings.new) }
@@ -97,7 +97,7 @@ pub(crate) fn follow(version: Version, slot: &[u8; SLOT], settings: &mut Setting
     Some(())
 }
 
-// Applies a command to settings where they lie. Most slots keep a name, for which the texts are not copied.
+// Applies a command to settings in place. Most slots hold a name, for which the texts are not copied.
 fn change(settings: &mut Settings, command: Command)
     ensures { settings.new ≡ apply command settings.old }
 {
@@ -110,7 +110,7 @@ fn change(settings: &mut Settings, command: Command)
     }
 }
 
-/// The next slot, behind those up to this one: a slot that holds a byte other than FF is in use.
+/// The next slot, after those up to this one: a slot that holds a byte other than FF is in use.
 pub(crate) fn behind(slot: &[u8; SLOT], number: usize, next: usize) -> usize
     requires { number < 255 }
     ensures { result ≡ next_behind slot.now number next }
@@ -118,7 +118,7 @@ pub(crate) fn behind(slot: &[u8; SLOT], number: usize, next: usize) -> usize
     if *slot == BLANK { next } else { number + 1 }
 }
 
-/// How many slots are left, from the next one on.
+/// How many slots are left from the next one on.
 pub(crate) fn left_of(version: Version, slots: usize, next: usize) -> usize
     requires { next ≤ slots }
     ensures { result ≡ left_by version slots next }
@@ -129,7 +129,7 @@ pub(crate) fn left_of(version: Version, slots: usize, next: usize) -> usize
     }
 }
 
-// The command that an open slot keeps.
+// The command that an open slot holds.
 fn decode_command(version: Version, slot: &[u8; SLOT]) -> Option<Command>
     ensures { IsJudged (command_in version slot.now) result }
 {
@@ -172,7 +172,7 @@ fn command_at(version: Version, kind: u8, payload: &[u8]) -> Option<Command>
     }
 }
 
-// A permanent name, or none.
+// The command that sets a permanent name, if the payload is one or is empty.
 fn name_at(payload: &[u8]) -> Option<Command>
     ensures { IsJudged (Some (SetName true payload.now)) result }
 {
@@ -191,7 +191,7 @@ fn name_at(payload: &[u8]) -> Option<Command>
     }
 }
 
-// A permanent IP suite.
+// The command that sets a permanent IP suite, if the payload is one.
 fn suite_at(payload: &[u8]) -> Option<Command>
     ensures { IsJudged (sized 12 payload.now (SetIp true (suite_in payload.now))) result }
 {
@@ -208,7 +208,7 @@ fn suite_at(payload: &[u8]) -> Option<Command>
     })
 }
 
-// A command that has no payload.
+// A command without a payload.
 fn bare(payload: &[u8], command: Command) -> Option<Command>
     ensures { result ≡ sized 0 payload.now command }
 {
@@ -219,7 +219,7 @@ fn bare(payload: &[u8], command: Command) -> Option<Command>
     }
 }
 
-// An I&M4, which version 1 does not have.
+// The command that sets I&M4; version 1 has none.
 fn im4_at(version: Version, payload: &[u8]) -> Option<Command>
     ensures { IsJudged (im4_in version payload.now) result }
 {
@@ -229,7 +229,7 @@ fn im4_at(version: Version, payload: &[u8]) -> Option<Command>
     }
 }
 
-// A text of so many bytes, if the payload is one.
+// A text of `N` bytes, if the payload is one.
 fn text_at<const N: usize>(payload: &[u8]) -> Option<Padded<N>>
     ensures { MatchOption result (length payload.now ≢ N) (λ text. (text ≡ payload.now) × (length payload.now ≡ N)) }
 {

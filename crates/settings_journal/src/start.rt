@@ -1,4 +1,4 @@
-// What a start makes of both sectors.
+// The start from both sectors.
 ghost use Rattle.std.specs.Prelude.{◌≡◌, ◌≢◌, ◌⊎◌, ◌↔◌, ◌-◌, ℕ, List, [], Some, None, false, IsTrue, IsOk, IfOk, IfSome, MatchOption};
 ghost use Rattle.pn_values.specs.Settings.{factory_settings};
 ghost use Rattle.pn_values.specs.declared.settings.Settings.{Settings};
@@ -15,24 +15,24 @@ use crate::slot::left_of;
 use flash_model::{Flash, FlashFault, Sector};
 use pn_values::Settings;
 
-/// Where a journal stands in its sectors.
+/// The position of a journal in its sectors.
 #[derive(Clone, Copy)]
 pub(crate) struct Position {
     /// The sector whose base and slots count, if there is one.
     pub(crate) active: Option<Sector>,
     pub(crate) generation: u16,
-    /// How many of its slots are left.
+    /// How many slots of the active sector are left.
     pub(crate) free: usize,
 }
 
-/// What a start finds.
+/// The result of a start.
 #[derive(Drop)]
 pub(crate) struct Start {
     pub(crate) position: Position,
     pub(crate) settings: Settings,
 }
 
-/// What a start finds in both sectors, unless no journal of this layout left them.
+/// What a start finds in both sectors. `None` if no journal of this layout left them.
 pub(crate) fn read_start<F: Flash<S>, const S: usize>(
     flash: &mut F,
 ) -> Result<Option<Start>, FlashFault>
@@ -95,7 +95,7 @@ fn read_sector<F: Flash<S>, const S: usize>(
     }))
 }
 
-// A start where no sector counts: as from the factory, unless a gate is open.
+// A start if no sector counts: the factory settings, unless a gate is open.
 fn start_closed(first: &[u8; HEAD], second: &[u8; HEAD]) -> Option<Start>
     ensures closed { MatchOption result ((gate_of first.now ≡ 0) ⊎ (gate_of second.now ≡ 0)) (λ _. (gate_of first.now ≢ 0)
         × (gate_of second.now ≢ 0)) }
@@ -115,7 +115,7 @@ fn start_closed(first: &[u8; HEAD], second: &[u8; HEAD]) -> Option<Start>
     })
 }
 
-// Of two sectors that count the one with the greater generation, and no sector where they have the same.
+// Of two sectors that count, the one with the greater generation. `None` if they have the same, or none counts.
 fn newest(first: Option<u16>, second: Option<u16>) -> Option<(Sector, u16)>
     ensures { (a b : List ℕ) → IsReadAs a first → IsReadAs b second →
         MatchOption result (HasNoNewest a b) (λ newest. IsNewestOf a b newest.0 newest.1) }

@@ -1,4 +1,4 @@
-// How a commit writes: into the next slot, or, where none is left, as a base into the other sector.
+// How a commit writes: into the next slot, or, if none is left, as a base into the other sector.
 ghost use Rattle.std.specs.Prelude.{◌≡◌, ◌≢◌, ◌⊎◌, List, None, Some, IsOk, MatchOption};
 ghost use Rattle.pn_values.specs.declared.settings.Settings.{Settings};
 ghost use Rattle.flash_model.specs.Calls.{Call};
@@ -17,7 +17,8 @@ use crate::start::Position;
 use flash_model::{Flash, FlashFault, Sector};
 use pn_values::{Command, Settings};
 
-/// Stores a command, and what it makes of the settings. There must be room. Where the journal then stands is the result.
+/// Stores a command, and with it the settings that it makes. There must be room. Returns the new position of the
+/// journal.
 pub(crate) fn store<F: Flash<S>, const S: usize>(
     flash: &mut F,
     position: Position,
@@ -78,7 +79,7 @@ fn with_slot(position: Position) -> Option<Sector>
     position.active
 }
 
-// The sector that is not active, which the next base goes to.
+// The sector that is not active. The next base goes there.
 fn spare_of(active: Option<Sector>) -> Sector
     ensures { result ≡ spare active }
 {

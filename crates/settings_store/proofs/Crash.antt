@@ -1,4 +1,4 @@
--- What holds of two stretches, one after the other.
+-- Facts about two stretches, one after the other.
 use Rattle.std.proofs.Common.{◌≡◌, ◌+◌, ℕ, Bool, true, false, List, [], ◌∷◌, ◌++◌, length, length-append, refl, sym, ap, subst, ◌∙◌, inl, inr, append_assoc, arith}
 use Rattle.std.proofs.lemmas.List.{append-nil}
 use Rattle.pn_values.specs.declared.settings.Settings.{Settings}
@@ -16,7 +16,7 @@ use Rattle.settings_store.proofs.Placed.{placed_then, both_empty}
 use Rattle.settings_store.proofs.Machine.{made_append, joined, joined_quiet, joined_then}
 use Rattle.settings_store.proofs.Faults.{goes_as}
 
--- a legal end of what comes after is one of all
+-- a legal end of the later commands is a legal end of all
 legal_after : (image : Image) (front back : List Accepted) (first : Settings) → LegalEnd image back (made_of front first) → LegalEnd image (front ++ back) first
 legal_after image front back first (inl boots) = inl (rw (made_append front back first) boots)
 legal_after image front back first (inr less) = inr (record {
@@ -36,7 +36,7 @@ legal_then true first middle front back mid new none made left legal two =
 legal_then false first middle front back mid new none made left legal two =
     legal_after new front back first (subst (LegalEnd new back) (made refl) (two.legal refl left))
 
--- crash clauses of two stretches make that of both
+-- the crash clauses of two stretches give that of both together
 safe_then : (before between : Bool) (first middle : Settings) (front back : List Accepted) (old mid new : Image)
     → (before ≡ true → between ≡ true) → (between ≡ true → back ≡ []) → (between ≡ false → middle ≡ made_of front first)
     → CrashSafe before first front old mid → CrashSafe between middle back mid new → CrashSafe before first (front ++ back) old new
@@ -49,7 +49,7 @@ safe_then before between first middle front back old mid new stays none made one
 fault_quiet : (a b c : ℕ) → HasRisen a b → c ≡ b → HasRisen a c
 fault_quiet a b c one same = rw same one
 
--- no failed call in two stretches, or the one with its commit
+-- in two stretches no call failed, or one failed with its commit
 caused_then : (before mid now : ℕ) (old between new : Values) → IsCaused before mid old between → IsCaused mid now between new → IsCaused before now old new
 caused_then before mid now old between new (inl one) (inl two) = inl (two.0 ∙ one.0, two.1 ∙ one.1)
 caused_then before mid now old between new (inl one) (inr two) = inr (subst (λ n. HasRisen n now) one.0 two.0, sym one.1 ∙ two.1, two.2)
@@ -63,7 +63,7 @@ still_fine false now stays fine = refl
 room_then : (before between now : ℕ) (front back : List Accepted) → between + length front ≡ before → now + length back ≡ between → now + length (front ++ back) ≡ before
 room_then before between now front back one two = let e = length-append front back in omega (arith, one, two, e)
 
--- two stretches, one after the other, are one
+-- two stretches, one after the other, are one stretch
 stretch_then : {F : Type 0} {S : ℕ} (as_flash : Flash F S) (first mid new : State F) (front back : List Accepted)
     → Stretch as_flash first front mid → Stretch as_flash mid back new → Stretch as_flash first (front ++ back) new
 stretch_then as_flash first mid new front back one two =
@@ -83,18 +83,18 @@ stretch_then as_flash first mid new front back one two =
       stays_lost = λ lost. two.stays_lost (one.stays_lost lost);
     }
 
--- so a stretch continues any
+-- so a stretch continues any other
 pub stretch_continues : {F : Type 0} {S : ℕ} (as_flash : Flash F S) (old new : State F) (accepted : List Accepted)
     → Stretch as_flash old accepted new → Continues as_flash old accepted new
 stretch_continues as_flash old new accepted stretch first front so_far = stretch_then as_flash first old new front accepted so_far stretch
 
--- one commit failed in neither of two parts where none failed in both
+-- if no commit failed in both parts together, none failed in either
 none_in_both : (a b c : Bool) → (a ≡ true → b ≡ true) → (b ≡ true → c ≡ true) → c ≡ a → (b ≡ a) × (c ≡ b)
 none_in_both true b c one two same = (one refl, same ∙ sym (one refl))
 none_in_both false true c one two same = let failed : c ≡ true = two refl in cc
 none_in_both false false c one two same = (refl, same)
 
--- what carries some items out, and then what carries more out, carries all of them out
+-- carrying out some items, and then more, carries out all of them
 pub carries_then : {F : Type 0} {S : ℕ} (as_flash : Flash F S) (old mid new : State F) (items more : List SetItem) (front back : List BlockError)
     → Carries as_flash old items front mid → Carries as_flash mid more back new → Carries as_flash old (items ++ more) (front ++ back) new
 carries_then as_flash old mid new items more front back one two =

@@ -1,4 +1,4 @@
--- What goes on whatever the flash does.
+-- The settings go on whatever the flash does.
 use Rattle.std.proofs.Common.{◌≡◌, ◌==◌, Bool, true, false, List, [], ◌∷◌, ◌++◌, map, refl, sym, ap, subst, ◌∙◌, append_assoc}
 use Rattle.std.proofs.lemmas.Bool.{cond-true, cond-false}
 use Rattle.pn_values.specs.declared.command.Command.{Command}
@@ -14,7 +14,7 @@ use Rattle.settings_store.proofs.Machine.{committed_taken, failed_all}
 abbrev Goes : List Outcome → Values → List SetItem → Type 0
 Goes outcomes values items = GoesOn values items (carried outcomes values items).answers (carried outcomes values items).values
 
--- a commit failed earlier
+-- the case that a commit failed earlier
 goes_failed : (outcomes : List Outcome) (values : Values) (items : List SetItem) → values.has_failed ≡ true → Goes outcomes values items
 goes_failed outcomes values items failed =
     let all = failed_all outcomes values items failed in
@@ -30,7 +30,7 @@ goes_failed outcomes values items failed =
       answered = ap (λ r. r.answers) all;
     }
 
--- an item that comes to what it comes to where its call passes
+-- an item with the same result as if its call passed
 goes_with : (outcomes : List Outcome) (values : Values) (item : SetItem) (items : List SetItem) (one : Carried)
     → carried_one (first_of outcomes) values item ≡ one → carried_one Pass values item ≡ one → values.has_failed ≡ false → Goes (rest_of outcomes) one.values items → Goes outcomes values (item ∷ items)
 goes_with outcomes values item items one is passes fine on =
@@ -50,7 +50,7 @@ goes_with outcomes values item items one is passes fine on =
           ∙ ap (λ a. a ++ map answer_after_fault on.refused) (sym (ap (λ r. r.answers) so));
     }
 
--- the commit that is struck
+-- the commit in which the flash fails
 goes_struck : (outcomes : List Outcome) (values : Values) (command : Command) (items : List SetItem) (is_lost : Bool)
     → carried_one (first_of outcomes) values (Ask command) ≡ accepted (Fault is_lost) values command → Goes outcomes values (Ask command ∷ items)
 goes_struck outcomes values command items is_lost is =
@@ -81,7 +81,7 @@ goes_ask outcomes Pass false values command items is room fine on =
 goes_ask outcomes (Fault is_lost) false values command items is room fine on =
     goes_struck outcomes values command items is_lost (ap (λ o. carried_one o values (Ask command)) is ∙ committed_taken (Fault is_lost) values command fine room)
 
--- no commit failed so far
+-- the case that no commit has failed so far
 goes_fine : (outcomes : List Outcome) (values : Values) (items : List SetItem) → values.has_failed ≡ false → Goes outcomes values items
 goes_fine outcomes values [] fine = record { done = []; refused = []; parts = refl; failed_before = λ _. refl; none_failed = λ _. refl; running = refl; stored = refl; answered = refl }
 goes_fine outcomes values (Ask command ∷ items) fine =

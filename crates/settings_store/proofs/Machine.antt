@@ -1,4 +1,4 @@
--- What the machine does over more items than one.
+-- The effect of the machine on more than one item.
 use Rattle.std.proofs.Common.{◌≡◌, ◌==◌, ℕ, Bool, true, false, List, [], ◌∷◌, ◌++◌, map, refl, ap, ◌∙◌, append_assoc, length, suc, ◌+◌, ◌-◌, arith}
 use Rattle.std.proofs.lemmas.Bool.{cond_both, cond-true, cond-false}
 use Rattle.std.proofs.lemmas.Bool.Decides.{nat_tests}
@@ -13,7 +13,7 @@ use Rattle.settings_store.specs.Machine.{Outcome, Pass, Fault, Accepted, Carried
 use Rattle.settings_store.specs.Legal.{made_of}
 use Rattle.settings_store.specs.Faults.{answer_after_fault}
 
--- a command that is accepted passes, or has its fault
+-- a command that is accepted passes or has its fault
 accepted_is : (P : Carried → Type 0) (outcome : Outcome) (values : Values) (command : Command)
     → P (accepted Pass values command) → ((is_lost : Bool) → P (accepted (Fault is_lost) values command)) → P (accepted outcome values command)
 accepted_is P Pass values command passed fault = passed
@@ -56,12 +56,12 @@ failed_all outcomes values (item ∷ items) failed =
 pub stays_failed : (outcomes : List Outcome) (values : Values) (items : List SetItem) → values.has_failed ≡ true → (carried outcomes values items).values.has_failed ≡ true
 stays_failed outcomes values items failed = ap (λ r. r.values.has_failed) (failed_all outcomes values items failed) ∙ failed
 
--- what all of two lists make of the first settings
+-- the settings that two lists of commands make of the first settings
 pub made_append : (front back : List Accepted) (first : Settings) → made_of (front ++ back) first ≡ made_of back (made_of front first)
 made_append [] back first = refl
 made_append (one ∷ front) back first = made_append front back _
 
--- While no commit failed, what is stored is what the accepted commands make of what was stored.
+-- As long as no commit failed, the stored settings are those that the accepted commands make of the earlier ones.
 pub stored_made : (outcomes : List Outcome) (values : Values) (items : List SetItem) → (carried outcomes values items).values.has_failed ≡ false
     → (carried outcomes values items).values.stored ≡ made_of (carried outcomes values items).accepted values.stored
 stored_made outcomes values [] fine = refl
@@ -77,7 +77,7 @@ stored_made outcomes values (item ∷ items) fine =
 one_taken : (room left count : ℕ) → (room == 0) ≡ false → left + count ≡ room - 1 → left + suc count ≡ room
 one_taken room left count some rest = grind (arith, nat_tests)
 
--- An item takes room where it is accepted and passes, and nothing else does.
+-- An accepted item that passes takes one from the room, and nothing else does.
 pub room_left : (outcomes : List Outcome) (values : Values) (items : List SetItem) → (carried outcomes values items).values.has_failed ≡ false
     → (carried outcomes values items).values.room + length (carried outcomes values items).accepted ≡ values.room
 room_left outcomes values [] fine = omega arith
@@ -90,12 +90,12 @@ room_left outcomes values (item ∷ items) fine =
     (λ is_lost command _ _ fine. let failed = stays_failed (rest_of outcomes) (accepted (Fault is_lost) values command).values items refl in cc)
     fine
 
--- what is left of the outcomes after so many items
+-- the outcomes after those of some items
 after : List Outcome → List SetItem → List Outcome
 after outcomes [] = outcomes
 after outcomes (item ∷ items) = after (rest_of outcomes) items
 
--- one outcome for each item, written out
+-- one outcome for each item, made explicit
 unfoldable pub padded : List Outcome → List SetItem → List Outcome
 padded outcomes [] = []
 padded outcomes (item ∷ items) = first_of outcomes ∷ padded (rest_of outcomes) items
@@ -129,7 +129,7 @@ unfolding after
 after_quiet [] = refl
 after_quiet (item ∷ items) = after_quiet items
 
--- the outcomes over some items and then more: none where neither has any
+-- the outcomes for some items and then more; empty if both are
 unfoldable pub joined : List Outcome → List Outcome → List SetItem → List Outcome
 joined [] [] items = []
 joined [] (outcome ∷ outcomes) items = padded [] items ++ outcome ∷ outcomes

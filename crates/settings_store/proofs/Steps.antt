@@ -1,4 +1,4 @@
--- What carrying out one item comes to, by what its call of the journal did.
+-- The result of carrying out one item, by what its call of the journal did.
 use Rattle.std.proofs.Common.{◌≡◌, ◌==◌, ◌+◌, ◌-◌, ℕ, Bool, true, false, List, [], ◌∷◌, length, refl, sym, ap, subst, ◌∙◌, inl, inr, arith}
 use Rattle.std.proofs.lemmas.List.{append-nil}
 use Rattle.pn_values.specs.Command.{apply, show}
@@ -24,7 +24,7 @@ use Rattle.settings_store.proofs.Machine.{committed_full, committed_taken, faile
 use Rattle.settings_store.proofs.Faults.{goes_as}
 use Rattle.settings_store.proofs.Crash.{stretch_continues}
 
--- one item by itself, by what becomes of it
+-- one item by itself, by its result
 one_item : {F : Type 0} {S : ℕ} (as_flash : Flash F S) (old new : State F) (item : SetItem) (outcome : Outcome) (one : Carried)
     → carried_one outcome old.values item ≡ one → new.values ≡ one.values
     → IsCausedAlone outcome (as_flash.failures old.flash) (as_flash.failures new.flash) old.values new.values
@@ -39,7 +39,7 @@ one_item as_flash old new item outcome one is values caused safe holds asks unto
   untouched = λ none. untouched (sym (ap (λ r. r.accepted) is) ∙ none);
 }
 
--- one item and its answer, by what becomes of it
+-- one item and its answer, by its result
 of_one : {F : Type 0} {S : ℕ} (as_flash : Flash F S) (old new : State F) (item : SetItem) (answer : BlockError) (outcome : Outcome) (one : Carried)
     → carried_one outcome old.values item ≡ one → new.values ≡ one.values → one.answers ≡ answer ∷ []
     → IsCausedAlone outcome (as_flash.failures old.flash) (as_flash.failures new.flash) old.values new.values
@@ -60,7 +60,7 @@ alone as_flash state item answer is holds =
     of_one as_flash state state item answer Pass (answered answer state.values) is refl refl (refl, refl)
     (record { left = λ left. left; legal = λ fine left. inl (state.values.room, holds fine); untouched = λ failed. refl }) holds (λ _ taken. absurd (cc)) (λ _. refl) (λ lost. lost)
 
--- what a clause sees of a store, by its parts
+-- a store as clauses see it, from its parts
 abbrev pub seen : {F : Type 0} → (F → Bool) → journal.State F → Settings → State F
 seen is_lost journal running = record {
   flash = journal.flash;
@@ -139,7 +139,7 @@ faulted as_flash old new running command fine failed some settings room fault le
     (record { commit = all; calls = calls; of_commit = commit; part = part; were = were }))
     (λ none. absurd (cc)) lost
 
--- refused, since a commit failed earlier
+-- the command is refused, since a commit failed earlier
 pub refused : {F : Type 0} {S : ℕ} (as_flash : Flash F S) (old new : journal.State F) (running : Settings) (command : Command)
     → new ≡ old → old.has_failed ≡ true → CarriesItem as_flash (seen as_flash.is_lost old running) (Ask command) Local (seen as_flash.is_lost new running)
 refused as_flash old new running command same failed =
@@ -147,7 +147,7 @@ refused as_flash old new running command same failed =
     subst (λ j. CarriesItem as_flash state (Ask command) Local (seen as_flash.is_lost j running)) (sym same)
     (alone as_flash state (Ask command) Local (failed_one Pass state.values (Ask command) failed) (λ fine. absurd (cc)))
 
--- refused, since there is no room
+-- the command is refused, since there is no room
 pub full : {F : Type 0} {S : ℕ} (as_flash : Flash F S) (old new : journal.State F) (running : Settings) (command : Command)
     → new ≡ old → old.has_failed ≡ false → old.room ≡ 0 → (old.has_failed ≡ false → StartsWith (as_flash.image old.flash) old.settings old.room)
     → CarriesItem as_flash (seen as_flash.is_lost old running) (Ask command) Exhausted (seen as_flash.is_lost new running)
@@ -156,16 +156,16 @@ full as_flash old new running command same fine none holds =
     subst (λ j. CarriesItem as_flash state (Ask command) Exhausted (seen as_flash.is_lost j running)) (sym same)
     (alone as_flash state (Ask command) Exhausted (committed_full Pass state.values command fine none) holds)
 
--- an answer alone
+-- an item that is only answered
 pub answers : {F : Type 0} {S : ℕ} (as_flash : Flash F S) (state : State F) (answer : BlockError)
     → Holds (as_flash.image state.flash) state.values → CarriesItem as_flash state (Answer answer) answer state
 answers as_flash state answer holds = alone as_flash state (Answer answer) answer refl holds
 
--- a lamp that is to flash
+-- an item that flashes the lamp
 pub signals : {F : Type 0} {S : ℕ} (as_flash : Flash F S) (state : State F) → Holds (as_flash.image state.flash) state.values → CarriesItem as_flash state Signal Done state
 signals as_flash state holds = alone as_flash state Signal Done refl holds
 
--- nothing to do
+-- an empty list of items
 pub nothing : {F : Type 0} {S : ℕ} (as_flash : Flash F S) (state : State F) → Holds (as_flash.image state.flash) state.values → Carries as_flash state [] [] state
 nothing as_flash state holds =
     let stretch : Stretch as_flash state [] state = record {
@@ -228,7 +228,7 @@ one_listed as_flash old new item answer Pass one answers lost =
 one_listed as_flash old new item answer (Fault is_lost) one answers lost =
     listed as_flash old new item answer (Fault is_lost ∷ []) (λ same. cc (one.caused.1, one.caused.2)) (inr one.caused) one answers lost
 
--- an item by itself is a list of one
+-- an item by itself is a list of one item
 pub item_listed : {F : Type 0} {S : ℕ} (as_flash : Flash F S) (old new : State F) (item : SetItem) (answer : BlockError)
     → CarriesItem as_flash old item answer new → Carries as_flash old (item ∷ []) (answer ∷ []) new
 item_listed as_flash old new item answer one = one_listed as_flash old new item answer one.outcome one.carries one.answer_is one.stays_lost

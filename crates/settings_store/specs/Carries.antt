@@ -1,4 +1,4 @@
--- What carrying out some items does, whatever the flash does.
+-- The effect of carrying out items, whatever the flash does.
 use Rattle.std.specs.Prelude.{◌≡◌, ◌+◌, ◌⊎◌, ℕ, Bool, true, false, List, [], ◌∷◌, ◌++◌, length}
 use Rattle.pn_values.specs.declared.set_item.SetItem.{SetItem}
 use Rattle.pn_values.specs.declared.set_item.BlockError.{BlockError}
@@ -13,20 +13,20 @@ use Rattle.settings_store.specs.Machine.{Outcome, Pass, Fault, Accepted, first_o
 use Rattle.settings_store.specs.Legal.{made_of, CrashSafe}
 use Rattle.settings_store.specs.Faults.{GoesOn}
 
--- No call of the flash failed, and no commit did; or one failed, and a commit with it, the first since the start.
+-- No call of the flash and no commit failed; or a call failed, and with it a commit, the first since the start.
 abbrev pub IsCaused : ℕ → ℕ → Values → Values → Type 0
 IsCaused before now old new =
     ((now ≡ before) × (new.has_failed ≡ old.has_failed)) ⊎ (HasRisen before now × (old.has_failed ≡ false) × (new.has_failed ≡ true))
 
--- where no commit failed since the start, a start on the image gives the stored settings, and room for as many commits
+-- if no commit failed since the start, a start on the image gives the stored settings and the same room
 abbrev pub Holds : Image → Values → Type 0
 Holds image values = values.has_failed ≡ false → StartsWith image values.stored values.room
 
--- A stretch of a cycle, from its first state to the state now, in which these commands were accepted. A call of the flash
--- failed with a commit and only so, the image is safe and holds what is stored, and where no command was accepted the flash
--- was left alone. Once a commit failed, one has failed, and nothing is accepted; while none failed, what is stored is what
--- the accepted commands make of what was stored, and each of them took one of the room for commits. Power that is lost stays
--- lost.
+-- A stretch of a cycle, from its first state to the present one, in which these commands were accepted. A call of the
+-- flash failed if and only if a commit did. The image is safe and holds what is stored, and if no command was accepted
+-- the flash is unchanged. Once a commit has failed, this stays so and nothing is accepted. As long as none has failed,
+-- the stored settings are those that the accepted commands make of the earlier ones, and each command took one from the
+-- room. Power that is lost stays lost.
 pub record Stretch {F : Type 0} {S : ℕ} (as_flash : Flash F S) (first : State F) (accepted : List Accepted) (now : State F) : Type 0 where
   pub caused : IsCaused (as_flash.failures first.flash) (as_flash.failures now.flash) first.values now.values
   pub safe : CrashSafe first.values.has_failed first.values.stored accepted (as_flash.image first.flash) (as_flash.image now.flash)
@@ -37,23 +37,23 @@ pub record Stretch {F : Type 0} {S : ℕ} (as_flash : Flash F S) (first : State 
   pub room : now.values.has_failed ≡ false → now.values.room + length accepted ≡ first.values.room
   pub stays_lost : first.values.is_lost ≡ true → now.values.is_lost ≡ true
 
--- Whatever stretch came before, these commands behind it make a longer one.
+-- After any earlier stretch, these commands make a longer one.
 abbrev pub Continues : {F : Type 0} {S : ℕ} → Flash F S → State F → List Accepted → State F → Type 0
 Continues {F} as_flash old accepted new =
     (first : State F) (front : List Accepted) → Stretch as_flash first front old → Stretch as_flash first (front ++ accepted) new
 
--- The same cause of one item, by its outcome: where it passes no call of the flash failed, and no commit did; a fault is that of
--- its commit, the first since the start, in which a call failed.
+-- The same for one item, by its outcome. If it passes, no call of the flash and no commit failed. A fault is that of
+-- its own commit, the first since the start, in which a call failed.
 abbrev pub IsCausedAlone : Outcome → ℕ → ℕ → Values → Values → Type 0
 IsCausedAlone Pass before now old new = (now ≡ before) × (new.has_failed ≡ old.has_failed)
 IsCausedAlone (Fault is_lost) before now old new = HasRisen before now × (old.has_failed ≡ false) × (new.has_failed ≡ true)
 
--- of the calls of a commit, all were asked for where it is done, and else the first of them, up to the one that failed
+-- all calls of a commit were made if it is done, else a prefix of them, up to the one that failed
 abbrev pub IsAskedBy : Bool → Image → List Call → List Call → Image → Type 0
 IsAskedBy true old commit calls new = calls ≡ commit
 IsAskedBy false old commit calls new = IsFront old calls commit new
 
--- What an accepted command asked of the flash: the calls of its commit, in order, and no others.
+-- The calls that an accepted command made to the flash: those of its commit, in order, and no others.
 pub record Asks {F : Type 0} {S : ℕ} (as_flash : Flash F S) (one : Accepted) (old new : State F) : Type 0 where
   pub commit : List Call
   pub calls : List Call
@@ -61,9 +61,9 @@ pub record Asks {F : Type 0} {S : ℕ} (as_flash : Flash F S) (one : Accepted) (
   pub part : IsAskedBy one.is_done (as_flash.image old.flash) commit calls (as_flash.image new.flash)
   pub were : as_flash.asked old.flash calls new.flash
 
--- One item, for an outcome of its call: the values are those that it makes, the outcome has its cause in this item, the
--- image is safe and holds what is stored, where a command is accepted the calls of its commit were asked for, and where
--- none is the flash is left alone.
+-- One item, for an outcome of its call. It makes these values, the outcome has its cause in this item, and the image is
+-- safe and holds what is stored. If a command is accepted, the calls of its commit were made; if not, the flash is
+-- unchanged.
 pub record CarriesOne {F : Type 0} {S : ℕ} (as_flash : Flash F S) (outcome : Outcome) (old : State F) (item : SetItem) (new : State F) : Type 0 where
   pub values : new.values ≡ (carried_one outcome old.values item).values
   pub caused : IsCausedAlone outcome (as_flash.failures old.flash) (as_flash.failures new.flash) old.values new.values
@@ -72,7 +72,7 @@ pub record CarriesOne {F : Type 0} {S : ℕ} (as_flash : Flash F S) (outcome : O
   pub asks : (one : Accepted) → (carried_one outcome old.values item).accepted ≡ one ∷ [] → Asks as_flash one old new
   pub untouched : (carried_one outcome old.values item).accepted ≡ [] → new.flash ≡ old.flash
 
--- One item and its answer, for some outcome of its call, which the flash chose. Power that is lost stays lost.
+-- One item and its answer, for some outcome of its call, which the flash determines. Power that is lost stays lost.
 pub record CarriesItem {F : Type 0} {S : ℕ} (as_flash : Flash F S) (old : State F) (item : SetItem) (answer : BlockError) (new : State F) : Type 0 where
   pub outcome : Outcome
   pub carries : CarriesOne as_flash outcome old item new
@@ -85,9 +85,9 @@ OneByOne as_flash outcomes old [] new = new ≡ old
 OneByOne {F} as_flash outcomes old (item ∷ items) new =
     (between : State F) × CarriesOne as_flash (first_of outcomes) old item between × OneByOne as_flash (rest_of outcomes) between items new
 
--- For some outcomes of the calls, which the flash chose: the values and the answers are those of the items in order, there
--- are none where no commit failed, each has its cause in its own item, what happened is a stretch of a cycle and continues
--- any, and whatever the flash does the settings go on.
+-- For some outcomes of the calls, which the flash determines: the values and the answers are those of the items in
+-- order; there are no outcomes if no commit failed; each has its cause in its own item; what happened is a stretch of a
+-- cycle and continues any other; and the settings go on, whatever the flash does.
 pub record Carries {F : Type 0} {S : ℕ} (as_flash : Flash F S) (old : State F) (items : List SetItem) (answers : List BlockError) (new : State F) : Type 0 where
   pub outcomes : List Outcome
   pub values : new.values ≡ (carried outcomes old.values items).values

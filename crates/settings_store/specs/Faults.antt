@@ -1,4 +1,4 @@
--- What a fault of the flash changes, and what goes on.
+-- The effect of a fault of the flash, and how the settings go on.
 use Rattle.std.specs.Prelude.{◌≡◌, true, false, List, [], ◌++◌, map}
 use Rattle.pn_values.specs.declared.set_item.SetItem.{SetItem}
 use Rattle.pn_values.specs.declared.set_item.SetItem.TheVariants.{Ask, Signal, Answer}
@@ -7,15 +7,15 @@ use Rattle.pn_values.specs.declared.set_item.BlockError.TheVariants.{Done, Local
 use Rattle.settings_store.specs.State.{Values}
 use Rattle.settings_store.specs.Machine.{carried}
 
--- how an item is answered once a commit failed: a local fault to each command, and to all others as ever
+-- the answer to an item once a commit has failed: a local fault for each command, and the usual answer for other items
 abbrev pub answer_after_fault : SetItem → BlockError
 answer_after_fault (Ask command) = Local
 answer_after_fault Signal = Done
 answer_after_fault (Answer answer) = answer
 
--- What items come to, whatever the flash does. Those before the first commit in which a flash call failed are carried out as
--- where none fails. From that one on, until the next start, each command is answered by a local fault, and changes neither
--- what runs nor what is stored.
+-- The effect of items, whatever the flash does. The items before the first commit in which a flash call failed are
+-- carried out as if none fails. From that commit on, until the next start, each command is answered by a local fault,
+-- and changes neither the running nor the stored settings.
 pub record GoesOn (old : Values) (items : List SetItem) (answers : List BlockError) (new : Values) : Type 0 where
   pub done : List SetItem
   pub refused : List SetItem

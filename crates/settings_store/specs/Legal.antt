@@ -1,4 +1,4 @@
--- What a power failure may leave of the settings.
+-- The settings that a power failure may leave.
 use Rattle.std.specs.Prelude.{◌≡◌, ◌⊎◌, Bool, true, false, List, [], ◌∷◌, ◌++◌}
 use Rattle.pn_values.specs.Command.{fold_of}
 use Rattle.pn_values.specs.declared.settings.Settings.{Settings}
@@ -6,11 +6,11 @@ use Rattle.flash_model.specs.Image.{Image}
 use Rattle.settings_journal.specs.Image.{BootsTo, LeftByDevice}
 use Rattle.settings_store.specs.Machine.{Accepted, commands_of}
 
--- what all accepted commands make of the first settings
+-- the settings that all accepted commands make of the first ones
 abbrev pub made_of : List Accepted → Settings → Settings
 made_of accepted first = fold_of (commands_of accepted) first
 
--- a start on the image gives what all but a last accepted command make, one that was not answered 'done'
+-- a start on the image gives the settings of all but the last accepted command, and that one was not answered 'done'
 pub record AllButLast (image : Image) (accepted : List Accepted) (first : Settings) : Type 0 where
   pub front : List Accepted
   pub last : Accepted
@@ -18,13 +18,13 @@ pub record AllButLast (image : Image) (accepted : List Accepted) (first : Settin
   pub not_done : last.is_done ≡ false
   pub boots : BootsTo image (made_of front first)
 
--- A legal end: a start gives what all accepted commands make of the first settings, or all but a last one that was not
--- answered 'done'.
+-- A legal end: a start gives the settings that all accepted commands make of the first ones, or all but a last command
+-- that was not answered 'done'.
 abbrev pub LegalEnd : Image → List Accepted → Settings → Type 0
 LegalEnd image accepted first = BootsTo image (made_of accepted first) ⊎ AllButLast image accepted first
 
--- What calls may leave of an image, whichever of them fail: it stays one that this device left, and it is a legal end;
--- after a commit that failed earlier it is not touched.
+-- What calls may leave of an image, whichever of them fail: it stays an image left by this device, and it is a legal
+-- end. After a commit that failed earlier it does not change.
 pub record CrashSafe (has_failed : Bool) (first : Settings) (accepted : List Accepted) (old new : Image) : Type 0 where
   pub left : LeftByDevice old → LeftByDevice new
   pub legal : has_failed ≡ false → LeftByDevice old → LegalEnd new accepted first

@@ -1,4 +1,4 @@
--- What becomes of commands, given what becomes of each call that stores one.
+-- The effect of commands, given the outcome of each call that stores one.
 use Rattle.std.specs.Prelude.{◌-◌, ◌==◌, Bool, true, false, List, [], ◌∷◌, ◌++◌, map, if◌then◌else◌}
 use Rattle.pn_values.specs.Command.{apply, show}
 use Rattle.pn_values.specs.declared.command.Command.{Command}
@@ -8,7 +8,7 @@ use Rattle.pn_values.specs.declared.set_item.BlockError.{BlockError}
 use Rattle.pn_values.specs.declared.set_item.BlockError.TheVariants.{Done, Exhausted, Local}
 use Rattle.settings_store.specs.State.{Values}
 
--- what becomes of a call that stores a command: it is stored, or a flash call fails, with power lost or not
+-- the outcome of a call that stores a command: it is stored, or a flash call fails, with power lost or not
 pub data Outcome : Type 0 where
   Pass : Outcome
   Fault : (is_lost : Bool) → Outcome
@@ -24,12 +24,12 @@ pub record Carried : Type 0 where
   pub answers : List BlockError
   pub accepted : List Accepted
 
--- an item that asks for nothing to be stored
+-- an item that stores nothing
 abbrev pub answered : BlockError → Values → Carried
 answered answer values = record { values = values; answers = answer ∷ []; accepted = [] }
 
--- A command that is accepted. Stored, it is shown; where a flash call failed, nothing that runs changes, and no
--- further command is carried out until the next start.
+-- A command that is accepted. If it is stored, it is shown. If a flash call failed, the running settings do not change,
+-- and no further command is carried out until the next start.
 abbrev pub accepted : Outcome → Values → Command → Carried
 accepted Pass values command = record {
   values = record values {
@@ -47,7 +47,7 @@ accepted (Fault is_lost) values command = record {
   accepted = record { command = command; is_done = false } ∷ [];
 }
 
--- A command: refused after a commit that failed, and where there is no room; else accepted.
+-- A command: refused after a commit that failed, and if there is no room, else accepted.
 abbrev pub committed : Outcome → Values → Command → Carried
 committed outcome values command =
     if values.has_failed then answered Local values else (if values.room == 0 then answered Exhausted values else accepted outcome values command)
@@ -57,7 +57,7 @@ carried_one outcome values (Ask command) = committed outcome values command
 carried_one outcome values Signal = answered Done values
 carried_one outcome values (Answer answer) = answered answer values
 
--- the outcome of the first call; a call of which nothing is said passes
+-- the outcome of the first call; a call without an outcome passes
 abbrev pub first_of : List Outcome → Outcome
 first_of [] = Pass
 first_of (outcome ∷ outcomes) = outcome
@@ -66,12 +66,12 @@ abbrev pub rest_of : List Outcome → List Outcome
 rest_of [] = []
 rest_of (outcome ∷ outcomes) = outcomes
 
--- what came so far, and then more
+-- the result so far, followed by more
 abbrev pub followed_by : Carried → Carried → Carried
 followed_by front back =
     record { values = back.values; answers = front.answers ++ back.answers; accepted = front.accepted ++ back.accepted }
 
--- the items in order, each by itself, with one outcome an item
+-- the items in order, each by itself, with one outcome for each item
 abbrev pub carried : List Outcome → Values → List SetItem → Carried
 carried outcomes values [] = record { values = values; answers = []; accepted = [] }
 carried outcomes values (item ∷ items) =

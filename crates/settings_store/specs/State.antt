@@ -2,8 +2,8 @@
 use Rattle.std.specs.Prelude.{ℕ, Bool}
 use Rattle.pn_values.specs.declared.settings.Settings.{Settings}
 
--- The settings that run and those that are stored, how many commits there is room for, whether a commit failed since
--- the start, and whether power was lost.
+-- The running and the stored settings, how many commits there is room for, whether a commit failed since the start, and
+-- whether power was lost.
 pub record Values : Type 0 where
   pub running : Settings
   pub stored : Settings
@@ -11,7 +11,7 @@ pub record Values : Type 0 where
   pub has_failed : Bool
   pub is_lost : Bool
 
--- the flash, and the values over it
+-- the flash, and the values of the store
 pub record State (F : Type 0) : Type 0 where
   pub flash : F
   pub values : Values

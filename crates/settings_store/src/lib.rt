@@ -1,5 +1,5 @@
-//! The settings that run beside those that are stored, and what becomes of commands in order, with the flash sealed
-//! behind the outcomes of its commits. The device stands on it, and on no word of the flash.
+//! The running settings beside the stored ones, and the effect of commands in order. The flash is hidden behind the
+//! outcomes of its commits: the device is specified without any term of the flash.
 #![tactic(auto)]
 
 mod store;

@@ -11,7 +11,7 @@ module _ {A : Type 0} where
   each_behind P [] more all others = others
   each_behind P (x ∷ xs) more all others = (all.0, each_behind P xs more all.1 others)
 
-  -- the item of a number is one
+  -- an item at an index has the property
   pub each_at : (P : A → Type 0) (xs : List A) (number : ℕ) (x : A) → AllByRecursion P xs → slice_get xs number ≡ Some x → P x
   each_at P [] number x all there = absurd cc
   each_at P (first ∷ xs) zero x all there = subst (λ (y : A). P y) (some_is first x there) all.0

@@ -1,4 +1,4 @@
--- The index of each record of a plan that is made of a text is read within its range.
+-- The index of each record of a plan from a text is read within its range.
 use Rattle.std.proofs.Common.{◌≡◌, ◌≤◌, ◌++◌, ◌&&◌, ℕ, Bool, true, false, cond, List, [], ◌∷◌, map, Result, Ok, Err, nat_le, refl, sym, subst, ap, arith, length}
 use Rattle.std.specs.List.{AllByRecursion}
 use Rattle.std.specs.Option.{ok_or}
@@ -33,7 +33,7 @@ within_range least greatest number n e = by_test (nat_le least number && nat_le 
     by_test true is f = subst (λ (k : ℕ). k ≤ greatest) (ok_is {F = CatalogueFault} number n f) (leb-true number greatest (and_parts (nat_le least number) (nat_le number greatest) is).1)
     by_test false is f = absurd cc
 
--- what was read has no fault, and so no place
+-- what was read has no fault, and so no position
 placed_ok : {A : Type 0} (key : Key) (r : Result A CatalogueFault) (y : A) → placed key r ≡ Ok y → r ≡ Ok y
 placed_ok key (Ok x) y e = ap Ok (ok_is x y e)
 placed_ok key (Err fault) y e = absurd cc
@@ -49,7 +49,7 @@ number_within key least greatest tree n e =
     let b = bind_ok (whole a.0) (within least greatest) n (placed_ok key (whole a.0 >>= within least greatest) n a.2) in
     within_range least greatest b.0 n b.2
 
--- ---- what each entry of a list is, all are
+-- ---- a property of each entry is one of the list
 
 module _ {A : Type 0} (reader : List A → Reader A) (P : A → Type 0) (step : (before : List A) (value : A) (tree : Data) → reader before tree ≡ Ok value → P value) where
   each_is : (before : List A) (trees : Items) (found : List A) → AllByRecursion P before → each reader before trees ≡ Ok found → AllByRecursion P found
@@ -115,7 +115,7 @@ catalogue_below tree found e =
     subst (λ (catalogue_is : Catalogue). AllByRecursion AreBelow catalogue_is.project.slots) (ok_is {F = PlacedFault} _ found d.2)
     (project_below b.0.least_interval c.0 wanted.0 d.0 (behind_ok (At key.Project) (project b.0.least_interval c.0 wanted.0) d.0 wanted.2))
 
--- ---- those of a plan
+-- ---- the records of a plan
 
 of_slot : (slot : ℕ) (records : List Record) → AllByRecursion Below records → AllByRecursion IsParameter (map (record_at slot) records)
 of_slot slot [] below = tt

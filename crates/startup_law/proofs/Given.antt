@@ -1,4 +1,4 @@
--- The laws below.
+-- The laws of the crates below.
 use Rattle.std.specs.Prelude.{◌≡◌, ◌<◌, ◌++◌, ℕ, List, length, map, Option, Some}
 use Rattle.std.specs.List.{AllByRecursion}
 use Rattle.pn_values.specs.declared.identity.Identity.{Identity}
@@ -47,7 +47,7 @@ use Rattle.end_laws.specs.controller.Small.{GoesOn, IsInStep, said_in, small_of 
 use Rattle.end_laws.specs.device.Owed.{IsOwed}
 use Rattle.end_laws.specs.device.Small.{IsHeardAs, IsPlanned, heard_as, small_of}
 
--- of frames, and of what is heard of them
+-- the laws of frames, and of what is heard of them
 pub record HeardSo : Type 0 where
   pub sound : IsSoundWhole layers
   pub untold : (identity : Identity) (destination source : Mac) (tag : Option ℕ) (frame_id : ℕ) (body : List ℕ) → IsMac destination → IsMac source → IsTag tag
@@ -96,7 +96,7 @@ pub record HeardSo : Type 0 where
       → controller_hears mine (answer_frame setup caller answer) ≡ mine_told mine caller.mac caller.endpoint (Responded answer)
   pub block_read : (block : Block) (rest : List ℕ) → CanBeWritten block → block_of (block_bytes block ++ rest) ≡ front block rest
 
--- of the machines of both ends
+-- the laws of the machines of both ends
 pub record GoesSo : Type 0 where
   pub aimed_first : (setup : Setup) → IsSetup setup → IsAimed (first setup.plan)
   pub aimed : (mac : Mac) (setup : Setup) (live : ControllerLive) (event : Event) → IsSetup setup → IsAimed live → IsEventFrom mac setup event

@@ -97,7 +97,7 @@ layers_read bytes meaning e =
     by_length true f = absurd cc
     by_length false f = f
 
--- the type of what is equal is known in front of what is made of it
+-- equal values give equal results
 along : {A B : Type 0} (x y : A) → x ≡ y → (make : A → B) → make x ≡ make y
 along x y e make = ap make e
 
@@ -112,7 +112,7 @@ source_six sound bytes meaning e =
     ∙ ap (λ (m : Mac). length m.octets) (sym source.1)
     ∙ source.2.0
 
--- a station that answers has such an address
+-- a station that responds has such an address
 abbrev IsSix : controller.Heard → Type 0
 IsSix (controller.Answers source answer) = IsMac source
 IsSix heard = Unit {0}
@@ -164,7 +164,7 @@ six_heard : IsSoundWhole layers → (mine : Controller) (octets : List ℕ) → 
 unfolding controller.heard_of
 six_heard sound mine octets = six_read sound mine octets (frame_of octets) refl
 
--- ---- what a frame is to both ends, where it is one of a start-up
+-- ---- what a frame means to both ends, if it is one of a start-up
 
 -- a call that a device hears is one that the controller makes
 abbrev pub IsListed : Parts → Request → Type 0
@@ -187,12 +187,12 @@ abbrev pub IsKnownHeard : Setup → Heard → Type 0
 IsKnownHeard setup (device.Told caller address told) = IsKnownSaid setup caller told
 IsKnownHeard setup heard = Unit {0}
 
--- so are the calls and answers that the controller hears
+-- the same for the calls and responses that the controller hears
 pub record IsKnown (setup : Setup) (identity : Identity) (frame : List ℕ) : Type 0 where
   pub at_device : IsKnownHeard setup (device.heard_of identity (comes frame))
   pub at_controller : IsHeardFrom identity.mac (controller.heard_of setup.plan.controller frame)
 
--- ---- hearing that says nothing of a start-up
+-- ---- frames that say nothing of a start-up
 
 untold_known : (setup : Setup) (heard : Heard) → IsUntold heard → IsKnownHeard setup heard
 untold_known setup (device.Told caller address told) un = absurd un
@@ -227,13 +227,13 @@ module _ (so : HeardSo) (setup : Setup) (station : Station) (good : IsSetup setu
   abbrev pub at_controller : List ℕ → controller.Heard
   at_controller frame = controller.heard_of mine frame
 
-  -- a frame of the device, of which the controller hears this at most
+  -- a frame of the device, of which the controller hears at most this
   pub record IsMet (frame : List ℕ) (says : ToController) : Type 0 where
     pub known : IsKnown setup identity frame
     pub idle : heard_as (at_device frame) ≡ small.Idle
     pub says_at_most : (said_to setup (at_controller frame) ≡ small.Nothing) ⊎ (said_to setup (at_controller frame) ≡ says)
 
-  -- by what both ends hear
+  -- the same, from what both ends hear
   met_by : (frame : List ℕ) (says : ToController) (heard : Heard) (told : controller.Heard) → at_device frame ≡ heard → at_controller frame ≡ told
       → IsKnownHeard setup heard → heard_as heard ≡ small.Idle → IsHeardFrom identity.mac told → (said_to setup told ≡ small.Nothing) ⊎ (said_to setup told ≡ says)
       → IsMet frame says
@@ -246,7 +246,7 @@ module _ (so : HeardSo) (setup : Setup) (station : Station) (good : IsSetup setu
     says_at_most = subst (λ (h : controller.Heard). (said_to setup h ≡ small.Nothing) ⊎ (said_to setup h ≡ says)) (sym f) at_most;
   }
 
-  -- real-time data, from whomever
+  -- real-time data, from any station
   data_known : (destination source : Mac) (tag : Option ℕ) (frame_id : ℕ) (body : List ℕ) → IsMac destination → IsMac source → IsTag tag
       → IsKnown setup identity (frame_bytes (carrying destination source tag (RealTime frame_id body)))
   data_known destination source tag frame_id body one other tagged =
@@ -283,9 +283,9 @@ module _ (so : HeardSo) (setup : Setup) (station : Station) (good : IsSetup setu
       (holds_if (λ (h : Heard). heard_as h ≡ small.Idle) (is_own identity asker || pointwise nat_eq asker.octets device.broadcast) (device.Resolves identity.mac packet) device.Elsewhere refl refl)
       tt (inl refl)
 
-  -- ---- answers
+  -- ---- responses
 
-  -- what a controller hears of a datagram, where it is for it
+  -- what a controller hears of a datagram, if it is for the controller
   mine_holds : (P : controller.Heard → Type 0) (destination : Mac) (to : Endpoint) (heard : controller.Heard) → P heard → P controller.Nothing → P (mine_told mine destination to heard)
   mine_holds P destination to heard one other =
       holds_if P (pointwise nat_eq destination.octets mine.mac.octets) (cond (is_to mine.address to) heard controller.Nothing) controller.Nothing
@@ -361,7 +361,7 @@ module _ (so : HeardSo) (setup : Setup) (station : Station) (good : IsSetup setu
       (refl, record { mac = real; endpoint = (own, omega arith) }, can.header, can.maximum) tt)
       (mine_holds (AtMost small.Readies) ready.partner.mac to (controller.Calls caller (ready_call ready)) (ready_says (ready_in (ready_call ready))) (inl refl))
 
-  -- ApplicationReady of the relation of the plan can be called
+  -- ApplicationReady of the relation of the plan can be sent as a call
   ready_can_be : (link_is : Link) (ready : Ready) → link_is.request ≡ request_for setup.plan setup.ar → ready.header ≡ (ready_of link_is).header → ready.block ≡ (ready_of link_is).block
       → CanBeCalled controllers (ready_call ready)
   ready_can_be link_is ready made header block =
@@ -392,7 +392,7 @@ module _ (so : HeardSo) (setup : Setup) (station : Station) (good : IsSetup setu
       answer_met caller address answer call.caller_is four (subst (λ (h : CallHeader). IsHeader h) (sym owed.header) can.header) owed.status
       (subst (λ (n : ℕ). n < 4294967296) (sym owed.maximum) can.maximum)
 
-  -- the relation that stands is the plan's
+  -- the relation of the device is the plan's
   abbrev pub IsPlans : Option Link → Type 0
   IsPlans relation = (l : Link) → relation ≡ Some l → l.request ≡ request_for setup.plan setup.ar
 
@@ -459,7 +459,7 @@ module _ (so : HeardSo) (setup : Setup) (station : Station) (good : IsSetup setu
     says_or_idle = inr (data_idle destination mine.mac tag frame_id body one good.mac tagged);
   }
 
-  -- what a device makes of the call is what the controller says by it
+  -- the device reads the call as what the controller says by it
   asked_is : (request : Request) → IsCalled request
       → ends.asked_by (sequence_of setup.plan request) (operation_of (call_for setup request).header.operation) ≡ asked_by setup.plan request
   unfolding operation_of

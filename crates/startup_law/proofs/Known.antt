@@ -1,5 +1,5 @@
--- What holds of a world at each point of a run from its beginning: each frame that ever was sent is known, and so is each message that is
--- sent next.
+-- The invariant of a world at each point of a run from its start: each frame that was ever sent is known, and so is
+-- each message that is sent next.
 use Rattle.std.proofs.Common.{◌≡◌, ◌⊎◌, inl, inr, ℕ, List, [], ◌∷◌, ◌++◌, map, Option, Some, None, option_map, Ok, refl, sym, ap, subst, ◌∙◌, append-nil, append_assoc}
 use Rattle.std.specs.Prelude.{slice_get}
 use Rattle.std.specs.List.{AllByRecursion}
@@ -48,18 +48,18 @@ use Rattle.startup_law.proofs.Heard.{IsKnown, IsKnownHeard, IsMetAs, IsOwnCall, 
 use Rattle.startup_law.proofs.Planned.{IsGood, heard_planned}
 use Rattle.startup_law.proofs.Runs.{InStep, controller_is, delivered, happens_steps, last_viewed, rules_at}
 
--- what is asked of both ends
+-- the premises about both ends
 pub record CanStart (setup : Setup) (station : Station) : Type 0 where
   pub setup_is : IsSetup setup
   pub good : IsGood setup
   pub device_is : IsDevice station.identity
   pub apart : station.identity.mac ≡ setup.plan.controller.mac → ⊥
 
--- the answer that is kept is a frame that is known
+-- the response that is stored is a frame that is known
 abbrev pub IsKnownKept : Setup → Identity → Option small.Kept → Type 0
 IsKnownKept setup identity kept = (answer : small.Kept) → kept ≡ Some answer → IsKnown setup identity answer.frame
 
--- what holds of both ends
+-- the invariant of both ends
 pub record Holds (setup : Setup) (station : Station) (live : ControllerLive) (kept : Option small.Kept) (sent : List (List ℕ)) : Type 0 where
   pub known : AllByRecursion (IsKnown setup station.identity) sent
   pub again : IsKnownKept setup station.identity kept
@@ -68,7 +68,7 @@ pub record Holds (setup : Setup) (station : Station) (live : ControllerLive) (ke
 abbrev pub HoldsAt : {F : Type 0} → World F → Type 0
 HoldsAt w = Holds w.controller.setup w.device.station w.controller.live (device.small_of w.controller.setup.activity w.device.live).kept w.sent
 
--- the answer that is kept behind a step
+-- the response that is stored after a step
 kept_known : (rules : Rules TakenRecord Request) (P : List ℕ → Type 0) (heard : ToDevice) (before after : small.Device TakenRecord Request) (frames : List (List ℕ)) → DeviceSteps rules heard before after frames
     → ((answer : small.Kept) → before.kept ≡ Some answer → P answer.frame) → AllByRecursion P frames → (answer : small.Kept) → after.kept ≡ Some answer → P answer.frame
 kept_known rules P (small.Call sequence ask) before after frames (inl answered) was all answer is =
@@ -111,7 +111,7 @@ module _ (so : HeardSo) (goes : GoesSo) where
             (all_met so setup station can.setup_is can.device_is can.apart heard before.device.live (heard_step outcomes station before.device.live heard).sent known plans (all_owed outcomes) sendable);
       }
 
-      -- the frame of an answer that is sent again was known
+      -- the frame of a repeated response was known
       again_known : (frame : List ℕ) → IsOfKept heard before.device.live frame → IsKnown setup station.identity frame
       again_known frame owed =
           let own : IsOwnCall setup owed.caller owed.call = subst (λ (h : Heard). IsKnownHeard setup h) owed.is known in
@@ -269,7 +269,7 @@ module _ (so : HeardSo) (goes : GoesSo) where
         (holds_behind now can holds in_step plans as_flash one.1 one.0 made.0) step.in_step others made.1 in
         (subst (λ (xs : List (Move × World F)). IsRun rules (view_of first) (viewed xs)) (append_assoc run (one ∷ []) others) rest.0, (meant, rest.1))
 
-  -- ---- the beginning
+  -- ---- the start
 
   module _ {F : Type 0} (first : World F) (identity : Identity) (begins : Begins first.controller.setup identity first) (can : CanStart first.controller.setup first.device.station) where
     opening_is : (controlling : Controlling) → opening_of controlling ≡ said.bytes_of controlling.setup (said.Requests controlling.live.device asks.Identify)
@@ -311,7 +311,7 @@ module _ (so : HeardSo) (goes : GoesSo) where
     runs_so as_flash run made =
         on as_flash first (rules_at first) begins_small [] first refl refl tt can holds_first first_in_step run made
 
-  -- from the beginning of a set-up and a device that can meet
+  -- from the start of a set-up and a device that can meet
   module _ {F : Type 0} (setup : Setup) (identity : Identity) (good : IsSetup setup) (real : IsDevice identity) (can : CanMeet setup identity)
       (placed : ArePlaced setup.plan.records.items) (connect : request_of None (connect_of setup.plan setup.ar) ≡ Ok (request_for setup.plan setup.ar)) (first : World F) (begins : Begins setup identity first) where
     can_start : CanStart first.controller.setup first.device.station

@@ -56,7 +56,7 @@ use Rattle.wire.proofs.Fields.{bind_ok, ok_is}
 use Rattle.startup_law.proofs.Each.{each_at, some_is}
 use Rattle.startup_law.proofs.Heard.{IsKnownHeard, IsKnownSaid, IsListed, IsOwnCall}
 
--- where no judgement strikes, the rest decides
+-- if no earlier judgement fails, the rest decides
 judged_ok : {A : Type 0} (judgements : List (Bool × CallFault)) (otherwise : Result A CallFault) (value : A) → in_order judgements otherwise ≡ Ok value → otherwise ≡ Ok value
 judged_ok [] otherwise value e = e
 judged_ok {A} (judgement ∷ others) otherwise value e = by_test judgement.0 (λ f. judged_ok others otherwise value f) e
@@ -91,7 +91,7 @@ all_octets (x ∷ xs) = ap (λ (ys : List ℕ). x ∷ ys) (all_octets xs)
 differs : (index number : ℕ) → index < number → (index == number) ≡ false
 differs index number below = ne_eqb index number (λ same. omega (arith, below, same))
 
--- an index below these is of none of the device's records
+-- an index below 0x8000 is not one of the device's own records
 none_below : (index : ℕ) → index < 0x8000 → record_with index ≡ None
 unfolding record_with
 none_below index below =
@@ -161,7 +161,8 @@ there_is [] number below = absurd (omega (arith, below))
 there_is (x ∷ xs) zero below = (x, refl)
 there_is (x ∷ xs) (suc number) below = there_is xs number (omega (arith, below))
 
--- what holds of a set-up: its Connect is read as what it asks for, its records are written in blocks that are read, and are kept
+-- the premises about a set-up: its Connect is read as its request, and its records are written in blocks that are read,
+-- and are stored
 pub record IsGood (setup : Setup) : Type 0 where
   pub connect : request_of None (connect_of setup.plan setup.ar) ≡ Ok (request_for setup.plan setup.ar)
   pub few : length setup.plan.records.items ≤ 32

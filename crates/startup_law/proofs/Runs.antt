@@ -35,7 +35,7 @@ use Rattle.end_laws.specs.device.Small as device
 use Rattle.startup_law.specs.View.{IsMeant, IsMeantAtController, IsMeantAtDevice, IsSaidAs, move_of, rules_of, taken_for, view_of}
 use Rattle.startup_law.specs.Played.{IsRunOf, last_world, viewed}
 
--- ---- the laws below
+-- ---- the laws of the crates below
 
 abbrev pub DeviceGoesOn : Type 0
 DeviceGoesOn = (rules : Rules TakenRecord Request) (activity : List ℕ) (outcomes : List Outcome) (station : Station) (live : Live) (heard : Heard)
@@ -64,14 +64,14 @@ module _ {F : Type 0} {S : ℕ} (as_flash : Flash F S) where
         last = more.last;
       }
 
--- ---- a frame that comes
+-- ---- a frame that is delivered
 
 module _ {F : Type 0} {S : ℕ} (as_flash : Flash F S) (before after : World F) (end : End) (P : Type 0) where
   come_so : (frame : List ℕ) (skipped : Bool) → Comes as_flash skipped before end frame after → (after ≡ before → P) → (Comes as_flash false before end frame after → P) → P
   come_so frame true comes rests hears = rests comes
   come_so frame false comes rests hears = hears comes
 
-  -- it is skipped, or there is none, and nothing changes; or it is heard
+  -- it is skipped or does not exist, and nothing changes; or it is heard
   pub delivered : (octets : Option (List ℕ)) → Delivers as_flash octets before end after → (after ≡ before → P)
       → ((frame : List ℕ) → octets ≡ Some frame → Comes as_flash false before end frame after → P) → P
   delivered None comes rests hears = rests comes
@@ -131,7 +131,7 @@ module _ {F : Type 0} where
           sent = all_said w (small_of w.controller.setup.plan turn.live) turn.sent meant on.says;
         }
 
-    -- the controller took an event
+    -- the controller handled an event
     at_controller_steps : (before after : World F) (event : Event) → InStep before → IsMeantAtController before event → after ≡ at_controller before event
         → Refines before after (StepsAtController (rules_at before) (said_in before.controller.setup (heard_by before.controller.setup.plan.controller) event) (view_of before) (view_of after))
     at_controller_steps before after event in_step meant is =

@@ -1,4 +1,4 @@
--- What both ends of a network are of a start-up.
+-- Both ends of a network, as far as a start-up is concerned.
 use Rattle.std.specs.Prelude.{◌≡◌, ◌⊎◌, ℕ, List, map, slice_get, Some}
 use Rattle.std.specs.List.{AllByRecursion}
 use Rattle.settings_store.specs.Machine.{Outcome}
@@ -29,11 +29,11 @@ use Rattle.end_laws.specs.device.Small as device
 
 -- ---- the start-up of a plan
 
--- a record of the plan, as a device keeps it
+-- a record of the plan, as a device stores it
 abbrev pub taken_for : PlanRecord → TakenRecord
 taken_for entry = record { slot = entry.slot; subslot = entry.subslot; index = entry.index; value = record { items = entry.data.items } }
 
--- what the Connect of the plan asks for, the plan's records, and what each end hears of octets
+-- the request of the plan's Connect, the plan's records, and what each end hears in octets
 abbrev pub rules_of : Setup → Station → Rules TakenRecord Request
 rules_of setup station = record {
   request = request_for setup.plan setup.ar;
@@ -50,7 +50,7 @@ view_of world = record {
   sent = world.sent;
 }
 
--- a move
+-- a move, as a start-up sees it
 abbrev pub move_of : Move → small.Move
 move_of (move.Deliver Device number) = small.ComesToDevice number
 move_of (move.Deliver Controller number) = small.ComesToController number
@@ -63,27 +63,28 @@ move_of move.Stop = small.AtController
 
 -- ---- what is heard as it is meant
 
--- The device hears this: if it is a call it is one of the plan, and each message that the device then sends is heard as it is meant, where
--- it can be sent, whatever its flash does.
+-- The device hears this. If it is a call, it is one of the plan. Each message that the device then sends is heard as it
+-- is meant, if it can be sent, whatever its flash does.
 pub record IsMeantAtDevice {F : Type 0} (world : World F) (heard : Heard) : Type 0 where
   pub planned : IsPlanned (rules_of world.controller.setup world.device.station) world.controller.setup.activity world.device.station.real heard
   pub sent : (outcomes : List Outcome) → AreSendable world.device.station.identity (heard_step outcomes world.device.station world.device.live heard).sent
       → AllByRecursion (IsHeardAs (rules_of world.controller.setup world.device.station) world.device.station.identity)
       (heard_step outcomes world.device.station world.device.live heard).sent
 
--- a message of the controller: itself hears nothing of a start-up in it, and the device what it says, or nothing
+-- a message of the controller: the controller hears nothing of a start-up in it, and the device hears what it says, or
+-- nothing
 abbrev pub IsSaidAs : Setup → Station → Sent → Type 0
 IsSaidAs setup station message =
     ((rules_of setup station).to_controller (bytes_of setup message) ≡ small.Nothing)
     × (((rules_of setup station).to_device (bytes_of setup message) ≡ said_by setup.plan message)
     ⊎ ((rules_of setup station).to_device (bytes_of setup message) ≡ small.Idle))
 
--- the controller takes this event: each message that it then sends is heard as it is meant
+-- the controller handles this event: each message that it then sends is heard as it is meant
 abbrev pub IsMeantAtController : {F : Type 0} → World F → Event → Type 0
 IsMeantAtController world event =
     AllByRecursion (IsSaidAs world.controller.setup world.device.station) (turn_of world.controller.setup world.controller.live event).sent
 
--- a move, in a world: whatever comes and is sent then is heard as it is meant
+-- a move, in a world: everything that is delivered and sent then is heard as it is meant
 abbrev pub IsMeant : {F : Type 0} → World F → Move → Type 0
 IsMeant world (move.Deliver Device number) =
     (octets : List ℕ) → slice_get world.sent number ≡ Some octets → IsMeantAtDevice world (heard_of world.device.station.identity (Frame (record { items = octets })))

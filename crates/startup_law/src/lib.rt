@@ -1,4 +1,4 @@
-//! Both ends of a network: what holds of the worlds that moves make, and how such a world begins.
+//! Both ends of a network: what holds of the worlds that moves lead to, and how such a world begins.
 #![tactic(auto)]
 
 mod meeting;

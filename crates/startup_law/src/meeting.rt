@@ -1,4 +1,4 @@
-//! How a world begins as the law of a start-up asks.
+//! A world that meets the premises of the law of a start-up.
 ghost use Rattle.std.specs.Prelude.{◌≡◌, ◌↔◌, IsTrue, [], None};
 ghost use Rattle.std.specs.List.{AllByRecursion};
 ghost use Rattle.connect_blocks.specs.ArBlock.{is_some_uuid};
@@ -21,17 +21,17 @@ fn is_named(ar: &Uuid) -> bool
     *ar.as_bytes() != [0; 16]
 }
 
-/// Whether the index of each record is one of a manufacturer's.
+/// Whether the index of each record is in the manufacturer-specific range.
 fn are_parameters(records: &[PlanRecord]) -> bool
     ensures { IsTrue result ↔ AllByRecursion IsParameter records.now }
 {
     records.iter().all(|entry| entry.index < 0x8000)
 }
 
-/// Whether the law of a start-up speaks of this set-up with a device of this identity: their addresses of Ethernet differ, the ARUUID is
-/// not zero, and the records of the plan are parameter records.
+/// Whether the law of a start-up applies to this set-up and a device of this identity: their MAC addresses differ, the
+/// ARUUID is not zero, and the records of the plan are parameter records.
 pub fn can_meet(setup: &Setup, identity: &Identity) -> bool
-    // True exactly of those of which the law speaks.
+    // The result is true if and only if the law applies.
     ensures { IsTrue result ↔ CanMeet setup.now identity.now }
 {
     identity.mac != setup.plan.controller().mac
@@ -39,8 +39,8 @@ pub fn can_meet(setup: &Setup, identity: &Identity) -> bool
         && are_parameters(setup.plan.records())
 }
 
-/// The world of a device that answered no call since its start and has no relation, and of a controller that was just made of this
-/// set-up. It begins as the law of a start-up asks.
+/// The world of a device that has answered no call since its start and has no relation, and of a controller that was
+/// just made from this set-up. It meets the premises of the law of a start-up.
 pub fn begin_world<F: Flash<S>, const S: usize>(
     alloc: Global,
     device: Device<F, S>,
@@ -49,7 +49,7 @@ pub fn begin_world<F: Flash<S>, const S: usize>(
     requires uncalled { device.live.rest.calls ≡ [] }
     requires unrelated { device.live.rest.link ≡ None }
     ensures begins { Begins setup device.station.identity result }
-    // Its device is this one.
+    // The device of the world is the given one.
     ensures device { result.device ≡ device }
 {
     World::new(

@@ -1,4 +1,4 @@
-//! The law of a start-up, of the worlds that moves make.
+//! The law of a start-up, for the worlds that moves lead to.
 ghost use Rattle.std.specs.Prelude.{◌≡◌, ◌<◌, List, Some};
 ghost use Rattle.connect_laws.specs.request.Request.{request_for};
 ghost use Rattle.relations.specs.Link.{Link};
@@ -26,7 +26,7 @@ use plans::{Plan, PlanRecord};
 use pn_values::Identity;
 use records::TakenRecord;
 
-/// A number of 16 bits is one.
+/// A `u16` has 16 bits.
 fn has_16_bits(number: u16)
     ensures { number < 65536 }
 {
@@ -43,36 +43,37 @@ fn are_placed(records: &[PlanRecord])
     }
 }
 
-/// So have those of a plan's records.
+/// The slots and subslots of a plan's records have 16 bits.
 fn plan_is_placed(plan: &Plan)
     ensures { ArePlaced plan.now.records.items }
 {
     are_placed(plan.records());
 }
 
-/// A start-up of this set-up with this device, over the worlds of any moves, whatever the flash of the device does.
+/// A start-up of this set-up with this device, in the worlds of any moves, whatever the flash of the device does.
 pub fn worlds_start_up<F: Flash<S>, const S: usize>(setup: &Setup, identity: &Identity)
-    // Moves that were played are a run: each one happens in the world behind the one before it.
+    // Moves that were played are a run: each one happens in the world after the one before it.
     ensures run { (before after : World F) (moves : List Move) → Played F.Flash before moves after
         → IsRunOf F.Flash before moves after }
-    // Whatever comes and is sent with each move is heard as it is meant: the device hears no calls but those of the plan, in octets that
-    // say so, and either end hears what the other says, or nothing.
+    // Everything that is delivered and sent with each move is heard as it is meant: the device hears no calls but those
+    // of the plan, in octets that spell them, and either end hears what the other says, or nothing.
     ensures meant { CanMeet setup.now identity.now →
         (first : World F) (run : List (Move × World F)) → Begins setup.now identity.now first
         → AreMade F.Flash first run → AreMeant first run }
-    // A controller that exchanges data was handed an ApplicationReady, which the device had sent at an earlier point: at that point it had
-    // accepted the plan's Connect, and had taken the plan's records, in their order, each once.
+    // If the controller exchanges data, it received an ApplicationReady that the device had sent at an earlier point.
+    // At that point the device had accepted the plan's Connect, and had accepted the plan's records in order, each
+    // once.
     ensures controller { CanMeet setup.now identity.now →
         (first : World F) (run : List (Move × World F)) → Begins setup.now identity.now first
         → AreMade F.Flash first run → (last_world first run).controller.live.phase ≡ Exchanging
         → WasHanded (rules_of first.controller.setup first.device.station) (view_of first) (viewed run) }
-    // Where a device exchanges data, its controller did so at an earlier point.
+    // If the device exchanges data, its controller did so at an earlier point.
     ensures device { CanMeet setup.now identity.now →
         (first : World F) (run : List (Move × World F)) → Begins setup.now identity.now first
         → AreMade F.Flash first run
         → (link : Link) → (last_world first run).device.live.rest.link ≡ Some link → link.phase ≡ in_exchange
         → WasExchanging (viewed run) }
-    // A relation that a device has is the plan's.
+    // A relation of the device is the plan's.
     ensures relation { CanMeet setup.now identity.now →
         (first : World F) (run : List (Move × World F)) → Begins setup.now identity.now first
         → AreMade F.Flash first run

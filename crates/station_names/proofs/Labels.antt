@@ -1,4 +1,4 @@
--- The labels of a text, as a look at one byte after the other finds them.
+-- The labels of a text, found by looking at one byte after the other.
 use Rattle.std.proofs.Common.{◌≡◌, ◌↔◌, ◌⊎◌, inl, inr, ℕ, ◌<◌, ◌≤◌, ◌+◌, ◌-◌, ◌≢◌, ◌==◌, take, drop, get_or, Bool, true, false, cond, leb, ◌&&◌, ◌||◌, List, [], ◌∷◌, ◌++◌, length, IsTrue, Any, refl, sym, ap, ◌∙◌, subst, append_assoc, arith}
 use Rattle.std.specs.List.{slice_range}
 use Rattle.std.proofs.lemmas.Bool.{eq-eqb, ne_eqb, false≢true}
@@ -9,12 +9,13 @@ use Rattle.station_names.specs.declared.scan.Labels.{Labels}
 use Rattle.station_names.specs.Found.{HasBadByte, Seen}
 use Rattle.station_names.proofs.Lists.{any_push_cases, any_push_old}
 
--- bytes put before the first of some labels
+-- bytes put at the front of the first label
 abbrev all_onto_first : List ℕ → List (List ℕ) → List (List ℕ)
 all_onto_first front [] = front ∷ []
 all_onto_first front (label ∷ labels) = (front ++ label) ∷ labels
 
--- what is known where some labels were seen, some bytes of the next, and the rest of the text is to come
+-- the state between two bytes: some labels are complete, some bytes of the next were seen, and the rest of the text is
+-- to come
 pub record Between (bytes front rest : List ℕ) (labels : Labels) (has_bad_byte : Bool) : Type 0 where
   pub closed : List (List ℕ)
   pub seen : Seen closed labels
@@ -32,7 +33,7 @@ first_of (byte ∷ bytes) =
     elim (byte == dot) as (λ b. (first : List ℕ) × (more : List (List ℕ)) × (cond b ([] ∷ labels_of bytes) (onto_first byte (labels_of bytes)) ≡ first ∷ more))
     [ true ↦ ([], labels_of bytes, refl) | false ↦ first_onto byte (labels_of bytes) ]
 
--- and so has one at least
+-- a text has at least one label
 pub some_labels : (bytes : List ℕ) → 0 < length (labels_of bytes)
 some_labels bytes = let (first, more, is) = first_of bytes in rw is (omega arith)
 
@@ -46,7 +47,7 @@ one_more_onto front byte (label ∷ labels) = ap (λ l. l ∷ labels) (sym (appe
 none_bad : HasBadByte [] → ⊥
 none_bad (k, x, below, at, holds) = omega arith
 
--- nothing was looked at
+-- the state before the first byte
 pub at_start : (bytes : List ℕ) (labels : Labels) → Seen [] labels → Between bytes [] bytes labels false
 at_start bytes labels seen = record {
   closed = [];
@@ -81,7 +82,7 @@ at_dot bytes front rest byte labels now has_bad_byte is before add = record {
   );
 }
 
--- another byte belongs to the label
+-- any other byte belongs to the label
 pub at_other : (bytes front rest : List ℕ) (byte : ℕ) (labels : Labels) (before now : Bool) → (byte == dot) ≡ false
     → Between bytes front (byte ∷ rest) labels before
     → IsTrue now ↔ (IsTrue before ⊎ (is_label_byte byte ≡ false))
@@ -120,7 +121,7 @@ at_end bytes front labels now has_bad_byte before add =
       ),
     )
 
--- ---- the same where the bytes of the label that is not closed begin at a place of the text
+-- ---- the same if the bytes of the incomplete label begin at an index of the text
 
 nothing_from : (bytes : List ℕ) (place : ℕ) → slice_range bytes place place ≡ []
 nothing_from bytes place = ap (λ (n : ℕ). take n (drop place bytes)) (let none : place - place ≡ 0 = omega arith in none)
@@ -171,7 +172,7 @@ after_all bytes start index labels now has_bad_byte least most before add =
     (subst (λ (n : ℕ). IsAt bytes start n labels has_bad_byte) end before) in
     at_end bytes (slice_range bytes start (length bytes)) labels now has_bad_byte whole add
 
--- a letter is no dot, and a byte of a label
+-- a letter is not a dot, and may be in a label
 pub after_letter : (bytes : List ℕ) (start index : ℕ) (labels : Labels) (has_bad_byte : Bool) → start ≤ index → index < length bytes
     → (leb 97 (get_or bytes index 0) && leb (get_or bytes index 0) 122) ≡ true
     → IsAt bytes start index labels has_bad_byte → IsAt bytes start (index + 1) labels has_bad_byte

@@ -1,4 +1,4 @@
--- One element more, and what holds of some of them or of each.
+-- A list with one more item, and what holds of some or of all items.
 use Rattle.std.proofs.Common.{◌≡◌, ◌⊎◌, ◌↔◌, inl, inr, Bool, true, false, ◌||◌, ◌&&◌, List, [], ◌∷◌, ◌++◌, length, get_or, All, Any, IsTrue, refl, sym, ◌∙◌, subst, arith}
 use Rattle.std.proofs.lemmas.Bool.{cases_lt}
 use Rattle.std.proofs.lemmas.Grind.{common_steps}
@@ -7,7 +7,7 @@ use Rattle.std.proofs.lemmas.List.Quantifiers.{Any-push}
 use Rattle.std.proofs.lemmas.List.Elements.{All-push}
 
 module _ {X : Type 0} (P : X → Type 0) (xs : List X) (y : X) where
-  -- some element is so: an earlier one, or the last
+  -- if some item has the property, it is an earlier one or the last
   pub any_push_cases : Any P (xs ++ y ∷ []) → Any P xs ⊎ P y
   any_push_cases (k, x, below, at, holds) =
       elim (cases_lt k (length xs)) [
@@ -28,7 +28,7 @@ module _ {X : Type 0} (P : X → Type 0) (xs : List X) (y : X) where
   pub all_push_last : All P (xs ++ y ∷ []) → P y
   all_push_last all = subst P (get_or_push xs y y (length xs) refl) (all (length xs) y (grind (arith, common_steps)))
 
-  -- a test of some, and one of the last
+  -- a test of some items, and one of the last item
   pub or_push : (before now : Bool) → IsTrue before ↔ Any P xs → IsTrue now ↔ P y → IsTrue (before || now) ↔ Any P (xs ++ y ∷ [])
   or_push true now some last = (λ _. any_push_old (some.0 refl), λ _. refl)
   or_push false now some last = (
@@ -36,7 +36,7 @@ module _ {X : Type 0} (P : X → Type 0) (xs : List X) (y : X) where
     λ any. elim (any_push_cases any) [ inl old ↦ (let e = some.1 old in cc) | inr new ↦ last.1 new ],
   )
 
-  -- a test of each, and one of the last
+  -- a test of all items, and one of the last item
   pub and_push : (before now : Bool) → IsTrue before ↔ All P xs → IsTrue now ↔ P y → IsTrue (before && now) ↔ All P (xs ++ y ∷ [])
   and_push true now each last = (λ yes. All-push P xs y (each.0 refl) (last.0 yes), λ all. last.1 (all_push_last all))
   and_push false now each last = (λ yes. cc, λ all. each.1 (all_push_old all))

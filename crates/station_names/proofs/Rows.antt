@@ -1,4 +1,4 @@
--- Texts that are names and texts that are none, judged by the definition itself.
+-- Texts that are names and texts that are not, judged by the definition itself.
 use Rattle.std.proofs.Common.{◌≡◌, ℕ, false, true, get_or, ap, [], ◌∷◌, IsTrue, codes, inl, inr, refl, lit≤, lit<, arith}
 use Rattle.std.proofs.lemmas.Bool.Decides.{Decides-eqb}
 use Rattle.std.proofs.lemmas.List.Elements.{All-from_recursion, All-head}

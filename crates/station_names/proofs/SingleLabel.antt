@@ -1,4 +1,4 @@
--- What single labels are, from what their bytes are asked for.
+-- The kinds of single labels, from tests of their bytes.
 use Rattle.std.proofs.Common.{◌≡◌, ◌↔◌, inl, inr, ℕ, ◌+◌, ◌-◌, Bool, true, false, eqb, List, [], ◌∷◌, ◌++◌, length, take, drop, get_or, slice_get, Some, IsTrue, All, sym, ap, ◌∙◌, subst, arith}
 use Rattle.std.specs.Cmp.Lexicographic.{pointwise}
 use Rattle.std.proofs.Math.Seq.{take-append_seam, get_or-append_seam, drop-append-add, drop-cons}
@@ -16,7 +16,7 @@ no_hyphen_first (byte ∷ label) starts is not at =
     let e : byte ∷ label ≡ hyphen ∷ label = cc in
     let yes : starts ≡ true = (starts_is Decides-eqb (byte ∷ label) (hyphen ∷ []) starts is).1 label e in cc
 
--- of a label that does not begin with '-', whether it ends with it
+-- whether a label that does not begin with '-' ends with it
 pub hyphen_end : (label : List ℕ) (starts ends : Bool) → starts ≡ pointwise eqb (hyphen ∷ []) (take 1 label) → starts ≡ false
     → ends ≡ pointwise eqb (hyphen ∷ []) (drop (length label - 1) label) → IsTrue ends ↔ HasHyphenEnd label
 hyphen_end label starts ends first none last =
@@ -35,7 +35,7 @@ parts digits more three =
 abbrev pub IsDigit : ℕ → Type 0
 IsDigit byte = IsTrue (is_digit byte)
 
--- "port-" and nine bytes more
+-- "port-" and nine more bytes
 long_port_parts : (label port digits more : List ℕ) → label ≡ (112 ∷ 111 ∷ 114 ∷ 116 ∷ hyphen ∷ []) ++ port → IsDigits 3 digits → IsDigits 5 more
     → label ≡ ((112 ∷ 111 ∷ 114 ∷ 116 ∷ hyphen ∷ []) ++ digits) ++ hyphen ∷ more
     → All IsDigit (take 3 port) × (get_or port 3 0 ≡ hyphen) × All IsDigit (drop 4 port)

@@ -1,4 +1,4 @@
--- The test of a name says yes exactly to a NameOfStation.
+-- The test of a name is true exactly for a NameOfStation.
 use Rattle.std.proofs.Common.{◌≡◌, ◌⊎◌, ◌+◌, ◌-◌, ◌<◌, ◌≤◌, ℕ, zero, suc, Bool, List, [], ◌∷◌, ◌++◌, length, take, drop, get_or, Some, refl, sym, ap, ◌∙◌, subst, inl, inr, arith, leb, length-append}
 use Rattle.std.specs.Prelude.{slice_get, slice_index, IsTrue}
 use Rattle.std.specs.Bool.{Decides}
@@ -33,7 +33,7 @@ inside [] place byte h = cc
 inside (x ∷ xs) zero byte h = omega arith
 inside (x ∷ xs) (suc place) byte h = let below : place < length xs = inside xs place byte h in omega arith
 
--- the byte at a place
+-- the byte at an index
 Decides-has_byte : (label : List ℕ) (place byte : ℕ) → Decides (has_byte label place byte) (slice_get label place ≡ Some byte)
 Decides-has_byte label place byte =
     Decides-like (has_byte label place byte)
@@ -90,7 +90,7 @@ port = 112 ∷ 111 ∷ 114 ∷ 116 ∷ hyphen ∷ []
 abbrev digits_in : List ℕ → List ℕ
 digits_in label = take 3 (drop 5 label)
 
--- what the test of a port looks at
+-- the parts that the test of a port looks at
 abbrev PortParts : List ℕ → Type 0
 PortParts label = ((port ≡ take 5 label) × All (λ byte. IsTrue (is_digit byte)) (digits_in label))
     × ((length label ≡ 8) ⊎ (((length label ≡ 14) × (slice_get label 8 ≡ Some hyphen)) × All (λ byte. IsTrue (is_digit byte)) (drop 9 label)))

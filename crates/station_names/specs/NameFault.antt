@@ -1,10 +1,10 @@
--- What can be wrong with the labels of a text, and which fault comes first.
+-- The faults of a text that is not a station name, and which one comes first.
 use Rattle.std.specs.Prelude.{◌≡◌, ◌⊎◌, ◌<◌, ◌++◌, ℕ, List, [], ◌∷◌, length, take, All, Any, false, slice_get, Some}
 use Rattle.pn_values.specs.StationName.{hyphen, is_label_byte, labels_of, IsPort, LooksLikeAddress as IsAddress}
 use Rattle.station_names.specs.declared.name_fault.NameFault.{NameFault}
 use Rattle.station_names.specs.declared.name_fault.NameFault.TheVariants.{TooLong, EmptyLabel, LabelTooLong, BadByte, HyphenEnd, LooksLikeAddress, PortForm}
 
--- '-' is its first or its last byte
+-- the first or the last byte is '-'
 abbrev pub HasHyphenEnd : List ℕ → Type 0
 HasHyphenEnd label = (slice_get label 0 ≡ Some hyphen) ⊎ ((front : List ℕ) × (label ≡ front ++ hyphen ∷ []))
 
@@ -18,7 +18,7 @@ HasFault bytes HyphenEnd = Any HasHyphenEnd (labels_of bytes)
 HasFault bytes LooksLikeAddress = IsAddress (labels_of bytes)
 HasFault bytes PortForm = All IsPort (take 1 (labels_of bytes))
 
--- the faults' numbers, in the order in which they are looked for
+-- the numbers of the faults, in the order in which they are looked for
 abbrev pub number_of : NameFault → ℕ
 number_of TooLong = 1
 number_of EmptyLabel = 2
@@ -28,6 +28,6 @@ number_of HyphenEnd = 5
 number_of LooksLikeAddress = 6
 number_of PortForm = 7
 
--- a text has the fault, and none of a smaller number
+-- the text has the fault, and none with a smaller number
 abbrev pub FirstFault : List ℕ → NameFault → Type 0
 FirstFault bytes fault = HasFault bytes fault × ((other : NameFault) → number_of other < number_of fault → ¬ HasFault bytes other)

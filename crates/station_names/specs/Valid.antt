@@ -1,14 +1,14 @@
--- The rules of a name as a test, by which a function of the specs decides. It says yes exactly to a NameOfStation.
+-- The rules of a name as a test, for functions of the specs. It is true exactly for a NameOfStation.
 use Rattle.std.specs.Prelude.{◌-◌, ◌==◌, ◌&&◌, ◌||◌, ℕ, Bool, not, nat_lt, nat_le, nat_eq, List, [], ◌∷◌, length, take, drop, slice_index}
 use Rattle.std.specs.List.{list_all}
 use Rattle.std.specs.Cmp.Lexicographic.{pointwise}
 use Rattle.pn_values.specs.StationName.{hyphen, is_digit, is_label_byte, labels_of}
 
--- the byte at a place
+-- the label has this byte at this index
 abbrev pub has_byte : List ℕ → ℕ → ℕ → Bool
 has_byte label place byte = nat_lt place (length label) && (slice_index label place == byte)
 
--- 1 to 63 bytes of a to z, 0 to 9 and '-', which is neither the first nor the last
+-- 1 to 63 bytes of a to z, 0 to 9 and '-'; the first and the last are not '-'
 abbrev pub is_label : List ℕ → Bool
 is_label label = nat_lt 0 (length label) && nat_le (length label) 63 && list_all is_label_byte label
     && not (has_byte label 0 hyphen) && not (has_byte label (length label - 1) hyphen)
@@ -20,7 +20,7 @@ is_address_part label = nat_lt 0 (length label) && nat_le (length label) 3 && li
 abbrev pub looks_like_address : List (List ℕ) → Bool
 looks_like_address labels = (length labels == 4) && list_all is_address_part labels
 
--- "port-" and three digits, or that and '-' and five digits more
+-- "port-" and three digits, optionally followed by '-' and five digits
 abbrev pub is_port : List ℕ → Bool
 is_port label = pointwise nat_eq (112 ∷ 111 ∷ 114 ∷ 116 ∷ hyphen ∷ []) (take 5 label) && list_all is_digit (take 3 (drop 5 label))
     && ((length label == 8) || ((length label == 14) && has_byte label 8 hyphen && list_all is_digit (drop 9 label)))

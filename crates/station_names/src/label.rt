@@ -1,37 +1,37 @@
-// What a single label is asked for.
+// The tests of a single label.
 ghost use Rattle.std.specs.Prelude.{◌≡◌, ◌&&◌, ◌↔◌, All, IsTrue, nat_le};
 ghost use Rattle.pn_values.specs.StationName.{is_digit, is_label_byte as is_allowed, IsAddressPart, IsPort};
 ghost use Rattle.station_names.specs.NameFault.{HasHyphenEnd};
 
-/// Whether it is one of `a` to `z`.
+/// Whether the byte is one of `a` to `z`.
 pub(crate) fn is_letter(byte: u8) -> bool
     ensures { result ≡ (nat_le 97 byte && nat_le byte 122) }
 {
     matches!(byte, b'a'..=b'z')
 }
 
-/// Whether it is one of `a` to `z`, `0` to `9` and `-`.
+/// Whether the byte is one of `a` to `z`, `0` to `9` and `-`.
 pub(crate) fn is_label_byte(byte: u8) -> bool
     ensures { result ≡ is_allowed byte }
 {
     matches!(byte, b'a'..=b'z' | b'0'..=b'9' | b'-')
 }
 
-/// Whether it begins or ends with `-`.
+/// Whether the label begins or ends with `-`.
 pub(crate) fn has_hyphen_end(label: &[u8]) -> bool
     ensures { IsTrue result ↔ HasHyphenEnd label.now }
 {
     label.starts_with(b"-") || label.ends_with(b"-")
 }
 
-/// Whether it has one to three digits, as each part of an IP address.
+/// Whether the label has one to three digits, like each part of an IP address.
 pub(crate) fn is_address_part(label: &[u8]) -> bool
     ensures { IsTrue result ↔ IsAddressPart label.now }
 {
     matches!(label.len(), 1..=3) && all_digits(label)
 }
 
-/// Whether it is `port-` and three digits, or that and `-` and five digits more.
+/// Whether the label is `port-` and three digits, optionally followed by `-` and five digits.
 pub(crate) fn is_port(label: &[u8]) -> bool
     ensures { IsTrue result ↔ IsPort label.now }
 {

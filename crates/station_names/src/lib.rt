@@ -1,4 +1,4 @@
-//! The rules of a station name, and which of them a text breaks first.
+//! The rules of a station name, and the first rule that a text breaks.
 #![tactic(auto)]
 
 mod label;

@@ -9,7 +9,7 @@ use crate::scan::Found;
 use pn_values::StationName;
 
 /// The station name of a text (IEC 61158-6-10, 4.3.1.4.15), or the first of its faults in the order of their numbers.
-/// The empty text is an `EmptyLabel`: a caller that takes it for 'no name' asks that first.
+/// The empty text is an `EmptyLabel`: a caller that accepts it as 'no name' must test for it first.
 pub fn check(bytes: &[u8]) -> Result<StationName, NameFault>
     ensures valid { IsOk result ↔ IsStationName bytes.now }
     ensures test { is_ok result ≡ is_station_name bytes.now }
@@ -30,7 +30,7 @@ fn named(bytes: &[u8]) -> Result<StationName, NameFault>
         return Err(NameFault::TooLong);
     }
     let found = Found::of(bytes);
-    // One kind of fault after another over the whole text, so that which fault is told does not hang on where it stands.
+    // Each kind of fault is looked for in the whole text, so that the reported fault does not depend on its position.
     for fault in NameFault::ALL {
         if found.has(fault) {
             return Err(fault);

@@ -1,11 +1,11 @@
-// What can be wrong with a station name.
+// The faults of a station name.
 ghost use Rattle.std.specs.Prelude.{◌≡◌};
 ghost use Rattle.station_names.specs.NameFault.{number_of};
 
 use thiserror::Error;
 
-/// What is wrong with a text that is no NameOfStation (IEC 61158-6-10, 4.3.1.4.15). Of several faults the one with
-/// the smallest number counts, over the whole text.
+/// Why a text is not a NameOfStation (IEC 61158-6-10, 4.3.1.4.15). If the text has several faults, the one with the
+/// smallest number is reported.
 #[derive(Clone, Copy, Debug, PartialEq, Eq, Error)]
 pub enum NameFault {
     #[error("a station name has at most 240 bytes")]
@@ -25,7 +25,7 @@ pub enum NameFault {
 }
 
 impl NameFault {
-    /// All of them, in the order in which they are looked for.
+    /// All faults, in the order in which they are looked for.
     pub const ALL: [NameFault; 7] = [
         NameFault::TooLong,
         NameFault::EmptyLabel,
@@ -36,7 +36,7 @@ impl NameFault {
         NameFault::PortForm,
     ];
 
-    /// Its number, 1 to 7.
+    /// The number of the fault, 1 to 7.
     pub fn number(self) -> u8
         ensures { result ≡ number_of self }
     {

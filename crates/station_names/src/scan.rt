@@ -1,4 +1,4 @@
-// What the labels of a text are asked for, found in one pass over its octets.
+// The facts about the labels of a text, found in one pass over its octets.
 ghost use Rattle.std.specs.Prelude.{◌≡◌, ◌≢◌, ◌++◌, ◌+◌, ◌<◌, ◌≤◌, ◌↔◌, ℕ, List, [], ◌∷◌, length, IsTrue};
 ghost use Rattle.pn_values.specs.StationName.{IsPort};
 ghost use Rattle.station_names.specs.NameFault.{HasFault};
@@ -7,18 +7,18 @@ ghost use Rattle.station_names.specs.Found.{Seen, IsFound};
 use crate::NameFault;
 use crate::label::{has_hyphen_end, is_address_part, is_label_byte, is_letter, is_port};
 
-/// What was found out about the labels so far.
+/// The facts about the labels so far.
 #[derive(Clone, Copy)]
 struct Labels {
-    /// How many there are.
+    /// The number of labels.
     count: usize,
     has_empty: bool,
-    /// Whether one has more than 63 bytes.
+    /// Whether a label has more than 63 bytes.
     has_long: bool,
     has_hyphen_end: bool,
-    /// Whether each is as a part of an IP address.
+    /// Whether each label has the form of a part of an IP address.
     are_address_parts: bool,
-    /// Whether the first is the name of a port.
+    /// Whether the first label is the name of a port.
     begins_with_port: bool,
 }
 
@@ -37,7 +37,7 @@ impl Labels {
         }
     }
 
-    /// The same of one label more.
+    /// The facts with one more label.
     fn and(self, label: &[u8]) -> Labels
         requires { self.count < 1000 }
         ensures seen { (labels : List (List ℕ)) → Seen labels self → Seen (labels ++ label.now ∷ []) result }
@@ -53,7 +53,7 @@ impl Labels {
         }
     }
 
-    /// Whether the first label is the name of a port, where this one is the next.
+    /// Whether the first label is the name of a port, if this one is the next.
     fn begins_with_port_before(self, label: &[u8]) -> bool
         ensures first { self.count ≡ 0 → IsTrue result ↔ IsPort label.now }
         ensures later { self.count ≢ 0 → result ≡ self.begins_with_port }
@@ -66,7 +66,7 @@ impl Labels {
     }
 }
 
-/// What was found out about a text.
+/// The facts about a text.
 #[derive(Clone, Copy)]
 pub(crate) struct Found {
     labels: Labels,
@@ -74,7 +74,7 @@ pub(crate) struct Found {
 }
 
 impl Found {
-    /// What there is to find in a text of at most 240 bytes.
+    /// The facts about a text of at most 240 bytes.
     pub(crate) fn of(bytes: &[u8]) -> Found
         requires { length bytes.now ≤ 240 }
         ensures { IsFound bytes.now result }
@@ -84,7 +84,7 @@ impl Found {
         let mut start = 0;
         for index in 0..bytes.len() {
             let byte = bytes[index];
-            // Most are letters, of which nothing more is asked.
+            // Most bytes are letters, which need no further test.
             if !is_letter(byte) {
                 if byte == b'.' {
                     labels = labels.and(&bytes[start..index]);

@@ -1,4 +1,4 @@
--- Lists of so many values of sound formats are sound.
+-- Lists with a given number of values of sound formats are sound.
 use Rattle.std.proofs.Common.{◌≡◌, ℕ, zero, suc, ◌-◌, ◌+◌, ◌<◌, ◌≤◌, List, [], ◌∷◌, ◌++◌, length, take, drop, get_or, Result, Ok, Err, refl, sym, ap, subst, ◌∙◌, append_assoc, arith}
 use Rattle.std.specs.Prelude.{nat_lt}
 use Rattle.std.proofs.lemmas.List.{append-nil, length-append, take_more, drop_more, drop_all}
@@ -84,13 +84,13 @@ module _ {F A : Type 0} (item : List A → Codec F A) (items : (before : List A)
   pub bounded_onward : (most : ℕ) (full : F) (before : List A) → IsOnward (bounded most full item before)
   bounded_onward most full before = checked_onward (λ value. nat_lt (length before) most) full (item before) (items before)
 
--- ---- a loop that reads so many values
+-- ---- a loop that reads a given number of values
 
--- the values in front of those that are still to be read
+-- the values read so far, before those still to be read
 abbrev pub with_before : {F A : Type 0} → List A → Result (List A × List ℕ) F → Result (List A × List ℕ) F
 with_before front read = read >>= λ y. Ok (front ++ y.0, y.1)
 
--- before the loop
+-- at the start of the loop
 pub each_starts : {F A : Type 0} (read : Result (List A × List ℕ) F) → with_before [] read ≡ read
 each_starts (Ok x) = refl
 each_starts (Err fault) = refl
@@ -101,7 +101,7 @@ each_regroup front value (Ok x) = ap (λ vs. Ok (vs, x.1)) (sym (append_assoc fr
 each_regroup front value (Err fault) = refl
 
 module _ {F A : Type 0} (item : List A → Codec F A) (count : ℕ) (front : List A) (bytes : List ℕ) (total : Result (List A × List ℕ) F) where
-  -- one value more
+  -- one more value is read
   pub each_goes_on : (value : A) (after : List ℕ) → length front < count → (item front).read bytes ≡ Ok (value, after)
       → with_before front (read_each item (count - length front) front bytes) ≡ total
       → with_before (front ++ value ∷ []) (read_each item (count - length (front ++ value ∷ [])) (front ++ value ∷ []) after) ≡ total
@@ -112,7 +112,7 @@ module _ {F A : Type 0} (item : List A → Codec F A) (count : ℕ) (front : Lis
       rw (k, one) (each_regroup front value (read_each item (count - length (front ++ value ∷ [])) (front ++ value ∷ []) after)) in
       sym step ∙ so_far
 
-  -- a value with a fault
+  -- the next value has a fault
   pub each_fails : (fault : F) → length front < count → (item front).read bytes ≡ Err fault
       → with_before front (read_each item (count - length front) front bytes) ≡ total → total ≡ Err fault
   unfolding read_each
@@ -121,7 +121,7 @@ module _ {F A : Type 0} (item : List A → Codec F A) (count : ℕ) (front : Lis
       let step : with_before front (read_each item (count - length front) front bytes) ≡ Err fault = rw (k, one) refl in
       sym so_far ∙ step
 
-  -- no value is left
+  -- no value is left to read
   pub each_ends : count ≤ length front → with_before front (read_each item (count - length front) front bytes) ≡ total → total ≡ Ok (front, bytes)
   unfolding read_each
   each_ends none so_far =
@@ -129,10 +129,10 @@ module _ {F A : Type 0} (item : List A → Codec F A) (count : ℕ) (front : Lis
       let step : with_before front (read_each item (count - length front) front bytes) ≡ Ok (front, bytes) = rw k (ap (λ (vs : List A). Ok (vs, bytes)) (append-nil front)) in
       sym so_far ∙ step
 
--- ---- a loop that writes so many values
+-- ---- a loop that writes a given number of values
 
 module _ {F A : Type 0} (item : List A → Codec F A) where
-  -- one value more can be written
+  -- one more value can be written
   pub fits_more : (before xs : List A) (x : A) → FitsEach item before xs → (item (before ++ xs)).Fits x → FitsEach item before (xs ++ x ∷ [])
   fits_more before [] x fits one = (subst (λ (front : List A). (item front).Fits x) (append-nil before) one, tt)
   fits_more before (y ∷ xs) x fits one =

@@ -1,4 +1,4 @@
--- The fields that formats are made of are sound.
+-- The basic formats of fields are sound.
 use Rattle.std.proofs.Common.{◌≡◌, ℕ, ◌≤◌, Bool, true, false, cond, ltb, List, [], ◌∷◌, ◌++◌, length, take, drop, replicate, Result, Ok, Err, refl, sym, ap, ◌∙◌, append_assoc, arith}
 use Rattle.std.proofs.lemmas.Bool.{ltb-false, le-ltb}
 use Rattle.std.proofs.lemmas.List.{append-nil, take_at, drop_at, take-append-drop, length-append, length-take, length-replicate}
@@ -7,7 +7,7 @@ use Rattle.byteorder.specs.Numbers.{big_from-append, big_from-take, big_number-r
 use Rattle.wire.specs.Codec.{IsSound, IsOnward, ◌>>=◌}
 use Rattle.wire.specs.Formats.{raw, number, padding}
 
--- a step that did not fail
+-- if two steps succeed, the first one did
 pub bind_ok : {F A B : Type 0} (r : Result A F) (f : A → Result B F) (y : B) → (r >>= f) ≡ Ok y → (x : A) × (r ≡ Ok x) × (f x ≡ Ok y)
 bind_ok (Ok x) f y e = (x, refl, e)
 bind_ok (Err fault) f y e = absurd cc
@@ -15,16 +15,16 @@ bind_ok (Err fault) f y e = absurd cc
 abbrev done : {F A : Type 0} → A → Result A F
 done value = Ok value
 
--- what comes out of two readings that succeed
+-- the results of two successful readings are equal
 pub ok_is : {F A : Type 0} (x y : A) → done {F = F} x ≡ Ok y → x ≡ y
 ok_is x y e = cc
 
--- a test that did not fail
+-- a test that passed
 pub guard_ok : {F A : Type 0} (b : Bool) (fault : F) (x y : A) → cond b (Err fault) (Ok x) ≡ Ok y → (b ≡ false) × (x ≡ y)
 guard_ok true fault x y e = absurd cc
 guard_ok false fault x y e = (refl, cc)
 
--- a front of the bytes that is long enough
+-- a prefix of the bytes, if they are long enough
 record IsCut (size : ℕ) (bytes rest : List ℕ) : Type 0 where
   long : size ≤ length bytes
   front : length (take size bytes) ≡ size
@@ -38,7 +38,7 @@ cut_of short size bytes rest made value e =
     let rest_is : drop size bytes ≡ rest = ap (λ p. p.1) g.1 in
     (record { long = long; front = omega (arith, length-take size bytes); parts = sym (take-append-drop size bytes) ∙ ap (λ (xs : List ℕ). take size bytes ++ xs) rest_is }, ap (λ p. p.0) g.1)
 
--- whatever is long enough is not too short
+-- bytes that are long enough are not too short
 long_enough : (size : ℕ) (front rest : List ℕ) → length front ≡ size → ltb (length (front ++ rest)) size ≡ false
 long_enough size front rest e = le-ltb _ _ (omega (arith, length-append front rest))
 
@@ -68,7 +68,7 @@ number_sound short size = record {
   sized = λ value rest. omega (arith, length-bytes_high_first size value, length-append (big_bytes size value) rest);
 }
 
--- the number that is read is the one in front
+-- the number that is read is the one at the front
 pub number_in_front : {F : Type 0} (short : F) (size : ℕ) (bytes : List ℕ) (value : ℕ) (rest : List ℕ) → (number short size).read bytes ≡ Ok (value, rest) → value ≡ big_number size bytes
 number_in_front short size bytes value rest e = let cut = cut_of short size bytes rest (big_number size bytes) value e in sym cut.1
 
@@ -91,7 +91,7 @@ number_onward short size = record {
   onward = λ bytes value rest more s. (s.0, s.1, ap (λ (xs : List ℕ). xs ++ more) s.2 ∙ append_assoc s.0 rest more, s.3);
 }
 
--- padding is not so: it takes fewer bytes only where it finds the end
+-- padding is not onward: it takes fewer bytes only at the end
 pub padding_finds_the_end : {F : Type 0} → IsOnward (padding {F = F} 1) → ⊥
 padding_finds_the_end inner = something (inner.onward [] tt [] (0 ∷ []) refl) where
   something : {x : ℕ} {xs : List ℕ} → x ∷ xs ≡ [] → ⊥

@@ -9,7 +9,7 @@ use Rattle.wire.specs.Checks.{or_fault, checked, fixed, allowed, named, closed, 
 use Rattle.wire.proofs.Fields.{bind_ok, ok_is, number_sound, number_onward}
 use Rattle.wire.proofs.Joined.{seen_sound, seen_onward}
 
--- a test that was passed
+-- a test that passed
 pub passed : {F A : Type 0} (b : Bool) (fault : F) (x y : A) → cond b (Ok x) (Err fault) ≡ Ok y → (b ≡ true) × (x ≡ y)
 passed true fault x y e = (refl, cc)
 passed false fault x y e = absurd cc
@@ -86,7 +86,7 @@ closed_sound more codec sound = record {
 }
 
 module _ {F A B : Type 0} (to : A → B) (from : B → Option A) (whole : Whole F A) where
-  -- what can be written in one variant is written so
+  -- what can be written in one variant is spelled by what is written
   of_variant : (back : (value : B) (inner : A) → from value ≡ Some inner → to inner ≡ value) (sound : IsSoundWhole whole) (value : B) (o : Option A)
       → from value ≡ o → IsSomeAnd o whole.Fits → (variant to from whole).Spells (option_map_or whole.write o []) value
   of_variant back sound value (Some inner) e fits = (inner, back value inner e, sound.written inner fits)

@@ -1,4 +1,4 @@
--- Octets as a part of the value are sound.
+-- Formats that keep octets as a part of the value are sound.
 use Rattle.std.proofs.Common.{◌≡◌, ℕ, ◌-◌, List, [], ◌++◌, length, Ok, refl, sym, ap, subst, ◌∙◌, append_assoc, arith}
 use Rattle.std.proofs.lemmas.List.{append-nil, length-append, take_at, take-append-le}
 use Rattle.wire.specs.Codec.{Codec, Whole, IsSound, IsSoundWhole, IsOnward, ◌>>=◌}
@@ -6,11 +6,11 @@ use Rattle.wire.specs.Formats.{raw}
 use Rattle.wire.specs.Kept.{front_of, kept, cut, within}
 use Rattle.wire.proofs.Fields.{bind_ok, ok_is, raw_sound}
 
--- what is in front of an end
+-- the front of a list before its end
 pub front_at : (front rest : List ℕ) → front_of (front ++ rest) rest ≡ front
 front_at front rest = take_at front rest (length (front ++ rest) - length rest) (omega (arith, length-append front rest))
 
--- it is the same with more at the end
+-- the front stays the same with more at the end
 pub front_more : (bytes rest more : List ℕ) → front_of (bytes ++ more) (rest ++ more) ≡ front_of bytes rest
 front_more bytes rest more =
     let k : length (bytes ++ more) - length (rest ++ more) ≡ length bytes - length rest = omega (arith, length-append bytes more, length-append rest more) in
@@ -50,7 +50,7 @@ module _ {F A : Type 0} (short : F) (size : ℕ) (whole : Whole F A) where
     sized = λ value rest. omega (arith, inner.sized value, length-append (whole.write value) rest);
   }
 
-  -- whatever is in it
+  -- this holds for any inner format
   pub cut_onward : IsOnward (cut short size whole)
   cut_onward = record {
     onward = λ bytes value rest more s. (s.0, s.1, ap (λ (xs : List ℕ). xs ++ more) s.2 ∙ append_assoc s.0 rest more, s.3);

@@ -8,7 +8,7 @@ use Rattle.wire.specs.Codec.{Codec, IsSound, IsSoundWhole, ◌>>=◌}
 use Rattle.wire.specs.Filled.{SpellAll, write_all, read_all, filled}
 use Rattle.wire.proofs.Fields.{bind_ok, ok_is}
 
--- a choice that came out as a value
+-- a choice that gave a value
 chosen : {F A : Type 0} (b : Bool) (x y : Result A F) (value : A) → cond b x y ≡ Ok value → ((b ≡ true) × (x ≡ Ok value)) ⊎ ((b ≡ false) × (y ≡ Ok value))
 chosen true x y value e = inl (refl, e)
 chosen false x y value e = inr (refl, e)
@@ -57,7 +57,7 @@ module _ {F A : Type 0} (more : F) (codec : Codec F A) where
   sized_all [] sound = refl
   sized_all (value ∷ values) sound = omega (arith, sound.sized value (write_all codec values), sized_all values sound, sum_by-cons codec.size value values)
 
-  -- a list is sound where each of its values takes at least a byte
+  -- a list is sound if each of its values takes at least one byte
   pub filled_sound : (most : ℕ) → IsSound codec → ((value : A) → codec.Fits value → 0 < codec.size value) → IsSoundWhole (filled most more codec)
   filled_sound most sound some = record {
     takes = λ bytes values e. read_takes most bytes values sound e;
@@ -68,11 +68,11 @@ module _ {F A : Type 0} (more : F) (codec : Codec F A) where
 
 -- ---- a loop that reads a list
 
--- the values in front of those that are still to be read
+-- the values read so far, before those still to be read
 abbrev pub with_front : {F A : Type 0} → List A → Result (List A) F → Result (List A) F
 with_front front read = read >>= λ values. Ok (front ++ values)
 
--- before the loop
+-- at the start of the loop
 pub list_starts : {F A : Type 0} (read : Result (List A) F) → with_front [] read ≡ read
 list_starts (Ok values) = refl
 list_starts (Err fault) = refl
@@ -82,7 +82,7 @@ regroup front value (Ok values) = ap (λ vs. Ok vs) (sym (append_assoc front (va
 regroup front value (Err fault) = refl
 
 module _ {F A : Type 0} (more : F) (codec : Codec F A) (front : List A) (most : ℕ) (bytes : List ℕ) (total : Result (List A) F) where
-  -- one value more
+  -- one more value is read
   pub list_goes_on : (value : A) (after : List ℕ) → length front < most → 0 < length bytes → codec.read bytes ≡ Ok (value, after)
       → with_front front (read_all (most - length front) more codec bytes) ≡ total
       → with_front (front ++ value ∷ []) (read_all (most - length (front ++ value ∷ [])) more codec after) ≡ total
@@ -93,7 +93,7 @@ module _ {F A : Type 0} (more : F) (codec : Codec F A) (front : List A) (most : 
       rw (k, not_empty bytes some, one) (regroup front value (read_all (most - length (front ++ value ∷ [])) more codec after)) in
       sym step ∙ so_far
 
-  -- a value with a fault
+  -- the next value has a fault
   pub list_fails : (fault : F) → length front < most → 0 < length bytes → codec.read bytes ≡ Err fault
       → with_front front (read_all (most - length front) more codec bytes) ≡ total → total ≡ Err fault
   unfolding read_all
@@ -102,7 +102,7 @@ module _ {F A : Type 0} (more : F) (codec : Codec F A) (front : List A) (most : 
       let step : with_front front (read_all (most - length front) more codec bytes) ≡ Err fault = rw (k, not_empty bytes some, one) refl in
       sym so_far ∙ step
 
-  -- no room is left
+  -- there is no room for the next value
   pub list_is_full : most ≤ length front → 0 < length bytes → with_front front (read_all (most - length front) more codec bytes) ≡ total → total ≡ Err more
   unfolding read_all
   list_is_full full some so_far =

@@ -1,4 +1,4 @@
--- Entries that count others are sound.
+-- Formats of entries that count others are sound.
 use Rattle.std.proofs.Common.{◌≡◌, ℕ, zero, suc, ◌-◌, ◌+◌, ◌*◌, ◌<◌, ◌≤◌, List, [], ◌∷◌, ◌++◌, length, take, drop, Ok, Err, refl, sym, ap, subst, ◌∙◌, append_assoc, get_or, sum_by, arith}
 use Rattle.std.specs.List.{AllByRecursion}
 use Rattle.std.proofs.lemmas.Bool.{lt-ltb}
@@ -11,7 +11,7 @@ use Rattle.wire.specs.Nested.{read_inner, SpellOuter, write_outer, size_outer, F
 use Rattle.wire.proofs.Fields.{bind_ok, ok_is}
 use Rattle.wire.proofs.Counts.{each_written, each_local, each_sized, each_onward}
 
--- ---- the inner entries: reading behind others is reading them, and putting them behind those
+-- ---- the inner entries: reading them after others gives them appended to those
 
 module _ {F S : Type 0} (item : List S → Codec F S) (sound : (before : List S) → IsSound (item before)) where
   inner_takes : (count : ℕ) (before : List S) (bytes : List ℕ) (all : List S) (rest : List ℕ) → read_inner item count before bytes ≡ Ok (all, rest)
@@ -202,7 +202,7 @@ module _ {F S : Type 0} (item : List S → Codec F S) (before : List S) (bytes :
   unfolding read_inner
   inner_ends none = rw none refl
 
--- ---- a loop that reads the outer ones
+-- ---- a loop that reads the outer entries
 
 module _ {F H S : Type 0} (header : List H → Codec F H) (count_of : H → ℕ) (item : ℕ → List S → Codec F S) (first : List H) (second : List S) (bytes : List ℕ) (left : ℕ) where
   pub outer_goes_on : (entry : H) (more : List S) (behind rest : List ℕ) (n : ℕ) → left ≡ n + 1 → (header first).read bytes ≡ Ok (entry, behind)
@@ -224,7 +224,7 @@ module _ {F H S : Type 0} (header : List H → Codec F H) (count_of : H → ℕ)
   unfolding read_outer
   outer_ends none = rw none refl
 
--- ---- what is written, where it does not hang on what was before
+-- ---- what is written, if it does not depend on the values before
 
 module _ {F S : Type 0} (item : List S → Codec F S) (put : S → List ℕ → List ℕ) (takes : S → ℕ)
     (same : (before : List S) (value : S) (rest : List ℕ) → (item before).write value rest ≡ put value rest)
@@ -266,7 +266,7 @@ module _ {F H S : Type 0} (header : List H → Codec F H) (count_of : H → ℕ)
         outer_flat_size (first ++ entry ∷ []) (second ++ own) entries (drop (count_of entry) inner),
       )
 
--- how many bytes so many entries take at most, where one takes at most so many, and one of the second kind
+-- the most bytes that a number of entries take, given the most that one entry of each kind takes
 module _ {F H S : Type 0} (header : List H → Codec F H) (count_of : H → ℕ) (item : ℕ → List S → Codec F S) (head_most most : ℕ)
     (heads : (before : List H) (value : H) → (header before).size value ≤ head_most)
     (items : (start : ℕ) (before : List S) (value : S) → (item start before).size value ≤ most) where
@@ -291,14 +291,14 @@ module _ {F H S : Type 0} (header : List H → Codec F H) (count_of : H → ℕ)
         own,
       )
 
--- ---- what can be written, where it does not hang on what was before
+-- ---- what can be written, if it does not depend on the values before
 
--- a value fits, and so do those behind it
+-- a value fits, and so do those after it
 pub fits_on : {S : Type 0} (Fit : S → Type 0) (values : List S) (i : ℕ) (d : S) → i < length values → Fit (get_or values i d)
     → AllByRecursion Fit (drop (i + 1) values) → AllByRecursion Fit (drop i values)
 fits_on Fit values i d below one rest = subst (λ (xs : List _). AllByRecursion Fit xs) (sym (drop_more values i d below)) (one, rest)
 
--- an entry fits with its own behind it, and so do those behind them
+-- an entry fits with its own after it, and so do the entries after them
 pub nested_fits_on : {H S : Type 0} (Head : H → Type 0) (count_of : H → ℕ) (Inner : S → Type 0) (entries : List H) (inner : List S) (i : ℕ) (d : H) → i < length entries
     → Head (get_or entries i d) → AllByRecursion Inner (take (count_of (get_or entries i d)) inner)
     → FitsNested Head count_of Inner (drop (i + 1) entries) (drop (count_of (get_or entries i d)) inner) → FitsNested Head count_of Inner (drop i entries) inner
@@ -312,7 +312,7 @@ module _ {F H S : Type 0} (head : Codec F H) (count_of : H → ℕ) (item : Code
   each_bounded before (value ∷ values) room fits =
       ((lt-ltb _ _ (omega (arith, room)), fits.0), each_bounded (before ++ value ∷ []) values (omega (arith, room, length-append before (value ∷ []))) fits.1)
 
-  -- entries that fit, and as many of the second kind as they count
+  -- the entries fit, with as many of the second kind as they count
   pub outer_bounded : (first : List H) (second : List S) (entries : List H) (inner : List S) → length first + length entries ≤ most → length second + length inner ≤ most
       → sum_by count_of entries ≡ length inner → FitsNested head.Fits count_of item.Fits entries inner
       → FitsOuter (λ (all : List H). bounded most full (λ _. head) all) count_of (λ _ (all : List S). bounded most full (λ _. item) all) first second entries inner

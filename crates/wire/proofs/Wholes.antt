@@ -1,4 +1,4 @@
--- Formats of all the bytes are sound.
+-- Formats of all the bytes given are sound.
 use Rattle.std.proofs.Common.{◌≡◌, ℕ, Bool, true, false, List, [], ◌++◌, Ok, refl, ap, subst, arith}
 use Rattle.wire.specs.Codec.{Codec, Whole, IsSound, IsOnward, IsSoundWhole, ◌>>=◌}
 use Rattle.wire.specs.Whole.{everything, refused, ends_by, seen_whole, pick, loose}
@@ -60,6 +60,6 @@ loose_sound {F = F} codec sound = record {
   sized = λ value. omega (arith, sound.sized value []);
 }
 
--- with anything more behind it
+-- the same with more bytes after it
 pub loose_behind : {F A : Type 0} (codec : Codec F A) (bytes : List ℕ) (value : A) (more : List ℕ) → IsOnward codec → (loose codec).Spells bytes value → (loose codec).Spells (bytes ++ more) value
 loose_behind codec bytes value more onward s = (s.0 ++ more, onward.onward bytes value s.0 more s.1)

@@ -4,7 +4,7 @@ use Rattle.std.specs.Option.{option_map_or}
 use Rattle.wire.specs.Codec.{Codec, Whole, ◌>>=◌}
 use Rattle.wire.specs.Formats.{number, seen}
 
--- a format whose values pass a test, with a fault for those that do not
+-- a format whose values must pass a test, with a fault for those that do not
 abbrev pub checked : {F A : Type 0} → (A → Bool) → F → Codec F A → Codec F A
 checked test fault codec = record {
   Spells = λ bytes value rest. (test value ≡ true) × codec.Spells bytes value rest;
@@ -14,11 +14,11 @@ checked test fault codec = record {
   read = λ bytes. codec.read bytes >>= λ x. if test x.0 then Ok x else Err fault;
 }
 
--- a number in so many bytes that has to be this one, with a fault where it is another or is not whole
+-- a number of this many bytes that must have this value, with a fault if it has another or is incomplete
 abbrev pub fixed : {F : Type 0} → F → ℕ → ℕ → Codec F (Unit {0})
 fixed fault size value = seen (λ _. tt) (λ _. value) (checked (λ n. n == value) fault (number fault size))
 
--- a format that is read only where the test holds, with a fault where it does not
+-- a format that is read only if the test holds, with a fault if it does not
 abbrev pub allowed : {F A : Type 0} → Bool → F → Whole F A → Whole F A
 allowed test fault whole = record {
   Spells = λ bytes value. (test ≡ true) × whole.Spells bytes value;
@@ -28,7 +28,7 @@ allowed test fault whole = record {
   read = λ bytes. if test then whole.read bytes else Err fault;
 }
 
--- a value, or why there is none
+-- the value, or the fault if there is none
 abbrev pub or_fault : {F A : Type 0} → F → Option A → Result A F
 or_fault fault (Some value) = Ok value
 or_fault fault None = Err fault
@@ -43,7 +43,7 @@ named {A = A} to from fault codec = record {
   read = λ bytes. codec.read bytes >>= λ x. or_fault fault (to x.0) >>= λ value. Ok (value, x.1);
 }
 
--- a format and nothing behind it, with a fault where there is something
+-- a format with nothing after it, with a fault if there is something
 abbrev pub closed : {F A : Type 0} → F → Codec F A → Whole F A
 closed more codec = record {
   Spells = λ bytes value. codec.Spells bytes value [];

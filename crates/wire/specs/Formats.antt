@@ -1,4 +1,4 @@
--- The formats that others are made of, and what joins them.
+-- The basic formats, and the combinators that join them.
 use Rattle.std.specs.Prelude.{◌≡◌, ◌+◌, ◌^◌, ◌<◌, ℕ, Bool, true, false, List, ◌++◌, length, take, drop, replicate, Option, Some, None, IsSomeAnd, Ok, Err, nat_lt, if◌then◌else◌}
 use Rattle.std.specs.Option.{option_map_or}
 pub use Rattle.byteorder.specs.Endian.{big_number, big_bytes}
@@ -6,7 +6,7 @@ use Rattle.wire.specs.Codec.{Codec, Whole, ◌>>=◌}
 
 -- ---- fields
 
--- so many bytes, whatever they are
+-- this many bytes of any value
 abbrev pub raw : {F : Type 0} → F → ℕ → Codec F (List ℕ)
 raw short size = record {
   Spells = λ bytes value rest. (length value ≡ size) × (bytes ≡ value ++ rest);
@@ -16,7 +16,7 @@ raw short size = record {
   read = λ bytes. if nat_lt (length bytes) size then Err short else Ok (take size bytes, drop size bytes);
 }
 
--- a number in so many bytes, the highest first
+-- a number of this many bytes, the highest first
 abbrev pub number : {F : Type 0} → F → ℕ → Codec F ℕ
 number short size = record {
   Spells = λ bytes value rest. (front : List ℕ) × (length front ≡ size) × (bytes ≡ front ++ rest) × (value ≡ big_number size front);
@@ -26,7 +26,7 @@ number short size = record {
   read = λ bytes. if nat_lt (length bytes) size then Err short else Ok (big_number size bytes, drop size bytes);
 }
 
--- up to so many bytes, whatever they are, and fewer only at the end: padding, which is written as zeros
+-- up to this many bytes of any value, fewer only at the end: padding, which is written as zeros
 abbrev pub padding : {F : Type 0} → ℕ → Codec F (Unit {0})
 padding size = record {
   Spells = λ bytes value rest. rest ≡ drop size bytes;
@@ -36,9 +36,9 @@ padding size = record {
   read = λ bytes. Ok (tt, drop size bytes);
 }
 
--- ---- one behind the other
+-- ---- one after the other
 
--- a format, and behind it one that may hang on the value of the first
+-- a format, and after it one that may depend on the value of the first
 abbrev pub then_by : {F A B : Type 0} → Codec F A → (A → Codec F B) → Codec F (A × B)
 then_by first second = record {
   Spells = λ bytes value rest. (mid : List ℕ) × first.Spells bytes value.0 mid × (second value.0).Spells mid value.1 rest;
@@ -48,7 +48,7 @@ then_by first second = record {
   read = λ bytes. first.read bytes >>= λ x. (second x.0).read x.1 >>= λ y. Ok ((x.0, y.0), y.1);
 }
 
--- a format, and behind it another
+-- a format, and after it another
 infixr 30 ◌⨾◌
 abbrev pub ◌⨾◌ : {F A B : Type 0} → Codec F A → Codec F B → Codec F (A × B)
 first ⨾ second = then_by first (λ _. second)
@@ -63,7 +63,7 @@ seen {A = A} to from codec = record {
   read = λ bytes. codec.read bytes >>= λ x. Ok (to x.0, x.1);
 }
 
--- a format that is there only where the test holds
+-- a format that is present only if the test holds
 abbrev pub when : {F A : Type 0} → Bool → Codec F A → Codec F (Option A)
 when {A = A} true codec = record {
   Spells = λ bytes value rest. (inner : A) × (Some inner ≡ value) × codec.Spells bytes inner rest;
@@ -80,11 +80,11 @@ when false codec = record {
   read = λ bytes. Ok (None, bytes);
 }
 
--- a number in so many bytes that is read with any value and written as this one
+-- a number of this many bytes that is read with any value and written as the given one
 abbrev pub unchecked : {F : Type 0} → F → ℕ → ℕ → Codec F (Unit {0})
 unchecked short size value = seen (λ _. tt) (λ _. value) (number short size)
 
--- a length, and behind it that many bytes, all of which a format takes; `short` where they do not all come
+-- a length, and after it that many bytes, all of which a format reads; `short` if they are incomplete
 abbrev pub framed : {F A : Type 0} → Codec F ℕ → F → Whole F A → Codec F A
 framed lengths short whole = record {
   Spells = λ bytes value rest. (inside : List ℕ) × (mid : List ℕ) × lengths.Spells bytes (length inside) mid × (mid ≡ inside ++ rest) × whole.Spells inside value;

@@ -1,9 +1,10 @@
--- Octets as a part of the value: kept beside what they spell, cut off by a length that stood before, or read on.
+-- Octets as a part of the value: kept beside what they spell, cut off by a length from an earlier field, or read
+-- further.
 use Rattle.std.specs.Prelude.{◌≡◌, ◌-◌, ℕ, List, [], ◌++◌, length, take, Ok}
 use Rattle.wire.specs.Codec.{Codec, Whole, ◌>>=◌}
 use Rattle.wire.specs.Formats.{raw}
 
--- the bytes in front of what is left of them
+-- the bytes before the rest
 abbrev pub front_of : List ℕ → List ℕ → List ℕ
 front_of bytes rest = take (length bytes - length rest) bytes
 
@@ -17,7 +18,7 @@ kept codec = record {
   read = λ bytes. codec.read bytes >>= λ x. Ok ((x.0, front_of bytes x.1), x.1);
 }
 
--- so many bytes, all of which a format takes; `short` where they do not all come
+-- this many bytes, all of which a format reads; `short` if they are incomplete
 abbrev pub cut : {F A : Type 0} → F → ℕ → Whole F A → Codec F A
 cut short size whole = record {
   Spells = λ bytes value rest. (inside : List ℕ) × (length inside ≡ size) × (bytes ≡ inside ++ rest) × whole.Spells inside value;
@@ -27,7 +28,7 @@ cut short size whole = record {
   read = λ bytes. (raw short size).read bytes >>= λ x. whole.read x.0 >>= λ value. Ok (value, x.1);
 }
 
--- a format whose value ends in octets, which another format takes to the last
+-- a format whose value ends in octets, all of which another format reads
 abbrev pub within : {F A B : Type 0} → Codec F (A × List ℕ) → (A → Whole F B) → Codec F (A × B)
 within codec whole = record {
   Spells = λ bytes value rest. (inside : List ℕ) × codec.Spells bytes (value.0, inside) rest × (whole value.0).Spells inside value.1;

@@ -1,8 +1,8 @@
--- Formats of all the bytes that there are.
+-- Formats of all the bytes given.
 use Rattle.std.specs.Prelude.{◌≡◌, ◌+◌, ℕ, Bool, true, false, List, [], length, Ok, Err}
 use Rattle.wire.specs.Codec.{Codec, Whole, ◌>>=◌}
 
--- all the bytes, whatever they are
+-- all the bytes, of any value
 abbrev pub everything : {F : Type 0} → Whole F (List ℕ)
 everything = record {
   Spells = λ bytes value. bytes ≡ value;
@@ -12,7 +12,7 @@ everything = record {
   read = λ bytes. Ok bytes;
 }
 
--- nothing is spelled, and whatever comes has this fault
+-- spells nothing: any input has this fault
 abbrev pub refused : {F A : Type 0} → F → Whole F A
 refused fault = record {
   Spells = λ bytes value. ⊥;
@@ -22,7 +22,7 @@ refused fault = record {
   read = λ bytes. Err fault;
 }
 
--- a format in front, and behind it one of all that is left
+-- a format, and after it one of all the rest
 abbrev pub ends_by : {F A B : Type 0} → Codec F A → (A → Whole F B) → Whole F (A × B)
 ends_by first second = record {
   Spells = λ bytes value. (mid : List ℕ) × first.Spells bytes value.0 mid × (second value.0).Spells mid value.1;
@@ -42,12 +42,12 @@ seen_whole {A = A} to from whole = record {
   read = λ bytes. whole.read bytes >>= λ x. Ok (to x);
 }
 
--- the one format where the test holds, and else the other
+-- the first format if the test holds, else the second
 abbrev pub pick : {F A : Type 0} → Bool → Whole F A → Whole F A → Whole F A
 pick true one other = one
 pick false one other = other
 
--- a format in front, and behind it anything, which is not read
+-- a format, and after it anything, which is not read
 abbrev pub loose : {F A : Type 0} → Codec F A → Whole F A
 loose codec = record {
   Spells = λ bytes value. (rest : List ℕ) × codec.Spells bytes value rest;

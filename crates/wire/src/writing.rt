@@ -53,7 +53,7 @@ pub fn append_u32<const N: usize>(out: &mut ArrayVec<u8, N>, number: u32)
     append(out, &octets);
 }
 
-/// Octets, and behind them others, where each is of a known size: nothing is left to count.
+/// Joins two arrays into one. The sizes are known, so nothing is counted.
 #[inline(always)]
 pub fn join<const A: usize, const B: usize, const N: usize>(
     front: &[u8; A],

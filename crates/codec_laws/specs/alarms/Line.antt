@@ -1,10 +1,10 @@
--- One direction of a relation's alarms: what was sent, each PDU of it, and what was taken.
+-- One direction of a relation's alarms: what was sent, each PDU of it, and what was accepted.
 use Rattle.std.specs.Prelude.{ℕ, List, [], ◌∷◌, ◌++◌, Option}
 use Rattle.pn_alarms.specs.declared.receiver.Taken.{Taken}
 use Rattle.pn_alarms.specs.declared.receiver.Taken.TheVariants.{New, Again, Refused}
 use Rattle.pn_alarms.specs.Receiver.{taken_as}
 
--- what was sent as data, in order; each PDU of data that ever was sent, by its number; and what was taken, in order
+-- the data that was sent, in order; each data PDU ever sent, with its number; and the data that was accepted, in order
 pub record Line (A : Type 0) : Type 0 where
   pub sent : List A
   pub pdus : List (ℕ × A)
@@ -22,12 +22,12 @@ with_sent line number value = record { sent = line.sent ++ value ∷ []; pdus = 
 abbrev pub with_again : {A : Type 0} → Line A → ℕ → A → Line A
 with_again line number value = record { sent = line.sent; pdus = line.pdus ++ (number, value) ∷ []; taken = line.taken }
 
--- what is taken, with data that comes
+-- what is accepted, after data arrives
 abbrev pub more_taken : {A : Type 0} → List A → A → Taken → List A
 more_taken taken value New = taken ++ value ∷ []
 more_taken taken value Again = taken
 more_taken taken value Refused = taken
 
--- data comes, where this is the number of the last that was taken
+-- data arrives; the option is the number of the last data accepted
 abbrev pub with_come : {A : Type 0} → Line A → Option ℕ → ℕ × A → Line A
 with_come line seen pdu = record { sent = line.sent; pdus = line.pdus; taken = more_taken line.taken pdu.1 (taken_as seen pdu.0) }

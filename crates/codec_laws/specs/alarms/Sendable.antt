@@ -1,4 +1,4 @@
--- Which alarm frames can be sent: each field has its size, and what is carried fits.
+-- Which alarm frames can be sent: each field has its size, and the content fits.
 use Rattle.std.specs.Prelude.{◌≡◌, ◌≤◌, ◌<◌, true, [], length}
 use Rattle.record_blocks.specs.declared.alarm_ack.AlarmAck.{AlarmAck}
 use Rattle.block_codec.specs.declared.block.Block.TheVariants as is
@@ -13,13 +13,14 @@ pub record IsHeader (header : Header) : Type 0 where
   pub send_number : header.send_number < 65536
   pub ack_number : header.ack_number < 65536
 
--- a PDU that can be sent: behind the FrameID its header has ten octets, and VarPartLen two; an ERR says why
+-- a PDU that can be sent: after the FrameID it has a header of ten octets and VarPartLen of two; an ERR gives its
+-- reason
 pub record CanBeSaid (said : Said) : Type 0 where
   pub header : IsHeader said.header
   pub long : is_long said.header.kind (length said.body) ≡ true
   pub few : length said.body ≤ 1486
 
--- data that carries an AlarmAck, and a PDU that carries nothing
+-- data that carries an AlarmAck, and a PDU without a body
 abbrev pub ack_pdu : Header → AlarmAck → Said
 ack_pdu header ack = record { header = header; body = block_bytes (is.AlarmAck ack) }
 

@@ -3,12 +3,12 @@ use Rattle.std.specs.Prelude.{◌≤◌, ◌+◌, ℕ, List, length}
 use Rattle.codec_laws.specs.alarms.World.{Move}
 use Rattle.codec_laws.specs.alarms.World.{IsPrefixOf, behind_all, start}
 
--- While at most 32,768 alarms are raised, those that are taken begin those that were raised,
+-- If at most 32,768 alarms are raised, the accepted alarms are a prefix of the raised ones.
 abbrev pub AreTakenInOrder : Type 0
 AreTakenInOrder = (factor retries : ℕ) (moves : List Move) → length (behind_all moves (start factor retries)).alarms.sent ≤ 32768
     → IsPrefixOf (behind_all moves (start factor retries)).alarms.taken (behind_all moves (start factor retries)).alarms.sent
 
--- and lack at most the last.
+-- If at most 32,768 alarms are raised, at most the last of them is not accepted.
 abbrev pub LackAtMostTheLast : Type 0
 LackAtMostTheLast = (factor retries : ℕ) (moves : List Move) → length (behind_all moves (start factor retries)).alarms.sent ≤ 32768
     → length (behind_all moves (start factor retries)).alarms.sent ≤ length (behind_all moves (start factor retries)).alarms.taken + 1

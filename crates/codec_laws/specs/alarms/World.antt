@@ -1,4 +1,5 @@
--- Both ends of a relation, and each PDU that either ever sent: what may happen between them, in any order and number.
+-- Both ends of a relation, and each PDU that either end ever sent: what may happen between them, in any order and
+-- number.
 use Rattle.std.specs.Prelude.{◌≡◌, ℕ, List, [], ◌∷◌, ◌++◌, length, nat_le, nat_lt, slice_get, Option, Some, None, if◌then◌else◌}
 use Rattle.record_blocks.specs.declared.alarm_ack.AlarmAck.{AlarmAck}
 use Rattle.record_blocks.specs.declared.alarm_notification.AlarmNotification.{AlarmNotification}
@@ -16,9 +17,9 @@ use Rattle.pn_alarms.specs.Device.{idle, end_raised, end_later, end_behind}
 use Rattle.pn_alarms.specs.Controller.{unheard, confirmed, controller_later, with_data, with_ack}
 use Rattle.codec_laws.specs.alarms.Line.{Line, empty, with_sent, with_again, with_come}
 
--- both ends; the alarms on their way to the controller, and the AlarmAcks on theirs to the device; and each ACK that ever was
--- sent to either, and each NACK, by the number of the data that it refused. Of an ERR there is nothing here: who sends one has ended the
--- relation, and who gets one ends it, so that nothing is taken behind it
+-- Both ends; the alarms on their way to the controller, and the AlarmAcks on their way to the device; each ACK ever
+-- sent to either end; and each NACK, by the number of the data that it refused. ERRs are left out: the sender of one
+-- has ended the relation, and its receiver ends it, so nothing is accepted after it.
 pub record World : Type 0 where
   pub device : DeviceEnd
   pub controller : ControllerEnd
@@ -29,9 +30,9 @@ pub record World : Type 0 where
   pub nacks_to_device : List ℕ
   pub nacks_to_controller : List ℕ
 
--- What may happen between both ends: the device raises an alarm, of which one is refused that is too long, or comes while another stands;
--- the controller sends an AlarmAck, if it took more alarms than it sent AlarmAcks; a unit passes at either; or the data, the ACK or the NACK
--- of a place, of all that the one end ever sent, comes to the other.
+-- What may happen between both ends. The device raises an alarm, which is refused if it is too long or another one is
+-- unconfirmed. The controller sends an AlarmAck, if it accepted more alarms than it sent AlarmAcks. A unit passes at
+-- either end. The data, ACK or NACK at an index, among all that one end ever sent, arrives at the other.
 pub data Move : Type 0 where
   Raise : (alarm : Alarm) → Move
   Confirm : (ack : AlarmAck) → Move
@@ -44,7 +45,7 @@ pub data Move : Type 0 where
   NackComesToDevice : (place : ℕ) → Move
   NackComesToController : (place : ℕ) → Move
 
--- nothing happened yet, in a relation with this RTATimeoutFactor and these RTARetries
+-- the start of a relation with this RTATimeoutFactor and these RTARetries: nothing has happened yet
 abbrev pub start : ℕ → ℕ → World
 start factor retries = record {
   device = idle factor retries;
@@ -62,7 +63,7 @@ abbrev pub with_raised : World → Option AlarmNotification → World
 with_raised w None = w
 with_raised w (Some alarm) = record w { alarms = with_sent w.alarms (send_number w.device.sender.sending.last) alarm }
 
--- an alarm of at most 32 octets is raised where none stands
+-- an alarm of at most 32 octets is raised if no other one is unconfirmed
 abbrev pub after_raise : World → Alarm → Option AlarmNotification → World
 after_raise w alarm None =
     if nat_le (length alarm.alarm_data.now) 32
@@ -70,7 +71,7 @@ after_raise w alarm None =
     else w
 after_raise w alarm (Some standing) = w
 
--- an AlarmAck is sent: as many as alarms were taken, at most
+-- an AlarmAck is sent, if fewer were sent than alarms were accepted
 abbrev pub after_confirm : World → AlarmAck → World
 after_confirm w ack =
     if nat_lt (length w.confirms.sent) (length w.alarms.taken)
@@ -80,7 +81,7 @@ after_confirm w ack =
     }
     else w
 
--- what was sent last is sent again
+-- what was sent last is repeated
 abbrev pub repeated : {A : Type 0} → Line A → ℕ → Option A → Line A
 repeated line number None = line
 repeated line number (Some value) = with_again line number value
@@ -97,7 +98,7 @@ repeated_to_controller w alarm = record w { alarms = repeated w.alarms (send_num
 abbrev pub repeated_to_device : World → Option AlarmAck → World
 repeated_to_device w ack = record w { confirms = repeated w.confirms (send_number w.controller.sending.last) ack }
 
--- a unit passes at the one end, and at the other
+-- a unit passes at the device, or at the controller
 abbrev pub after_device_tick : World → World
 after_device_tick w = record w {
   device = end_later w.device;
@@ -110,13 +111,13 @@ after_controller_tick w = record w {
   confirms = line_after w.confirms (send_number w.controller.sending.last) w.controller.confirming (due w.controller.sending);
 }
 
--- an ACK goes back for data that is taken, or was
+-- data that is accepted, now or before, is answered by an ACK
 abbrev pub acks_after : List ℕ → ℕ → Taken → List ℕ
 acks_after acks number New = acks ++ number ∷ []
 acks_after acks number Again = acks ++ number ∷ []
 acks_after acks number Refused = acks
 
--- and a NACK for data that is not
+-- data that is not accepted is answered by a NACK
 abbrev pub nacks_after : List ℕ → ℕ → Taken → List ℕ
 nacks_after nacks number New = nacks
 nacks_after nacks number Again = nacks
@@ -148,12 +149,12 @@ abbrev pub after_ack_to_controller : World → Option ℕ → World
 after_ack_to_controller w None = w
 after_ack_to_controller w (Some number) = record w { controller = with_ack w.controller number }
 
--- a NACK is heard by a device; a controller looks at none, and goes on to repeat
+-- a NACK is received by a device; a controller ignores it and goes on repeating
 abbrev pub after_nack_to_device : World → Option ℕ → World
 after_nack_to_device w None = w
 after_nack_to_device w (Some number) = record w { device = end_behind w.device message.Nack }
 
--- behind a move
+-- the world after a move
 abbrev pub happens : World → Move → World
 happens w (Raise alarm) = after_raise w alarm w.device.sender.standing
 happens w (Confirm ack) = after_confirm w ack
@@ -166,11 +167,11 @@ happens w (AckComesToController k) = after_ack_to_controller w (slice_get w.acks
 happens w (NackComesToDevice k) = after_nack_to_device w (slice_get w.nacks_to_device k)
 happens w (NackComesToController k) = w
 
--- behind a list of moves
+-- the world after a list of moves
 abbrev pub behind_all : List Move → World → World
 behind_all [] w = w
 behind_all (move ∷ moves) w = behind_all moves (happens w move)
 
--- one list begins another
+-- the first list is a prefix of the second
 abbrev pub IsPrefixOf : {A : Type 0} → List A → List A → Type 0
 IsPrefixOf {A = A} xs ys = (rest : List A) × (xs ++ rest ≡ ys)

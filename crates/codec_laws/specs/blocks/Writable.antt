@@ -12,14 +12,14 @@ use Rattle.block_codec.specs.declared.block.Block.{Block}
 use Rattle.block_codec.specs.declared.block.Block.TheVariants as is
 use Rattle.block_codec.specs.Block.{block_bytes, block_of, fields_of, front, kind_of}
 
--- PrmEnd, ApplicationReady and Release, and their answers
+-- PrmEnd, ApplicationReady and Release, and their responses
 pub record IsControl (block : ControlBlock) : Type 0 where
   pub ar_uuid : length block.ar_uuid ≡ 16
   pub session_key : block.session_key < 65536
   pub control_command : block.control_command < 65536
   pub control_block_properties : block.control_block_properties < 65536
 
--- which record, in which call
+-- the header of a record: which record, in which call
 pub record IsRecord (header : RecordHeader) : Type 0 where
   pub seq_number : header.seq_number < 65536
   pub ar_uuid : length header.ar_uuid ≡ 16
@@ -29,18 +29,18 @@ pub record IsRecord (header : RecordHeader) : Type 0 where
   pub index : header.index < 65536
   pub record_data_length : header.record_data_length < 4294967296
 
--- what stands in front of a record that is written
+-- the header of a record that is written
 pub record IsWrite (block : IodWriteReq) : Type 0 where
   pub header : IsRecord block.header
 
--- how the record was taken
+-- the outcome of writing a record
 pub record IsWritten (block : IodWriteRes) : Type 0 where
   pub header : IsRecord block.header
   pub additional_value_1 : block.additional_value_1 < 65536
   pub additional_value_2 : block.additional_value_2 < 65536
   pub pnio_status : block.pnio_status < 4294967296
 
--- what a device answers of the relation, and of each way of its data
+-- the response of a device for the relation and for each direction of its data
 pub record IsArAnswer (block : ArBlockRes) : Type 0 where
   pub ar_uuid : length block.ar_uuid ≡ 16
   pub session_key : block.session_key < 65536
@@ -71,7 +71,7 @@ pub record IsAlarm (alarm : AlarmNotification) : Type 0 where
   pub alarm_specifier : alarm.alarm_specifier < 65536
   pub few : length alarm.alarm_data ≤ 1458
 
--- a block that can be written: of a start-up or of alarms, or any other one that its format takes
+-- a block that can be written: one of a start-up or of alarms, or any other block that its format can write
 abbrev pub CanBeWritten : Block → Type 0
 CanBeWritten (is.PrmEnd block) = IsControl block
 CanBeWritten (is.PrmEndRes block) = IsControl block × (block.control_command ≡ 8)
@@ -87,12 +87,12 @@ CanBeWritten (is.AlarmNotification alarm) = IsAlarm alarm
 CanBeWritten (is.AlarmAck ack) = IsAck ack
 CanBeWritten block = ((fields_of (kind_of block)).size block < 65536) × (fields_of (kind_of block)).Fits block
 
--- blocks, one behind the other
+-- the octets of blocks, one after the other
 abbrev pub octets_of : List Block → List ℕ
 octets_of [] = []
 octets_of (block ∷ blocks) = block_bytes block ++ octets_of blocks
 
--- octets are read as these blocks, one behind the other, and then come these octets
+-- the octets are read as these blocks, one after the other, followed by the last octets
 abbrev pub AreRead : List ℕ → List Block → List ℕ → Type 0
 AreRead octets [] rest = octets ≡ rest
 AreRead octets (block ∷ blocks) rest = (behind : List ℕ) × (block_of octets ≡ front block behind) × AreRead behind blocks rest

@@ -1,4 +1,4 @@
--- Which frames can be sent: each field has its size, and what is carried fits.
+-- Which frames can be sent: each field has its size, and the content fits.
 use Rattle.std.specs.Prelude.{◌≡◌, ◌≤◌, ◌<◌, ℕ, length, Option, Some, None, Result, Ok, Err, ⊤}
 use Rattle.pn_values.specs.declared.mac.Mac.{Mac}
 use Rattle.frame_codec.specs.declared.arp.Holder.{Holder}
@@ -6,11 +6,11 @@ use Rattle.frame_codec.specs.declared.fault.FrameFault.{FrameFault}
 use Rattle.frame_codec.specs.declared.udp.Endpoint.{Endpoint}
 use Rattle.frame_codec.specs.Meaning.{Content, RealTime, ArpPacket, UdpDatagram, Meaning}
 
--- an address of Ethernet has six octets
+-- a MAC address has six octets
 abbrev pub IsMac : Mac → Type 0
 IsMac mac = length mac.octets ≡ 6
 
--- an address of IPv4 has four, and a port two
+-- an IPv4 address has four octets, and a port has two
 abbrev pub IsEndpoint : Endpoint → Type 0
 IsEndpoint endpoint = (length endpoint.address ≡ 4) × (endpoint.port < 65536)
 
@@ -35,7 +35,7 @@ pub record CanBeSent (meaning : Meaning) : Type 0 where
   pub tag : IsTag meaning.tag
   pub content : IsContent meaning.content
 
--- a frame from one station to another, with a tag or without, that carries this
+-- a frame from one station to another, with or without a tag, with this content
 abbrev pub carrying : Mac → Mac → Option ℕ → Content → Meaning
 carrying destination source tag content = record { destination = destination; source = source; tag = tag; content = content }
 
@@ -45,7 +45,7 @@ IsRealTime (RealTime frame_id body) = ⊤
 IsRealTime (ArpPacket arp) = ⊥
 IsRealTime (UdpDatagram from to body) = ⊥
 
--- a frame of real-time data, or none
+-- a frame of real-time data, or not a frame
 abbrev pub IsRealTimeOrNone : Result Meaning FrameFault → Type 0
 IsRealTimeOrNone (Ok meaning) = IsRealTime meaning.content
 IsRealTimeOrNone (Err fault) = ⊤

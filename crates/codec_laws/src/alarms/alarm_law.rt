@@ -1,4 +1,4 @@
-//! The laws.
+//! The laws of PDUs.
 ghost use Rattle.std.specs.Prelude.{◌≡◌, ◌++◌, ◌+◌, List, ℕ, length, Ok};
 ghost use Rattle.record_blocks.specs.declared.alarm_ack.AlarmAck.{AlarmAck};
 ghost use Rattle.record_blocks.specs.declared.alarm_notification.AlarmNotification.{AlarmNotification};
@@ -18,48 +18,48 @@ ghost use Rattle.codec_laws.specs.alarms.Sendable.{CanBeSaid, IsHeader, ack_pdu,
 use crate::blocks_are_read;
 use pn_alarms::fitting_pdus_are_read;
 
-/// What is written of a PDU is read as that PDU: a law of the definitions, and no code.
+/// A PDU that can be sent is read back. This is a law of the definitions. No code is involved.
 pub fn pdus_are_read()
-    // Whatever stands behind it.
+    // A PDU that can be sent is read back, with anything after it.
     ensures read { (said : Said) (more : List ℕ) → CanBeSaid said → pdu_of (pdu_bytes said ++ more) ≡ Ok said }
-    // How many octets it takes.
+    // A PDU has 12 octets and those of its body.
     ensures long { (said : Said) → length (pdu_bytes said) ≡ 12 + length said.body }
 {
     fitting_pdus_are_read();
 }
 
-/// What a device reads of an AlarmAck: a law of the definitions, and no code.
+/// What a device reads of an AlarmAck. This is a law of the definitions. No code is involved.
 pub fn acks_are_read()
-    // Data of its number, and the AlarmAck itself.
+    // The device reads data with its number, and the AlarmAck itself.
     ensures read { (header : Header) (ack : AlarmAck) (more : List ℕ) → header.kind ≡ pdu.Data → IsHeader header → IsAck ack
         → message_of (pdu_bytes (ack_pdu header ack) ++ more) ≡ Ok (header, notice.Data header.send_number ack) }
-    // How many octets it takes.
+    // An AlarmAck has 22 octets.
     ensures long { (ack : AlarmAck) → length (block_bytes (ack_block ack)) ≡ 22 }
 {
     blocks_are_read();
     fitting_pdus_are_read();
 }
 
-/// What a controller reads of an alarm: a law of the definitions, and no code.
+/// What a controller reads of an alarm. This is a law of the definitions. No code is involved.
 pub fn alarms_are_read()
-    // Data of its number, and the alarm itself.
+    // The controller reads data with its number, and the alarm itself.
     ensures read { (header : Header) (alarm : AlarmNotification) (more : List ℕ) → header.kind ≡ pdu.Data → IsHeader header → IsAlarm alarm
         → alarm_of (pdu_bytes (alarm_pdu header alarm) ++ more) ≡ Ok (header, notice.Data header.send_number alarm) }
-    // How many octets it takes.
+    // An alarm has 28 octets and those of its data.
     ensures long { (alarm : AlarmNotification) → length (block_bytes (alarm_block alarm)) ≡ 28 + length alarm.alarm_data }
 {
     blocks_are_read();
     fitting_pdus_are_read();
 }
 
-/// What either end reads of an ACK or a NACK: laws of the definitions, and no code.
+/// What either end reads of an ACK or a NACK. These are laws of the definitions. No code is involved.
 pub fn replies_are_read()
-    // An ACK tells the number of the data that came.
+    // An ACK gives the number of the data that arrived.
     ensures device_ack { (header : Header) (more : List ℕ) → header.kind ≡ pdu.Ack → IsHeader header
         → message_of (pdu_bytes (empty_pdu header) ++ more) ≡ Ok (header, notice.Ack header.ack_number) }
     ensures controller_ack { (header : Header) (more : List ℕ) → header.kind ≡ pdu.Ack → IsHeader header
         → alarm_of (pdu_bytes (empty_pdu header) ++ more) ≡ Ok (header, notice.Ack header.ack_number) }
-    // A NACK tells that data was refused.
+    // A NACK says that data was refused.
     ensures device_nack { (header : Header) (more : List ℕ) → header.kind ≡ pdu.Nack → IsHeader header
         → message_of (pdu_bytes (empty_pdu header) ++ more) ≡ Ok (header, notice.Nack) }
     ensures controller_nack { (header : Header) (more : List ℕ) → header.kind ≡ pdu.Nack → IsHeader header
@@ -68,9 +68,9 @@ pub fn replies_are_read()
     fitting_pdus_are_read();
 }
 
-/// What either end reads of an ERR: laws of the definitions, and no code.
+/// What either end reads of an ERR. These are laws of the definitions. No code is involved.
 pub fn ends_are_read()
-    // The partner ends the relation, whatever its reason.
+    // An ERR says that the partner ends the relation, whatever its reason.
     ensures device { (reason : Abort) (destination source send_number ack_number : ℕ) (more : List ℕ)
         → IsHeader (abort_of reason destination source send_number ack_number).header
         → message_of (pdu_bytes (abort_of reason destination source send_number ack_number) ++ more)

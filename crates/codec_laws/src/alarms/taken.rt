@@ -1,13 +1,14 @@
-//! The alarms that are taken.
+//! The alarms that are accepted.
 ghost use Rattle.codec_laws.specs.alarms.Taken.{AreTakenInOrder, LackAtMostTheLast};
 
-/// The alarms that are taken, over any moves: any list of raises, of units that pass at either end, and of deliveries of the PDUs that either
-/// ever sent, in any order and each as often as it comes. A law of the definitions by which the calls of `DeviceAlarms` and of
-/// `ControllerAlarms` are stated, and of `Sender` and `Receiver` within them, and no code: it asks for no memory. No more AlarmAcks are sent,
-/// their repeats apart, than alarms were taken.
+/// The alarms that are accepted over any moves: any list of raises, of units that pass at either end, and of deliveries
+/// of the PDUs that either end ever sent, in any order and each any number of times. Repeats apart, no more AlarmAcks
+/// are sent than alarms were accepted. This is a law of the definitions by which the calls of `DeviceAlarms` and
+/// `ControllerAlarms`, and of `Sender` and `Receiver` within them, are specified. No code is involved, so it needs no
+/// memory.
 pub fn alarms_are_taken_in_order()
-    // While at most 32,768 alarms are raised, those that are taken begin those that were raised,
+    // If at most 32,768 alarms are raised, the accepted alarms are a prefix of the raised ones.
     ensures prefix { AreTakenInOrder }
-    // and lack at most the last.
+    // If at most 32,768 alarms are raised, at most the last of them is not accepted.
     ensures last { LackAtMostTheLast }
 {}

@@ -1,4 +1,4 @@
-//! The laws.
+//! The laws of blocks.
 ghost use Rattle.std.specs.Prelude.{◌≡◌, ◌++◌, [], List, ℕ, length};
 ghost use Rattle.std.specs.List.{AllByRecursion};
 ghost use Rattle.block_codec.specs.declared.block.Block.{Block};
@@ -7,15 +7,15 @@ ghost use Rattle.codec_laws.specs.blocks.Writable.{AreRead, CanBeWritten, octets
 
 use block_codec::fitting_blocks_are_read;
 
-/// What is written for a block is read as that block: laws of the definitions, and no code.
+/// A block that can be written is read back. These are laws of the definitions. No code is involved.
 pub fn blocks_are_read()
-    // Whatever stands behind it, and where nothing does.
+    // A block that can be written is read back, with anything or nothing after it.
     ensures read { (block : Block) (rest : List ℕ) → CanBeWritten block → block_of (block_bytes block ++ rest) ≡ front block rest }
     ensures alone { (block : Block) → CanBeWritten block → block_of (block_bytes block) ≡ front block [] }
-    // Blocks that stand one behind the other are read one behind the other.
+    // Blocks that can be written one after the other are read one after the other.
     ensures each { (blocks : List Block) (rest : List ℕ) → AllByRecursion CanBeWritten blocks →
         AreRead (octets_of blocks ++ rest) blocks rest }
-    // How many octets a block takes.
+    // A block has as many octets as its size says.
     ensures long { (block : Block) → length (block_bytes block) ≡ block_size block }
 {
     fitting_blocks_are_read();

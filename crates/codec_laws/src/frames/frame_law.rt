@@ -1,4 +1,4 @@
-//! The laws.
+//! The laws of frames.
 ghost use Rattle.std.specs.Prelude.{◌≡◌, ◌<◌, ◌++◌, IsErr, List, ℕ, length, Ok, Option};
 ghost use Rattle.pn_values.specs.declared.mac.Mac.{Mac};
 ghost use Rattle.frame_codec.specs.declared.arp.Arp.{Arp};
@@ -9,18 +9,19 @@ ghost use Rattle.codec_laws.specs.frames.Sendable.{CanBeSent, IsMac, IsRealTimeO
 
 use frame_codec::{fitting_frames_are_read, formats_are_sound};
 
-/// What is written for a frame is read as that frame: laws of the definitions, and no code.
+/// A written frame is read back. These are laws of the definitions. No code is involved.
 pub fn frames_are_read()
-    // Whatever it carries, it has 60 octets at least and no more than a frame may have, and is read as what was given with its padding
-    // behind it, also where more stands behind that, up to the limit.
+    // Whatever a frame that can be sent carries, it has at least 60 octets and at most as many as a frame may have. It
+    // is read as the given meaning with its padding added, also with more octets after it, up to the limit.
     ensures back { (meaning : Meaning) → CanBeSent meaning → IsReadBack meaning }
-    // Real-time data is read with the padding at its end.
+    // Real-time data that can be sent is read with the padding at its end.
     ensures real_time { (destination source : Mac) (tag : Option ℕ) (frame_id : ℕ) (body : List ℕ)
         → CanBeSent (carrying destination source tag (RealTime frame_id body))
         → frame_of (frame_bytes (carrying destination source tag (RealTime frame_id body)))
         ≡ Ok (carrying destination source tag (RealTime frame_id (body
         ++ padding_of (carrying destination source tag (RealTime frame_id body))))) }
-    // A packet of ARP is read as it, and a datagram of UDP as it: their own lengths tell where they end.
+    // If they can be sent, a packet of ARP and a datagram of UDP are read back without the padding: their own lengths
+    // say where they end.
     ensures arp { (destination source : Mac) (tag : Option ℕ) (packet : Arp)
         → CanBeSent (carrying destination source tag (ArpPacket packet))
         → frame_of (frame_bytes (carrying destination source tag (ArpPacket packet)))
@@ -29,7 +30,7 @@ pub fn frames_are_read()
         → CanBeSent (carrying destination source tag (UdpDatagram from to body))
         → frame_of (frame_bytes (carrying destination source tag (UdpDatagram from to body)))
         ≡ Ok (carrying destination source tag (UdpDatagram from to body)) }
-    // However long real-time data is, and whatever its FrameID, it is never read as a packet of ARP or as a datagram.
+    // Real-time data of any length and FrameID is never read as a packet of ARP or as a datagram.
     ensures alone { (destination source : Mac) (tag : Option ℕ) (frame_id : ℕ) (body : List ℕ) → IsMac destination → IsMac source →
         IsTag tag
         → IsRealTimeOrNone (frame_of (frame_bytes (carrying destination source tag (RealTime frame_id body)))) }

@@ -1,4 +1,4 @@
--- What a device answers to the Connect of a plan.
+-- The response of a device to the Connect of a plan.
 use Rattle.std.specs.Prelude.{◌≡◌, ℕ, true, List, [], ◌∷◌, Some, None}
 use Rattle.pn_values.specs.declared.identity.Identity.{Identity}
 use Rattle.frame_codec.specs.declared.udp.Caller.{Caller}
@@ -15,12 +15,12 @@ use Rattle.controller_frames.specs.Requests.{blocks_of, call_for}
 use Rattle.controller_frames.specs.Sent.{calls_at}
 use Rattle.controller_core.specs.Connect.{found_in, nothing}
 
--- a controller, as who calls
+-- the controller as the caller
 abbrev pub caller_of : Controller → Caller
 caller_of controller = record { mac = controller.mac; endpoint = calls_at controller.address }
 
--- the message by which a device that has no relation, and the modules of the plan, answers the Connect of the plan from this address, and
--- its frame
+-- The message with which a device that has no relation, and the modules of the plan, answers the Connect of the plan
+-- from this address, and its frame.
 abbrev pub answer_message : Setup → Identity → List ℕ → Sent
 answer_message setup identity address =
     answer_from address (caller_of setup.plan.controller) (call_for setup asks.Connect) Connect
@@ -29,17 +29,17 @@ answer_message setup identity address =
 abbrev pub answer_frame : Setup → Identity → List ℕ → List ℕ
 answer_frame setup identity address = bytes_of identity (answer_message setup identity address)
 
--- A device of this identity, with the modules of the plan and no relation, judges the new call of the plan's Connect so that it sends this
--- message, from the address that runs, and no other.
+-- A device of this identity, with the modules of the plan and no relation, judges a new call with the plan's Connect
+-- and sends this message, from its running address, and no other.
 abbrev pub AnswersSo : Setup → Identity → Type 0
 AnswersSo setup identity = (device : Live) → device.rest.link ≡ None → (rest : Rest)
     × (judged_new (record { identity = identity; real = setup.plan.real }) device (caller_of setup.plan.controller) (call_for setup asks.Connect) (blocks_of setup asks.Connect) Connect
     ≡ Moves rest (answer_message setup identity device.values.running.suite.address ∷ []))
 
--- its blocks, where the device accepts: of the plan's request, and none of a module that differs
+-- the blocks of the response if the device accepts the plan's request: no module differs
 abbrev pub answer_blocks : Setup → Identity → List ℕ
 answer_blocks setup identity = connect_blocks identity (request_for setup.plan setup.ar) []
 
--- In these blocks there is all that a relation needs, with this FrameID for outputs, and no module that differs.
+-- These blocks have everything that a relation needs, with this FrameID for outputs, and no module that differs.
 abbrev pub IsAllThere : List ℕ → ℕ → Type 0
 IsAllThere blocks frame_id = found_in 400 blocks nothing ≡ Some (record nothing { relation = true; input = true; output = Some frame_id; alarm = true })

@@ -1,4 +1,4 @@
-//! The blocks that answer a Connect, as a controller reads them.
+//! The blocks of the response to a Connect, as a controller reads them.
 ghost use Rattle.std.specs.Prelude.{◌≡◌, ◌<◌, ◌≤◌, ◌++◌, List, ℕ, [], length};
 ghost use Rattle.block_codec.specs.Block.{IsAccepted, block_bytes, block_of, block_size, front};
 ghost use Rattle.connect_laws.specs.answer.Answer.{IsAllThere};
@@ -7,7 +7,7 @@ use arrayvec::ArrayVec;
 use block_codec::{AlarmCrBlockRes, ArBlockRes, Block, IocrBlockRes, write_block};
 use connect_blocks::{alarm_cr_block_res_len, ar_block_res_len, iocr_block_res_len};
 
-// A block of few octets is read as it, whatever is behind it.
+// A block of at most 64 octets is read back, with anything after it.
 #[tactic(auto, unfolding(block_codec::specs::Block::block_size))]
 fn block_is_read(block: &Block<'_>)
     requires few { block_size block.now ≤ 64 }
@@ -19,16 +19,16 @@ fn block_is_read(block: &Block<'_>)
     write_block(&mut octets, block);
 }
 
-/// The blocks by which a device answers a Connect, both IOCRBlockRes in any order, hold all that a relation needs, and no module that
-/// differs: a law of the definitions by which they are written and read.
+/// The blocks with which a device responds to a Connect, the two IOCRBlockRes in either order, have everything that a
+/// relation needs, and no module that differs. This is a law of the definitions by which they are written and read.
 #[tactic(auto, unfolding(block_codec::specs::Block::block_size, block_codec::specs::Block::fields_of, block_fields::specs::Fields::body, block_fields::specs::Fields::version))]
 pub fn answer_blocks_are_read(relation: &ArBlockRes, input: &IocrBlockRes, output: &IocrBlockRes)
-    // With that of inputs first,
+    // This holds if the IOCRBlockRes of inputs comes first.
     ensures input_first { input.now.iocr_type ≡ 1 → output.now.iocr_type ≡ 2
         → IsAllThere (block_bytes (Block.ArBlockRes relation.now)
         ++ (block_bytes (Block.IocrBlockRes input.now) ++ block_bytes (Block.IocrBlockRes output.now))
         ++ block_bytes (Block.AlarmCrBlockRes (record {})) ++ []) output.now.frame_id }
-    // and with that of outputs first.
+    // This holds if the IOCRBlockRes of outputs comes first.
     ensures output_first { input.now.iocr_type ≡ 1 → output.now.iocr_type ≡ 2
         → IsAllThere (block_bytes (Block.ArBlockRes relation.now)
         ++ (block_bytes (Block.IocrBlockRes output.now) ++ block_bytes (Block.IocrBlockRes input.now))

@@ -1,4 +1,4 @@
-//! The answer to the Connect of a plan.
+//! The response to the Connect of a plan.
 ghost use Rattle.std.specs.Prelude.{◌≡◌, ◌≤◌, ◌++◌, true, List, ℕ, [], None, Some, Ok, length};
 ghost use Rattle.connect_blocks.specs.ArBlock.{is_some_uuid};
 ghost use Rattle.block_codec.specs.Block.{block_bytes};
@@ -21,7 +21,7 @@ use controller_frames::{Request, Setup, header_of};
 use pn_values::Identity;
 use rpc_core::{Response, Status};
 
-/// The octets of the blocks, that of inputs in front of that of outputs.
+/// The octets of the blocks, with the IOCRBlockRes of inputs before that of outputs.
 #[tactic(auto, unfolding(block_codec::specs::Block::block_size, block_codec::specs::Block::fields_of, block_fields::specs::Fields::body, block_fields::specs::Fields::version))]
 fn blocks_of(
     relation: &ArBlockRes,
@@ -45,17 +45,21 @@ fn blocks_of(
     octets
 }
 
-/// What a device answers to the Connect of a plan, whose ARUUID is not zero, is a positive answer to the plan's controller, if the device
-/// has no relation and the plan's modules: a law of the definitions by which the device answers and the controller goes on.
+/// The response of a device to the Connect of a plan whose ARUUID is not zero is a positive response for the plan's
+/// controller, if the device has no relation and has the plan's modules. This is a law of the definitions by which the
+/// device responds and the controller goes on.
 pub fn connect_answer_is_read(setup: &Setup, identity: &Identity, address: [u8; 4])
-    // The device sends this frame, from the address that runs, and no other.
+    // The device sends this frame, from its running address, and no other.
     ensures answered { AnswersSo setup.now identity.now }
-    // It is heard as the response to that call, done, with the blocks that answer the plan's request,
+    // If the ARUUID is not zero, the frame is heard as the positive response to that call, with the blocks for the
+    // plan's request.
     ensures heard { is_some_uuid setup.now.ar ≡ true → heard_of setup.now.plan.controller (answer_frame setup.now identity.now address)
         ≡ Responds (answer_to (call_for setup.now Request.Connect) done (answer_blocks setup.now identity.now)) }
-    // which hold all that a relation needs, with the FrameID that the device chose for outputs, and no module that differs,
+    // The blocks have everything that a relation needs, with the FrameID that the device chose for outputs, and no
+    // module that differs.
     ensures found { IsAllThere (answer_blocks setup.now identity.now) 0xC000 }
-    // and so a controller that asked for it goes on: the relation stands, and the first record is written, or the parameters are ended.
+    // If the ARUUID is not zero, a controller that is waiting for this response goes on: the relation exists, and the
+    // first record is written, or PrmEnd is sent.
     ensures goes_on { is_some_uuid setup.now.ar ≡ true → (live : Live) → live.asked ≡ Some Request.Connect
         → turn_of setup.now live (Frame (record { items = answer_frame setup.now identity.now address }))
         ≡ writing (writing_from setup.now.plan 0) (standing setup.now live 0xC000) }

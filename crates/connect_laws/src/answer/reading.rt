@@ -13,14 +13,15 @@ use plans::Controller;
 use pn_values::Identity;
 use rpc_core::{Datagram, Response, write_response};
 
-/// A response is not a call, to whichever interface: a law of the definitions by which both are read, and no code.
+/// A response is not a call, to either interface. This is a law of the definitions by which both are read. No code is
+/// involved.
 pub fn responses_are_no_calls()
     ensures apart { (interface : Served) (bytes : List ℕ) (answer : Answered) → response_of bytes ≡ Ok answer
         → (fault : RpcFault) × (call_of interface bytes ≡ Err fault) }
 {}
 
-/// Each response of a device to a controller is heard as it, whatever its status and its blocks, if these are at most 1,372 octets: a law
-/// of the definitions by which the device answers and the controller hears.
+/// Each response of a device to a controller is heard as that response, whatever its status and its blocks, if these
+/// have at most 1,372 octets. This is a law of the definitions by which the device responds and the controller hears.
 pub fn answers_are_read(
     controller: &Controller,
     identity: &Identity,

@@ -1,4 +1,4 @@
--- The call that an entry of a record stands for.
+-- The call that an entry of a record represents.
 use Rattle.flash_model.specs.Calls.{Call, Programs, Erases}
 use Rattle.device_abi.specs.declared.recorded.entry.Recorded.{Recorded}
 use Rattle.device_abi.specs.declared.recorded.entry.Recorded.TheVariants.{Program, Erase}

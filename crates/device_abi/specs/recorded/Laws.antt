@@ -1,4 +1,4 @@
--- The laws of the trait at a recorded flash.
+-- The laws of the trait for a recorded flash.
 use Rattle.std.specs.Prelude.{◌≡◌, ℕ, Bool, false, List, [], ◌∷◌, ◌++◌, refl}
 use Rattle.std.proofs.Common.{ap, sym, ◌∙◌}
 use Rattle.flash_model.specs.Calls.{Call}
@@ -18,7 +18,7 @@ has_power flash = false
 abbrev pub IsAlways : {S : ℕ} → RecordedFlash S → Type 0
 IsAlways flash = Unit {0}
 
--- both sectors have the size that the type names, and bytes in them
+-- both sectors have the size that the type names, and hold bytes
 pub IsImage-of : {S : ℕ} (flash : RecordedFlash S) → IsImage S (image_of flash)
 IsImage-of flash = flash.memory.sized
 
@@ -29,11 +29,11 @@ IsSectorSize-of flash = flash.memory.sector_size
 pub has_power-of : {S : ℕ} (flash : RecordedFlash S) → IsAlways flash → has_power flash ≡ false
 has_power-of flash reliable = refl
 
--- without a call nothing changes
+-- no calls change nothing
 pub asked_nothing-of : {S : ℕ} (flash : RecordedFlash S) → IsAsked flash [] flash
 asked_nothing-of flash none = refl
 
--- some calls, and then more
+-- calls followed by more calls
 pub after_all-append : (before : Record) (front back : List Call) → after_all before (front ++ back) ≡ after_all (after_all before front) back
 after_all-append before [] back = refl
 after_all-append before (call ∷ front) back = after_all-append (after_one before call) front back

@@ -1,4 +1,4 @@
--- What a recorded flash contains, and what calls make of it.
+-- The contents of a recorded flash, and the effect of calls on them.
 use Rattle.std.specs.Prelude.{◌≡◌, ◌+◌, ◌≤◌, ◌%◌, ◌^◌, ℕ, List, [], ◌∷◌, ◌++◌, length, map, drop, if◌then◌else◌, nat_lt}
 use Rattle.flash_model.specs.Calls.{Call, Programs, Erases, Arms}
 use Rattle.flash_model.specs.Image.{Image, with_sector, programmed, erased}
@@ -8,7 +8,8 @@ use Rattle.settings_journal.specs.Cut.{AreWrites, carried_out}
 use Rattle.device_abi.specs.recorded.Entry.{call_of}
 use Rattle.device_abi.specs.declared.recorded.flash.RecordedFlash.{RecordedFlash}
 
--- the bytes of both sectors, the last calls, the oldest of them first, and a number that grows by one with each, modulo 2 ^ 32
+-- the bytes of both sectors, the last calls, the oldest of them first, and a number that grows by one with each call,
+-- modulo 2 ^ 32
 pub record Record : Type 0 where
   pub image : Image
   pub recent : List Call
@@ -21,24 +22,24 @@ image_of flash = memory.image_of flash.memory
 abbrev pub record_of : {S : ℕ} → RecordedFlash S → Record
 record_of flash = record { image = image_of flash; recent = map call_of flash.calls.items; count = flash.count }
 
--- the record with these bytes in a sector, over one that is erased
+-- the record with these bytes in a sector that was erased
 abbrev pub filled : ℕ → Record → Sector → List ℕ → Record
 filled size before sector bytes = record before { image = with_sector before.image sector (programmed (erased size) 0 bytes) }
 
--- a call behind others: at most 48 are kept, the oldest one goes
+-- a call after others: at most 48 are stored, and the oldest one is dropped
 abbrev pub pushed : List Call → Call → List Call
 pushed recent call = if nat_lt (length recent) 48 then recent ++ call ∷ [] else drop 1 recent ++ call ∷ []
 
--- the record behind a call, which is carried out on the image
+-- the record after a call, which is carried out on the image
 abbrev pub after_one : Record → Call → Record
 after_one before call = record { image = carried_out before.image call; recent = pushed before.recent call; count = (before.count + 1) % 2 ^ 32 }
 
--- the record behind some calls, in order
+-- the record after some calls, in order
 abbrev pub after_all : Record → List Call → Record
 after_all before [] = before
 after_all before (call ∷ calls) = after_all (after_one before call) calls
 
--- The one became the other by these calls, each a write of no more than a base has: the record grew by exactly them, in
+-- If each of these calls is a write of at most as many bytes as a base has, the record grew by exactly these calls, in
 -- order, and each was carried out on the image.
 abbrev pub IsAsked : {S : ℕ} → RecordedFlash S → List Call → RecordedFlash S → Type 0
 IsAsked old calls new = AreWrites calls → record_of new ≡ after_all (record_of old) calls

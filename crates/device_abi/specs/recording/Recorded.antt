@@ -10,9 +10,10 @@ use Rattle.settings_store.specs.Machine.{Accepted}
 use Rattle.device_core.specs.State.{State}
 use Rattle.device_abi.specs.recording.Calls.{CallsOf, AreLegal}
 
--- A step in which these commands were accepted. What it records is exactly the calls of these commands, in order: they are at
--- most 48, and the last calls of the record are these. Carried out they make the device's own image, on which a start gives what
--- these commands make of what was stored. Wherever a host is cut off as it carries them out, its chip is a legal end.
+-- A step in which these commands were accepted. It records exactly the calls of these commands, in order. They are at
+-- most 48, and they are the last calls of the record. Carried out, they make the device's own image, and a start on it
+-- gives the settings that these commands make of the stored ones. If a host is cut off anywhere while it carries them
+-- out, its chip is a legal end.
 pub record Records {S : ℕ} (old : State (RecordedFlash S)) (accepted : List Accepted) (new : State (RecordedFlash S)) : Type 0 where
   pub calls : List Call
   pub of_commands : CallsOf (image_of old.flash) old.live.values.stored old.live.values.room accepted calls

@@ -6,16 +6,16 @@ ghost use Rattle.device_abi.specs.recorded.Entry.{call_of};
 use arrayvec::ArrayVec;
 use flash_model::Sector;
 
-/// How many calls are kept: those of a Set of 16 commands, three for each.
+/// How many calls are stored: those of a Set of 16 commands, three for each.
 pub const MOST_CALLS: usize = 48;
 
-/// How many bytes a program call that is recorded has: those of a base.
+/// The maximum number of bytes of a program call that is recorded: those of a base.
 pub const MOST_BYTES: usize = 437;
 
 /// A call that was recorded.
 #[derive(Drop)]
 pub enum Recorded {
-    /// Bytes programmed from a place of a sector on.
+    /// Bytes programmed from a position in a sector on.
     Program {
         sector: Sector,
         place: u32,
@@ -27,7 +27,7 @@ pub enum Recorded {
     },
 }
 
-// What an entry is that nothing was put into yet: no one sees it.
+// The value of an entry that is not in use. It is never seen.
 impl Default for Recorded {
     fn default() -> Self {
         Recorded::Erase {
@@ -36,7 +36,7 @@ impl Default for Recorded {
     }
 }
 
-// What is recorded of a program call, where its bytes have room.
+// The entry of a program call, or `None` if its bytes have no room.
 pub(crate) fn entry_of(sector: Sector, place: u32, bytes: &[u8]) -> Option<Recorded>
     ensures { MatchOption result (437 < length bytes.now) (λ call. call_of call ≡ Programs sector place bytes.now) }
 {

@@ -11,7 +11,7 @@ use crate::recorded::entry::{Recorded, entry_of};
 use arrayvec::ArrayVec;
 use flash_model::{Flash, FlashFault, MemoryFlash, Order, Sector};
 
-/// Both sectors in memory, and the last calls that changed them. No call fails. What is armed is forgotten.
+/// Both sectors in memory, and the last calls that changed them. No call fails. Orders are ignored.
 #[derive(Drop)]
 pub struct RecordedFlash<const S: usize> {
     memory: MemoryFlash<S>,
@@ -24,8 +24,8 @@ impl<const S: usize> RecordedFlash<S> {
     ghost use Rattle.device_abi.specs.recorded.Entry.{call_of};
     ghost use Rattle.device_abi.specs.recorded.Record.{image_of, record_of, pushed, after_one, filled};
 
-    /// A flash with both sectors erased, of which no call is recorded. The count begins at its last number: only what it grows by
-    /// says anything.
+    /// A flash with both sectors erased and no recorded call. The count begins at the maximum: only its growth has a
+    /// meaning.
     pub fn blank() -> Self
         requires { IsSectorSize S }
         ensures { record_of result ≡ record { image = record { first = erased S; second = erased S }; recent = []; count = 2 ^ 32 - 1 } }
@@ -33,7 +33,7 @@ impl<const S: usize> RecordedFlash<S> {
         RecordedFlash {
             memory: MemoryFlash::blank(),
             calls: ArrayVec::new(),
-            // With a zero here the empty list, 21,696 octets, is copied from the stack when a flash is made.
+            // With a zero here, the empty list of 21,696 octets would be copied from the stack when a flash is made.
             count: u32::MAX,
         }
     }
@@ -46,7 +46,8 @@ impl<const S: usize> RecordedFlash<S> {
         self.memory.sector(sector)
     }
 
-    /// Puts bytes into a sector, as many as it has, and records nothing. Where they are more or fewer nothing changes.
+    /// Puts bytes into a sector and records nothing. If there are more or fewer bytes than the sector has, nothing
+    /// changes.
     pub fn put_sector(&mut self, sector: Sector, bytes: &[u8])
         ensures put { length bytes.now ≡ S → record_of self.new ≡ filled S (record_of self.old) sector bytes.now }
         ensures kept { length bytes.now ≢ S → record_of self.new ≡ record_of self.old }
@@ -57,7 +58,7 @@ impl<const S: usize> RecordedFlash<S> {
         }
     }
 
-    /// A number that grows by one with each call, modulo 2 to the 32.
+    /// A number that grows by one with each call, modulo 2^32.
     pub fn count(&self) -> u32
         ensures { result ≡ (record_of self.now).count }
     {
@@ -71,7 +72,7 @@ impl<const S: usize> RecordedFlash<S> {
         self.calls.as_slice()
     }
 
-    /// Puts a call behind the others, and forgets the oldest one where there is no room.
+    /// Appends a call, and drops the oldest one if there is no room.
     fn push(&mut self, call: Recorded)
         ensures memory { self.new.memory ≡ self.old.memory }
         ensures recent { (record_of self.new).recent ≡ pushed (record_of self.old).recent (call_of call) }
@@ -105,11 +106,11 @@ impl<const S: usize> Flash<S> for RecordedFlash<S> {
         self.memory.read(sector, place, buffer)
     }
 
-    /// Turns to 0 each bit that is 0 in `bytes`, from `place` on, and records the call, unless it has more than 437 bytes.
+    /// Clears each bit that is 0 in `bytes`, from `place` on, and records the call, unless it has more than 437 bytes.
     fn program(&mut self, sector: Sector, place: usize, bytes: &[u8]) -> Result<(), FlashFault>
         requires { place + length bytes.now ≤ S }
 
-        // What the trait asks.
+        // These clauses are those of the trait.
         ensures done { OnOk result (image_of self.new
             ≡ with_sector (image_of self.old) sector (programmed (sector_of (image_of self.old) sector) place bytes.now)) }
         ensures torn { OnErr result (Torn sector place (place + length bytes.now)
@@ -119,7 +120,7 @@ impl<const S: usize> Flash<S> for RecordedFlash<S> {
         ensures lost { StaysLost (has_power self.old) (has_power self.new) result }
         ensures reliable { IsAlways self.old → IsOk result × IsAlways self.new }
 
-        // A call that has no room is not recorded, and no other one is lost by it.
+        // A call with more than 437 bytes is not recorded, and no recorded one is lost.
         ensures unrecorded { 437 < length bytes.now → record_of self.new ≡ record (record_of self.old) { image = image_of self.new } }
     {
         self.memory.program(sector, place, bytes)?;
@@ -129,7 +130,7 @@ impl<const S: usize> Flash<S> for RecordedFlash<S> {
         Ok(())
     }
 
-    /// Turns every bit of a sector to 1, and records the call.
+    /// Sets every bit of a sector to 1, and records the call.
     fn erase(&mut self, sector: Sector) -> Result<(), FlashFault> {
         self.memory.erase(sector)?;
         self.push(Recorded::Erase { sector });
@@ -144,15 +145,15 @@ impl<const S: usize> Flash<S> for RecordedFlash<S> {
         false
     }
 
-    /// Nothing is armed, and nothing recorded.
+    /// Arms nothing and records nothing.
     fn arm(&mut self, order: Order)
-        // What the trait asks.
+        // These clauses are those of the trait.
         ensures image { image_of self.new ≡ image_of self.old }
         ensures failures { failures_of self.new ≡ failures_of self.old }
         ensures lost { has_power self.new ≡ has_power self.old }
         ensures calls { IsAsked self.old (Arms order ∷ []) self.new }
 
-        // An order is no call that a host carries out.
+        // An order is not a call that a host carries out.
         ensures unrecorded { record_of self.new ≡ record_of self.old }
     {
         let _ = order;

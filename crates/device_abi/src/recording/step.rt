@@ -9,8 +9,8 @@ use crate::RecordedFlash;
 use device_core::{Device, Event, Note};
 use frame_codec::Outbox;
 
-/// Takes an event, and puts the frames to be sent into the box. What the step asks of the flash is recorded; a host carries
-/// it out on its chip, call by call, and sends the frames behind the last of them.
+/// Handles an event, and puts the frames to send into the outbox. The calls that the step makes to the flash are
+/// recorded. A host carries them out on its chip, call by call, and then sends the frames.
 pub fn step<const S: usize>(
     device: &mut Device<RecordedFlash<S>, S>,
     event: &Event,
@@ -20,11 +20,11 @@ pub fn step<const S: usize>(
     ensures exact { IsExactStep device.old event.now (boxed outbox.new) result device.new }
     ensures going { device.new.live.values.has_failed ≡ false }
 
-    // What is recorded is exactly the calls of the commands that the step accepts, in order; and wherever a host is cut off as
-    // it carries them out, its chip is a legal end.
+    // The record is exactly the calls of the commands that the step accepts, in order. If a host is cut off anywhere
+    // while it carries them out, its chip is a legal end.
     ensures records { Records device.old (step_of [] device.old.station device.old.live event.now).accepted device.new }
 {
-    // What is stored is what a restart finds, before the step too.
+    // The stored settings are what a restart finds, before the step too.
     let _ = device.stored();
     device.step(event, outbox)
 }

@@ -1,56 +1,61 @@
--- Both ends of a start-up as small machines: what they keep, and what they hear of each other, without what they exchange otherwise.
+-- Both ends of a start-up as small machines: their state, and what they hear of each other, without the data that they
+-- exchange.
 use Rattle.std.specs.Prelude.{ℕ, Bool, List, Option}
 
--- what a call asks: a relation; that the record of this number is taken; the end of the parameters; or the end of the relation
+-- the request of a call: a relation, that the record with this number is accepted, the end of the parameters, or the
+-- end of the relation
 pub data Ask : Type 0 where
   Connects : Ask
   Writes : (number : ℕ) → Ask
   Parameterized : Ask
   Releases : Ask
 
--- what octets are to the device: a call of this sequence, the answer that confirms ApplicationReady, or neither
+-- what octets mean to the device: a call with this sequence number, the response that confirms ApplicationReady, or
+-- neither
 pub data ToDevice : Type 0 where
   Call : (sequence : ℕ) → (ask : Ask) → ToDevice
   Confirms : ToDevice
   Idle : ToDevice
 
--- what octets are to the controller: the answer to its call of this sequence, and whether it is positive, ApplicationReady, or neither
+-- what octets mean to the controller: the response to its call with this sequence number, positive or not;
+-- ApplicationReady; or neither
 pub data ToController : Type 0 where
   Answers : (sequence : ℕ) → (positive : Bool) → ToController
   Readies : ToController
   Nothing : ToController
 
--- A start-up: what its Connect asks for, the records that it writes, in order, and what each end hears of octets.
+-- A start-up: the request of its Connect, the records that it writes, in order, and what each end hears in octets.
 pub record Rules (T Q : Type 0) : Type 0 where
   pub request : Q
   pub records : List T
   pub to_device : List ℕ → ToDevice
   pub to_controller : List ℕ → ToController
 
--- how far a relation is
+-- the phase of a relation
 pub data Phase : Type 0 where
   Started : Phase
   Awaiting : Phase
   Exchanging : Phase
 
--- a relation: what its Connect asked for, and the records that it took
+-- a relation: the request of its Connect, and the records that it accepted
 pub record Link (T Q : Type 0) : Type 0 where
   pub phase : Phase
   pub request : Q
   pub taken : List T
 
--- the last answer: to the call of this sequence
+-- the last response: to the call with this sequence number
 pub record Kept : Type 0 where
   pub sequence : ℕ
   pub frame : List ℕ
 
--- a device: the last answer that it gave, and its relation, if there is one
+-- a device: its last response, and its relation, if there is one
 pub record Device (T Q : Type 0) : Type 0 where
   pub kept : Option Kept
   pub link : Option (Link T Q)
 
--- a controller: it has not asked for the relation yet; it asks by the call of this sequence, 0 of Connect, one more of each record, and
--- one more of PrmEnd; it waits for ApplicationReady; it exchanges data; or it is over
+-- A controller: it has not asked for the relation yet; it makes the call with this sequence number, which is 0 for
+-- Connect, and one more for each record and for PrmEnd; it waits for ApplicationReady; it exchanges data; or its
+-- relation has ended.
 pub data Controller : Type 0 where
   Seeking : Controller
   Asking : (sequence : ℕ) → Controller
@@ -58,28 +63,28 @@ pub data Controller : Type 0 where
   Exchanges : Controller
   Ended : Controller
 
--- both, and the octets of each frame that either ever sent, the first one first
+-- both ends, and the octets of each frame that either end ever sent, in order
 pub record World (T Q : Type 0) : Type 0 where
   pub device : Device T Q
   pub controller : Controller
   pub sent : List (List ℕ)
 
--- what may happen: the frame of this number comes to the device or to the controller, again and again and in any order, or something
--- happens at one of them alone
+-- What may happen: the frame with this number is delivered to the device or the controller, any number of times and in
+-- any order, or something happens at one end only.
 pub data Move : Type 0 where
   ComesToDevice : (number : ℕ) → Move
   ComesToController : (number : ℕ) → Move
   AtDevice : Move
   AtController : Move
 
--- a move of the device: a frame comes to it, or something happens at it alone
+-- a move of the device: a frame is delivered to it, or something happens at the device only
 abbrev pub IsByDevice : Move → Type 0
 IsByDevice (ComesToDevice number) = Unit {0}
 IsByDevice (ComesToController number) = ⊥
 IsByDevice AtDevice = Unit {0}
 IsByDevice AtController = ⊥
 
--- and one of the controller
+-- a move of the controller
 abbrev pub IsByController : Move → Type 0
 IsByController (ComesToDevice number) = ⊥
 IsByController (ComesToController number) = Unit {0}

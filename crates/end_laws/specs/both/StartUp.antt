@@ -6,24 +6,24 @@ use Rattle.end_laws.specs.both.Runs.{AreSteps, end_of}
 use Rattle.end_laws.specs.both.Steps.{IsDull, Steps}
 
 module _ {T Q : Type 0} where
-  -- a run, of moves and the world behind each of them: each move is a step from the world behind the one before it
+  -- a run, with the world after each move: each move is a step from the world after the move before it
   abbrev pub IsRun : Rules T Q → World T Q → List (Move × World T Q) → Type 0
   IsRun rules first run = AreSteps (Steps rules) first run
 
-  -- the world behind a run
+  -- the world after a run
   abbrev pub last_of : World T Q → List (Move × World T Q) → World T Q
   last_of first run = end_of first run
 
-  -- The beginning: the device answered no call since its start and has no relation, the controller looks for it, and of the frames so
-  -- far a start-up knows nothing.
+  -- The start: the device has answered no call since its start and has no relation, the controller looks for it, and
+  -- the frames so far say nothing of a start-up.
   pub record Begins (rules : Rules T Q) (first : World T Q) : Type 0 where
     pub uncalled : first.device.kept ≡ None
     pub unrelated : first.device.link ≡ None
     pub seeking : first.controller ≡ Seeking
     pub dull : AllByRecursion (IsDull rules) first.sent
 
-  -- The device sent this ApplicationReady, with a move of its own: at that point it had accepted what the Connect asks for, and had taken
-  -- the records, in their order, each of them once.
+  -- The device sent this ApplicationReady with one of its moves. At that point it had accepted the request of the
+  -- Connect, and had accepted the records in order, each once.
   pub record WasSent (rules : Rules T Q) (first : World T Q) (run : List (Move × World T Q)) (frame : List ℕ) : Type 0 where
     pub before : List (Move × World T Q)
     pub move : Move
@@ -31,21 +31,21 @@ module _ {T Q : Type 0} where
     pub later : List (Move × World T Q)
     pub all : run ≡ before ++ (move, point) ∷ later
     pub by_device : IsByDevice move
-    -- it is one of the frames that were sent then
+    -- the frame is one of those sent by that move
     pub frames : List (List ℕ)
     pub behind : point.sent ≡ (last_of first before).sent ++ frames
     pub number : ℕ
     pub sent : slice_get frames number ≡ Some frame
     pub still : point.controller ≡ (last_of first before).controller
-    -- and this is its relation
+    -- this is the relation of the device
     pub link : Link T Q
     pub has : point.device.link ≡ Some link
     pub awaits : link.phase ≡ Awaiting
     pub accepted : link.request ≡ rules.request
     pub taken : link.taken ≡ rules.records
 
-  -- The controller was handed an ApplicationReady, by which it came to exchange data: at an earlier point, and the device had sent it
-  -- before that.
+  -- The controller received an ApplicationReady, after which it exchanges data. It received it at an earlier point, and
+  -- the device had sent it before that.
   pub record WasHanded (rules : Rules T Q) (first : World T Q) (run : List (Move × World T Q)) : Type 0 where
     pub before : List (Move × World T Q)
     pub number : ℕ
@@ -58,7 +58,7 @@ module _ {T Q : Type 0} where
     pub exchanges : point.controller ≡ Exchanges
     pub sent : WasSent rules first before frame
 
-  -- The controller was exchanging data after a move of its own, and after that a frame came to the device.
+  -- The controller was exchanging data after one of its own moves, and after that a frame was delivered to the device.
   pub record WasExchanging (run : List (Move × World T Q)) : Type 0 where
     pub before : List (Move × World T Q)
     pub move : Move

@@ -1,52 +1,55 @@
--- What each end does, as far as a start-up goes. A step is a relation: what is left open here, a real machine decides.
+-- The steps of each end, as far as a start-up is concerned. A step is a relation: what it leaves open, a real machine
+-- decides.
 use Rattle.std.specs.Prelude.{◌≡◌, ◌⊎◌, ◌+◌, ◌<◌, ◌≤◌, ℕ, Bool, true, false, List, [], ◌∷◌, ◌++◌, length, slice_get, Option, Some, None}
 use Rattle.std.specs.List.{AllByRecursion}
 use Rattle.end_laws.specs.both.Small.{Ask, Connects, Writes, Parameterized, Releases, ToDevice, Call, Confirms, Idle, ToController, Answers, Readies, Nothing, Rules, Started, Awaiting, Exchanging, Link, Kept, Device, Controller, Asking, Waiting, Exchanges, Ended, World, Move, ComesToDevice, ComesToController, AtDevice, AtController}
 
 -- ---- the device
 
--- a call of this sequence is new: later than the last that was answered
+-- a call with this sequence number is new: later than the last that was answered
 abbrev pub IsNew : ℕ → Option Kept → Type 0
 IsNew sequence None = Unit {0}
 IsNew sequence (Some kept) = kept.sequence < sequence
 
 -- ---- the calls of a controller
 
--- what the controller asks by the call of a sequence, where so many records are to be written
+-- the request of the controller's call with a sequence number, given the number of records to write
 abbrev pub IsAsked : ℕ → ℕ → Ask → Type 0
 IsAsked count sequence Connects = sequence ≡ 0
 IsAsked count sequence (Writes number) = (number < count) × (sequence ≡ number + 1)
 IsAsked count sequence Parameterized = sequence ≡ count + 1
 IsAsked count sequence Releases = Unit {0}
 
--- a Release is sent at an end, and every other call while the controller asks by it
+-- a Release is sent at an end, and any other call as long as the controller makes it
 abbrev pub CallsWhile : ℕ → Controller → ℕ → Ask → Type 0
 CallsWhile count now sequence ask = (ask ≡ Releases) ⊎ ((now ≡ Asking sequence) × IsAsked count sequence ask)
 
--- what the device hears of what is sent now: a call, the answer to ApplicationReady while data is exchanged, or nothing of a start-up
+-- what the device hears in a frame sent now: a call, the response to ApplicationReady while data is exchanged, or
+-- nothing of a start-up
 abbrev pub SaysToDevice : ℕ → Controller → ToDevice → Type 0
 SaysToDevice count now (Call sequence ask) = CallsWhile count now sequence ask
 SaysToDevice count now Confirms = now ≡ Exchanges
 SaysToDevice count now Idle = Unit {0}
 
--- an answer to the call by which it asks: it asks by the next one, or behind the last waits for ApplicationReady
+-- a response to the current call: the controller makes the next call, or after the last one waits for ApplicationReady
 pub record IsNext (count : ℕ) (heard : ToController) (before after : Controller) : Type 0 where
   pub sequence : ℕ
   pub asked : before ≡ Asking sequence
   pub answered : heard ≡ Answers sequence true
   pub becomes : ((sequence ≤ count) × (after ≡ Asking (sequence + 1))) ⊎ (after ≡ Waiting)
 
--- how the state moves: not, to the end, to the first call, from call to call, or to the exchange of data with ApplicationReady
+-- how the state moves: not at all, to the end, to the first call, from call to call, or to the exchange of data with
+-- ApplicationReady
 abbrev pub Moves : ℕ → ToController → Controller → Controller → Type 0
 Moves count heard before after =
     (after ≡ before) ⊎ ((after ≡ Ended) ⊎ ((after ≡ Asking 0) ⊎ (IsNext count heard before after ⊎ ((heard ≡ Readies) × (after ≡ Exchanges)))))
 
 module _ {T Q : Type 0} where
-  -- a relation that is made now
+  -- a new relation
   abbrev pub made : Rules T Q → Link T Q
   made rules = record { phase = Started; request = rules.request; taken = [] }
 
-  -- a relation takes a record more
+  -- a relation accepts one more record
   pub record TakesRecord (rules : Rules T Q) (number : ℕ) (before after : Option (Link T Q)) : Type 0 where
     pub link : Link T Q
     pub value : T
@@ -54,30 +57,30 @@ module _ {T Q : Type 0} where
     pub is : slice_get rules.records number ≡ Some value
     pub becomes : after ≡ Some (record link { taken = link.taken ++ value ∷ [] })
 
-  -- its parameters are all written
+  -- the parameters of a relation are complete
   pub record IsParameterized (before after : Option (Link T Q)) : Type 0 where
     pub link : Link T Q
     pub was : before ≡ Some link
     pub started : link.phase ≡ Started
     pub becomes : after ≡ Some (record link { phase = Awaiting })
 
-  -- what a call does to the relation that is answered positively; of a Connect this is said where there is none yet
+  -- the effect of a call that is answered positively; for a Connect this is stated only if there is no relation yet
   abbrev pub Carries : Rules T Q → Ask → Option (Link T Q) → Option (Link T Q) → Type 0
   Carries rules Connects before after = before ≡ None → after ≡ Some (made rules)
   Carries rules (Writes number) before after = TakesRecord rules number before after
   Carries rules Parameterized before after = IsParameterized before after
   Carries rules Releases before after = after ≡ None
 
-  -- and one that is not leaves it
+  -- a call that is not answered positively changes nothing
   abbrev pub Comes : Rules T Q → Bool → Ask → Option (Link T Q) → Option (Link T Q) → Type 0
   Comes rules true ask before after = Carries rules ask before after
   Comes rules false ask before after = after ≡ before
 
-  -- The controller hears this in a frame, or nothing: a frame may go to another station, or be too long to be read.
+  -- The controller hears this in a frame, or nothing: a frame may go to another station or be too long to be read.
   abbrev pub SaysAtMost : Rules T Q → ToController → List ℕ → Type 0
   SaysAtMost rules heard frame = (rules.to_controller frame ≡ Nothing) ⊎ (rules.to_controller frame ≡ heard)
 
-  -- ApplicationReady, while the relation waits for its answer
+  -- ApplicationReady, while the relation waits for its response
   pub record IsReady (rules : Rules T Q) (after : Device T Q) (frame : List ℕ) : Type 0 where
     pub to_device : rules.to_device frame ≡ Idle
     pub to_controller : SaysAtMost rules Readies frame
@@ -85,11 +88,11 @@ module _ {T Q : Type 0} where
     pub has : after.link ≡ Some link
     pub awaits : link.phase ≡ Awaiting
 
-  -- A frame that a start-up knows nothing of: of neither end.
+  -- A frame that says nothing of a start-up to either end.
   abbrev pub IsDull : Rules T Q → List ℕ → Type 0
   IsDull rules frame = (rules.to_device frame ≡ Idle) × (rules.to_controller frame ≡ Nothing)
 
-  -- A new call: it is answered, and the answer is kept. Behind a PrmEnd that is accepted ApplicationReady is sent.
+  -- A new call: it is answered, and the response is stored. After a PrmEnd that is accepted, ApplicationReady is sent.
   pub record IsAnswered (rules : Rules T Q) (sequence : ℕ) (ask : Ask) (before after : Device T Q) (frames : List (List ℕ)) : Type 0 where
     pub new : IsNew sequence before.kept
     pub positive : Bool
@@ -102,7 +105,7 @@ module _ {T Q : Type 0} where
     pub sent : frames ≡ frame ∷ others
     pub readies : AllByRecursion (IsReady rules after) others
 
-  -- The call that was answered last: the same frame again.
+  -- The call that was answered last: the same frame is sent again.
   pub record IsAgain (sequence : ℕ) (before after : Device T Q) (frames : List (List ℕ)) : Type 0 where
     pub kept : Kept
     pub has : before.kept ≡ Some kept
@@ -114,7 +117,7 @@ module _ {T Q : Type 0} where
   abbrev pub Rests : Device T Q → Device T Q → List (List ℕ) → Type 0
   Rests before after frames = (after ≡ before) × (frames ≡ [])
 
-  -- the answer that confirms ApplicationReady, while the relation waits for it
+  -- the response that confirms ApplicationReady, while the relation waits for it
   pub record IsConfirmed (before after : Device T Q) (frames : List (List ℕ)) : Type 0 where
     pub link : Link T Q
     pub was : before.link ≡ Some link
@@ -122,13 +125,15 @@ module _ {T Q : Type 0} where
     pub becomes : after ≡ record before { link = Some (record link { phase = Exchanging }) }
     pub silent : frames ≡ []
 
-  -- Whatever else happens: the relation stays as it is or ends, and of what is sent a start-up knows ApplicationReady alone.
+  -- Anything else: the relation stays as it is or ends, and the frames say nothing of a start-up except
+  -- ApplicationReady.
   pub record GoesBy (rules : Rules T Q) (before after : Device T Q) (frames : List (List ℕ)) : Type 0 where
     pub keeps : after.kept ≡ before.kept
     pub link : (after.link ≡ before.link) ⊎ (after.link ≡ None)
     pub sent : AllByRecursion (λ frame. IsDull rules frame ⊎ IsReady rules after frame) frames
 
-  -- a step of the device that hears this: a call that is older than the last, or comes while it has no address, is dropped
+  -- a step of the device that hears this: a call that is older than the last, or that arrives while the device has no
+  -- address, is dropped
   abbrev pub DeviceSteps : Rules T Q → ToDevice → Device T Q → Device T Q → List (List ℕ) → Type 0
   DeviceSteps rules (Call sequence ask) before after frames =
       IsAnswered rules sequence ask before after frames ⊎ (IsAgain sequence before after frames ⊎ Rests before after frames)
@@ -137,7 +142,7 @@ module _ {T Q : Type 0} where
 
   -- ---- the controller
 
-  -- a frame of the controller, which itself hears nothing of a start-up in it
+  -- a frame of the controller, in which it hears nothing of a start-up itself
   abbrev pub IsSaid : Rules T Q → Controller → List ℕ → Type 0
   IsSaid rules now frame = (rules.to_controller frame ≡ Nothing) × SaysToDevice (length rules.records) now (rules.to_device frame)
 
@@ -161,7 +166,7 @@ module _ {T Q : Type 0} where
     pub device : after.device ≡ before.device
     pub behind : after.sent ≡ before.sent ++ frames
 
-  -- a frame comes, if there is one of this number
+  -- a frame is delivered, if there is one with this number
   pub record ComesToDeviceAs (rules : Rules T Q) (number : ℕ) (before after : World T Q) : Type 0 where
     pub frame : List ℕ
     pub there : slice_get before.sent number ≡ Some frame

@@ -1,4 +1,4 @@
--- What a controller is of a start-up, and what it says and hears of it.
+-- A controller as a small machine, and what it says and hears of a start-up.
 use Rattle.std.specs.Prelude.{◌≡◌, ◌⊎◌, ◌<◌, ℕ, nat_eq, List, length, Option, Some, None, if◌then◌else◌}
 use Rattle.std.specs.List.{AllByRecursion}
 use Rattle.std.specs.Cmp.Lexicographic.{pointwise}
@@ -22,9 +22,9 @@ use Rattle.end_laws.specs.both.Small as small
 use Rattle.end_laws.specs.both.Small.{Controller, ToController, ToDevice}
 use Rattle.end_laws.specs.both.Steps.{Moves, SaysToDevice}
 
--- ---- what it is
+-- ---- its state
 
--- it asks by the call of the request that stands
+-- the controller makes the call of the pending request
 abbrev pub asking_of : Parts → Option Request → Controller
 asking_of plan (Some request) = small.Asking (sequence_of plan request)
 asking_of plan None = small.Ended
@@ -42,7 +42,7 @@ state_of plan (Ended cause) asked = small.Ended
 abbrev pub small_of : Parts → Live → Controller
 small_of plan live = state_of plan live.phase live.asked
 
--- in each state the request stands that belongs to it
+-- in each state the pending request is the one that belongs to it
 abbrev pub IsInStep : Parts → State → Option Request → Type 0
 IsInStep plan Looking asked = asked ≡ Some asks.Identify
 IsInStep plan Addressing asked = asked ≡ Some asks.Address
@@ -55,12 +55,12 @@ IsInStep plan (Ended cause) asked = (asked ≡ None) ⊎ ((sequence : ℕ) × (a
 
 -- ---- what it hears
 
--- ApplicationReady of its relation, if this is a block of one
+-- ApplicationReady of its relation, if this block is one
 abbrev pub readied_by : Setup → Option ControlBlock → ToController
 readied_by setup (Some block) = if is_ready setup block then small.Readies else small.Nothing
 readied_by setup None = small.Nothing
 
--- a response of its activity, and ApplicationReady of its relation; of all else a start-up knows nothing
+-- a response of its activity, and ApplicationReady of its relation; everything else says nothing of a start-up
 abbrev pub said_to : Setup → Heard → ToController
 said_to setup (Responds response) =
     if pointwise nat_eq response.header.activity setup.activity then small.Answers response.header.sequence (is_done response.status) else small.Nothing
@@ -80,7 +80,7 @@ asked_by plan (asks.Write number) = small.Call (sequence_of plan (asks.Write num
 asked_by plan asks.PrmEnd = small.Call (sequence_of plan asks.PrmEnd) small.Parameterized
 asked_by plan (asks.Release sequence) = small.Call (sequence_of plan (asks.Release sequence)) small.Releases
 
--- a request as the call that it is, and the answer to ApplicationReady
+-- a request as the call that it is, and the response to ApplicationReady
 abbrev pub said_by : Parts → Sent → ToDevice
 said_by plan (Requests device request) = asked_by plan request
 said_by plan (Agrees caller answer) = small.Confirms
@@ -91,13 +91,13 @@ said_by plan (Ends route header reason) = small.Idle
 
 -- ---- a step
 
--- what a turn that hears this is of a start-up: the state moves, and each message says to the device what it may then
+-- The small step of a turn that hears this: the state moves, and each message says to the device what it may say then.
 pub record GoesOn (plan : Parts) (heard : ToController) (live : Live) (turn : Turn) : Type 0 where
   pub in_step : IsInStep plan turn.live.phase turn.live.asked
   pub moves : Moves (length plan.records.items) heard (small_of plan live) (small_of plan turn.live)
   pub says : AllByRecursion (λ message. SaysToDevice (length plan.records.items) (small_of plan turn.live) (said_by plan message)) turn.sent
 
--- what an event says, by what is heard of a frame
+-- what an event says, given what is heard of a frame
 abbrev pub said_in : Setup → (List ℕ → Heard) → Event → ToController
 said_in setup heard (Frame bytes) = said_to setup (heard bytes.items)
 said_in setup heard Tick = small.Nothing

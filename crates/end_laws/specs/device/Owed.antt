@@ -1,4 +1,4 @@
--- Whence what a device sends comes: an answer from a call that it heard, ApplicationReady from its relation.
+-- Where the messages of a device come from: a response from a call that it heard, ApplicationReady from its relation.
 use Rattle.std.specs.Prelude.{◌≡◌, List, ℕ, Option, Some}
 use Rattle.frame_codec.specs.declared.udp.Caller.{Caller}
 use Rattle.rpc_core.specs.Cache.{Kept, kept_of}
@@ -12,7 +12,7 @@ use Rattle.device_frames.specs.Heard.{Heard, Told, Calls}
 use Rattle.device_frames.specs.Sent.{Sent, IdentifyAnswer, GetAnswer, SetAnswer, ArpReply, CallAnswer, Again, ReadyCall, Ends, Exchanges}
 use Rattle.device_core.specs.State.{Live}
 
--- an answer to this caller: to a call that it made, whose header it repeats, with a status of four octets
+-- a response to this caller: to a call that it made, whose header it repeats, with a status of four octets
 pub record IsAnswering (heard : Heard) (caller : Caller) (answer : Response) : Type 0 where
   pub address : List ℕ
   pub call : Call
@@ -21,7 +21,7 @@ pub record IsAnswering (heard : Heard) (caller : Caller) (answer : Response) : T
   pub maximum : answer.maximum_count ≡ call.args_maximum
   pub status : IsStatus answer.status
 
--- the frame of the answer that is kept of the activity of a call that was heard
+-- the frame of the response that is stored for the activity of a call that was heard
 pub record IsOfKept (heard : Heard) (live : Live) (frame : List ℕ) : Type 0 where
   pub caller : Caller
   pub address : List ℕ
@@ -31,14 +31,14 @@ pub record IsOfKept (heard : Heard) (live : Live) (frame : List ℕ) : Type 0 wh
   pub there : kept_of call.header.activity live.rest.calls ≡ Some kept
   pub same : kept.frame ≡ frame
 
--- ApplicationReady of this relation, to whomever
+-- ApplicationReady of this relation, to any station
 pub record IsOfRelation (relation : Option Link) (ready : Ready) : Type 0 where
   pub link : Link
   pub is : relation ≡ Some link
   pub header : ready.header ≡ (ready_of link).header
   pub block : ready.block ≡ (ready_of link).block
 
--- whence a message comes, where it is one of a start-up
+-- where a message comes from, if it is one of a start-up
 abbrev pub IsOwed : Heard → Live → Sent → Type 0
 IsOwed heard live (CallAnswer caller address answer) = IsAnswering heard caller answer
 IsOwed heard live (Again frame) = IsOfKept heard live frame

@@ -1,4 +1,4 @@
--- What a device is of a start-up, and what it says and hears of it.
+-- A device as a small machine, and what it says and hears of a start-up.
 use Rattle.std.specs.Prelude.{◌≡◌, ◌+◌, ◌-◌, ◌==◌, ◌&&◌, ℕ, Bool, false, nat_eq, List, Option, Some, None, option_map, slice_get, if◌then◌else◌, Ok}
 use Rattle.std.specs.Cmp.Lexicographic.{pointwise}
 use Rattle.pn_values.specs.declared.identity.Identity.{Identity}
@@ -28,7 +28,7 @@ use Rattle.end_laws.specs.both.Small as small
 use Rattle.end_laws.specs.both.Small.{Rules, ToDevice, ToController}
 use Rattle.end_laws.specs.both.Steps.{SaysAtMost}
 
--- ---- what it is
+-- ---- its state
 
 abbrev pub phase_in : Phase → small.Phase
 phase_in Started = small.Started
@@ -41,13 +41,14 @@ link_of link = record { phase = phase_in link.phase; request = link.request; tak
 abbrev pub kept_in : Answer → small.Kept
 kept_in answer = record { sequence = answer.sequence; frame = answer.frame }
 
--- of the answers that are kept that of the activity of the start-up counts
+-- of the stored responses, the one of the activity of the start-up counts
 abbrev pub small_of : List ℕ → Live → small.Device TakenRecord Request
 small_of activity live = record { kept = option_map kept_in (kept_of activity live.rest.calls); link = option_map link_of live.rest.link }
 
 -- ---- what it hears
 
--- what a call asks, by its operation: a Write asks for the record in front of its number
+-- the request of a call, by its operation: a Write asks for the record whose number is one less than the call's
+-- sequence number
 abbrev pub asked_by : ℕ → Option Operation → ToDevice
 asked_by sequence (Some operation.Connect) = small.Call sequence small.Connects
 asked_by sequence (Some operation.Write) = small.Call sequence (small.Writes (sequence - 1))
@@ -57,7 +58,7 @@ asked_by sequence (Some operation.Read) = small.Idle
 asked_by sequence (Some operation.ReadImplicit) = small.Idle
 asked_by sequence None = small.Idle
 
--- the positive answer to an ApplicationReady: its block names the relation whose ARUUID was the activity of the call
+-- the positive response to an ApplicationReady: its block names the relation whose ARUUID was the activity of the call
 abbrev pub names_own : List ℕ → Option ControlBlock → Bool
 names_own activity None = false
 names_own activity (Some block) = pointwise nat_eq block.ar_uuid activity
@@ -72,7 +73,7 @@ said_to (Calls call) = asked_by call.header.sequence (operation_of call.header.o
 said_to (Responds response) = if confirms response then small.Confirms else small.Idle
 said_to Garbled = small.Idle
 
--- calls and answers, and of all else a start-up knows nothing
+-- calls and responses; everything else says nothing of a start-up
 abbrev pub heard_as : Heard → ToDevice
 heard_as (Told caller address said) = said_to said
 heard_as Ticks = small.Idle
@@ -87,8 +88,8 @@ heard_as (Raised slot subslot octets) = small.Idle
 
 -- ---- the calls of a start-up
 
--- a call with these blocks is one of the start-up: its Connect is read as what it asks for; its Writes, where they are judged well, keep
--- the records; what a PrmEnd or a Release says is looked at when it comes
+-- A call with these blocks is one of the start-up. Its Connect is read as the expected request. Its Writes, if they are
+-- accepted, store the records. The contents of a PrmEnd or a Release are looked at when it arrives.
 pub record IsPlannedWrite (rules : Rules TakenRecord Request) (real : Real) (sequence : ℕ) (blocks : List ℕ) : Type 0 where
   pub number : ℕ
   pub value : TakenRecord
@@ -105,7 +106,7 @@ IsPlannedAs rules real sequence blocks (Some operation.Read) = ⊥
 IsPlannedAs rules real sequence blocks (Some operation.ReadImplicit) = ⊥
 IsPlannedAs rules real sequence blocks None = ⊥
 
--- of the activity of the start-up, its blocks counted well
+-- a call of the activity of the start-up, whose blocks have the right counts
 pub record IsPlannedCall (rules : Rules TakenRecord Request) (activity : List ℕ) (real : Real) (call : Call) : Type 0 where
   pub own : call.header.activity ≡ activity
   pub blocks : List ℕ
@@ -132,8 +133,8 @@ IsPlanned rules activity real (Raised slot subslot octets) = Unit {0}
 
 -- ---- what it says
 
--- what the controller hears of a message: the answer to a call, or ApplicationReady. An answer that is sent again is not asked for here:
--- what it says it said before
+-- What the controller hears of a message: the response to a call, or ApplicationReady. A repeated response is not
+-- covered here: what it says was said before.
 abbrev pub said_by : Sent → ToController
 said_by (CallAnswer caller address answer) = small.Answers answer.header.sequence (is_done answer.status)
 said_by (ReadyCall address ready) = small.Readies
@@ -145,7 +146,7 @@ said_by (Again frame) = small.Nothing
 said_by (Ends farewell) = small.Nothing
 said_by (Exchanges route frame) = small.Nothing
 
--- both ends hear that of its octets: the device nothing, and the controller what it says, or nothing
+-- both ends hear this in its octets: the device nothing, and the controller what it says, or nothing
 abbrev pub IsHeardBy : Rules TakenRecord Request → List ℕ → ToController → Type 0
 IsHeardBy rules frame says = (rules.to_device frame ≡ small.Idle) × SaysAtMost rules says frame
 

@@ -1,4 +1,5 @@
--- One turn of a device: what becomes of its relation, of the answers that it keeps, and what it sends, as far as outputs and alarms go.
+-- One turn of a device: what becomes of its relation, of the responses that it stores, and what it sends, as far as
+-- outputs and alarms are concerned.
 use Rattle.std.specs.Prelude.{◌≡◌, ◌⊎◌, ◌++◌, ℕ, List, [], ◌∷◌, Option, Some, None, option_map, Ok}
 use Rattle.std.specs.List.{AllByRecursion}
 use Rattle.pn_values.specs.declared.identity.Identity.{Identity}
@@ -42,10 +43,10 @@ use Rattle.device_core.specs.State.{Live, Rest, Station}
 use Rattle.device_core.specs.Judged.{kept_for}
 use Rattle.end_laws.specs.device.Owed.{IsOwed}
 
--- ---- what stays of a relation
+-- ---- what stays the same of a relation
 
--- what was asked for, the device's end of alarms, between whom frames go, the counter of the last frame that was taken, if one was, and what
--- outputs are read of
+-- The request of the Connect, the device's end of alarms, the stations between which frames go, the counter of the last
+-- cyclic frame accepted, if there is one, and the image of the outputs.
 pub record Standing : Type 0 where
   pub request : Request
   pub alarms : DeviceEnd
@@ -62,13 +63,13 @@ standing_of link = record {
   outputs = link.flow.cyclic.taken;
 }
 
--- these stay, or there is no relation any more
+-- these stay the same, or the relation has ended
 abbrev pub IsSameOr : Option Link → Option Link → Type 0
 IsSameOr before after = (option_map standing_of after ≡ option_map standing_of before) ⊎ (after ≡ None)
 
 -- ---- messages
 
--- a message that brings no data of alarms and no answer to it: inputs and the ERR are of the relation that was there
+-- a message without alarm data and without a reply to it: inputs and the ERR belong to the relation that existed
 abbrev pub IsCalm : Option Link → Sent → Type 0
 IsCalm before (Exchanges route (Inputs inputs counter)) = (link : Link) × (before ≡ Some link) × (route ≡ link.flow.cyclic.route)
 IsCalm before (Exchanges route (Notifies header alarm)) = ⊥
@@ -85,7 +86,7 @@ IsCalm before (ReadyCall address ready) = Unit {0}
 abbrev pub AreCalm : Option Link → List Sent → Type 0
 AreCalm before sent = AllByRecursion (IsCalm before) sent
 
--- ---- what a turn may be
+-- ---- the kinds of turns
 
 pub record Stays (before after : Option Link) (sent : List Sent) : Type 0 where
   pub link : IsSameOr before after
@@ -121,7 +122,7 @@ pub record Raises (real : List RealModule) (before : Option Link) (heard : Heard
   pub becomes : after ≡ Some (with_flow flow link)
   pub sends : sent ≡ alarms_of (Some flow)
 
--- or is refused
+-- an alarm is refused
 pub record Refused (real : List RealModule) (before : Option Link) (slot subslot : ℕ) (octets : List ℕ) (after : Option Link) (sent : List Sent) : Type 0 where
   pub unraised : raised_to real slot subslot octets before ≡ None
   pub same : after ≡ before
@@ -131,7 +132,7 @@ abbrev pub IsRaise : List RealModule → Option Link → ℕ → ℕ → List �
 IsRaise real before slot subslot octets after sent =
     Raises real before (Raised slot subslot octets) after sent ⊎ Refused real before slot subslot octets after sent
 
--- an ACK comes, or an AlarmAck
+-- an ACK or an AlarmAck arrives
 pub record HearsAck (before : Option Link) (heard : Heard) (after : Option Link) (sent : List Sent) : Type 0 where
   pub source : Mac
   pub header : Header
@@ -163,7 +164,7 @@ pub record Passes (before : Option Link) (heard : Heard) (after : Option Link) (
   pub sends : sent ≡ where_due (tick_of link.flow).is_alarm (alarms_of (Some (flow_later link.flow))) ++ others
   pub calm : AreCalm before others
 
--- a cyclic frame is taken
+-- a cyclic frame is accepted
 pub record Takes (before : Option Link) (heard : Heard) (after : Option Link) (sent : List Sent) : Type 0 where
   pub source : Mac
   pub frame_id : ℕ
@@ -180,9 +181,9 @@ IsTurn real calls before heard after sent =
     Stays before after sent ⊎ (Makes calls before heard after sent ⊎ (Raises real before heard after sent
     ⊎ (HearsAck before heard after sent ⊎ (HearsData before heard after sent ⊎ (Passes before heard after sent ⊎ Takes before heard after sent)))))
 
--- ---- answers
+-- ---- responses
 
--- a call is answered, and the answer is kept
+-- a call is answered, and the response is stored
 pub record Answers (identity : Identity) (before after : List Kept) (sent : List Sent) : Type 0 where
   pub call : Call
   pub caller : Caller

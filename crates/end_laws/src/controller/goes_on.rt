@@ -1,4 +1,4 @@
-//! The machine of a controller refines the small one.
+//! A controller refines its small machine.
 ghost use Rattle.std.specs.Prelude.{◌≡◌, List, ℕ};
 ghost use Rattle.plans.specs.declared.parts.Parts.{Parts};
 ghost use Rattle.controller_frames.specs.declared.setup.Setup.{Setup};
@@ -11,11 +11,12 @@ ghost use Rattle.end_laws.specs.controller.Small.{GoesOn, IsInStep, said_in, sma
 
 use message_laws::turns_are_of_a_kind;
 
-/// The machine by which each step of a controller is stated, as far as a start-up goes.
+/// The machine by which each step of a controller is specified, as far as a start-up is concerned.
 pub fn controller_goes_on()
     // A controller that was just made looks for the device.
     ensures begins { (plan : Parts) → IsInStep plan (first plan).phase (first plan).asked × (small_of plan (first plan) ≡ Seeking) }
-    // Whatever happens to it: its state moves as the small one does, and each message that it sends says to the device what it may then.
+    // After any event, the state moves as that of the small machine does, and each message says to the device what it
+    // may say then.
     ensures goes_on { (setup : Setup) (live : Live) (event : Event) → IsInStep setup.plan live.phase live.asked
         → GoesOn setup.plan (said_in setup (heard_of setup.plan.controller) event) live (turn_of setup live event) }
 {

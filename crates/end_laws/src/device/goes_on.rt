@@ -1,4 +1,4 @@
-//! The machine of a device refines the small one.
+//! A device refines its small machine.
 ghost use Rattle.std.specs.Prelude.{List, ℕ};
 ghost use Rattle.std.specs.List.{AllByRecursion};
 ghost use Rattle.settings_store.specs.Machine.{Outcome};
@@ -13,10 +13,10 @@ ghost use Rattle.end_laws.specs.device.Small.{IsHeardAs, IsPlanned, heard_as, sm
 
 use records::refusals_are_not_done;
 
-/// The machine by which each step of a device is stated, as far as a start-up goes.
+/// The machine by which each step of a device is specified, as far as a start-up is concerned.
 pub fn device_goes_on()
-    // Whatever a device hears, where each call is one of the start-up and each message that is sent is heard as it is meant: it is a step
-    // of the small machine, whatever the flash did.
+    // If each call is one of the start-up and each message that is sent is heard as it is meant, each step of a device
+    // is a step of the small machine, whatever the device hears and whatever the flash did.
     ensures { (rules : Rules TakenRecord Request) (activity : List ℕ) (outcomes : List Outcome) (station : Station) (live : Live)
         (heard : Heard)
         → IsPlanned rules activity station.real heard

@@ -10,11 +10,11 @@ ghost use Rattle.end_laws.specs.both.Small.{Rules};
 ghost use Rattle.end_laws.specs.device.Small.{IsPlanned};
 ghost use Rattle.end_laws.specs.device.Turn.{IsRaise, Turn};
 
-/// The machine by which each step of a device is stated, turn by turn: the laws of outputs and of alarms cite it.
+/// The machine by which each step of a device is specified, turn by turn. The laws of outputs and of alarms use it.
 pub fn device_turns()
-    // Whatever a device hears, if each call is one of the start-up: what its outputs and alarms are read of stays, or changes as a Connect, a
-    // cyclic frame, an alarm frame, an alarm or a unit of time changes it; an answer that is kept from now on was sent now; and each message
-    // is owed. So it is whatever the flash did.
+    // If each call that a device hears is one of the start-up: what its outputs and alarms depend on stays the same, or
+    // changes as a Connect, a cyclic frame, an alarm frame, an alarm or a unit of time changes it; a response that is
+    // newly stored was sent now; and each message is owed. This holds whatever the flash did.
     ensures turn { (rules : Rules TakenRecord Request) (activity : List ℕ) (outcomes : List Outcome) (station : Station) (live : Live)
         (heard : Heard) → IsPlanned rules activity station.real heard
         → Turn station live heard (heard_step outcomes station live heard).live.rest (heard_step outcomes station live heard).sent }

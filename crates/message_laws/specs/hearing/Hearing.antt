@@ -15,22 +15,22 @@ use Rattle.controller_frames.specs.Heard as controller
 use Rattle.plans.specs.declared.parts.Controller.{Controller}
 use Rattle.codec_laws.specs.frames.Sendable.{carrying}
 
--- octets that come from the network
+-- the event that octets arrive from the network
 abbrev pub comes : List ℕ → Event
 comes octets = Frame (record { items = octets })
 
 -- ---- a device
 
--- a frame to this device alone is heard as that, and one to another is not for it
+-- a frame to this device is heard, and one to another station is not for it
 abbrev pub own_hears : Identity → Mac → Heard → Heard
 own_hears identity destination heard = if is_own identity destination then heard else device.Elsewhere
 
--- the same of a frame that may go to all stations too
+-- the same for a frame that may also go to all stations
 abbrev pub all_hears : Identity → Mac → Heard → Heard
 all_hears identity destination heard =
     if is_own identity destination || pointwise nat_eq destination.octets device.broadcast then heard else device.Elsewhere
 
--- so is a datagram, which goes to the port of calls too
+-- the same for a datagram, which must also go to the port of calls
 abbrev pub own_told : Identity → Mac → Mac → Endpoint → Endpoint → Said → Heard
 own_told identity source destination from to said =
     if is_own identity destination && to.port == 34964 then device.Told (record { mac = source; endpoint = from }) to.address said else device.Elsewhere
@@ -42,11 +42,11 @@ IsUntold heard = ⊤
 
 -- ---- a controller
 
--- a frame to this controller is heard as that, and one to another is nothing
+-- a frame to this controller is heard, and one to another station is ignored
 abbrev pub mine_hears : Controller → Mac → controller.Heard → controller.Heard
 mine_hears mine destination heard = if pointwise nat_eq destination.octets mine.mac.octets then heard else controller.Nothing
 
--- so is a datagram, which goes to its IP address and to the port of calls too
+-- the same for a datagram, which must also go to its IP address and the port of calls
 abbrev pub mine_told : Controller → Mac → Endpoint → controller.Heard → controller.Heard
 mine_told mine destination to heard = mine_hears mine destination (if controller.is_to mine.address to then heard else controller.Nothing)
 
@@ -58,6 +58,6 @@ IsUncalled heard = ⊤
 
 -- ---- both
 
--- what is heard of the octets of real-time data: with the padding behind them
+-- the octets of real-time data as they are heard: with the padding after them
 abbrev pub padded : Mac → Mac → Option ℕ → ℕ → List ℕ → List ℕ
 padded source destination tag frame_id body = body ++ padding_of (carrying destination source tag (RealTime frame_id body))

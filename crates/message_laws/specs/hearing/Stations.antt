@@ -1,4 +1,4 @@
--- Which stations and messages there are: each field has its size.
+-- Which stations and messages exist: each field has its size.
 use Rattle.std.specs.Prelude.{◌≡◌, ◌≤◌, ◌<◌, ◌+◌, ℕ, true, List, length, Some, ⊤}
 use Rattle.pn_values.specs.declared.identity.Identity.{Identity}
 use Rattle.pn_values.specs.IpSuite.{Suite}
@@ -18,11 +18,11 @@ use Rattle.controller_frames.specs.declared.setup.Setup.{Setup}
 use Rattle.codec_laws.specs.frames.Sendable.{IsEndpoint, IsMac}
 use Rattle.rpc_core.specs.Sendable.{IsUuid}
 
--- an address of IPv4
+-- an IPv4 address
 abbrev pub IsAddress : List ℕ → Type 0
 IsAddress octets = length octets ≡ 4
 
--- a controller's set-up: a plan, and its addresses and identifiers have their sizes
+-- a controller's set-up: its plan is valid, and its addresses and identifiers have their sizes
 pub record IsSetup (setup : Setup) : Type 0 where
   pub plan : IsPlan setup.plan
   pub mac : IsMac setup.plan.controller.mac
@@ -33,7 +33,7 @@ pub record IsSetup (setup : Setup) : Type 0 where
   pub ar : IsUuid setup.ar
   pub activity : IsUuid setup.activity
 
--- a device: its address of Ethernet has its size
+-- a device: its MAC address has its size
 abbrev pub IsDevice : Identity → Type 0
 IsDevice identity = IsMac identity.mac
 
@@ -42,7 +42,7 @@ pub record IsCaller (caller : Caller) : Type 0 where
   pub mac : IsMac caller.mac
   pub endpoint : IsEndpoint caller.endpoint
 
--- a request whose number can be written
+-- a request whose record number can be written
 abbrev pub IsNumbered : Request → Type 0
 IsNumbered asks.Identify = ⊤
 IsNumbered asks.Address = ⊤
@@ -51,7 +51,7 @@ IsNumbered (asks.Write number) = number < 65536
 IsNumbered asks.PrmEnd = ⊤
 IsNumbered (asks.Release sequence) = sequence < 4294967296
 
--- a request that a call asks
+-- a request that is made by a call
 abbrev pub IsCalled : Request → Type 0
 IsCalled asks.Identify = ⊥
 IsCalled asks.Address = ⊥

@@ -1,4 +1,4 @@
--- To whom the messages of a controller go.
+-- The destinations of the messages of a controller.
 use Rattle.std.specs.Prelude.{◌≡◌, ◌<◌, ⊤}
 use Rattle.pn_values.specs.declared.mac.Mac.{Mac}
 use Rattle.cyclic_exchange.specs.declared.route.Route.{Route}
@@ -13,19 +13,19 @@ use Rattle.rpc_core.specs.Sendable.{CanBeAnswered, IsHeader}
 use Rattle.message_laws.specs.hearing.Stations.{IsCaller, IsNumbered}
 use Rattle.message_laws.specs.sending.Sized.{AreFew}
 
--- a route of which the address of the partner and both tags have their sizes, whatever its FrameID
+-- a route whose partner address and tags have their sizes, whatever its FrameID
 pub record IsDirection (route : Route) : Type 0 where
   pub partner : IsMac route.partner
   pub sent_tag : route.sent_tag < 65536
   pub alarm_tag : route.alarm_tag < 65536
 
--- a controller that knows to whom it sends
+-- a controller that has a valid address of the station it sends to
 pub record IsAimed (live : Live) : Type 0 where
   pub device : IsMac live.device
   pub asked : AreFew live.asked
   pub way : IsDirection live.cyclic.route
 
--- A station answers that has an address of Ethernet, and calls come from this one, each field with its size.
+-- A response comes from a station with a MAC address, and calls come from this station, each field with its size.
 abbrev pub IsHeardFrom : Mac → Heard → Type 0
 IsHeardFrom mac (Answers source answer) = IsMac source
 IsHeardFrom mac (Calls caller call) = (caller.mac ≡ mac) × IsCaller caller × IsHeader call.header × (call.args_maximum < 4294967296)
@@ -40,7 +40,7 @@ IsEventFrom mac setup Tick = ⊤
 IsEventFrom mac setup (Give slot subslot value) = ⊤
 IsEventFrom mac setup Stop = ⊤
 
--- a message that goes to a station, an answer to this one
+-- a message that goes to a station; a response to a call goes to this one
 abbrev pub IsAimedAt : Mac → Sent → Type 0
 IsAimedAt mac (Requests device request) = IsMac device × IsNumbered request
 IsAimedAt mac (Agrees caller answer) = (caller.mac ≡ mac) × IsCaller caller × CanBeAnswered answer

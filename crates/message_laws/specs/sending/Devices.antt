@@ -18,13 +18,13 @@ use Rattle.codec_laws.specs.alarms.Sendable.{IsHeader}
 use Rattle.message_laws.specs.hearing.Stations.{IsAddress, IsCaller, IsRoute, ready_call}
 use Rattle.message_laws.specs.sending.Sized.{IsChosen}
 
--- a frame by which the relation exchanges
+-- a frame that the relation exchanges
 abbrev pub CanBeExchanged : Route → Frame → Type 0
 CanBeExchanged route (Inputs inputs counter) = length (cyclic_body inputs counter) ≤ 1498
 CanBeExchanged route (Notifies header alarm) = (header.kind ≡ Data) × IsHeader header × IsAlarm alarm
 CanBeExchanged route (Replies header) = ((header.kind ≡ Ack) ⊎ (header.kind ≡ Nack)) × IsHeader header
 
--- a message that can be sent, other than the frame of an answer again, which was sent before
+-- a message that can be sent, other than a repeated response frame, which was sent before
 abbrev pub CanBeSentBy : Identity → Sent → Type 0
 CanBeSentBy identity (IdentifyAnswer asker running xid) = IsMac asker × (xid < 4294967296) × (length (identify_bytes identity running xid) ≤ 1498)
 CanBeSentBy identity (GetAnswer asker running request) = IsMac asker × (request.xid < 4294967296) × (length (get_bytes identity running request) ≤ 1498)

@@ -11,7 +11,8 @@ use Rattle.codec_laws.specs.blocks.Writable.{IsAck}
 use Rattle.codec_laws.specs.alarms.Sendable.{IsHeader}
 use Rattle.message_laws.specs.hearing.Stations.{IsCaller, IsNumbered}
 
--- a route whose fields have their sizes. Whether its FrameID is one of cyclic frames the device says, which chooses it
+-- A route whose fields have their sizes. The device chooses the FrameID, so whether it is a cyclic one depends on the
+-- device.
 pub record IsWay (route : Route) : Type 0 where
   pub partner : IsMac route.partner
   pub sent_id : route.sent_id < 65536

@@ -1,4 +1,4 @@
--- What a controller keeps and hears, of which each field has its size.
+-- The state of a controller and what it hears, with each field of its size.
 use Rattle.std.specs.Prelude.{◌≡◌, ◌≤◌, ◌<◌, ℕ, List, Option, Some, None, option_and_then, ⊤}
 use Rattle.record_blocks.specs.declared.alarm_ack.AlarmAck.{AlarmAck}
 use Rattle.record_blocks.specs.declared.alarm_notification.AlarmNotification.{AlarmNotification}
@@ -18,9 +18,9 @@ use Rattle.codec_laws.specs.blocks.Writable.{IsAck}
 use Rattle.message_laws.specs.hearing.Stations.{IsCaller}
 use Rattle.message_laws.specs.sending.Messages.{IsWay}
 
--- ---- what it keeps
+-- ---- the state of a controller
 
--- a request that stands: a plan has at most 32 records
+-- a pending request: a plan has at most 32 records
 abbrev pub IsFew : Request → Type 0
 IsFew asks.Identify = ⊤
 IsFew asks.Address = ⊤
@@ -42,7 +42,7 @@ abbrev pub IsAckOrNone : Option AlarmAck → Type 0
 IsAckOrNone None = ⊤
 IsAckOrNone (Some ack) = IsAck ack
 
--- a controller whose station, request, route, image and numbers of alarms have their sizes
+-- a controller whose station, request, route, image and alarm numbers have their sizes
 pub record IsLive (live : Live) : Type 0 where
   pub device : IsMac live.device
   pub asked : AreFew live.asked
@@ -54,7 +54,7 @@ pub record IsLive (live : Live) : Type 0 where
 
 -- ---- what it hears
 
--- an alarm of which an AlarmAck can be written
+-- an alarm for which an AlarmAck can be written
 pub record IsNoted (alarm : AlarmNotification) : Type 0 where
   pub alarm_type : alarm.alarm_type < 65536
   pub api : alarm.api < 4294967296
@@ -68,21 +68,21 @@ IsNotice notice.Nack = ⊤
 IsNotice (notice.Ack number) = ⊤
 IsNotice notice.Abort = ⊤
 
--- what is found in the answer to a Connect
+-- the type of what is found in the response to a Connect
 abbrev TypeOf : {A : Type 0} → A → Type 0
 TypeOf {A = A} value = A
 
 abbrev pub Found : Type 0
 Found = TypeOf nothing
 
--- the FrameID that the device chose for outputs, if these blocks are the answer to a Connect
+-- the FrameID that the device chose for outputs, if these blocks are the response to a Connect
 abbrev pub chosen_in : List ℕ → Option ℕ
 chosen_in blocks = option_and_then (λ (found : Found). found.output) (found_in 400 blocks nothing)
 
 abbrev pub IsChosen : List ℕ → Type 0
 IsChosen blocks = (frame_id : ℕ) → chosen_in blocks ≡ Some frame_id → frame_id < 65536
 
--- what was heard has its sizes: of the answer to a Connect the FrameID that the device chose
+-- what was heard has its sizes; in the response to a Connect so has the FrameID that the device chose
 abbrev pub IsSized : Heard → Type 0
 IsSized Nothing = ⊤
 IsSized (Answers source answer) = IsMac source

@@ -27,14 +27,14 @@ use codec_laws::{
     acks_are_read, alarms_are_read, ends_are_read, frames_are_read, pdus_are_read, replies_are_read,
 };
 
-/// What the controller hears of an alarm, and of the answer to an AlarmAck: laws of the definitions.
+/// What the controller hears of an alarm, and of the reply to an AlarmAck. These are laws of the definitions.
 pub fn alarms_are_heard()
-    // Data of its number, and the alarm itself.
+    // The controller hears data with its number, and the alarm itself.
     ensures alarm { (mine : Controller) (identity : Identity) (route : Route) (header : Header) (alarm : AlarmNotification)
         → IsDevice identity → IsRoute route → header.kind ≡ pdu.Data → IsHeader header → IsAlarm alarm
         → controller_hears mine (device_bytes identity (Exchanges route (Notifies header alarm)))
         ≡ mine_hears mine route.partner (Alarmed identity.mac header (notice.Data header.send_number alarm)) }
-    // An ACK tells the number of the data that came, and a NACK that it was refused.
+    // An ACK gives the number of the data that arrived, and a NACK says that it was refused.
     ensures ack { (mine : Controller) (identity : Identity) (route : Route) (header : Header)
         → IsDevice identity → IsRoute route → header.kind ≡ pdu.Ack → IsHeader header
         → controller_hears mine (device_bytes identity (Exchanges route (Answers header)))
@@ -50,14 +50,14 @@ pub fn alarms_are_heard()
     replies_are_read();
 }
 
-/// What the device hears of an AlarmAck, and of the answer to an alarm: laws of the definitions.
+/// What the device hears of an AlarmAck, and of the reply to an alarm. These are laws of the definitions.
 pub fn confirmations_are_heard()
-    // Data of its number, and the AlarmAck itself.
+    // The device hears data with its number, and the AlarmAck itself.
     ensures confirms { (identity : Identity) (setup : Setup) (route : Route) (header : Header) (ack : AlarmAck)
         → IsSetup setup → IsRoute route → header.kind ≡ pdu.Data → IsHeader header → IsAck ack
         → device_hears identity (comes (controller_bytes setup (Confirms route header ack)))
         ≡ own_hears identity route.partner (Alarms setup.plan.controller.mac header (notice.Data header.send_number ack)) }
-    // An ACK tells the number of the alarm that came, and a NACK that it was refused.
+    // An ACK gives the number of the alarm that arrived, and a NACK says that it was refused.
     ensures ack { (identity : Identity) (setup : Setup) (route : Route) (header : Header)
         → IsSetup setup → IsRoute route → header.kind ≡ pdu.Ack → IsHeader header
         → device_hears identity (comes (controller_bytes setup (Replies route header)))
@@ -73,9 +73,9 @@ pub fn confirmations_are_heard()
     replies_are_read();
 }
 
-/// What either end hears of the ERR by which the other ends the relation: laws of the definitions.
+/// What either end hears of the ERR with which the other ends the relation. These are laws of the definitions.
 pub fn ends_are_heard()
-    // That it ends, whatever the reason.
+    // Each end hears that the other ends the relation, whatever the reason.
     ensures device { (identity : Identity) (setup : Setup) (route : Route) (header : Header) (reason : Abort) → IsSetup setup →
         IsRoute route → IsHeader header
         → device_hears identity (comes (controller_bytes setup (Ends route header reason)))

@@ -29,12 +29,12 @@ use rpc_core::{
     calls_and_responses_differ, calls_are_read, calls_name_their_interface, responses_are_read,
 };
 
-/// Calls and the answer to ApplicationReady can be sent: laws of the definitions.
+/// Calls and the response to ApplicationReady can be sent. These are laws of the definitions.
 pub fn calls_can_be_sent()
-    // Each call of a controller over a plan: its header and its blocks fit.
+    // Each call of a controller for its plan can be sent: its header and its blocks fit.
     ensures call { (setup : Setup) (request : Request) → IsSetup setup → IsCalled request → IsNumbered request →
         CanBeCalled devices (call_for setup request) }
-    // ApplicationReady, and the answer to it: they have one block, which fits.
+    // ApplicationReady and the response to it can be sent: each has one block, which fits.
     ensures ready { (ready : Ready) → IsHeader ready.header → ready.header.interface ≡ interface_uuid controllers →
         IsUuid ready.block.ar_uuid
         → CanBeCalled controllers (ready_call ready) }
@@ -44,14 +44,14 @@ pub fn calls_can_be_sent()
     blocks_are_read();
 }
 
-/// What is heard of a call of the controller: laws of the definitions.
+/// What is heard of a call of the controller. These are laws of the definitions.
 pub fn calls_are_heard()
-    // The device with the address of Ethernet that it goes to hears that call: from the controller, to the IP address of the plan.
+    // If a call can be sent, the device that it goes to hears it: from the controller, to the IP address of the plan.
     ensures device { (identity : Identity) (setup : Setup) (to : Mac) (call : Call) → IsSetup setup → IsMac to → CanBeCalled devices call
         → device_hears identity (comes (call_frame setup to call))
         ≡ own_told identity setup.plan.controller.mac to (calls_at setup.plan.controller.address)
         (calls_at setup.plan.station.suite.address) (Calls call) }
-    // A controller hears nothing of it.
+    // A controller hears nothing of a call to a device that can be sent.
     ensures controller { (mine : Controller) (setup : Setup) (to : Mac) (call : Call) → IsSetup setup → IsMac to → CanBeCalled devices call
         → controller_hears mine (call_frame setup to call) ≡ Nothing }
 {
@@ -61,19 +61,19 @@ pub fn calls_are_heard()
     calls_name_their_interface();
 }
 
-/// What is heard of a response of the device: laws of the definitions.
+/// What is heard of a response of the device. These are laws of the definitions.
 pub fn responses_are_heard()
-    // The controller that it goes to hears that response.
+    // If a response can be sent, the controller that it goes to hears it.
     ensures controller { (mine : Controller) (identity : Identity) (caller : Caller) (address : List ℕ) (answer : Answered)
         → IsDevice identity → IsCaller caller → IsAddress address → CanBeAnswered answer
         → controller_hears mine (response_frame identity caller address answer)
         ≡ mine_told mine caller.mac caller.endpoint (Responded answer) }
-    // A device hears that response, and no call.
+    // If a response can be sent, a device that it goes to hears a response and not a call.
     ensures device { (other identity : Identity) (caller : Caller) (address : List ℕ) (answer : Answered)
         → IsDevice identity → IsCaller caller → IsAddress address → CanBeAnswered answer
         → device_hears other (comes (response_frame identity caller address answer))
         ≡ own_told other identity.mac caller.mac (calls_at address) caller.endpoint (Responds answer) }
-    // One that does not fit a frame nobody hears.
+    // A response that does not fit a frame is heard by nobody.
     ensures long { (mine : Controller) (identity : Identity) (caller : Caller) (address : List ℕ) (answer : Answered)
         → IsDevice identity → IsCaller caller → IsAddress address → IsHeader answer.header → 1372 < length answer.blocks
         → controller_hears mine (response_frame identity caller address answer) ≡ Nothing }
@@ -86,16 +86,16 @@ pub fn responses_are_heard()
     calls_and_responses_differ();
 }
 
-/// What is heard of ApplicationReady: laws of the definitions.
+/// What is heard of ApplicationReady. These are laws of the definitions.
 pub fn ready_calls_are_heard()
-    // The controller that it goes to hears that call, from the device.
+    // If the call can be sent, the controller that it goes to hears it, from the device.
     ensures controller { (mine : Controller) (identity : Identity) (address : List ℕ) (ready : Ready)
         → IsDevice identity → IsMac ready.partner.mac → IsAddress ready.partner.address → IsAddress address →
         CanBeCalled controllers (ready_call ready)
         → controller_hears mine (ready_frame identity address ready)
         ≡ mine_told mine ready.partner.mac (calls_at ready.partner.address)
         (Called (record { mac = identity.mac; endpoint = calls_at address }) (ready_call ready)) }
-    // A device hears no call and no response in it.
+    // A device hears neither a call nor a response in it.
     ensures device { (other identity : Identity) (address : List ℕ) (ready : Ready)
         → IsDevice identity → IsMac ready.partner.mac → IsAddress ready.partner.address → IsAddress address →
         CanBeCalled controllers (ready_call ready)
@@ -108,15 +108,15 @@ pub fn ready_calls_are_heard()
     calls_name_their_interface();
 }
 
-/// What is heard of the answer to ApplicationReady: laws of the definitions.
+/// What is heard of the response to ApplicationReady. These are laws of the definitions.
 pub fn ready_answers_are_heard()
-    // The device that it goes to hears that response, and no call.
+    // If the response can be sent, the device that it goes to hears a response and not a call.
     ensures device { (identity : Identity) (setup : Setup) (caller : Caller) (answer : Answered) → IsSetup setup → IsCaller caller →
         CanBeAnswered answer
         → device_hears identity (comes (answer_frame setup caller answer))
         ≡ own_told identity setup.plan.controller.mac caller.mac (calls_at setup.plan.controller.address) caller.endpoint
         (Responds answer) }
-    // A controller that it goes to hears that response.
+    // If the response can be sent, a controller that it goes to hears it.
     ensures controller { (mine : Controller) (setup : Setup) (caller : Caller) (answer : Answered) → IsSetup setup → IsCaller caller →
         CanBeAnswered answer
         → controller_hears mine (answer_frame setup caller answer) ≡ mine_told mine caller.mac caller.endpoint (Responded answer) }
@@ -126,9 +126,9 @@ pub fn ready_answers_are_heard()
     calls_and_responses_differ();
 }
 
-/// Datagrams alone are calls and responses: laws of the definitions.
+/// Only datagrams are calls and responses. These are laws of the definitions.
 pub fn datagrams_alone_are_calls()
-    // However long real-time data is, and whatever its FrameID, no device hears a call or a response in it, and no controller does.
+    // In real-time data of any length and FrameID neither a device nor a controller hears a call or a response.
     ensures device { (identity : Identity) (destination source : Mac) (tag : Option ℕ) (frame_id : ℕ) (body : List ℕ) → IsMac destination →
         IsMac source → IsTag tag
         → IsUntold (device_hears identity (comes (frame_bytes (carrying destination source tag (RealTime frame_id body))))) }

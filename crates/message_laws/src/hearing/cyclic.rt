@@ -16,15 +16,16 @@ ghost use Rattle.message_laws.specs.hearing.Stations.{IsDevice, IsRoute, IsSetup
 
 use codec_laws::frames_are_read;
 
-/// What is heard of a frame of outputs: laws of the definitions.
+/// What is heard of a frame of outputs. These are laws of the definitions.
 pub fn outputs_are_heard()
-    // The device that it goes to hears it: from the controller, under its FrameID, with its padding.
+    // If its body has at most 1,498 octets, the device that the frame goes to hears it: from the controller, under its
+    // FrameID, with its padding.
     ensures device { (identity : Identity) (setup : Setup) (route : Route) (shown : Shown) (counter : ℕ)
         → IsSetup setup → IsRoute route → length (cyclic_body shown counter) ≤ 1498
         → device_hears identity (comes (controller_bytes setup (Cycles route shown counter)))
         ≡ own_hears identity route.partner (Cyclic setup.plan.controller.mac route.sent_id
         (padded setup.plan.controller.mac route.partner (Some route.sent_tag) route.sent_id (cyclic_body shown counter))) }
-    // So does a controller that it goes to.
+    // If its body has at most 1,498 octets, a controller that the frame goes to hears the same.
     ensures controller { (mine : Controller) (setup : Setup) (route : Route) (shown : Shown) (counter : ℕ)
         → IsSetup setup → IsRoute route → length (cyclic_body shown counter) ≤ 1498
         → controller_hears mine (controller_bytes setup (Cycles route shown counter))
@@ -34,15 +35,16 @@ pub fn outputs_are_heard()
     frames_are_read();
 }
 
-/// What is heard of a frame of inputs: laws of the definitions.
+/// What is heard of a frame of inputs. These are laws of the definitions.
 pub fn inputs_are_heard()
-    // The controller that it goes to hears it: from the device, under its FrameID, with its padding.
+    // If its body has at most 1,498 octets, the controller that the frame goes to hears it: from the device, under its
+    // FrameID, with its padding.
     ensures controller { (mine : Controller) (identity : Identity) (route : Route) (inputs : Shown) (counter : ℕ)
         → IsDevice identity → IsRoute route → length (cyclic_body inputs counter) ≤ 1498
         → controller_hears mine (device_bytes identity (Exchanges route (Inputs inputs counter)))
         ≡ mine_hears mine route.partner (Comes identity.mac route.sent_id
         (padded identity.mac route.partner (Some route.sent_tag) route.sent_id (cyclic_body inputs counter))) }
-    // So does a device that it goes to.
+    // If its body has at most 1,498 octets, a device that the frame goes to hears the same.
     ensures device { (other identity : Identity) (route : Route) (inputs : Shown) (counter : ℕ)
         → IsDevice identity → IsRoute route → length (cyclic_body inputs counter) ≤ 1498
         → device_hears other (comes (device_bytes identity (Exchanges route (Inputs inputs counter))))

@@ -26,13 +26,13 @@ ghost use Rattle.message_laws.specs.hearing.Stations.{IsAddress, IsDevice, IsSet
 use codec_laws::frames_are_read;
 use dcp_core::{answers_are_read, requests_are_read};
 
-/// What a device hears of the controller's requests of DCP: laws of the definitions.
+/// What a device hears of the controller's DCP requests. These are laws of the definitions.
 pub fn requests_are_heard()
-    // Each device hears the Identify by the plan's name, from the controller, and no other request in it.
+    // Each device hears the Identify for the plan's name, from the controller, and no other request in it.
     ensures identify { (identity : Identity) (setup : Setup) (to : Mac) → IsSetup setup
         → device_hears identity (comes (controller_bytes setup (Requests to asks.Identify)))
         ≡ Asks setup.plan.controller.mac (identify_asked setup.plan) }
-    // The device that it goes to hears the Set of the plan's IP suite.
+    // The device that the request goes to hears the Set of the plan's IP suite.
     ensures address { (identity : Identity) (setup : Setup) (to : Mac) → IsSetup setup → IsMac to
         → device_hears identity (comes (controller_bytes setup (Requests to asks.Address)))
         ≡ own_hears identity to (Asks setup.plan.controller.mac (address_asked setup.plan)) }
@@ -41,19 +41,20 @@ pub fn requests_are_heard()
     requests_are_read();
 }
 
-/// What a controller hears of the device's answers of DCP: laws of the definitions.
+/// What a controller hears of the device's DCP responses. These are laws of the definitions.
 pub fn answers_are_heard()
-    // What the device tells of itself, from the device, with the Xid of the request.
+    // If the response fits a frame, the controller hears what the device reports of itself, from the device, with the
+    // Xid of the request.
     ensures identify { (mine : Controller) (identity : Identity) (asker : Mac) (running : Settings) (xid : ℕ)
         → IsDevice identity → IsMac asker → xid < 4294967296 → length (identify_bytes identity running xid) ≤ 1498
         → controller_hears mine (device_bytes identity (IdentifyAnswer asker running xid))
         ≡ mine_hears mine asker (Answers identity.mac (identify_said identity running xid)) }
-    // What the device tells of each kind that was asked for.
+    // If the response fits a frame, the controller hears what the device reports of each kind that was asked for.
     ensures get { (mine : Controller) (identity : Identity) (asker : Mac) (running : Settings) (request : Asked)
         → IsDevice identity → IsMac asker → request.xid < 4294967296 → length (get_bytes identity running request) ≤ 1498
         → controller_hears mine (device_bytes identity (GetAnswer asker running request))
         ≡ mine_hears mine asker (Answers identity.mac (get_said identity running request)) }
-    // How each block of a Set came out.
+    // If the response fits a frame, the controller hears the outcome of each block of a Set.
     ensures set { (mine : Controller) (identity : Identity) (asker : Mac) (request : Asked) (outcomes : List BlockError)
         → IsDevice identity → IsMac asker → request.xid < 4294967296 → length (set_bytes request outcomes) ≤ 1498
         → controller_hears mine (device_bytes identity (SetAnswer asker request outcomes))
@@ -63,13 +64,13 @@ pub fn answers_are_heard()
     answers_are_read();
 }
 
-/// What is heard of the device's packets of ARP: laws of the definitions.
+/// What is heard of the device's ARP packets. These are laws of the definitions.
 pub fn packets_are_heard()
-    // A controller hears nothing.
+    // A controller hears nothing of them.
     ensures controller { (mine : Controller) (identity : Identity) (asker : Mac) (address : List ℕ) (target : Holder)
         → IsDevice identity → IsMac asker → IsAddress address → IsHolder target
         → controller_hears mine (device_bytes identity (ArpReply asker address target)) ≡ Nothing }
-    // A device that it goes to hears it.
+    // A device that the packet goes to hears it.
     ensures device { (other identity : Identity) (asker : Mac) (address : List ℕ) (target : Holder)
         → IsDevice identity → IsMac asker → IsAddress address → IsHolder target
         → device_hears other (comes (device_bytes identity (ArpReply asker address target)))

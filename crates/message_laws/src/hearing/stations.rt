@@ -1,4 +1,4 @@
-//! The stations that there are.
+//! The stations that exist.
 ghost use Rattle.codec_laws.specs.frames.Sendable.{IsMac};
 ghost use Rattle.rpc_core.specs.Sendable.{IsUuid};
 ghost use Rattle.message_laws.specs.hearing.Stations.{IsAddress, IsDevice, IsSetup};
@@ -7,21 +7,21 @@ use controller_frames::Setup;
 use pn_values::{Identity, Mac};
 use uuid::Uuid;
 
-/// An address of Ethernet has six octets.
+/// A MAC address has six octets.
 fn has_six(mac: &Mac)
     ensures { IsMac mac.now }
 {
     let _octets: &[u8] = &mac.octets;
 }
 
-/// An address of IPv4 has four.
+/// An IPv4 address has four octets.
 fn has_four(address: &[u8; 4])
     ensures { IsAddress address.now }
 {
     let _octets: &[u8] = address;
 }
 
-/// An identifier has 16.
+/// An identifier has 16 octets.
 fn has_sixteen(uuid: &Uuid)
     ensures { IsUuid uuid.now }
 {
@@ -29,11 +29,11 @@ fn has_sixteen(uuid: &Uuid)
     let _octets: &[u8] = &bytes;
 }
 
-/// The law of stations: what the others ask of a set-up and of an identity each of them has.
+/// The law of stations: each set-up and each identity meets what the other laws require of it.
 pub fn stations_are_real(setup: &Setup, identity: &Identity)
-    // The plan of a set-up is one, and addresses and identifiers have their sizes.
+    // The plan of a set-up is valid, and its addresses and identifiers have their sizes.
     ensures setup { IsSetup setup.now }
-    // So has the device's address of Ethernet.
+    // The device's MAC address has its size.
     ensures device { IsDevice identity.now }
 {
     let controller = setup.plan.controller();

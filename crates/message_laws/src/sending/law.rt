@@ -1,4 +1,4 @@
-//! The laws.
+//! The laws of what a controller sends.
 ghost use Rattle.std.specs.Prelude.{◌≡◌, map};
 ghost use Rattle.std.specs.List.{AllByRecursion};
 ghost use Rattle.controller_frames.specs.declared.setup.Setup.{Setup};
@@ -21,18 +21,18 @@ use crate::{
 };
 use codec_laws::blocks_are_read;
 
-/// Each frame that a controller sends is a message of its machine: a law of the definitions.
+/// Each frame that a controller sends is one of its messages. This is a law of the definitions.
 pub fn frames_are_messages()
     // The frames of a step are the octets of the messages of its turn, one for one.
     ensures { (old : Controlling) (event : Event) → (step_of old event).frames
         ≡ map (bytes_of old.setup) (turn_of old.setup old.live event).sent }
 {}
 
-/// Each message of a controller's machine can be sent, by the plan's limits: laws of the definitions.
+/// Each message of a controller can be sent, by the limits of its plan. These are laws of the definitions.
 pub fn messages_can_be_sent()
-    // What a controller of a plan begins with has its sizes.
+    // The initial state of a controller with a plan has its sizes.
     ensures first { (setup : Setup) → IsSetup setup → IsLive (first setup.plan) }
-    // Where what it keeps and what it hears has its sizes, so has what it keeps then, and each message can be sent.
+    // If its state and what it hears have their sizes, its next state has too, and each message can be sent.
     ensures next { (setup : Setup) (live : Live) (event : Event) → IsSetup setup → IsLive live → IsSizedEvent setup event
         → IsLive (turn_of setup live event).live × AllByRecursion (CanBeSent setup) (turn_of setup live event).sent }
 {
@@ -40,9 +40,9 @@ pub fn messages_can_be_sent()
     turns_are_of_a_kind();
 }
 
-/// What a controller hears of a device has its sizes: a law of the definitions.
+/// What a controller hears of a device has its sizes. This is a law of the definitions.
 pub fn messages_are_sized()
-    // Whatever message the device can send, and whichever controller hears it.
+    // This holds for each message that the device can send and each controller that hears it.
     ensures { (mine : Controller) (identity : Identity) (message : Message) → IsDevice identity → CanBeSentBy identity message
         → IsSized (heard_of mine (device_bytes identity message)) }
 {

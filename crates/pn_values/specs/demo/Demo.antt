@@ -1,11 +1,11 @@
--- The demo station: what it is, and what is plugged in it.
+-- The demo station: its identity, and the modules that are plugged in it.
 use Rattle.std.specs.Prelude.{ℕ, List, [], ◌∷◌, codes, replicate}
 use Rattle.pn_values.specs.declared.identity.Identity.{Identity}
 use Rattle.pn_values.specs.declared.real.Real.{Real}
 use Rattle.pn_values.specs.declared.real.RealModule.{RealModule}
 use Rattle.pn_values.specs.declared.real.RealSubmodule.{RealSubmodule}
 
--- what it is: a station 'pn-demo' of vendor 0x0123, version V0.0.0
+-- the identity: a station 'pn-demo' of vendor 0x0123, version V0.0.0
 unfoldable pub demo : Identity
 demo = record {
   mac = record { octets = 2 ∷ 0 ∷ 0 ∷ 0 ∷ 0 ∷ 1 ∷ [] };
@@ -21,7 +21,7 @@ demo = record {
   profile_specific_type = 0;
 }
 
--- a submodule that takes no parameter record
+-- a submodule without parameter records
 abbrev pub plugged : ℕ → ℕ → ℕ → ℕ → RealSubmodule
 plugged subslot ident input output =
     record { subslot = subslot; ident = ident; input = input; output = output; parameters = record { items = [] } }
@@ -29,7 +29,7 @@ plugged subslot ident input output =
 abbrev pub module_of : ℕ → ℕ → List RealSubmodule → RealModule
 module_of slot ident submodules = record { slot = slot; ident = ident; submodules = record { items = submodules } }
 
--- what is plugged in: the access point, two bytes of input, two bytes of output
+-- the modules: the access point, two bytes of input, two bytes of output
 unfoldable pub demo_real : Real
 demo_real = record {
   modules = record {

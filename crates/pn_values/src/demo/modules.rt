@@ -1,12 +1,12 @@
-// What is plugged in it.
+// The modules that are plugged in it.
 ghost use Rattle.std.specs.Prelude.{◌≡◌, [], ◌∷◌};
 ghost use Rattle.pn_values.specs.demo.Demo.{demo_real, module_of, plugged};
 
 use crate::{Real, RealModule, RealSubmodule};
 use arrayvec::ArrayVec;
 
-/// The access point with its interface and a port, a module of two bytes of input, and one of
-/// two bytes of output.
+/// The modules of the demo station: the access point with its interface and a port, a module of two bytes of input, and
+/// one of two bytes of output.
 #[tactic(auto, unfolding(crate::specs::demo::Demo::demo_real))]
 pub fn demo_modules() -> Real
     ensures { result ≡ demo_real }
@@ -39,7 +39,7 @@ fn single(slot: u16, ident: u32, only: RealSubmodule) -> RealModule
     }
 }
 
-/// A submodule that takes no parameter record.
+/// A submodule without parameter records.
 fn submodule(subslot: u16, ident: u32, input: u16, output: u16) -> RealSubmodule
     ensures { result ≡ plugged subslot ident input output }
 {

@@ -1,11 +1,11 @@
-// What it is.
+// The identity of the demo station.
 ghost use Rattle.std.specs.Prelude.{◌≡◌, codes};
 ghost use Rattle.pn_values.specs.demo.Demo.{demo};
 
 use crate::{Identity, Mac};
 use arrayvec::ArrayVec;
 
-/// A station 'pn-demo' of vendor 0x0123, version V0.0.0.
+/// The identity of a station 'pn-demo' of vendor 0x0123, version V0.0.0.
 #[tactic(auto, unfolding(crate::specs::demo::Demo::demo))]
 pub fn demo_identity() -> Identity
     ensures { result ≡ demo }
@@ -27,7 +27,7 @@ pub fn demo_identity() -> Identity
     }
 }
 
-/// Its type.
+/// The station type.
 fn station_type() -> ArrayVec<u8, 25>
     ensures { result ≡ record { items = codes "pn-demo" } }
 {

@@ -1,4 +1,4 @@
--- By what a controller finds in the blocks.
+-- This follows from what a controller finds in the blocks.
 use Rattle.alarms_law.proofs.Differs.{chosen_well}
 use Rattle.alarms_law.proofs.chosen.answers_choose_well.Goals as goal
 

@@ -1,4 +1,4 @@
--- each of those so far
+-- this holds of each module so far
 use Rattle.std.proofs.Common.{take}
 use Rattle.alarms_law.specs.Sized.{AreSizedModules}
 use Rattle.alarms_law.proofs.plugged.entries_are_sized.Given as goal

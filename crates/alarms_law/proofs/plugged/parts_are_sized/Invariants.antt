@@ -1,4 +1,4 @@
--- each of those so far
+-- this holds of each submodule so far
 use Rattle.std.proofs.Common.{take}
 use Rattle.std.specs.List.{AllByRecursion}
 use Rattle.alarms_law.specs.Sized.{IsSizedPart}

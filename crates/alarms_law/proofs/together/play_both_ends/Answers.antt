@@ -1,4 +1,4 @@
--- By the laws of both ends, of the world that was begun.
+-- This follows from the laws of both ends, for the world that was begun.
 use Rattle.std.proofs.Common.{sym, subst}
 use Rattle.pn_values.specs.declared.real.Real.{Real}
 use Rattle.alarms_law.specs.Sized.{AreSizedModules}

@@ -1,4 +1,4 @@
--- One block after another.
+-- One block after another is read.
 use Rattle.std.proofs.Common.{◌≡◌, ◌<◌, length, None, Ok, sym, ap, ◌∙◌, arith}
 use Rattle.std.proofs.lemmas.Result.{err_from_is_err_and}
 use Rattle.std.proofs.lemmas.Bool.Decides.{nat_tests}

@@ -1,4 +1,4 @@
--- what is still to be read has the fault of all, if there is one
+-- the rest of the bytes has the same fault as all of them, if there is one
 use Rattle.std.proofs.Common.{◌≡◌, length}
 use Rattle.dcp_core.specs.Answer.{answer_blocks}
 use Rattle.dcp_core.proofs.Every.{fault_in}

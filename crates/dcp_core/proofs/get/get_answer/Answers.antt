@@ -1,4 +1,4 @@
--- One pair after another.
+-- One pair after another is written.
 use Rattle.std.proofs.Common.{◌≡◌, ◌+◌, ℕ, List, [], map, sym, ap, ◌∙◌, subst}
 use Rattle.std.specs.List.{flat_map}
 use Rattle.std.proofs.lemmas.Simd.{map-map}

@@ -1,4 +1,4 @@
--- The chain compares the kind with each block's.
+-- The iterator chain compares the kind with that of each block.
 use Rattle.std.proofs.Common.{rules, tests, sym, ◌∙◌}
 use Rattle.std.proofs.lemmas.Iterator.{YieldsList-from_slice}
 use Rattle.std.proofs.lemmas.Iterator.Search.{any_from_yields_List}

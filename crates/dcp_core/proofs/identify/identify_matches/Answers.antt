@@ -1,4 +1,4 @@
--- Every block of the request matches where every block as asked does.
+-- Every block of the request matches if and only if every block of its contents does.
 use Rattle.std.proofs.Common.{rules, arith, sym, ◌∙◌}
 use Rattle.std.proofs.Common.{tests}
 use Rattle.std.proofs.lemmas.Grind.{common_steps}

@@ -1,4 +1,4 @@
--- The chain says whether all octets are zero.
+-- The iterator chain tests whether all octets are zero.
 use Rattle.std.proofs.Common.{◌≡◌, true, eqb, rules, tests, refl, sym, ◌∙◌}
 use Rattle.std.specs.List.{list_all}
 use Rattle.std.proofs.lemmas.Iterator.{YieldsList-from_slice}

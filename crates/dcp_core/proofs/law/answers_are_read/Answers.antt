@@ -1,4 +1,4 @@
--- By the proofs of the formats.
+-- This follows from the proofs of the formats.
 use Rattle.dcp_core.proofs.Laws.{get_read, identify_read, set_read}
 use Rattle.dcp_core.proofs.law.answers_are_read.Goals as goal
 

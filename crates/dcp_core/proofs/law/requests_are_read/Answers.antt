@@ -1,4 +1,4 @@
--- By the proofs of the formats.
+-- This follows from the proofs of the formats.
 use Rattle.dcp_core.proofs.Laws.{request_read, request_short}
 use Rattle.dcp_core.proofs.law.requests_are_read.Goals as goal
 

@@ -1,4 +1,4 @@
--- the blocks so far, and those that are still to be read
+-- the blocks read so far, and those still to be read
 use Rattle.std.proofs.Common.{◌≡◌, ◌-◌, length, map}
 use Rattle.wire.specs.Filled.{read_all}
 use Rattle.wire.proofs.Lists.{with_front}

@@ -1,4 +1,4 @@
--- The name's check says what its test says.
+-- The check of the name agrees with its test in the definition.
 use Rattle.std.proofs.Common.{◌≡◌, true, false, sym, arith}
 use Rattle.std.proofs.lemmas.Grind.{common_steps}
 use Rattle.station_names.specs.Valid.{is_station_name}

@@ -1,4 +1,4 @@
--- The suite's check says what its test says.
+-- The check of the suite agrees with its test in the definition.
 use Rattle.std.proofs.Common.{◌≡◌, ℕ, List, length, take, drop, refl, sym, ap, ◌∙◌, subst, arith}
 use Rattle.std.specs.Prelude.{◌==◌, ◌&&◌, ◌↔◌, Option, IsSome, IfSome, IsTrue, is_some}
 use Rattle.std.proofs.lemmas.Grind.{common_steps}
@@ -15,7 +15,7 @@ parts_are value address rest mask rest2 gateway a r m s g =
     let second : mask ≡ take 4 (drop 4 value) = m ∙ ap (λ (xs : List ℕ). take 4 xs) r in
     λ i. record { address = a i; mask = second i; gateway = third i }
 
--- whether they are a suite
+-- whether the parts are a valid suite
 valid_from : {X : Type 0} (option : Option X) (value : List ℕ) (parts : Suite) → length value ≡ 12 → parts ≡ suite_in value
     → is_some option ≡ is_suite parts → IsSome option ↔ IsTrue ((length value == 12) && is_suite (suite_in value))
 valid_from option value parts long same test =

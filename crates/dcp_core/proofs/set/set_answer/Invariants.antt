@@ -1,4 +1,4 @@
--- the responses so far, and those of the pairs that are left, which have room
+-- the outcomes written so far, and those of the remaining pairs, for which there is room
 use Rattle.std.proofs.Common.{◌≡◌, ◌+◌, ◌*◌, ◌≤◌, ◌++◌, length}
 use Rattle.std.specs.List.{flat_map, zip}
 use Rattle.pn_values.specs.declared.set_item.BlockError.{BlockError}

@@ -1,4 +1,4 @@
--- A block more is written, and none is left behind all of them.
+-- One more block is written, and none is left after the last one.
 use Rattle.std.proofs.Common.{ℕ, List, drop, length, ap, arith, ◌∙◌}
 use Rattle.std.proofs.lemmas.List.{drop_all}
 use Rattle.dcp_core.specs.Request.{asked}

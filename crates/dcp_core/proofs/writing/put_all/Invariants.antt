@@ -1,4 +1,4 @@
--- what is written so far, with the blocks that are left behind it, is all
+-- what is written so far, followed by the remaining blocks, is everything
 use Rattle.std.proofs.Common.{◌≡◌, ◌++◌, drop, map}
 use Rattle.wire.specs.Filled.{write_all}
 use Rattle.dcp_core.specs.Format.{block_of}

@@ -1,4 +1,4 @@
--- The parts of a block, one behind the other.
+-- The parts of a block, one after the other.
 use Rattle.std.proofs.Common.{◌≡◌, ◌%◌, ℕ, List, [], ◌++◌, length, replicate, append_assoc, arith, sym, ap, ◌∙◌}
 use Rattle.std.proofs.lemmas.List.{append-nil}
 use Rattle.dcp_core.specs.Request.{asked_block}

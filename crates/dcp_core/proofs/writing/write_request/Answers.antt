@@ -1,4 +1,4 @@
--- The parts of a request, one behind the other.
+-- The parts of a request, one after the other.
 use Rattle.std.proofs.Common.{◌≡◌, ◌≤◌, ℕ, List, ◌++◌, length, arith, sym, ap, ◌∙◌}
 use Rattle.std.proofs.lemmas.List.{length-map}
 use Rattle.wire.specs.Formats.{big_bytes}

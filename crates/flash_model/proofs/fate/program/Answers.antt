@@ -16,7 +16,7 @@ put_range sector place end range h =
     ap (λ rest. take place sector ++ (range ++ rest)) (drop-drop (end - place) place sector ∙ ap (λ n. drop n sector) e)
     ∙ sym (append_assoc (take place sector) range (drop end sector))
 
--- the range that is carried out
+-- the case that the call is carried out
 passed : (sector : List ℕ) (place end : ℕ) (bytes range : List ℕ) → end ≡ place + length bytes → range ≡ anded (slice_range sector place end) bytes →
     put_mid place (end - place) sector range ≡ programmed sector place bytes
 passed sector place end bytes range e now =

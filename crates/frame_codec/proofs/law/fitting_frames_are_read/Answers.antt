@@ -1,4 +1,4 @@
--- By the proofs of the formats.
+-- This follows from the proofs of the formats.
 use Rattle.frame_codec.proofs.Frames.{read_back}
 use Rattle.frame_codec.proofs.Fitting.{datagram_is}
 use Rattle.frame_codec.proofs.law.fitting_frames_are_read.Goals as goal

@@ -1,4 +1,4 @@
--- By the proofs of the formats.
+-- This follows from the proofs of the formats.
 use Rattle.frame_codec.proofs.Layers.{layers_sound, ethernet_sound}
 use Rattle.frame_codec.proofs.law.formats_are_sound.Goals as goal
 

@@ -2,7 +2,7 @@ use Rattle.std.proofs.Common.{◌≡◌, ◌≤◌, ◌+◌, ◌*◌, drop}
 use Rattle.frame_codec.specs.Sum.{words_total, carried}
 use Rattle.frame_codec.proofs.sum.sum_on.Given as goal
 
--- the sum so far and the words that are left make the whole
+-- the sum so far and the remaining words make the whole
 abbrev pub invariant-loop-index : goal.invariant-loop-index
 invariant-loop-index l = record {
   most : l.total ≤ 65535;

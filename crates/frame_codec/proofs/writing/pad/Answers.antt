@@ -2,7 +2,7 @@ use Rattle.std.proofs.Common.{◌≡◌, ℕ, ◌-◌, List, replicate, ◌++◌
 use Rattle.std.proofs.lemmas.List.{drop-replicate, take_all, length-replicate}
 use Rattle.frame_codec.proofs.writing.pad.Goals as goal
 
--- what is left of so many zeros
+-- a suffix of a list of zeros is zeros
 rest_of_zeros : (zeros : List ℕ) (size n : ℕ) → zeros ≡ replicate size 0 → take (size - n) (drop n zeros) ≡ replicate (size - n) 0
 rest_of_zeros zeros size n e =
     let tail : drop n zeros ≡ replicate (size - n) 0 = ap (λ (xs : List ℕ). drop n xs) e ∙ drop-replicate n size 0 in

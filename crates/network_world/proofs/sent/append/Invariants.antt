@@ -1,4 +1,4 @@
--- the frames so far are there, and there is room for the others
+-- the frames so far are stored, and there is room for the others
 use Rattle.std.proofs.Common.{◌≡◌, ◌+◌, ◌-◌, ◌≤◌, ◌++◌, length, take}
 use Rattle.std.specs.Vec.{vec_capacity, vec_len}
 use Rattle.network_world.specs.Sent.{octets_of}

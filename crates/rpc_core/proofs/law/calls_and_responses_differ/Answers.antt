@@ -1,4 +1,4 @@
--- By the proofs of the formats.
+-- This follows from the proofs of the formats.
 use Rattle.rpc_core.proofs.Heads.{answered_is_none, called_is_none, no_call, no_response}
 use Rattle.rpc_core.proofs.law.calls_and_responses_differ.Goals as goal
 

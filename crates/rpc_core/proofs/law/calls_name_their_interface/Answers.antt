@@ -1,4 +1,4 @@
--- By the proofs of the formats.
+-- This follows from the proofs of the formats.
 use Rattle.rpc_core.proofs.Heads.{call_names, controller_alone, device_alone}
 use Rattle.rpc_core.proofs.law.calls_name_their_interface.Goals as goal
 

@@ -1,4 +1,4 @@
--- By the proofs of the formats.
+-- This follows from the proofs of the formats.
 use Rattle.rpc_core.proofs.Fits.{response_long, response_read, response_short}
 use Rattle.rpc_core.proofs.law.responses_are_read.Goals as goal
 

@@ -1,4 +1,4 @@
--- One slot more.
+-- One more slot is read.
 use Rattle.std.proofs.Common.{◌∙◌, [], ap, arith}
 use Rattle.flash_model.specs.Image.{sector_of, slots_in}
 use Rattle.settings_journal.specs.Slot.{slot_at}

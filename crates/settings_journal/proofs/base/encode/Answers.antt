@@ -1,4 +1,4 @@
--- The pieces, one behind the other, are a base.
+-- The pieces, one after the other, are a base.
 use Rattle.std.proofs.Common.{◌≡◌, [], ◌∷◌, ◌∙◌, ap, length, rules}
 use Rattle.settings_journal.specs.Head.{front_of, base_of, name_field, IsSettings}
 use Rattle.settings_journal.proofs.Parts.{put_more, length-base_of}

@@ -1,4 +1,4 @@
--- The name, and what is left of 240 zeros behind it.
+-- The name, and the rest of 240 zeros after it.
 use Rattle.std.proofs.Common.{length}
 use Rattle.std.proofs.lemmas.List.{append_assoc}
 use Rattle.settings_journal.proofs.Parts.{zeros_behind}

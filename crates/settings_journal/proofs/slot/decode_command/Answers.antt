@@ -1,4 +1,4 @@
--- The payload behind kind and length.
+-- The payload after kind and length.
 use Rattle.settings_journal.proofs.Commands.{judged_in}
 use Rattle.settings_journal.proofs.slot.decode_command.Goals as goal
 

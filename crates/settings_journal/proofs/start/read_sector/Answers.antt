@@ -1,4 +1,4 @@
--- What the base and the slots say of the sector.
+-- What the base and the slots say about the sector.
 use Rattle.std.proofs.Common.{◌∙◌, ap, arith, Some}
 use Rattle.flash_model.specs.Image.{sector_of, slots_in}
 use Rattle.settings_journal.specs.Slot.{left_by}

@@ -1,4 +1,4 @@
--- The newest of both heads, which both reads left alone.
+-- The newest of the two heads, which both reads left unchanged.
 use Rattle.std.proofs.Common.{◌∙◌, [], ap}
 use Rattle.flash_model.specs.declared.flash.Sector.TheVariants.{First, Second}
 use Rattle.settings_journal.specs.Image.{head_in}

@@ -1,4 +1,4 @@
--- What a write into a slot, and that of a base, leave and ask for.
+-- What the write of a slot and that of a base leave, and which calls they make.
 use Rattle.std.proofs.Common.{◌∙◌, ◌-◌, ◌≤◌, length, ap, sym, subst, arith, refl}
 use Rattle.std.proofs.lemmas.Result.{err_from_is_err_and}
 use Rattle.flash_model.specs.Image.{slots_in}

@@ -1,4 +1,4 @@
--- each of those so far
+-- this holds of each record so far
 use Rattle.std.proofs.Common.{take}
 use Rattle.startup_law.specs.Played.{ArePlaced}
 use Rattle.startup_law.proofs.start_up.are_placed.Given as goal

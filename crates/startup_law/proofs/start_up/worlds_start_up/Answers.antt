@@ -10,7 +10,7 @@ use Rattle.startup_law.proofs.Known.{meant_is, run_is, starts_small}
 use Rattle.startup_law.proofs.Runs.{exchanges_small, is_run, related_small}
 use Rattle.startup_law.proofs.start_up.worlds_start_up.Goals as goal
 
--- the laws below
+-- the laws of the crates below
 heard_so : (g : _) → goal.After-start_up_is_kept g → HeardSo
 heard_so g c = record {
   sound = c.formats_are_sound.ensures.layers;

@@ -1,4 +1,4 @@
--- The test says what the definition says.
+-- The test agrees with the definition.
 use Rattle.std.proofs.lemmas.Bool.Decides.{same_from_decides}
 use Rattle.std.specs.Prelude.{is_ok}
 use Rattle.station_names.proofs.Valid.{Decides-station_name}

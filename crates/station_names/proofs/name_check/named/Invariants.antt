@@ -1,4 +1,4 @@
--- none of the faults that were looked for
+-- the text has none of the faults that were looked for
 use Rattle.std.proofs.Common.{◌≤◌}
 use Rattle.station_names.specs.declared.name_fault.NameFault.{NameFault}
 use Rattle.station_names.specs.NameFault.{HasFault, number_of}

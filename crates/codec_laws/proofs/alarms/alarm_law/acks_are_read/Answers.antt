@@ -1,4 +1,4 @@
--- By the laws of the formats.
+-- This follows from the laws of the formats.
 use Rattle.codec_laws.proofs.AlarmsBlocks.{ack_long}
 use Rattle.codec_laws.proofs.AlarmsPdus.{ack_said}
 use Rattle.codec_laws.proofs.alarms.alarm_law.acks_are_read.Goals as goal

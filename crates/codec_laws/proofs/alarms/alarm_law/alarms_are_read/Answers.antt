@@ -1,4 +1,4 @@
--- By the laws of the formats.
+-- This follows from the laws of the formats.
 use Rattle.codec_laws.proofs.AlarmsBlocks.{alarm_long}
 use Rattle.codec_laws.proofs.AlarmsPdus.{alarm_said}
 use Rattle.codec_laws.proofs.alarms.alarm_law.alarms_are_read.Goals as goal

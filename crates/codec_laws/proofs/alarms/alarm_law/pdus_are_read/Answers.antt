@@ -1,4 +1,4 @@
--- By the law of the format.
+-- This follows from the law of the format.
 use Rattle.codec_laws.proofs.AlarmsPdus.{pdu_read}
 use Rattle.codec_laws.proofs.alarms.alarm_law.pdus_are_read.Goals as goal
 

@@ -1,4 +1,4 @@
--- By the laws of the formats.
+-- This follows from the laws of the formats.
 use Rattle.pn_alarms.specs.Carried.{ack_of, notification_of}
 use Rattle.codec_laws.proofs.AlarmsPdus.{ack_replied, nack_replied}
 use Rattle.codec_laws.proofs.alarms.alarm_law.replies_are_read.Goals as goal

@@ -1,4 +1,4 @@
--- By the law of the format.
+-- This follows from the law of the format.
 use Rattle.codec_laws.proofs.BlocksRead.{alone, each, read}
 use Rattle.codec_laws.proofs.blocks.block_law.blocks_are_read.Goals as goal
 

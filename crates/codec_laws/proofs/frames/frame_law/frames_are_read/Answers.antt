@@ -1,4 +1,4 @@
--- By the laws of the formats.
+-- This follows from the laws of the formats.
 use Rattle.frame_codec.specs.Meaning.{ArpPacket, RealTime, UdpDatagram}
 use Rattle.codec_laws.specs.frames.Sendable.{carrying}
 use Rattle.codec_laws.proofs.FramesRead.{alone, alone_back, back, long}

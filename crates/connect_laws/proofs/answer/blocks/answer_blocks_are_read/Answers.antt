@@ -1,4 +1,4 @@
--- Each block is read as it.
+-- Each block is read back.
 use Rattle.connect_laws.proofs.AnswerFound.{input_first, output_first}
 use Rattle.connect_laws.proofs.answer.blocks.answer_blocks_are_read.Goals as goal
 

@@ -1,4 +1,4 @@
--- By the law of the plan's Connect, and those of this crate.
+-- This follows from the law of the plan's Connect and the laws of this crate.
 use Rattle.std.proofs.Common.{refl, ◌∙◌}
 use Rattle.connect_laws.specs.answer.Answer.{answer_blocks, answer_frame}
 use Rattle.connect_laws.proofs.AnswerAnswered.{all_there, answers_so, blocks_written, goes_on, heard_as_made}

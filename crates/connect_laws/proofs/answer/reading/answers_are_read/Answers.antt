@@ -1,4 +1,4 @@
--- The frame is read back, and its body is.
+-- The frame is read back, and so is its body.
 use Rattle.std.proofs.Common.{◌≡◌, ℕ, List, [], Ok, append-nil, subst, ◌∙◌}
 use Rattle.rpc_core.specs.Response.{answered, response_bytes, response_of}
 use Rattle.frame_codec.specs.Frame.{IsReadBack}

@@ -1,4 +1,4 @@
--- The first block that the bytes give.
+-- The first block of the bytes.
 use Rattle.std.proofs.Common.{length, ap, rules}
 use Rattle.dcp_core.specs.declared.request.DcpFault.TheVariants as fault
 use Rattle.dcp_core.specs.Answer.{answer_block}

@@ -1,4 +1,4 @@
--- The blocks that are asked are those of the answer.
+-- The blocks that are tested are those of the response.
 use Rattle.std.proofs.Common.{rules, tests, refl}
 use Rattle.std.proofs.lemmas.Iterator.Search.{all_from_yields_List}
 use Rattle.std.proofs.lemmas.Iterator.Consumers.{YieldsList-from_first}

@@ -1,4 +1,4 @@
--- By the laws of the crates below.
+-- This follows from the laws of the crates below.
 use Rattle.std.proofs.Common.{arith}
 use Rattle.pn_alarms.specs.declared.message.Notice.TheVariants as notice
 use Rattle.codec_laws.specs.alarms.Sendable.{ack_pdu, empty_pdu}

@@ -1,4 +1,4 @@
--- By the laws of the crates below.
+-- This follows from the laws of the crates below.
 use Rattle.message_laws.proofs.HearingDatagrams.{call_at_controller, call_at_device}
 use Rattle.message_laws.proofs.hearing.calls.calls_are_heard.Goals as goal
 

@@ -1,4 +1,4 @@
--- By the laws of the crates below.
+-- This follows from the laws of the crates below.
 use Rattle.message_laws.proofs.HearingSendings.{answer_can, call_can, ready_can}
 use Rattle.message_laws.proofs.hearing.calls.calls_can_be_sent.Goals as goal
 

@@ -1,4 +1,4 @@
--- By the laws of the crates below.
+-- This follows from the laws of the crates below.
 use Rattle.message_laws.proofs.HearingController.{uncalled}
 use Rattle.message_laws.proofs.HearingDevice.{untold}
 use Rattle.message_laws.proofs.hearing.calls.datagrams_alone_are_calls.Goals as goal

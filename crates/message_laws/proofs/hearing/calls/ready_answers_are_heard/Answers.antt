@@ -1,4 +1,4 @@
--- By the laws of the crates below.
+-- This follows from the laws of the crates below.
 use Rattle.message_laws.proofs.HearingDatagrams.{answer_at_controller, answer_at_device}
 use Rattle.message_laws.proofs.hearing.calls.ready_answers_are_heard.Goals as goal
 

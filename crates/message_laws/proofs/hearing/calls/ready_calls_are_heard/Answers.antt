@@ -1,4 +1,4 @@
--- By the laws of the crates below.
+-- This follows from the laws of the crates below.
 use Rattle.message_laws.proofs.HearingDatagrams.{ready_at_controller, ready_at_device}
 use Rattle.message_laws.proofs.hearing.calls.ready_calls_are_heard.Goals as goal
 

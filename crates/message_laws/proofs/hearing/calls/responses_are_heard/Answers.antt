@@ -1,4 +1,4 @@
--- By the laws of the crates below.
+-- This follows from the laws of the crates below.
 use Rattle.message_laws.proofs.HearingDatagrams.{response_at_controller, response_at_device, response_lost, response_unread}
 use Rattle.message_laws.proofs.hearing.calls.responses_are_heard.Goals as goal
 

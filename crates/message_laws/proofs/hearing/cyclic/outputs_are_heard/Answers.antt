@@ -1,4 +1,4 @@
--- By the laws of the crates below.
+-- This follows from the laws of the crates below.
 use Rattle.message_laws.proofs.HearingExchanges.{outputs_at_controller, outputs_at_device}
 use Rattle.message_laws.proofs.hearing.cyclic.outputs_are_heard.Goals as goal
 

@@ -1,4 +1,4 @@
--- By the laws of the crates below.
+-- This follows from the laws of the crates below.
 use Rattle.std.proofs.Common.{None, arith}
 use Rattle.dcp_core.specs.Get.{get_bytes}
 use Rattle.dcp_core.specs.Identify.{identify_bytes}

@@ -1,4 +1,4 @@
--- By the laws of the crates below.
+-- This follows from the laws of the crates below.
 use Rattle.frame_codec.specs.declared.arp.ArpOperation.TheVariants.{Reply}
 use Rattle.message_laws.proofs.HearingController as controller
 use Rattle.message_laws.proofs.HearingDevice as device

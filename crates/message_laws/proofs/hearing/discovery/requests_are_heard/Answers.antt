@@ -1,4 +1,4 @@
--- By the laws of the crates below.
+-- This follows from the laws of the crates below.
 use Rattle.message_laws.proofs.HearingRequests.{address_heard, identify_heard}
 use Rattle.message_laws.proofs.hearing.discovery.requests_are_heard.Goals as goal
 

@@ -1,4 +1,4 @@
--- By the hearing laws, message by message.
+-- This follows from the hearing laws, message by message.
 use Rattle.std.proofs.Common.{inl, inr, arith}
 use Rattle.pn_values.specs.declared.identity.Identity.{Identity}
 use Rattle.plans.specs.declared.parts.Controller.{Controller}

@@ -1,4 +1,4 @@
--- Turn by turn.
+-- This is proved turn by turn.
 use Rattle.message_laws.proofs.SendingTurns.{first_live, turn_right}
 use Rattle.message_laws.proofs.sending.law.messages_can_be_sent.Goals as goal
 

@@ -1,4 +1,4 @@
--- One move behind the others.
+-- One more move is played after the others.
 use Rattle.std.proofs.Common.{◌≡◌, ◌+◌, ◌++◌, ◌∷◌, [], take, ap, subst, sym, ◌∙◌}
 use Rattle.std.proofs.lemmas.List.{take_more}
 use Rattle.network_world.specs.World.{Played}

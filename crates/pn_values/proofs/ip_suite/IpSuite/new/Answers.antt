@@ -1,4 +1,4 @@
--- The test says what the definition says.
+-- The test agrees with the definition.
 use Rattle.std.proofs.lemmas.Bool.Decides.{same_from_decides}
 use Rattle.std.specs.Prelude.{is_some}
 use Rattle.pn_values.proofs.Suites.{Decides-suite}

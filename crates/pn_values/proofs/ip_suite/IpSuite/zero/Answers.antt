@@ -1,4 +1,4 @@
--- The zero mask is 2 ^ 32 less 2 ^ 32.
+-- The zero mask is 2 ^ 32 minus 2 ^ 32.
 use Rattle.std.proofs.Common.{inl, refl, lit≤}
 use Rattle.pn_values.proofs.ip_suite.IpSuite.zero.Goals as goal
 

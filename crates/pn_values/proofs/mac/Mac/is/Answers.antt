@@ -1,4 +1,4 @@
--- Numbers of octets are the same where the octets are.
+-- Numbers made of octets are equal if and only if the octets are.
 use Rattle.std.proofs.Common.{rules, ◌≡◌, nat_eq, ℕ, ◌+◌, ◌*◌, ◌<◌, length, slice_index_or, arith, refl, sym, ap, ◌∙◌, List}
 use Rattle.pn_values.proofs.Octets.{alike, six}
 use Rattle.pn_values.proofs.mac.Mac.is.Goals as goal

@@ -1,4 +1,4 @@
--- What the store of the command says of the journal.
+-- What the store of the command says about the journal.
 use Rattle.std.proofs.Common.{subst, refl}
 use Rattle.settings_journal.specs.Commit.{IsKept}
 use Rattle.settings_journal.proofs.Active.{starts_with}

@@ -1,4 +1,4 @@
--- No item, one item more, and all of them.
+-- The cases of no item, one more item, and all items.
 use Rattle.std.proofs.Common.{◌+◌, ◌++◌, ◌∷◌, [], length, take, take_all, sym, ◌∙◌, ap, subst, refl, arith}
 use Rattle.std.proofs.lemmas.List.{take_more}
 use Rattle.settings_store.specs.Carries.{Carries, Holds}

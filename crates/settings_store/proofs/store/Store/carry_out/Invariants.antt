@@ -1,4 +1,4 @@
--- the items so far are carried out, and answered
+-- the items so far are carried out and answered
 use Rattle.std.proofs.Common.{◌≡◌, length, take}
 use Rattle.settings_store.specs.Carries.{Carries}
 use Rattle.settings_store.proofs.store.Store.carry_out.Given as goal

@@ -1,4 +1,4 @@
--- What the store does at each answer of the journal.
+-- What the store does for each result of the journal.
 use Rattle.std.proofs.Common.{◌≡◌, true, false, [], ◌∷◌, Err, subst, ap, inl, inr}
 use Rattle.pn_values.specs.Command.{show}
 use Rattle.pn_values.specs.declared.set_item.SetItem.TheVariants.{Ask}

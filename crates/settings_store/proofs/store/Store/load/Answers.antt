@@ -1,4 +1,4 @@
--- What the journal starts with is what the store starts with.
+-- The store starts with what the journal starts with.
 use Rattle.std.proofs.lemmas.Result.{err_from_is_err_and}
 use Rattle.settings_store.proofs.store.Store.load.Goals as goal
 

@@ -1,4 +1,4 @@
--- what is known between two bytes, and that the labels are no more than the bytes
+-- the state between two bytes, with at most as many labels as bytes
 use Rattle.std.proofs.Common.{◌≤◌, drop}
 use Rattle.std.specs.List.{slice_range}
 use Rattle.station_names.proofs.Labels.{Between}
