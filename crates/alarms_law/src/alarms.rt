@@ -36,12 +36,13 @@ pub fn worlds_take_alarms<F: Flash<S>, const S: usize>(setup: &Setup, identity: 
         (first : World F) (run : List (Move × World F)) → Begins setup.now identity.now first
         → AreMade F.Flash first run → AreSizedModules first.device.station.real.modules.items
         → length (raised_over first run) ≤ 32768 → length (raised_over first run) ≤ length (taken_over first run) + 1 }
-    // The controller shows the alarm that it accepted last. If at most 32,768 alarms are raised, it is the last one
-    // raised or the one before it, and none before the first was raised.
+    // The controller shows the alarm that it accepted last, and none if it accepted none.
     ensures shown { CanMeet setup.now identity.now →
         (first : World F) (run : List (Move × World F)) → Begins setup.now identity.now first
         → AreMade F.Flash first run → AreSizedModules first.device.station.real.modules.items
         → (last_world first run).controller.live.alarm ≡ last_of (taken_over first run) }
+    // If at most 32,768 alarms are raised, the controller shows the last one raised or the one before it, and none
+    // before the first was raised.
     ensures alarm { CanMeet setup.now identity.now →
         (first : World F) (run : List (Move × World F)) → Begins setup.now identity.now first
         → AreMade F.Flash first run → AreSizedModules first.device.station.real.modules.items

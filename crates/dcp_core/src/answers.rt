@@ -24,18 +24,24 @@ use wire::{skip, split, u8_at, u16_at, u32_at};
 /// Reads the response after a FrameID. The octets after it are padding. The first fault is returned: Length, then
 /// Service, then Block. The response may have any number of blocks.
 pub fn read_answer<'a>(frame_id: u16, bytes: &'a [u8]) -> Result<Response<'a>, DcpFault>
+    // On success the octets spell the response that is returned.
     ensures found { IfOk result (λ response. IsAnswer frame_id bytes.now (answered response)) }
+    // If the octets spell a response, that response is returned.
     ensures only { (said : Answered) → IsAnswer frame_id bytes.now said → Gives answered result (Ok said) }
+    // The same holds with anything after the response.
     ensures behind { (first more : List ℕ) (said : Answered) → IsAnswer frame_id first said → bytes.now ≡ first ++ more →
         Gives answered result (Ok said) }
+    // The result is exactly the response of the octets, or their first fault.
     ensures exact { Gives answered result (answer_of frame_id bytes.now) }
-    // the responses that this crate writes are read as what they say
+    // A response to an Identify that this crate writes is read as what it says.
     ensures identify { (identity : Identity) (settings : Settings) (xid : ℕ) → frame_id ≡ 0xFEFF →
         IsSent xid (identify_bytes identity settings xid) bytes.now
         → Gives answered result (Ok (identify_said identity settings xid)) }
+    // A response to a Get that this crate writes is read as what it says.
     ensures get { (identity : Identity) (settings : Settings) (request : Asked) → frame_id ≡ 0xFEFD →
         IsSent request.xid (get_bytes identity settings request) bytes.now
         → Gives answered result (Ok (get_said identity settings request)) }
+    // A response to a Set that this crate writes is read as what it says.
     ensures set { (request : Asked) (answers : List BlockError) → frame_id ≡ 0xFEFD →
         IsSent request.xid (set_bytes request answers) bytes.now
         → Gives answered result (Ok (set_said request answers)) }

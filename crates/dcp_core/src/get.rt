@@ -15,7 +15,9 @@ use pn_values::{Identity, Settings};
 /// The response to a Get: for each pair, in order, its value or why there is none. A repeated pair is answered at its
 /// first position only.
 pub fn get_answer(identity: &Identity, settings: &Settings, request: &Request<'_>) -> Answer
+    // The response has exactly the octets of the definition: for each pair, in order, its value or why there is none.
     ensures items { result.items ≡ get_bytes identity.now settings.now (asked request.now) }
+    // The response has at most 737 octets.
     ensures length { length result.items ≤ 737 }
 {
     let asked_for = request.blocks.as_slice();

@@ -87,7 +87,9 @@ fn octets_of(suite: &IpSuite) -> ArrayVec<u8, 12>
 /// The response to an Identify request.
 #[tactic(auto, unfolding(crate::specs::Identify::identify_bytes))]
 pub fn identify_answer(identity: &Identity, settings: &Settings, xid: u32) -> Answer
+    // The response has exactly the octets of the definition.
     ensures items { result.items ≡ identify_bytes identity.now settings.now xid }
+    // The response has at most 737 octets.
     ensures length { length result.items ≤ 737 }
 {
     let mut blocks = Blocks::new();

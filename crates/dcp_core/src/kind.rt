@@ -40,8 +40,11 @@ pub enum Kind {
 impl Kind {
     /// The kind of an Option and a Suboption.
     pub fn of(option: u8, suboption: u8) -> Kind
+        // The result is the kind of these numbers.
         ensures value { result ≡ kind_of option suboption }
+        // The kind has this Option.
         ensures option { option_of result ≡ option }
+        // The kind has this Suboption.
         ensures suboption { suboption_of result ≡ suboption }
     {
         match (option, suboption) {

@@ -11,10 +11,14 @@ use wire::{skip, split, u8_at, u16_at, u32_at};
 /// Reads the request after a FrameID. The octets after it are padding. The first fault is returned: Length, then
 /// Service, then Block.
 pub fn read_request<'a>(frame_id: u16, bytes: &'a [u8]) -> Result<Request<'a>, DcpFault>
+    // On success the octets spell the request that is returned.
     ensures found { IfOk result (λ request. IsRequest frame_id bytes.now (asked request)) }
+    // If the octets spell a request, that request is returned.
     ensures only { (request : Asked) → IsRequest frame_id bytes.now request → Gives asked result (Ok request) }
+    // The same holds with anything after the request.
     ensures behind { (first more : List ℕ) (request : Asked) → IsRequest frame_id first request → bytes.now ≡ first ++ more →
         Gives asked result (Ok request) }
+    // The result is exactly the request of the octets, or their first fault.
     ensures exact { Gives asked result (request_of frame_id bytes.now) }
 {
     request_at(frame_id, bytes)

@@ -14,7 +14,9 @@ use pn_values::{BlockError, Command, IpSuite, SetItem, StationName};
 /// The plan of a Set: what each of its blocks asks for, or its error. `in_operation` says whether an application
 /// relation exists.
 pub fn set_plan(request: &Request<'_>, in_operation: bool) -> ArrayVec<SetItem, 16>
+    // The plan has one item for each block, in order: what it asks for, or its error.
     ensures items { result.items ≡ plan_of in_operation (asked request.now) }
+    // The plan has at most 16 items.
     ensures count { length result.items ≤ 16 }
 {
     let mut plan = ArrayVec::new();
@@ -24,7 +26,9 @@ pub fn set_plan(request: &Request<'_>, in_operation: bool) -> ArrayVec<SetItem, 
 
 /// The same, written into the caller's plan, whose contents it replaces: a plan has about 4 KiB.
 pub fn fill_plan(request: &Request<'_>, in_operation: bool, plan: &mut ArrayVec<SetItem, 16>)
+    // The plan has one item for each block, in order: what it asks for, or its error.
     ensures items { plan.new.items ≡ plan_of in_operation (asked request.now) }
+    // The plan has at most 16 items.
     ensures count { length plan.new.items ≤ 16 }
 {
     let blocks = request.blocks.as_slice();
@@ -164,7 +168,9 @@ fn plan_reset(contents: &[u8]) -> SetItem
 
 /// The response to a Set: the outcome of each block.
 pub fn set_answer(request: &Request<'_>, answers: &ArrayVec<BlockError, 16>) -> Answer
+    // The response has exactly the octets of the definition: the outcome of each block.
     ensures items { result.items ≡ set_bytes (asked request.now) answers.now.items }
+    // The response has at most 737 octets.
     ensures length { length result.items ≤ 737 }
 {
     let mut responses = Blocks::new();

@@ -108,6 +108,7 @@ pub fn write_request<const N: usize>(request: &Request<'_>, out: &mut ArrayVec<u
     requires fits { IsRequestable (asked request.now) }
     // The octets are exactly those of the request.
     ensures exact { out.new.items ≡ out.old.items ++ request_bytes (asked request.now) }
+    // The length grows by ten octets and those of the blocks.
     ensures len { array_vec_len out.new ≡ array_vec_len out.old + 10 + blocks_size (asked request.now) }
     // The octets spell the given request.
     ensures spelled { IsRequest (frame_of request.now.service) (request_bytes (asked request.now)) (asked request.now) }

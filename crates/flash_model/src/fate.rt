@@ -18,8 +18,11 @@ pub enum Fate {
 
 /// A byte on its way from `old` to `new`: the new bits if the mask has a 1, else the old ones.
 pub fn torn_byte(old: u8, new: u8, mask: u8) -> u8
+    // The result is the torn byte of the definition.
     ensures value { result ≡ torn_byte old new mask }
+    // Each bit is the new one if the mask has a 1, else the old one.
     ensures bits { (k : ℕ) → bit_at result k ≡ chosen_bit (bit_at mask k) (bit_at old k) (bit_at new k) }
+    // Each bit is the old or the new one.
     ensures between { IsBetween old new result }
 {
     (old & !mask) | (new & mask)
@@ -60,8 +63,11 @@ fn set_masked(range: &mut [u8], mask: [u8; 8])
 /// Applies a program call to the sector.
 pub fn program(sector: &mut [u8], place: usize, bytes: &[u8], fate: Fate)
     requires { place + length bytes.now ≤ length sector.old }
+    // The sector is as the fate of the call leaves it.
     ensures value { sector.new ≡ sector_after fate place (place + length bytes.now) (programmed sector.old place bytes.now) sector.old }
+    // Each bit in the range is old or as the finished call would have left it, and everything else is unchanged.
     ensures torn { TornSector place (place + length bytes.now) (programmed sector.old place bytes.now) sector.old sector.new }
+    // The sector still holds bytes.
     ensures bytes { AreBytes sector.new }
 {
     let range = &mut sector[place..place + bytes.len()];
@@ -74,8 +80,11 @@ pub fn program(sector: &mut [u8], place: usize, bytes: &[u8], fate: Fate)
 
 /// Applies an erase call to the sector.
 pub fn erase(sector: &mut [u8], fate: Fate)
+    // The sector is as the fate of the call leaves it.
     ensures value { sector.new ≡ sector_after fate 0 (length sector.old) (erased (length sector.old)) sector.old }
+    // Each bit of the sector is old or 1.
     ensures torn { TornSector 0 (length sector.old) (erased (length sector.old)) sector.old sector.new }
+    // The sector still holds bytes.
     ensures bytes { AreBytes sector.new }
 {
     match fate {

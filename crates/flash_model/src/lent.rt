@@ -41,9 +41,13 @@ impl<'a, const S: usize> Lent<'a, MemoryFlash<S>> {
 
     /// Restores power and changes nothing else: a pending order stays armed.
     pub fn power_up(&mut self)
+        // The flash has power.
         ensures lost { is_powerless self.new ≡ false }
+        // The armed order stays.
         ensures armed { armed_in self.new ≡ armed_in self.old }
+        // The image is unchanged.
         ensures image { image_of self.new ≡ image_of self.old }
+        // The count of failed calls is unchanged.
         ensures failures { failures_of self.new ≡ failures_of self.old }
     {
         self.flash.power_up();

@@ -33,9 +33,13 @@ impl<const S: usize> MemoryFlash<S> {
     /// A flash with both sectors erased. It has power, nothing is armed and no failure is counted.
     pub fn blank() -> Self
         requires { IsSectorSize S }
+        // Both sectors are erased.
         ensures image { image_of result ≡ record { first = erased S; second = erased S } }
+        // Nothing is armed.
         ensures armed { armed_in result ≡ None }
+        // No failure is counted.
         ensures failures { failures_of result ≡ 0 }
+        // The flash has power.
         ensures lost { is_powerless result ≡ false }
     {
         Self::from_sectors([0xFF; S], [0xFF; S])
@@ -44,9 +48,13 @@ impl<const S: usize> MemoryFlash<S> {
     /// A flash with these bytes. It has power, nothing is armed and no failure is counted.
     pub fn from_sectors(first: [u8; S], second: [u8; S]) -> Self
         requires { IsSectorSize S }
+        // The sectors have the given bytes.
         ensures image { image_of result ≡ record { first = first.entry; second = second.entry } }
+        // Nothing is armed.
         ensures armed { armed_in result ≡ None }
+        // No failure is counted.
         ensures failures { failures_of result ≡ 0 }
+        // The flash has power.
         ensures lost { is_powerless result ≡ false }
     {
         MemoryFlash {
@@ -60,7 +68,9 @@ impl<const S: usize> MemoryFlash<S> {
 
     /// The bytes of one sector.
     pub fn sector(&self, sector: Sector) -> &[u8]
+        // The result is the bytes of the sector.
         ensures bytes { result.now ≡ sector_of (image_of self.now) sector }
+        // There are `S` bytes.
         ensures size { length result.now ≡ S }
     {
         match sector {
@@ -73,9 +83,13 @@ impl<const S: usize> MemoryFlash<S> {
     /// has a 1, else the old one. The mask's 8 bytes repeat from the start of the call's range. The order replaces one
     /// that was armed before.
     pub fn fuse(&mut self, after: u32, mask: [u8; 8])
+        // The cut is armed.
         ensures armed { armed_in self.new ≡ Some (Cut after mask) }
+        // The image is unchanged.
         ensures image { image_of self.new ≡ image_of self.old }
+        // The count of failed calls is unchanged.
         ensures failures { failures_of self.new ≡ failures_of self.old }
+        // Power is as before.
         ensures lost { is_powerless self.new ≡ is_powerless self.old }
     {
         self.armed = Some(Order::Cut { after, mask });
@@ -84,9 +98,13 @@ impl<const S: usize> MemoryFlash<S> {
     /// Fails the program or erase call that follows `after` others, which is torn as by [`fuse`](MemoryFlash::fuse).
     /// Power stays, and later calls pass. The order replaces one that was armed before.
     pub fn fault(&mut self, after: u32, mask: [u8; 8])
+        // The fault is armed.
         ensures armed { armed_in self.new ≡ Some (Fault after mask) }
+        // The image is unchanged.
         ensures image { image_of self.new ≡ image_of self.old }
+        // The count of failed calls is unchanged.
         ensures failures { failures_of self.new ≡ failures_of self.old }
+        // Power is as before.
         ensures lost { is_powerless self.new ≡ is_powerless self.old }
     {
         self.armed = Some(Order::Fault { after, mask });
@@ -95,9 +113,13 @@ impl<const S: usize> MemoryFlash<S> {
     /// Fails the read that follows `after` others. Power stays, and later reads pass. The order replaces one that was
     /// armed before.
     pub fn fault_read(&mut self, after: u32)
+        // The fault of a read is armed.
         ensures armed { armed_in self.new ≡ Some (ReadFault after) }
+        // The image is unchanged.
         ensures image { image_of self.new ≡ image_of self.old }
+        // The count of failed calls is unchanged.
         ensures failures { failures_of self.new ≡ failures_of self.old }
+        // Power is as before.
         ensures lost { is_powerless self.new ≡ is_powerless self.old }
     {
         self.armed = Some(Order::ReadFault { after });
@@ -105,9 +127,13 @@ impl<const S: usize> MemoryFlash<S> {
 
     /// Restores power and changes nothing else: a pending order stays armed.
     pub fn power_up(&mut self)
+        // The flash has power.
         ensures lost { is_powerless self.new ≡ false }
+        // The armed order stays.
         ensures armed { armed_in self.new ≡ armed_in self.old }
+        // The image is unchanged.
         ensures image { image_of self.new ≡ image_of self.old }
+        // The count of failed calls is unchanged.
         ensures failures { failures_of self.new ≡ failures_of self.old }
     {
         self.is_lost = false;

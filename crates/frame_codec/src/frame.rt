@@ -50,7 +50,9 @@ impl Frame {
     /// The number of octets.
     #[inline]
     pub fn len(&self) -> usize
+        // The result is the number of octets.
         ensures value { result ≡ array_vec_len self.now }
+        // There are at most 1,518 octets.
         ensures most { result ≤ 1518 }
     {
         self.used
@@ -59,7 +61,9 @@ impl Frame {
     /// The octets.
     #[inline]
     pub fn as_slice(&self) -> &[u8]
+        // The result is the octets of the frame.
         ensures value { result.now ≡ self.now.items }
+        // There are at most 1,518 octets.
         ensures most { length result.now ≤ 1518 }
     {
         &self.room[..self.used]
@@ -85,7 +89,9 @@ impl Frame {
     #[inline(always)]
     pub fn append(&mut self, octets: &[u8])
         requires { array_vec_len self.old + length octets.now ≤ 1518 }
+        // The octets are appended to the earlier ones.
         ensures items { self.new.items ≡ self.old.items ++ octets.now }
+        // The length grows by the number of octets.
         ensures len { array_vec_len self.new ≡ array_vec_len self.old + length octets.now }
     {
         let start = self.used;

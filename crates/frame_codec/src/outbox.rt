@@ -54,7 +54,9 @@ impl Outbox {
 
     /// The number of frames.
     pub fn len(&self) -> usize
+        // The result is the number of frames.
         ensures value { result ≡ array_vec_len self.now }
+        // There are at most four frames.
         ensures most { result ≤ 4 }
     {
         self.used
@@ -62,7 +64,9 @@ impl Outbox {
 
     /// The frames, in order.
     pub fn as_slice(&self) -> &[Frame]
+        // The result is the frames of the outbox.
         ensures value { result.now ≡ self.now.items }
+        // There are at most four frames.
         ensures most { length result.now ≤ 4 }
     {
         &self.frames[..self.used]
@@ -77,6 +81,7 @@ impl Outbox {
         ensures items { self.new.items ≡ self.old.items ++ record { items = frame_bytes (meaning_of layered.now) } ∷ [] }
         // The new frame is read back.
         ensures again { IsReadBack (meaning_of layered.now) }
+        // There is one frame more.
         ensures len { array_vec_len self.new ≡ array_vec_len self.old + 1 }
     {
         let frame = &mut self.frames[self.used];
@@ -95,6 +100,7 @@ impl Outbox {
         ensures items { self.new.items ≡ self.old.items ++ record { items = frame_bytes (meaning_in pieces.now) } ∷ [] }
         // The new frame is read back.
         ensures again { IsReadBack (meaning_in pieces.now) }
+        // There is one frame more.
         ensures len { array_vec_len self.new ≡ array_vec_len self.old + 1 }
     {
         let written = &mut self.frames[self.used];
@@ -108,6 +114,7 @@ impl Outbox {
         requires room { array_vec_len self.old < 4 }
         // The earlier frames stay, and the copy follows them.
         ensures items { self.new.items ≡ self.old.items ++ frame.now ∷ [] }
+        // There is one frame more.
         ensures len { array_vec_len self.new ≡ array_vec_len self.old + 1 }
     {
         let place = &mut self.frames[self.used];

@@ -37,11 +37,13 @@ pub(crate) fn sum_on(sum: u16, bytes: &[u8]) -> u16
 
 /// The ones' complement sum of the 16-bit words, the high octet first. An odd last octet is followed by 0.
 pub fn ones_sum(bytes: &[u8]) -> u16
-    // The sum is 0 if and only if all octets are 0.
+    // If all octets are 0, the sum is 0.
     ensures zero { All (λ octet. octet ≡ 0) bytes.now → result ≡ 0 }
+    // If the sum is 0, all octets are 0.
     ensures only_zero { result ≡ 0 → All (λ octet. octet ≡ 0) bytes.now }
     // The sum is equal to the total of the words modulo 65,535.
     ensures equal { result % 65535 ≡ words_total bytes.now % 65535 }
+    // The result is the ones' complement sum of the definition.
     ensures exact { result ≡ ones_sum_of bytes.now }
 {
     sum_on(0, bytes)

@@ -209,7 +209,9 @@ pub fn write(layered: &Layered) -> Frame
     // padding and the added octets belong to its body.
     ensures behind { (more : List ℕ) → length result.items + length more ≤ longest layered.now.tag →
         frame_of (result.items ++ more) ≡ Ok (with_behind (meaning_of layered.now) (padding_of (meaning_of layered.now) ++ more)) }
+    // The frame has at least 60 octets.
     ensures least { 60 ≤ length result.items }
+    // The frame has at most as many octets as a frame may have.
     ensures most { length result.items ≤ longest layered.now.tag }
 {
     let mut frame = Frame::new();

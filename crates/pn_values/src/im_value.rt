@@ -43,7 +43,9 @@ impl<const N: usize> Padded<N> {
 
     /// The `N` bytes.
     pub fn as_bytes(&self) -> &[u8]
+        // The result is the text.
         ensures value { result.now ≡ self.now }
+        // The text has `N` bytes.
         ensures length { length self.now ≡ N }
     {
         &self.bytes

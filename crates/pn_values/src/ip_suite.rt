@@ -41,8 +41,11 @@ impl IpSuite {
     /// three must be zero, or the address must begin with a byte from 1 to 126 or from 128 to 223. The gateway is not
     /// checked.
     pub fn new(address: [u8; 4], mask: [u8; 4], gateway: [u8; 4]) -> Option<IpSuite>
+        // A suite is returned if and only if a station may have one with these parts.
         ensures valid { IsSome result ↔ IsSuite (record { address = address; mask = mask; gateway = gateway }) }
+        // The result agrees with `is_suite`, the test by which a Set is judged.
         ensures test { is_some result ≡ is_suite (record { address = address; mask = mask; gateway = gateway }) }
+        // The suite has these parts.
         ensures value { IfSome result (λ suite. suite ≡ record { address = address; mask = mask; gateway = gateway }) }
     {
         suite_of(address, mask, gateway)
@@ -50,8 +53,11 @@ impl IpSuite {
 
     /// The IP address. Zeros mean that there is none.
     pub fn address(&self) -> [u8; 4]
+        // The result is the address of the suite.
         ensures value { result ≡ self.now.address }
+        // The suite is one that a station may have.
         ensures valid { IsSuite self.now }
+        // The address has four octets.
         ensures length { length self.now.address ≡ 4 }
     {
         self.address
@@ -59,7 +65,9 @@ impl IpSuite {
 
     /// The subnet mask.
     pub fn mask(&self) -> [u8; 4]
+        // The result is the subnet mask of the suite.
         ensures value { result ≡ self.now.mask }
+        // The subnet mask has four octets.
         ensures length { length self.now.mask ≡ 4 }
     {
         self.mask
@@ -67,7 +75,9 @@ impl IpSuite {
 
     /// The default gateway. The address itself, or zeros, mean that there is none.
     pub fn gateway(&self) -> [u8; 4]
+        // The result is the default gateway of the suite.
         ensures value { result ≡ self.now.gateway }
+        // The default gateway has four octets.
         ensures length { length self.now.gateway ≡ 4 }
     {
         self.gateway

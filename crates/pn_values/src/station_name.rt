@@ -45,8 +45,11 @@ impl StationName {
 
     /// The bytes of the name; empty if there is no name.
     pub fn as_bytes(&self) -> &[u8]
+        // The result is the bytes of the name.
         ensures value { result.now ≡ self.now }
+        // The bytes are a NameOfStation, or empty.
         ensures valid { IsNameOrNone self.now }
+        // There are at most 240 bytes.
         ensures length { length result.now ≤ 240 }
     {
         self.text.as_slice()

@@ -123,6 +123,7 @@ impl<const N: usize> CallCache<N> {
 
     /// What the cache knows of the call with this number within an activity.
     pub fn look(&self, activity: &Uuid, sequence: u32) -> Looked<'_>
+        // The result is what the stored responses say of the call.
         ensures told { looked activity.now sequence self.now ≡ told result }
         // If an answered call comes again, after any calls during which its activity is held, the result is the same
         // frame or, if a later call of its activity was answered, no answer.

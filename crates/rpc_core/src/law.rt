@@ -30,12 +30,14 @@ pub fn responses_are_read()
 
 /// No octets are both a call and a response. These are laws of the definitions. No code is involved.
 pub fn calls_and_responses_differ()
-    // Octets that are a call are not a response, and the other way round.
+    // Octets that are a call are not a response.
     ensures call { (interface : Interface) (bytes : List ℕ) (call : Asked) → call_of interface bytes ≡ Ok call → IsErr (response_of bytes) }
+    // Octets that are a response are not a call.
     ensures response { (interface : Interface) (bytes : List ℕ) (response : Answered) → response_of bytes ≡ Ok response →
         IsErr (call_of interface bytes) }
-    // A written call is never read as a response, whatever its length and fields, and the other way round.
+    // A written call is never read as a response, whatever its length and fields.
     ensures called { (interface : Interface) (call : Asked) (more : List ℕ) → IsErr (response_of (call_bytes interface call ++ more)) }
+    // A written response is never read as a call, whatever its length and fields.
     ensures answered { (interface : Interface) (response : Answered) (more : List ℕ) →
         IsErr (call_of interface (response_bytes response ++ more)) }
 {}
@@ -46,7 +48,8 @@ pub fn calls_name_their_interface()
     // A call that is read at an interface names that interface.
     ensures named { (interface : Interface) (bytes : List ℕ) (call : Asked) → call_of interface bytes ≡ Ok call →
         call.header.interface ≡ interface_uuid interface }
-    // What a device reads as a call, a controller does not, and the other way round.
+    // What a device reads as a call, a controller does not.
     ensures device { (bytes : List ℕ) (call : Asked) → call_of Device bytes ≡ Ok call → IsErr (call_of Controller bytes) }
+    // What a controller reads as a call, a device does not.
     ensures controller { (bytes : List ℕ) (call : Asked) → call_of Controller bytes ≡ Ok call → IsErr (call_of Device bytes) }
 {}

@@ -151,7 +151,9 @@ impl<F: Flash<S>, const S: usize> Journal<F, S> {
 
     /// A journal that has not started: it stores nothing and has read nothing yet.
     pub fn unstarted(flash: F) -> Self
+        // The journal has the given flash.
         ensures flash { result.flash ≡ flash }
+        // No commit is carried out before a start.
         ensures has_failed { result.has_failed ≡ true }
     {
         Journal {
@@ -169,7 +171,9 @@ impl<F: Flash<S>, const S: usize> Journal<F, S> {
     /// Fills the flash of a journal that stores nothing.
     pub fn fill<P: Fill<F>>(&mut self, from: &P)
         requires { self.old.has_failed ≡ true }
+        // The flash is as the source leaves it.
         ensures flash { P.post from.now self.old.flash self.new.flash }
+        // No commit is carried out before a start.
         ensures has_failed { self.new.has_failed ≡ true }
     {
         from.fill(&mut self.flash);
@@ -233,6 +237,7 @@ impl<F: Flash<S>, const S: usize> Journal<F, S> {
 
     /// The settings that are stored.
     pub fn settings(&self) -> &Settings
+        // The result is the settings of the journal.
         ensures value { result.now ≡ self.now.settings }
         // If no commit failed, a start on the flash reads these settings with the same room.
         ensures stored { self.now.has_failed ≡ false → StartsWith (F.image self.now.flash) self.now.settings self.now.room }
@@ -250,6 +255,7 @@ impl<F: Flash<S>, const S: usize> Journal<F, S> {
     /// The number of commits left: this many more are accepted as long as no flash call fails. It is 0 after a commit
     /// that failed, until the next start, and before a start.
     pub fn left(&self) -> u32
+        // The result is the number of commits left.
         ensures value { result ≡ commits_left self.now.has_failed self.now.room }
         // If no commit failed, the result is 0 if and only if the room is 0.
         ensures exhausted { self.now.has_failed ≡ false → (result ≡ 0) ↔ (self.now.room ≡ 0) }
@@ -280,12 +286,19 @@ impl<F: Flash<S>, const S: usize> Journal<F, S> {
 
     /// Test hook: orders the flash to do something to a later call.
     pub fn arm(&mut self, order: Order)
+        // The settings are unchanged.
         ensures settings { self.new.settings ≡ self.old.settings }
+        // The room is unchanged.
         ensures room { self.new.room ≡ self.old.room }
+        // Whether a commit has failed is unchanged.
         ensures has_failed { self.new.has_failed ≡ self.old.has_failed }
+        // The image is unchanged.
         ensures image { F.image self.new.flash ≡ F.image self.old.flash }
+        // The count of failed calls is unchanged.
         ensures failures { F.failures self.new.flash ≡ F.failures self.old.flash }
+        // Power is as before.
         ensures lost { F.is_lost self.new.flash ≡ F.is_lost self.old.flash }
+        // Exactly this order is given.
         ensures calls { F.asked self.old.flash (Arms order ∷ []) self.new.flash }
     {
         F::arm(&mut self.flash, order);

@@ -46,7 +46,9 @@ impl<F: Flash<S>, const S: usize> Model for Store<F, S> {
 impl<F: Flash<S>, const S: usize> Store<F, S> {
     /// A store that has not started: it stores nothing and has read nothing yet.
     pub fn unstarted(flash: F) -> Self
+        // The store has the given flash.
         ensures flash { result.flash ≡ flash }
+        // No commit is carried out before a start.
         ensures has_failed { result.values.has_failed ≡ true }
     {
         Store {
@@ -58,7 +60,9 @@ impl<F: Flash<S>, const S: usize> Store<F, S> {
     /// Fills the flash of a store that stores nothing.
     pub fn fill<P: Fill<F>>(&mut self, from: &P)
         requires { self.old.values.has_failed ≡ true }
+        // The flash is as the source leaves it.
         ensures flash { P.post from.now self.old.flash self.new.flash }
+        // No commit is carried out before a start.
         ensures has_failed { self.new.values.has_failed ≡ true }
     {
         self.journal.fill(from);
@@ -121,6 +125,7 @@ impl<F: Flash<S>, const S: usize> Store<F, S> {
 
     /// The settings that a restart finds, if no commit failed since the start.
     pub fn stored(&self) -> &Settings
+        // The result is the stored settings.
         ensures value { result.now ≡ self.now.values.stored }
         // If no commit failed, a start on the flash reads these settings with the same room.
         ensures holds { self.now.values.has_failed ≡ false →
@@ -132,6 +137,7 @@ impl<F: Flash<S>, const S: usize> Store<F, S> {
     /// The number of commits left: this many more are accepted as long as no flash call fails. It is 0 after a commit
     /// that failed, until the next start, and before a start.
     pub fn left(&self) -> u32
+        // The result is the number of commits left.
         ensures value { result ≡ commits_left self.now.values.has_failed self.now.values.room }
         // If no commit failed, a start on the flash reads the stored settings with this room.
         ensures read { self.now.values.has_failed ≡ false → StartsWith (F.image self.now.flash) self.now.values.stored result }
@@ -155,9 +161,13 @@ impl<F: Flash<S>, const S: usize> Store<F, S> {
 
     /// Test hook: orders the flash to do something to a later call. Nothing else changes.
     pub fn arm(&mut self, order: Order)
+        // The settings, the room and the power are unchanged.
         ensures values { self.new.values ≡ self.old.values }
+        // The image is unchanged.
         ensures image { F.image self.new.flash ≡ F.image self.old.flash }
+        // The count of failed calls is unchanged.
         ensures failures { F.failures self.new.flash ≡ F.failures self.old.flash }
+        // Exactly this order is given.
         ensures calls { F.asked self.old.flash (Arms order ∷ []) self.new.flash }
     {
         self.journal.arm(order);

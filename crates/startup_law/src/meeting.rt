@@ -48,6 +48,7 @@ pub fn begin_world<F: Flash<S>, const S: usize>(
 ) -> World<F, S>
     requires uncalled { device.live.rest.calls ≡ [] }
     requires unrelated { device.live.rest.link ≡ None }
+    // The world begins as the law of a start-up requires.
     ensures begins { Begins setup device.station.identity result }
     // The device of the world is the given one.
     ensures device { result.device ≡ device }

@@ -10,7 +10,9 @@ use byteorder::{BigEndian, ByteOrder};
 #[inline]
 pub fn append<const N: usize>(out: &mut ArrayVec<u8, N>, bytes: &[u8])
     requires { array_vec_len out.old + length bytes.now ≤ N }
+    // The octets are appended to the earlier ones.
     ensures items { out.new.items ≡ out.old.items ++ bytes.now }
+    // The length grows by the number of octets.
     ensures len { array_vec_len out.new ≡ array_vec_len out.old + length bytes.now }
 {
     let _ = out.try_extend_from_slice(bytes);
@@ -20,8 +22,11 @@ pub fn append<const N: usize>(out: &mut ArrayVec<u8, N>, bytes: &[u8])
 #[inline]
 pub fn append_u8<const N: usize>(out: &mut ArrayVec<u8, N>, number: u8)
     requires { array_vec_len out.old < N }
+    // The number is appended to the earlier octets.
     ensures items { out.new.items ≡ out.old.items ++ big_bytes 1 number }
+    // The length grows by one.
     ensures len { array_vec_len out.new ≡ array_vec_len out.old + 1 }
+    // The number fits one octet.
     ensures fits { number < 256 ^ 1 }
 {
     out.push(number);
@@ -31,8 +36,11 @@ pub fn append_u8<const N: usize>(out: &mut ArrayVec<u8, N>, number: u8)
 #[inline]
 pub fn append_u16<const N: usize>(out: &mut ArrayVec<u8, N>, number: u16)
     requires { array_vec_len out.old + 2 ≤ N }
+    // The number is appended to the earlier octets, the highest octet first.
     ensures items { out.new.items ≡ out.old.items ++ big_bytes 2 number }
+    // The length grows by two.
     ensures len { array_vec_len out.new ≡ array_vec_len out.old + 2 }
+    // The number fits two octets.
     ensures fits { number < 256 ^ 2 }
 {
     let mut octets = [0; 2];
@@ -44,8 +52,11 @@ pub fn append_u16<const N: usize>(out: &mut ArrayVec<u8, N>, number: u16)
 #[inline]
 pub fn append_u32<const N: usize>(out: &mut ArrayVec<u8, N>, number: u32)
     requires { array_vec_len out.old + 4 ≤ N }
+    // The number is appended to the earlier octets, the highest octet first.
     ensures items { out.new.items ≡ out.old.items ++ big_bytes 4 number }
+    // The length grows by four.
     ensures len { array_vec_len out.new ≡ array_vec_len out.old + 4 }
+    // The number fits four octets.
     ensures fits { number < 256 ^ 4 }
 {
     let mut octets = [0; 4];

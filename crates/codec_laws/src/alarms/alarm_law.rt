@@ -54,14 +54,16 @@ pub fn alarms_are_read()
 
 /// What either end reads of an ACK or a NACK. These are laws of the definitions. No code is involved.
 pub fn replies_are_read()
-    // An ACK gives the number of the data that arrived.
+    // A device reads in an ACK the number of the data that arrived.
     ensures device_ack { (header : Header) (more : List ℕ) → header.kind ≡ pdu.Ack → IsHeader header
         → message_of (pdu_bytes (empty_pdu header) ++ more) ≡ Ok (header, notice.Ack header.ack_number) }
+    // A controller reads in an ACK the number of the data that arrived.
     ensures controller_ack { (header : Header) (more : List ℕ) → header.kind ≡ pdu.Ack → IsHeader header
         → alarm_of (pdu_bytes (empty_pdu header) ++ more) ≡ Ok (header, notice.Ack header.ack_number) }
-    // A NACK says that data was refused.
+    // A device reads in a NACK that data was refused.
     ensures device_nack { (header : Header) (more : List ℕ) → header.kind ≡ pdu.Nack → IsHeader header
         → message_of (pdu_bytes (empty_pdu header) ++ more) ≡ Ok (header, notice.Nack) }
+    // A controller reads in a NACK that data was refused.
     ensures controller_nack { (header : Header) (more : List ℕ) → header.kind ≡ pdu.Nack → IsHeader header
         → alarm_of (pdu_bytes (empty_pdu header) ++ more) ≡ Ok (header, notice.Nack) }
 {
@@ -70,11 +72,12 @@ pub fn replies_are_read()
 
 /// What either end reads of an ERR. These are laws of the definitions. No code is involved.
 pub fn ends_are_read()
-    // An ERR says that the partner ends the relation, whatever its reason.
+    // A device reads in an ERR that the controller ends the relation, whatever the reason.
     ensures device { (reason : Abort) (destination source send_number ack_number : ℕ) (more : List ℕ)
         → IsHeader (abort_of reason destination source send_number ack_number).header
         → message_of (pdu_bytes (abort_of reason destination source send_number ack_number) ++ more)
         ≡ Ok ((abort_of reason destination source send_number ack_number).header, notice.Abort) }
+    // A controller reads in an ERR that the device ends the relation, whatever the reason.
     ensures controller { (reason : Abort) (destination source send_number ack_number : ℕ) (more : List ℕ)
         → IsHeader (abort_of reason destination source send_number ack_number).header
         → alarm_of (pdu_bytes (abort_of reason destination source send_number ack_number) ++ more)

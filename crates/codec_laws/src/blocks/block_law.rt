@@ -9,8 +9,9 @@ use block_codec::fitting_blocks_are_read;
 
 /// A block that can be written is read back. These are laws of the definitions. No code is involved.
 pub fn blocks_are_read()
-    // A block that can be written is read back, with anything or nothing after it.
+    // A block that can be written is read back, with anything after it.
     ensures read { (block : Block) (rest : List ℕ) → CanBeWritten block → block_of (block_bytes block ++ rest) ≡ front block rest }
+    // A block that can be written is read back, with nothing after it.
     ensures alone { (block : Block) → CanBeWritten block → block_of (block_bytes block) ≡ front block [] }
     // Blocks that can be written one after the other are read one after the other.
     ensures each { (blocks : List Block) (rest : List ℕ) → AllByRecursion CanBeWritten blocks →

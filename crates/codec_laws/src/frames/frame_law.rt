@@ -20,12 +20,12 @@ pub fn frames_are_read()
         → frame_of (frame_bytes (carrying destination source tag (RealTime frame_id body)))
         ≡ Ok (carrying destination source tag (RealTime frame_id (body
         ++ padding_of (carrying destination source tag (RealTime frame_id body))))) }
-    // If they can be sent, a packet of ARP and a datagram of UDP are read back without the padding: their own lengths
-    // say where they end.
+    // A packet of ARP that can be sent is read back without the padding, since its own length says where it ends.
     ensures arp { (destination source : Mac) (tag : Option ℕ) (packet : Arp)
         → CanBeSent (carrying destination source tag (ArpPacket packet))
         → frame_of (frame_bytes (carrying destination source tag (ArpPacket packet)))
         ≡ Ok (carrying destination source tag (ArpPacket packet)) }
+    // A datagram of UDP that can be sent is read back without the padding, since its own lengths say where it ends.
     ensures udp { (destination source : Mac) (tag : Option ℕ) (from to : Endpoint) (body : List ℕ)
         → CanBeSent (carrying destination source tag (UdpDatagram from to body))
         → frame_of (frame_bytes (carrying destination source tag (UdpDatagram from to body)))

@@ -23,12 +23,14 @@ fn block_is_read(block: &Block<'_>)
 /// relation needs, and no module that differs. This is a law of the definitions by which they are written and read.
 #[tactic(auto, unfolding(block_codec::specs::Block::block_size, block_codec::specs::Block::fields_of, block_fields::specs::Fields::body, block_fields::specs::Fields::version))]
 pub fn answer_blocks_are_read(relation: &ArBlockRes, input: &IocrBlockRes, output: &IocrBlockRes)
-    // This holds if the IOCRBlockRes of inputs comes first.
+    // If the IOCRBlockRes of inputs comes first, the blocks have everything that a relation needs, with the FrameID of
+    // the outputs, and no module that differs.
     ensures input_first { input.now.iocr_type ≡ 1 → output.now.iocr_type ≡ 2
         → IsAllThere (block_bytes (Block.ArBlockRes relation.now)
         ++ (block_bytes (Block.IocrBlockRes input.now) ++ block_bytes (Block.IocrBlockRes output.now))
         ++ block_bytes (Block.AlarmCrBlockRes (record {})) ++ []) output.now.frame_id }
-    // This holds if the IOCRBlockRes of outputs comes first.
+    // If the IOCRBlockRes of outputs comes first, the blocks have everything that a relation needs, with the FrameID of
+    // the outputs, and no module that differs.
     ensures output_first { input.now.iocr_type ≡ 1 → output.now.iocr_type ≡ 2
         → IsAllThere (block_bytes (Block.ArBlockRes relation.now)
         ++ (block_bytes (Block.IocrBlockRes output.now) ++ block_bytes (Block.IocrBlockRes input.now))

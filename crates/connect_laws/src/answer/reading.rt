@@ -16,6 +16,7 @@ use rpc_core::{Datagram, Response, write_response};
 /// A response is not a call, to either interface. This is a law of the definitions by which both are read. No code is
 /// involved.
 pub fn responses_are_no_calls()
+    // Octets that are a response are read with a fault as a call, at either interface.
     ensures apart { (interface : Served) (bytes : List ℕ) (answer : Answered) → response_of bytes ≡ Ok answer
         → (fault : RpcFault) × (call_of interface bytes ≡ Err fault) }
 {}
@@ -29,6 +30,7 @@ pub fn answers_are_read(
     response: &Response<'_>,
 )
     requires room { length response.now.blocks.now ≤ 1372 }
+    // The controller hears the response that the device sent.
     ensures heard { heard_of controller.now (response_frame identity.now (caller_of controller.now) address (answered response.now))
         ≡ Responds (answered response.now) }
 {

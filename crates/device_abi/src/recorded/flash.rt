@@ -40,7 +40,9 @@ impl<const S: usize> RecordedFlash<S> {
 
     /// The bytes of one sector.
     pub fn sector(&self, sector: Sector) -> &[u8]
+        // The result is the bytes of the sector.
         ensures bytes { result.now ≡ sector_of (image_of self.now) sector }
+        // There are `S` bytes.
         ensures size { length result.now ≡ S }
     {
         self.memory.sector(sector)
@@ -49,7 +51,9 @@ impl<const S: usize> RecordedFlash<S> {
     /// Puts bytes into a sector and records nothing. If there are more or fewer bytes than the sector has, nothing
     /// changes.
     pub fn put_sector(&mut self, sector: Sector, bytes: &[u8])
+        // If there are `S` bytes, the sector holds them, and nothing is recorded.
         ensures put { length bytes.now ≡ S → record_of self.new ≡ filled S (record_of self.old) sector bytes.now }
+        // If there are more or fewer bytes, nothing changes.
         ensures kept { length bytes.now ≢ S → record_of self.new ≡ record_of self.old }
     {
         if bytes.len() == S {

@@ -17,7 +17,9 @@ pub fn step<const S: usize>(
     outbox: &mut Outbox,
 ) -> Note
     requires { device.old.live.values.has_failed ≡ false }
+    // The step is exactly that of the definition, with the frames in the outbox.
     ensures exact { IsExactStep device.old event.now (boxed outbox.new) result device.new }
+    // No commit has failed after the step.
     ensures going { device.new.live.values.has_failed ≡ false }
 
     // The record is exactly the calls of the commands that the step accepts, in order. If a host is cut off anywhere

@@ -34,11 +34,12 @@ pub fn alarms_are_heard()
         → IsDevice identity → IsRoute route → header.kind ≡ pdu.Data → IsHeader header → IsAlarm alarm
         → controller_hears mine (device_bytes identity (Exchanges route (Notifies header alarm)))
         ≡ mine_hears mine route.partner (Alarmed identity.mac header (notice.Data header.send_number alarm)) }
-    // An ACK gives the number of the data that arrived, and a NACK says that it was refused.
+    // In an ACK the controller hears the number of the data that arrived.
     ensures ack { (mine : Controller) (identity : Identity) (route : Route) (header : Header)
         → IsDevice identity → IsRoute route → header.kind ≡ pdu.Ack → IsHeader header
         → controller_hears mine (device_bytes identity (Exchanges route (Answers header)))
         ≡ mine_hears mine route.partner (Alarmed identity.mac header (notice.Ack header.ack_number)) }
+    // In a NACK the controller hears that data was refused.
     ensures nack { (mine : Controller) (identity : Identity) (route : Route) (header : Header)
         → IsDevice identity → IsRoute route → header.kind ≡ pdu.Nack → IsHeader header
         → controller_hears mine (device_bytes identity (Exchanges route (Answers header)))
@@ -57,11 +58,12 @@ pub fn confirmations_are_heard()
         → IsSetup setup → IsRoute route → header.kind ≡ pdu.Data → IsHeader header → IsAck ack
         → device_hears identity (comes (controller_bytes setup (Confirms route header ack)))
         ≡ own_hears identity route.partner (Alarms setup.plan.controller.mac header (notice.Data header.send_number ack)) }
-    // An ACK gives the number of the alarm that arrived, and a NACK says that it was refused.
+    // In an ACK the device hears the number of the alarm that arrived.
     ensures ack { (identity : Identity) (setup : Setup) (route : Route) (header : Header)
         → IsSetup setup → IsRoute route → header.kind ≡ pdu.Ack → IsHeader header
         → device_hears identity (comes (controller_bytes setup (Replies route header)))
         ≡ own_hears identity route.partner (Alarms setup.plan.controller.mac header (notice.Ack header.ack_number)) }
+    // In a NACK the device hears that data was refused.
     ensures nack { (identity : Identity) (setup : Setup) (route : Route) (header : Header)
         → IsSetup setup → IsRoute route → header.kind ≡ pdu.Nack → IsHeader header
         → device_hears identity (comes (controller_bytes setup (Replies route header)))
@@ -75,11 +77,12 @@ pub fn confirmations_are_heard()
 
 /// What either end hears of the ERR with which the other ends the relation. These are laws of the definitions.
 pub fn ends_are_heard()
-    // Each end hears that the other ends the relation, whatever the reason.
+    // In the controller's ERR the device hears that the controller ends the relation, whatever the reason.
     ensures device { (identity : Identity) (setup : Setup) (route : Route) (header : Header) (reason : Abort) → IsSetup setup →
         IsRoute route → IsHeader header
         → device_hears identity (comes (controller_bytes setup (Ends route header reason)))
         ≡ own_hears identity route.partner (Alarms setup.plan.controller.mac (end_pdu header reason).header notice.Abort) }
+    // In the device's ERR the controller hears that the device ends the relation.
     ensures controller { (mine : Controller) (identity : Identity) (farewell : Farewell)
         → IsDevice identity → IsMac farewell.initiator → farewell.tag < 65536 → IsHeader (said_by farewell).header
         → controller_hears mine (device_bytes identity (Farewells farewell))

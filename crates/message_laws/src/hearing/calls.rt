@@ -34,10 +34,11 @@ pub fn calls_can_be_sent()
     // Each call of a controller for its plan can be sent: its header and its blocks fit.
     ensures call { (setup : Setup) (request : Request) → IsSetup setup → IsCalled request → IsNumbered request →
         CanBeCalled devices (call_for setup request) }
-    // ApplicationReady and the response to it can be sent: each has one block, which fits.
+    // ApplicationReady can be sent: it has one block, which fits.
     ensures ready { (ready : Ready) → IsHeader ready.header → ready.header.interface ≡ interface_uuid controllers →
         IsUuid ready.block.ar_uuid
         → CanBeCalled controllers (ready_call ready) }
+    // The response to ApplicationReady can be sent: it has one block, which fits.
     ensures answer { (call : Call) (block : ControlBlock) → IsHeader call.header → call.args_maximum < 4294967296 → IsUuid block.ar_uuid
         → CanBeAnswered (ready_answer call block) }
 {
@@ -73,10 +74,11 @@ pub fn responses_are_heard()
         → IsDevice identity → IsCaller caller → IsAddress address → CanBeAnswered answer
         → device_hears other (comes (response_frame identity caller address answer))
         ≡ own_told other identity.mac caller.mac (calls_at address) caller.endpoint (Responds answer) }
-    // A response that does not fit a frame is heard by nobody.
+    // If its blocks have more than 1,372 octets, a response does not fit a frame, and a controller hears nothing of it.
     ensures long { (mine : Controller) (identity : Identity) (caller : Caller) (address : List ℕ) (answer : Answered)
         → IsDevice identity → IsCaller caller → IsAddress address → IsHeader answer.header → 1372 < length answer.blocks
         → controller_hears mine (response_frame identity caller address answer) ≡ Nothing }
+    // If its blocks have more than 1,372 octets, a response does not fit a frame, and a device finds it unreadable.
     ensures unread { (other identity : Identity) (caller : Caller) (address : List ℕ) (answer : Answered)
         → IsDevice identity → IsCaller caller → IsAddress address → IsHeader answer.header → 1372 < length answer.blocks
         → device_hears other (comes (response_frame identity caller address answer)) ≡ Unreadable }
@@ -128,10 +130,11 @@ pub fn ready_answers_are_heard()
 
 /// Only datagrams are calls and responses. These are laws of the definitions.
 pub fn datagrams_alone_are_calls()
-    // In real-time data of any length and FrameID neither a device nor a controller hears a call or a response.
+    // In real-time data of any length and FrameID a device hears neither a call nor a response.
     ensures device { (identity : Identity) (destination source : Mac) (tag : Option ℕ) (frame_id : ℕ) (body : List ℕ) → IsMac destination →
         IsMac source → IsTag tag
         → IsUntold (device_hears identity (comes (frame_bytes (carrying destination source tag (RealTime frame_id body))))) }
+    // In real-time data of any length and FrameID a controller hears neither a call nor a response.
     ensures controller { (mine : Controller) (destination source : Mac) (tag : Option ℕ) (frame_id : ℕ) (body : List ℕ) →
         IsMac destination → IsMac source → IsTag tag
         → IsUncalled (controller_hears mine (frame_bytes (carrying destination source tag (RealTime frame_id body)))) }
