@@ -5,7 +5,7 @@ use Rattle.flash_model.specs.declared.flash.Flash.{Ghosts as Flash}
 use Rattle.pn_values.specs.declared.identity.Identity.{Identity}
 use Rattle.connect_laws.specs.request.Request.{request_for}
 use Rattle.relations.specs.Exchanged.{output_in}
-use Rattle.relations.specs.Link.{Link}
+use Rattle.relations.specs.RelationState.{RelationState}
 use Rattle.relations.specs.declared.phase.Phase.TheVariants.{Exchanging as in_exchange}
 use Rattle.device_core.specs.State.{State}
 use Rattle.controller_frames.specs.declared.setup.Setup.{Setup}
@@ -38,14 +38,14 @@ pub record Laws {F : Type 0} {S : ℕ} (as_flash : Flash F S) (setup : Setup) (i
   pub handed : CanMeet setup identity → (first : World F) (run : List (Move × World F)) → Begins setup identity first → AreMade as_flash first run
       → (last_world first run).controller.live.phase ≡ Exchanging → WasHanded (rules_of first.controller.setup first.device.station) (view_of first) (viewed run)
   pub exchanging : CanMeet setup identity → (first : World F) (run : List (Move × World F)) → Begins setup identity first → AreMade as_flash first run
-      → (link : Link) → (last_world first run).device.live.rest.link ≡ Some link → link.phase ≡ in_exchange → WasExchanging (viewed run)
+      → (link : RelationState) → (last_world first run).device.live.rest.link ≡ Some link → link.phase ≡ in_exchange → WasExchanging (viewed run)
   pub relation : CanMeet setup identity → (first : World F) (run : List (Move × World F)) → Begins setup identity first → AreMade as_flash first run
-      → (link : Link) → (last_world first run).device.live.rest.link ≡ Some link → link.request ≡ request_for setup.plan setup.ar
+      → (link : RelationState) → (last_world first run).device.live.rest.link ≡ Some link → link.request ≡ request_for setup.plan setup.ar
   pub zeros : CanMeet setup identity → (first : World F) (run : List (Move × World F)) → Begins setup identity first → AreMade as_flash first run
-      → (link : Link) → (last_world first run).device.live.rest.link ≡ Some link → has_accepted link ≡ false
+      → (link : RelationState) → (last_world first run).device.live.rest.link ≡ Some link → has_accepted link ≡ false
       → (slot subslot : ℕ) → output_in slot subslot (Some link) ≡ zero_for setup slot subslot
   pub values : CanMeet setup identity → (first : World F) (run : List (Move × World F)) → Begins setup identity first → AreMade as_flash first run
-      → (link : Link) → (last_world first run).device.live.rest.link ≡ Some link → has_accepted link ≡ true → AreOfOneFrame setup identity first run link
+      → (link : RelationState) → (last_world first run).device.live.rest.link ≡ Some link → has_accepted link ≡ true → AreOfOneFrame setup identity first run link
   pub front : CanMeet setup identity → (first : World F) (run : List (Move × World F)) → Begins setup identity first → AreMade as_flash first run
       → AreSizedModules first.device.station.real.modules.items → length (raised_over first run) ≤ 32768 → IsPrefixOf (taken_over first run) (raised_over first run)
   pub lacks : CanMeet setup identity → (first : World F) (run : List (Move × World F)) → Begins setup identity first → AreMade as_flash first run

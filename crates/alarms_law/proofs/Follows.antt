@@ -9,7 +9,7 @@ use Rattle.pn_values.specs.declared.mac.Mac.{Mac}
 use Rattle.record_blocks.specs.declared.alarm_ack.AlarmAck.{AlarmAck}
 use Rattle.record_blocks.specs.declared.alarm_notification.AlarmNotification.{AlarmNotification}
 use Rattle.frame_codec.specs.declared.udp.Caller.{Caller}
-use Rattle.rpc_core.specs.Cache.{Kept as Answer, again, kept_of, looked, new, old, told_by}
+use Rattle.rpc_core.specs.Cache.{Kept as Answer, again, kept_of, looked, new, old, reported_by}
 use Rattle.rpc_core.specs.Call.{Asked as Call}
 use Rattle.records.specs.declared.status.operation.Operation.{Operation}
 use Rattle.records.specs.declared.status.operation.Operation.TheVariants as operation
@@ -26,13 +26,13 @@ use Rattle.pn_alarms.specs.Device.{idle}
 use Rattle.pn_alarms.specs.Receiver.{taken_as}
 use Rattle.cyclic_exchange.specs.declared.route.Route.{Route}
 use Rattle.relations.specs.Connect.{connect_of}
-use Rattle.relations.specs.Link.{Link}
+use Rattle.relations.specs.RelationState.{RelationState}
 use Rattle.codec_laws.specs.alarms.Line.{more_taken, with_come}
 use Rattle.device_frames.specs.declared.event.Event.TheVariants.{Frame}
-use Rattle.device_frames.specs.Heard.{Heard, Told, Calls, heard_of}
+use Rattle.device_frames.specs.Heard.{Heard, Reported, Calls, heard_of}
 use Rattle.device_frames.specs.Sent.{Sent, IdentifyAnswer, GetAnswer, SetAnswer, ArpReply, CallAnswer, Again, ReadyCall, Ends, Exchanges, bytes_of}
 use Rattle.device_core.specs.State.{Station, Live}
-use Rattle.device_core.specs.Machine.{heard_step, judged_step}
+use Rattle.device_core.specs.Machine.{heard_step, handled_step}
 use Rattle.controller_frames.specs.declared.request.Request.TheVariants as asks
 use Rattle.controller_frames.specs.declared.setup.Setup.{Setup}
 use Rattle.controller_frames.specs.Heard as controller
@@ -51,7 +51,7 @@ use Rattle.end_laws.specs.device.Owed.{IsOfKept, IsOwed}
 use Rattle.end_laws.specs.device.Small.{IsHeardAs, IsPlanned, IsPlannedAs, IsPlannedCall, heard_as, kept_in, link_of, small_of}
 use Rattle.end_laws.specs.device.Small as ends
 use Rattle.startup_law.specs.View.{IsSaidAs, rules_of}
-use Rattle.alarms_law.proofs.Told.{IsCallIn, IsCalledAs, IsGood, IsNotedAs, IsNotedBy, IsToldAs, IsWell, IsWellSent, noted_at, noted_by, noted_in, noted_of, reply_of, told_in, told_of}
+use Rattle.alarms_law.proofs.Reported.{IsCallIn, IsCalledAs, IsGood, IsNotedAs, IsNotedBy, IsReportedAs, IsWell, IsWellSent, noted_at, noted_by, noted_in, noted_of, reply_of, reported_in, reported_of}
 use Rattle.alarms_law.specs.Over.{taken_by, taken_of}
 use Rattle.alarms_law.proofs.Lists.{Extends, each_behind, each_on, more_extends, none_some, some_is, unchanged}
 use Rattle.message_laws.specs.hearing.Stations.{IsSetup}
@@ -70,17 +70,17 @@ use Rattle.alarms_law.proofs.Tied.{Goes, IsFresh, IsHeard, IsSaid, IsTied, heard
 -- suitable FrameID for outputs.
 pub record IsIn (setup : Setup) (identity : Identity) (r : Relation) (frame : List ℕ) : Type 0 where
   pub noted : IsSaid r.alarms.pdus r.acks (noted_of setup frame)
-  pub told : IsHeard r.told (told_of identity frame)
+  pub reported : IsHeard r.reported (reported_of identity frame)
   pub first : (sequence : ℕ) → heard_as (heard_of identity (Frame (record { items = frame }))) ≡ small.Call sequence small.Connects → sequence ≡ 0
   pub called : IsCallIn (heard_of identity (Frame (record { items = frame })))
   pub good : IsGood identity.mac (heard_by setup.plan.controller frame)
   pub well : IsWell setup (heard_by setup.plan.controller frame)
 
-in_stays : (setup : Setup) (identity : Identity) (r next : Relation) (frame : List ℕ) → Extends r.alarms.pdus next.alarms.pdus → Extends r.acks next.acks → Extends r.told next.told
+in_stays : (setup : Setup) (identity : Identity) (r next : Relation) (frame : List ℕ) → Extends r.alarms.pdus next.alarms.pdus → Extends r.acks next.acks → Extends r.reported next.reported
     → IsIn setup identity r frame → IsIn setup identity next frame
 in_stays setup identity r next frame p a t is = record {
   noted = said_stays r.alarms.pdus next.alarms.pdus r.acks next.acks (noted_of setup frame) p a is.noted;
-  told = heard_stays r.told next.told (told_of identity frame) t is.told;
+  reported = heard_stays r.reported next.reported (reported_of identity frame) t is.reported;
   first = is.first;
   called = is.called;
   good = is.good;
@@ -101,7 +101,7 @@ pub record Follows (setup : Setup) (station : Station) (live : Live) (controllin
   pub takes : relation.alarms.taken ≡ taken
   pub tied : IsTied relation live.rest.link
   pub unmade : kept_at setup live ≡ None → relation.device ≡ idle 1 3
-  pub linked : (link : small.Link TakenRecord Request) → (small_of setup.activity live).link ≡ Some link → kept_at setup live ≡ None → ⊥
+  pub linked : (link : small.RelationState TakenRecord Request) → (small_of setup.activity live).link ≡ Some link → kept_at setup live ≡ None → ⊥
   pub again : (answer : small.Kept) → kept_at setup live ≡ Some answer → IsIn setup station.identity relation answer.frame
   pub frames : AllByRecursion (IsIn setup station.identity relation) sent
   -- the addresses differ, and the numbers have their sizes
@@ -144,7 +144,7 @@ module _ (rules : Rules TakenRecord Request) where
 
   -- if there is a relation, a response is stored
   linked_on : (heard : ToDevice) (before after : Small) (frames : List (List ℕ)) → DeviceSteps rules heard before after frames
-      → ((link : small.Link TakenRecord Request) → before.link ≡ Some link → before.kept ≡ None → ⊥) → (link : small.Link TakenRecord Request) → after.link ≡ Some link → after.kept ≡ None → ⊥
+      → ((link : small.RelationState TakenRecord Request) → before.link ≡ Some link → before.kept ≡ None → ⊥) → (link : small.RelationState TakenRecord Request) → after.link ≡ Some link → after.kept ≡ None → ⊥
   linked_on (small.Call sequence ask) before after frames (inl answered) was link is none = none_some _ after.kept none answered.keeps
   linked_on (small.Call sequence ask) before after frames (inr (inl repeats)) was link is none =
       was link (ap (λ (d : Small). d.link) (sym repeats.unchanged) ∙ is) (ap (λ (d : Small). d.kept) (sym repeats.unchanged) ∙ none)
@@ -161,8 +161,8 @@ module _ (rules : Rules TakenRecord Request) where
 -- ---- the device
 
 -- a call of number 0 is new only if no call of its activity was answered
-told_zero : (sequence : ℕ) (frame : List ℕ) → cond (0 == sequence) (again frame) (cond (nat_lt 0 sequence) old new) ≡ new → ⊥
-told_zero sequence frame e = by_same (0 == sequence) refl e
+reported_zero : (sequence : ℕ) (frame : List ℕ) → cond (0 == sequence) (again frame) (cond (nat_lt 0 sequence) old new) ≡ new → ⊥
+reported_zero sequence frame e = by_same (0 == sequence) refl e
   where
     by_order : (b : Bool) → nat_lt 0 sequence ≡ b → (0 == sequence) ≡ false → cond b old new ≡ new → ⊥
     by_order true f g h = absurd cc
@@ -172,9 +172,9 @@ told_zero sequence frame e = by_same (0 == sequence) refl e
     by_same true f g = absurd cc
     by_same false f g = by_order (nat_lt 0 sequence) refl f g
 
-new_none : (kept : Option Answer) → told_by 0 kept ≡ new → kept ≡ None
+new_none : (kept : Option Answer) → reported_by 0 kept ≡ new → kept ≡ None
 new_none None e = refl
-new_none (Some kept) e = absurd (told_zero kept.sequence kept.frame e)
+new_none (Some kept) e = absurd (reported_zero kept.sequence kept.frame e)
 
 same_ok : {A B : Type 0} (x y : A) → ◌≡◌ {A = Result A B} (Ok x) (Ok y) → x ≡ y
 same_ok x y e = cc
@@ -186,37 +186,37 @@ module _ (setup : Setup) (station : Station) (live : Live) (controlling : Contro
 
   module _ (heard : Heard) (planned : IsPlanned rules setup.activity station.real heard)
       (first : (sequence : ℕ) → heard_as heard ≡ small.Call sequence small.Connects → sequence ≡ 0) where
-    unlinked : (link : Option Link) → live.rest.link ≡ link → kept_at setup live ≡ None → live.rest.link ≡ None
+    unlinked : (link : Option RelationState) → live.rest.link ≡ link → kept_at setup live ≡ None → live.rest.link ≡ None
     unlinked None e none = e
-    unlinked (Some link) e none = absurd (follows.linked (link_of link) (ap (λ (l : Option Link). option_map link_of l) e) none)
+    unlinked (Some link) e none = absurd (follows.linked (link_of link) (ap (λ (l : Option RelationState). option_map link_of l) e) none)
 
     -- if a call of number 0 is new, there is no relation
-    pub unlinked_new : (caller : Caller) (address : List ℕ) (call : Call) → heard ≡ Told caller address (Calls call) → call.header.sequence ≡ 0
+    pub unlinked_new : (caller : Caller) (address : List ℕ) (call : Call) → heard ≡ Reported caller address (Calls call) → call.header.sequence ≡ 0
         → looked call.header.activity call.header.sequence live.rest.calls ≡ new → live.rest.link ≡ None
     unlinked_new caller address call is zero_is fresh =
         let plan : IsPlannedCall rules setup.activity station.real call = subst (λ (h : Heard). IsPlanned rules setup.activity station.real h) is planned in
-        let told : told_by 0 (kept_of setup.activity live.rest.calls) ≡ new =
-        ap (λ (n : ℕ). told_by n (kept_of setup.activity live.rest.calls)) (sym zero_is)
-        ∙ (ap (λ (a : List ℕ). told_by call.header.sequence (kept_of a live.rest.calls)) (sym plan.own) ∙ fresh) in
-        unlinked live.rest.link refl (ap (λ (k : Option Answer). option_map kept_in k) (new_none (kept_of setup.activity live.rest.calls) told))
+        let reported : reported_by 0 (kept_of setup.activity live.rest.calls) ≡ new =
+        ap (λ (n : ℕ). reported_by n (kept_of setup.activity live.rest.calls)) (sym zero_is)
+        ∙ (ap (λ (a : List ℕ). reported_by call.header.sequence (kept_of a live.rest.calls)) (sym plan.own) ∙ fresh) in
+        unlinked live.rest.link refl (ap (λ (k : Option Answer). option_map kept_in k) (new_none (kept_of setup.activity live.rest.calls) reported))
 
     -- a relation that is made now is the first one, and that of the plan
-    pub makes_planned : (after : Option Link) (messages : List Sent) (makes : Makes live.rest.calls live.rest.link heard after messages) → (kept_at setup live ≡ None) × (makes.request ≡ rules.request)
+    pub makes_planned : (after : Option RelationState) (messages : List Sent) (makes : Makes live.rest.calls live.rest.link heard after messages) → (kept_at setup live ≡ None) × (makes.request ≡ rules.request)
     makes_planned after messages makes =
         let plan : IsPlannedCall rules setup.activity station.real makes.call = subst (λ (h : Heard). IsPlanned rules setup.activity station.real h) makes.is planned in
         let zero_is : makes.call.header.sequence ≡ 0 = first makes.call.header.sequence (ap heard_as makes.is ∙ ap (λ (o : Option Operation). ends.asked_by makes.call.header.sequence o) makes.connects) in
-        let fresh : told_by 0 (kept_of setup.activity live.rest.calls) ≡ new =
-        ap (λ (n : ℕ). told_by n (kept_of setup.activity live.rest.calls)) (sym zero_is)
-        ∙ (ap (λ (a : List ℕ). told_by makes.call.header.sequence (kept_of a live.rest.calls)) (sym plan.own) ∙ makes.fresh) in
+        let fresh : reported_by 0 (kept_of setup.activity live.rest.calls) ≡ new =
+        ap (λ (n : ℕ). reported_by n (kept_of setup.activity live.rest.calls)) (sym zero_is)
+        ∙ (ap (λ (a : List ℕ). reported_by makes.call.header.sequence (kept_of a live.rest.calls)) (sym plan.own) ∙ makes.fresh) in
         let unkept : kept_at setup live ≡ None = ap (λ (k : Option Answer). option_map kept_in k) (new_none (kept_of setup.activity live.rest.calls) fresh) in
         let asks : IsPlannedAs rules station.real makes.call.header.sequence plan.blocks (Some operation.Connect) =
         subst (λ (o : Option Operation). IsPlannedAs rules station.real makes.call.header.sequence plan.blocks o) makes.connects plan.asks in
         let same : plan.blocks ≡ makes.blocks = some_is plan.blocks makes.blocks (sym plan.counted ∙ makes.counted) in
         let reads : connect_of live.rest.link makes.blocks ≡ Ok rules.request =
-        ap (λ (l : Option Link). connect_of l makes.blocks) (unlinked live.rest.link refl unkept) ∙ (ap (λ (b : List ℕ). connect_of None b) (sym same) ∙ asks) in
+        ap (λ (l : Option RelationState). connect_of l makes.blocks) (unlinked live.rest.link refl unkept) ∙ (ap (λ (b : List ℕ). connect_of None b) (sym same) ∙ asks) in
         (unkept, same_ok makes.request rules.request (sym makes.read ∙ reads))
 
-    pub makes_fresh : (after : Option Link) (messages : List Sent) → IsFresh setup follows.relation live.rest.calls live.rest.link heard after messages
+    pub makes_fresh : (after : Option RelationState) (messages : List Sent) → IsFresh setup follows.relation live.rest.calls live.rest.link heard after messages
     makes_fresh after messages makes =
         let so = makes_planned after messages makes in
         ap (λ (r : Request). idle r.alarm.timeout_factor r.alarm.retries) so.1 ∙ sym (follows.unmade so.0)
@@ -236,7 +236,7 @@ module _ (setup : Setup) (station : Station) (live : Live) (controlling : Contro
       next = goes.next
 
       stays : (frame : List ℕ) → IsIn setup station.identity r frame → IsIn setup station.identity next frame
-      stays frame is = in_stays setup station.identity r next frame goes.pdus goes.acks (subst (λ (told : List said.Sent). Extends r.told told) (sym goes.told) (unchanged r.told)) is
+      stays frame is = in_stays setup station.identity r next frame goes.pdus goes.acks (subst (λ (reported : List said.Sent). Extends r.reported reported) (sym goes.reported) (unchanged r.reported)) is
 
       -- the frame of a repeated response
       again_in : (frame : List ℕ) → IsOfKept heard live frame → IsIn setup station.identity next frame
@@ -250,7 +250,7 @@ module _ (setup : Setup) (station : Station) (live : Live) (controlling : Contro
           → rules.to_device frame ≡ small.Idle → IsWell setup (heard_by setup.plan.controller frame) → IsIn setup station.identity next frame
       in_by frame says heard_so is idle_is well_so = record {
         noted = as_said heard_so.0;
-        told = subst (λ (o : Option (Notice AlarmAck)). IsHeard next.told o) (sym heard_so.1) tt;
+        reported = subst (λ (o : Option (Notice AlarmAck)). IsHeard next.reported o) (sym heard_so.1) tt;
         first = λ sequence e. absurd (idle_call sequence (sym idle_is ∙ e));
         called = λ caller address call is_call other. absurd (other idle_is);
         good = heard_so.2;
@@ -283,7 +283,7 @@ module _ (setup : Setup) (station : Station) (live : Live) (controlling : Contro
           (message_in message owed_so.0 heard_so.0 noted_so.0 well_so.0 is.0, messages_in messages owed_so.1 heard_so.1 noted_so.1 well_so.1 is.1)
 
       frames_in : AllByRecursion (IsIn setup station.identity next) (heard_step outcomes station live heard).frames
-      unfolding heard_step judged_step
+      unfolding heard_step handled_step
       frames_in = messages_in (heard_step outcomes station live heard).sent owed meant noted well goes.said
 
       pub device_follows : Follows setup station (heard_step outcomes station live heard).live controlling (sent ++ (heard_step outcomes station live heard).frames) (raised ++ now) taken
@@ -322,7 +322,7 @@ module _ (setup : Setup) (station : Station) (live : Live) (controlling : Contro
     moves : List Move
     made : behind setup moves follows.relation ≡ next
     live_is : next.live ≡ turn.live
-    told_is : next.told ≡ follows.relation.told ++ turn.sent
+    reported_is : next.reported ≡ follows.relation.reported ++ turn.sent
     device_is : next.device ≡ follows.relation.device
     pdus_are : next.alarms.pdus ≡ follows.relation.alarms.pdus
     acks_are : next.acks ≡ follows.relation.acks
@@ -336,7 +336,7 @@ module _ (setup : Setup) (station : Station) (live : Live) (controlling : Contro
     moves = move ∷ [];
     made = is;
     live_is = refl;
-    told_is = refl;
+    reported_is = refl;
     device_is = refl;
     pdus_are = refl;
     acks_are = refl;
@@ -360,7 +360,7 @@ module _ (setup : Setup) (station : Station) (live : Live) (controlling : Contro
         moves = AlarmComes source header is.0 ∷ [];
         made = ap (λ (o : Option (ℕ × AlarmNotification)). alarm_comes r source header o) is.1;
         live_is = refl;
-        told_is = refl;
+        reported_is = refl;
         device_is = refl;
         pdus_are = same_pdus (is_looked_at r source header);
         acks_are = refl;
@@ -386,7 +386,7 @@ module _ (setup : Setup) (station : Station) (live : Live) (controlling : Contro
   ack_turned source header number is =
       turned_by (AckComes source header is.0) (alarmed follows.relation.live source header (notice.Ack number)) (ap (λ (o : Option ℕ). ack_comes follows.relation source header o) is.1)
 
-  heard_turned : (told : controller.Heard) → IsSaid follows.relation.alarms.pdus follows.relation.acks (noted_at told) → Turned (turned setup follows.relation.live told) (taken_by follows.relation.live told)
+  heard_turned : (reported : controller.Heard) → IsSaid follows.relation.alarms.pdus follows.relation.acks (noted_at reported) → Turned (turned setup follows.relation.live reported) (taken_by follows.relation.live reported)
   heard_turned (controller.Alarms source header (notice.Data number alarm)) is = data_turned source header number alarm is
   heard_turned (controller.Alarms source header (notice.Ack number)) is = ack_turned source header number is
   heard_turned (controller.Alarms source header notice.Nack) is = turned_by (Hears (controller.Alarms source header notice.Nack)) _ refl
@@ -430,20 +430,20 @@ module _ (setup : Setup) (station : Station) (live : Live) (controlling : Contro
     subst (λ (all : List said.Sent). AllByRecursion (λ one. (k : ℕ) × (slice_get all k ≡ Some one)) messages) (append_assoc front (message ∷ []) messages) (placed (front ++ message ∷ []) messages),
   )
 
-  reply_heard : (told : List said.Sent) (route : Route) (header : Header) (kind : PduType) (k : ℕ) → header.kind ≡ kind → slice_get told k ≡ Some (said.Replies route header)
-      → IsHeard told (reply_of header.ack_number kind)
-  reply_heard told route header pdu.Ack k is there = record { place = k; route = route; header = header; there = there; kind = is; same = refl }
-  reply_heard told route header pdu.Nack k is there = tt
-  reply_heard told route header pdu.Data k is there = tt
-  reply_heard told route header pdu.Error k is there = tt
+  reply_heard : (reported : List said.Sent) (route : Route) (header : Header) (kind : PduType) (k : ℕ) → header.kind ≡ kind → slice_get reported k ≡ Some (said.Replies route header)
+      → IsHeard reported (reply_of header.ack_number kind)
+  reply_heard reported route header pdu.Ack k is there = record { place = k; route = route; header = header; there = there; kind = is; same = refl }
+  reply_heard reported route header pdu.Nack k is there = tt
+  reply_heard reported route header pdu.Data k is there = tt
+  reply_heard reported route header pdu.Error k is there = tt
 
-  said_heard : (told : List said.Sent) (message : said.Sent) (k : ℕ) → slice_get told k ≡ Some message → IsHeard told (told_in message)
-  said_heard told (said.Confirms route header ack) k there = record { place = k; route = route; header = header; there = there; same = refl }
-  said_heard told (said.Replies route header) k there = reply_heard told route header header.kind k refl there
-  said_heard told (said.Ends route header reason) k there = tt
-  said_heard told (said.Requests to request) k there = tt
-  said_heard told (said.Agrees caller answer) k there = tt
-  said_heard told (said.Cycles route shown counter) k there = tt
+  said_heard : (reported : List said.Sent) (message : said.Sent) (k : ℕ) → slice_get reported k ≡ Some message → IsHeard reported (reported_in message)
+  said_heard reported (said.Confirms route header ack) k there = record { place = k; route = route; header = header; there = there; same = refl }
+  said_heard reported (said.Replies route header) k there = reply_heard reported route header header.kind k refl there
+  said_heard reported (said.Ends route header reason) k there = tt
+  said_heard reported (said.Requests to request) k there = tt
+  said_heard reported (said.Agrees caller answer) k there = tt
+  said_heard reported (said.Cycles route shown counter) k there = tt
 
   -- the Connect of the controller is the call of number 0
   first_said : (message : said.Sent) (sequence : ℕ) → said_by setup.plan message ≡ small.Call sequence small.Connects → sequence ≡ 0
@@ -459,21 +459,21 @@ module _ (setup : Setup) (station : Station) (live : Live) (controlling : Contro
   first_said (said.Replies route header) sequence e = absurd cc
   first_said (said.Ends route header reason) sequence e = absurd cc
 
-  said_in : (next : Relation) (message : said.Sent) → (k : ℕ) × (slice_get next.told k ≡ Some message) → IsSaidAs setup station message → IsToldAs setup station.identity message
+  said_in : (next : Relation) (message : said.Sent) → (k : ℕ) × (slice_get next.reported k ≡ Some message) → IsSaidAs setup station message → IsReportedAs setup station.identity message
       → IsCalledAs setup station.identity message → IsIn setup station.identity next (said.bytes_of setup message)
-  said_in next message there meant told called = record {
-    noted = subst (λ (h : controller.Heard). IsSaid next.alarms.pdus next.acks (noted_at h)) (sym told.1) tt;
-    told = as_told told.0;
+  said_in next message there meant reported called = record {
+    noted = subst (λ (h : controller.Heard). IsSaid next.alarms.pdus next.acks (noted_at h)) (sym reported.1) tt;
+    reported = as_reported reported.0;
     first = λ sequence e. as_first sequence e meant.1;
     called = called;
-    good = subst (λ (h : controller.Heard). IsGood station.identity.mac h) (sym told.1) tt;
-    well = subst (λ (h : controller.Heard). IsWell setup h) (sym told.1) tt;
+    good = subst (λ (h : controller.Heard). IsGood station.identity.mac h) (sym reported.1) tt;
+    well = subst (λ (h : controller.Heard). IsWell setup h) (sym reported.1) tt;
   }
     where
-      as_told : (told_of station.identity (said.bytes_of setup message) ≡ told_in message) ⊎ (told_of station.identity (said.bytes_of setup message) ≡ None)
-          → IsHeard next.told (told_of station.identity (said.bytes_of setup message))
-      as_told (inl same) = subst (λ (o : Option (Notice AlarmAck)). IsHeard next.told o) (sym same) (said_heard next.told message there.0 there.1)
-      as_told (inr none) = subst (λ (o : Option (Notice AlarmAck)). IsHeard next.told o) (sym none) tt
+      as_reported : (reported_of station.identity (said.bytes_of setup message) ≡ reported_in message) ⊎ (reported_of station.identity (said.bytes_of setup message) ≡ None)
+          → IsHeard next.reported (reported_of station.identity (said.bytes_of setup message))
+      as_reported (inl same) = subst (λ (o : Option (Notice AlarmAck)). IsHeard next.reported o) (sym same) (said_heard next.reported message there.0 there.1)
+      as_reported (inr none) = subst (λ (o : Option (Notice AlarmAck)). IsHeard next.reported o) (sym none) tt
 
       idle_call : (sequence : ℕ) → small.Idle ≡ small.Call sequence small.Connects → ⊥
       idle_call sequence e = absurd cc
@@ -483,24 +483,24 @@ module _ (setup : Setup) (station : Station) (live : Live) (controlling : Contro
       as_first sequence e (inl same) = first_said message sequence (sym same ∙ e)
       as_first sequence e (inr idle_is) = absurd (idle_call sequence (sym idle_is ∙ e))
 
-  all_said_in : (then : Relation) (messages : List said.Sent) → AllByRecursion (λ message. (k : ℕ) × (slice_get then.told k ≡ Some message)) messages
-      → AllByRecursion (IsSaidAs setup station) messages → AllByRecursion (IsToldAs setup station.identity) messages
+  all_said_in : (then : Relation) (messages : List said.Sent) → AllByRecursion (λ message. (k : ℕ) × (slice_get then.reported k ≡ Some message)) messages
+      → AllByRecursion (IsSaidAs setup station) messages → AllByRecursion (IsReportedAs setup station.identity) messages
       → AllByRecursion (IsCalledAs setup station.identity) messages → AllByRecursion (IsIn setup station.identity then) (map (said.bytes_of setup) messages)
-  all_said_in then [] there meant told called = tt
-  all_said_in then (message ∷ messages) there meant told called =
-      (said_in then message there.0 meant.0 told.0 called.0, all_said_in then messages there.1 meant.1 told.1 called.1)
+  all_said_in then [] there meant reported called = tt
+  all_said_in then (message ∷ messages) there meant reported called =
+      (said_in then message there.0 meant.0 reported.0 called.0, all_said_in then messages there.1 meant.1 reported.1 called.1)
 
-  turn_follows : (turn : Turn) (now : List AlarmNotification) → Turned turn now → AllByRecursion (IsSaidAs setup station) turn.sent → AllByRecursion (IsToldAs setup station.identity) turn.sent
+  turn_follows : (turn : Turn) (now : List AlarmNotification) → Turned turn now → AllByRecursion (IsSaidAs setup station) turn.sent → AllByRecursion (IsReportedAs setup station.identity) turn.sent
       → AllByRecursion (IsCalledAs setup station.identity) turn.sent → IsLive turn.live → IsPlaced station.identity.mac turn.live → Follows setup station live turn.live (sent ++ map (said.bytes_of setup) turn.sent) raised (taken ++ now)
-  turn_follows turn now turned_so meant told called lives placed_so =
+  turn_follows turn now turned_so meant reported called lives placed_so =
       let r = follows.relation in
       let next = turned_so.next in
       let pdus : Extends r.alarms.pdus next.alarms.pdus = subst (λ (xs : List (ℕ × AlarmNotification)). Extends r.alarms.pdus xs) (sym turned_so.pdus_are) (unchanged r.alarms.pdus) in
       let acks : Extends r.acks next.acks = subst (λ (xs : List ℕ). Extends r.acks xs) (sym turned_so.acks_are) (unchanged r.acks) in
-      let more : Extends r.told next.told = subst (λ (xs : List said.Sent). Extends r.told xs) (sym turned_so.told_is) (more_extends r.told turn.sent) in
+      let more : Extends r.reported next.reported = subst (λ (xs : List said.Sent). Extends r.reported xs) (sym turned_so.reported_is) (more_extends r.reported turn.sent) in
       let stays = λ (frame : List ℕ) (is : IsIn setup station.identity r frame). in_stays setup station.identity r next frame pdus acks more is in
-      let places : AllByRecursion (λ message. (k : ℕ) × (slice_get next.told k ≡ Some message)) turn.sent =
-      subst (λ (all : List said.Sent). AllByRecursion (λ one. (k : ℕ) × (slice_get all k ≡ Some one)) turn.sent) (sym turned_so.told_is) (placed r.told turn.sent) in
+      let places : AllByRecursion (λ message. (k : ℕ) × (slice_get next.reported k ≡ Some message)) turn.sent =
+      subst (λ (all : List said.Sent). AllByRecursion (λ one. (k : ℕ) × (slice_get all k ≡ Some one)) turn.sent) (sym turned_so.reported_is) (placed r.reported turn.sent) in
       record {
         relation = next;
         moves = follows.moves ++ turned_so.moves;
@@ -514,7 +514,7 @@ module _ (setup : Setup) (station : Station) (live : Live) (controlling : Contro
         again = λ answer is. stays answer.frame (follows.again answer is);
         frames = each_behind (IsIn setup station.identity next) sent (map (said.bytes_of setup) turn.sent)
             (each_on (IsIn setup station.identity r) (IsIn setup station.identity next) sent stays follows.frames)
-            (all_said_in next turn.sent places meant told called);
+            (all_said_in next turn.sent places meant reported called);
         good = follows.good;
         apart = follows.apart;
         real = follows.real;
@@ -525,11 +525,11 @@ module _ (setup : Setup) (station : Station) (live : Live) (controlling : Contro
 
   -- an event at the controller
   pub controller_follows : (one : Event) → IsEventIn one → AllByRecursion (IsSaidAs setup station) (turn_of setup controlling one).sent
-      → AllByRecursion (IsToldAs setup station.identity) (turn_of setup controlling one).sent
+      → AllByRecursion (IsReportedAs setup station.identity) (turn_of setup controlling one).sent
       → AllByRecursion (IsCalledAs setup station.identity) (turn_of setup controlling one).sent
       → IsLive (turn_of setup controlling one).live → IsPlaced station.identity.mac (turn_of setup controlling one).live → Follows setup station live (turn_of setup controlling one).live (sent ++ map (said.bytes_of setup) (turn_of setup controlling one).sent) raised (taken ++ taken_at one)
   controller_follows one is =
-      subst (λ (l : ControllerLive). AllByRecursion (IsSaidAs setup station) (turn_of setup l one).sent → AllByRecursion (IsToldAs setup station.identity) (turn_of setup l one).sent
+      subst (λ (l : ControllerLive). AllByRecursion (IsSaidAs setup station) (turn_of setup l one).sent → AllByRecursion (IsReportedAs setup station.identity) (turn_of setup l one).sent
       → AllByRecursion (IsCalledAs setup station.identity) (turn_of setup l one).sent
       → IsLive (turn_of setup l one).live → IsPlaced station.identity.mac (turn_of setup l one).live → Follows setup station live (turn_of setup l one).live (sent ++ map (said.bytes_of setup) (turn_of setup l one).sent) raised (taken ++ taken_at one)) follows.same
       (turn_follows (turn_of setup follows.relation.live one) (taken_at one) (event_turned one is))

@@ -23,17 +23,17 @@ use Rattle.rpc_core.specs.Response.{Answered as Response, response_of}
 use Rattle.rpc_core.specs.declared.interface.Interface.TheVariants.{Controller as controllers}
 use Rattle.pn_alarms.specs.Message.{alarm_of, message_of}
 use Rattle.plans.specs.declared.parts.Controller.{Controller}
-use Rattle.device_frames.specs.Heard.{Heard, Elsewhere, Resolves, Told, Cyclic, broadcast, heard_alarm, heard_content, heard_frame, heard_of, heard_request, is_own, is_taken, said_by}
+use Rattle.device_frames.specs.Heard.{Heard, Elsewhere, Resolves, Reported, Cyclic, broadcast, heard_alarm, heard_content, heard_frame, heard_of, heard_request, is_own, is_taken, said_by}
 use Rattle.controller_frames.specs.Heard as controller
 use Rattle.controller_frames.specs.Heard.{heard_answer, heard_body, heard_call, heard_first, heard_read, heard_real_time, heard_response, is_to}
 use Rattle.message_laws.specs.hearing.Hearing.{comes}
-use Rattle.alarms_law.proofs.Told.{IsGood, noted_at, told_at}
+use Rattle.alarms_law.proofs.Reported.{IsGood, noted_at, reported_at}
 use Rattle.alarms_law.proofs.Lists.{holds_if}
 
 -- ---- no alarm is heard
 
-abbrev IsUntold : Heard → Type 0
-IsUntold heard = told_at heard ≡ None
+abbrev IsUnreported : Heard → Type 0
+IsUnreported heard = reported_at heard ≡ None
 
 abbrev IsUnnoted : controller.Heard → Type 0
 IsUnnoted heard = noted_at heard ≡ None
@@ -46,25 +46,25 @@ none_of_both P false c x y e p = p
 
 -- ---- at the device
 
-untold_request : (source : Mac) (read : Result Asked DcpFault) → IsUntold (heard_request source read)
-untold_request source (Ok request) = refl
-untold_request source (Err fault) = refl
+unreported_request : (source : Mac) (read : Result Asked DcpFault) → IsUnreported (heard_request source read)
+unreported_request source (Ok request) = refl
+unreported_request source (Err fault) = refl
 
 -- a frame whose data is not for this device, or which is not an alarm frame, says nothing of alarms to it
-untold_content : (identity : Identity) (destination source : Mac) (frame_id : ℕ) (body : List ℕ) → (is_own identity destination ≡ false) ⊎ (is_alarm frame_id ≡ false)
-    → IsUntold (heard_content identity destination source (RealTime frame_id body))
-untold_content identity destination source frame_id body e =
-    holds_if IsUntold (is_taken identity destination frame_id) (heard_request source (request_of frame_id body)) _ (untold_request source (request_of frame_id body))
-    (none_of_both IsUntold (is_own identity destination) (is_alarm frame_id) (heard_alarm source (message_of body)) _ e
-    (holds_if IsUntold (is_own identity destination && is_cyclic frame_id) (Cyclic source frame_id body) Elsewhere refl refl))
+unreported_content : (identity : Identity) (destination source : Mac) (frame_id : ℕ) (body : List ℕ) → (is_own identity destination ≡ false) ⊎ (is_alarm frame_id ≡ false)
+    → IsUnreported (heard_content identity destination source (RealTime frame_id body))
+unreported_content identity destination source frame_id body e =
+    holds_if IsUnreported (is_taken identity destination frame_id) (heard_request source (request_of frame_id body)) _ (unreported_request source (request_of frame_id body))
+    (none_of_both IsUnreported (is_own identity destination) (is_alarm frame_id) (heard_alarm source (message_of body)) _ e
+    (holds_if IsUnreported (is_own identity destination && is_cyclic frame_id) (Cyclic source frame_id body) Elsewhere refl refl))
 
-pub data_untold : (identity : Identity) (destination source : Mac) (tag : Option ℕ) (frame_id : ℕ) (body more : List ℕ)
+pub data_unreported : (identity : Identity) (destination source : Mac) (tag : Option ℕ) (frame_id : ℕ) (body more : List ℕ)
     → frame_of (frame_bytes (carrying destination source tag (RealTime frame_id body))) ≡ Ok (carrying destination source tag (RealTime frame_id more))
     → (is_own identity destination ≡ false) ⊎ (is_alarm frame_id ≡ false)
-    → told_at (heard_of identity (comes (frame_bytes (carrying destination source tag (RealTime frame_id body))))) ≡ None
+    → reported_at (heard_of identity (comes (frame_bytes (carrying destination source tag (RealTime frame_id body))))) ≡ None
 unfolding heard_of
-data_untold identity destination source tag frame_id body more reads e =
-    subst (λ (read : Result Meaning FrameFault). IsUntold (heard_frame identity read)) (sym reads) (untold_content identity destination source frame_id more e)
+data_unreported identity destination source tag frame_id body more reads e =
+    subst (λ (read : Result Meaning FrameFault). IsUnreported (heard_frame identity read)) (sym reads) (unreported_content identity destination source frame_id more e)
 
 -- ---- at the controller
 
@@ -119,12 +119,12 @@ IsNoData (RealTime frame_id body) = ⊥
 IsNoData (ArpPacket packet) = Unit {0}
 IsNoData (UdpDatagram from to body) = Unit {0}
 
-other_untold : (identity : Identity) (destination source : Mac) (content : Content) → IsNoData content → IsUntold (heard_content identity destination source content)
-other_untold identity destination source (RealTime frame_id body) none = absurd none
-other_untold identity destination source (ArpPacket packet) none =
-    holds_if IsUntold (is_own identity destination || pointwise nat_eq destination.octets broadcast) (Resolves source packet) Elsewhere refl refl
-other_untold identity destination source (UdpDatagram from to body) none =
-    holds_if IsUntold (is_own identity destination && to.port == 34964) (Told (record { mac = source; endpoint = from }) to.address (said_by body)) Elsewhere refl refl
+other_unreported : (identity : Identity) (destination source : Mac) (content : Content) → IsNoData content → IsUnreported (heard_content identity destination source content)
+other_unreported identity destination source (RealTime frame_id body) none = absurd none
+other_unreported identity destination source (ArpPacket packet) none =
+    holds_if IsUnreported (is_own identity destination || pointwise nat_eq destination.octets broadcast) (Resolves source packet) Elsewhere refl refl
+other_unreported identity destination source (UdpDatagram from to body) none =
+    holds_if IsUnreported (is_own identity destination && to.port == 34964) (Reported (record { mac = source; endpoint = from }) to.address (said_by body)) Elsewhere refl refl
 
 other_unnoted : (address : List ℕ) (source : Mac) (content : Content) → IsNoData content → IsUnnoted (controller.heard_content address source content)
 other_unnoted address source (RealTime frame_id body) none = absurd none
@@ -133,10 +133,10 @@ other_unnoted address source (UdpDatagram from to body) none =
     holds_if IsUnnoted (is_to address to) (heard_body (record { mac = source; endpoint = from }) body) controller.Nothing (unnoted_body _ body) refl
 
 -- packets and datagrams say nothing of alarms to either end
-pub packet_untold : (identity : Identity) (octets : List ℕ) (meaning : Meaning) → frame_of octets ≡ Ok meaning → IsNoData meaning.content → told_at (heard_of identity (comes octets)) ≡ None
+pub packet_unreported : (identity : Identity) (octets : List ℕ) (meaning : Meaning) → frame_of octets ≡ Ok meaning → IsNoData meaning.content → reported_at (heard_of identity (comes octets)) ≡ None
 unfolding heard_of
-packet_untold identity octets meaning reads none =
-    subst (λ (read : Result Meaning FrameFault). IsUntold (heard_frame identity read)) (sym reads) (other_untold identity meaning.destination meaning.source meaning.content none)
+packet_unreported identity octets meaning reads none =
+    subst (λ (read : Result Meaning FrameFault). IsUnreported (heard_frame identity read)) (sym reads) (other_unreported identity meaning.destination meaning.source meaning.content none)
 
 pub packet_unnoted : (mine : Controller) (octets : List ℕ) (meaning : Meaning) → frame_of octets ≡ Ok meaning → IsNoData meaning.content → noted_at (controller.heard_of mine octets) ≡ None
 unfolding controller.heard_of

@@ -22,7 +22,7 @@ use Rattle.record_blocks.specs.declared.alarm_notification.AlarmNotification.{Al
 use Rattle.rpc_core.specs.Cache.{Kept as Answer, kept_of}
 use Rattle.connect_requests.specs.Request.{Request}
 use Rattle.records.specs.declared.writes.taken.TakenRecord.{TakenRecord}
-use Rattle.relations.specs.Link.{Link}
+use Rattle.relations.specs.RelationState.{RelationState}
 use Rattle.relations.specs.Exchanged.{raised_to}
 use Rattle.device_frames.specs.declared.event.Event.TheVariants.{Frame}
 use Rattle.device_frames.specs.Heard.{Heard, Ticks, Elsewhere, Asks, Resolves, Cyclic, Given, Raised, broadcast, heard_alarm, heard_content, heard_frame, heard_of, heard_request, is_own, is_taken}
@@ -60,8 +60,8 @@ use Rattle.alarms_law.proofs.Related.{IsRight, responded_right}
 use Rattle.alarms_law.proofs.Served.{all_served}
 use Rattle.alarms_law.proofs.Well.{all_called, all_well}
 use Rattle.alarms_law.proofs.Placed.{IsEventOf, IsOf, IsPlaced, event_placed, first_placed}
-use Rattle.alarms_law.proofs.Told.{IsCallIn, IsGood, IsWell, noted_at, told_at}
-use Rattle.alarms_law.proofs.Messages.{HearsSo, all_noted, all_ready, all_told, both_sized, other_mac}
+use Rattle.alarms_law.proofs.Reported.{IsCallIn, IsGood, IsWell, noted_at, reported_at}
+use Rattle.alarms_law.proofs.Messages.{HearsSo, all_noted, all_ready, all_reported, both_sized, other_mac}
 use Rattle.alarms_law.proofs.Sizes.{turn_sized}
 use Rattle.alarms_law.specs.Over.{IsOneOfTheLastTwo, raised_in, raised_over, raised_with, taken_by, taken_from, taken_in, taken_over, taken_with}
 use Rattle.alarms_law.proofs.Opening.{asks_unheard}
@@ -76,7 +76,7 @@ of_device : (setup : Setup) (mac : Mac) (heard : controller.Heard) → IsGood ma
 of_device setup mac (controller.Answers source answer) good fit = good.0
 of_device setup mac (controller.Responds response) good fit = fit
 of_device setup mac (controller.Calls caller call) good fit = good.0
-of_device setup mac (controller.Alarms source header told) good fit = tt
+of_device setup mac (controller.Alarms source header reported) good fit = tt
 of_device setup mac controller.Nothing good fit = tt
 of_device setup mac (controller.Cyclic source frame_id body) good fit = tt
 
@@ -92,7 +92,7 @@ module _ (goes_sized : (setup : Setup) (live : ControllerLive) (one : Event) →
   heard_right octets (controller.Answers source answer) e is fit = right_by octets (controller.Answers source answer) e is.1
   heard_right octets (controller.Responds response) e is fit = responded_right setup good live response live.asked lives fit
   heard_right octets (controller.Calls caller call) e is fit = right_by octets (controller.Calls caller call) e (is.1, is.2, is.3)
-  heard_right octets (controller.Alarms source header told) e is fit = right_by octets (controller.Alarms source header told) e is
+  heard_right octets (controller.Alarms source header reported) e is fit = right_by octets (controller.Alarms source header reported) e is
   heard_right octets controller.Nothing e is fit = right_by octets controller.Nothing e tt
   heard_right octets (controller.Cyclic source frame_id body) e is fit = right_by octets (controller.Cyclic source frame_id body) e tt
 
@@ -212,9 +212,9 @@ module _ {F : Type 0} where
           (sym (heard_it.behind ∙ ap (λ (frames : List (List ℕ)). before.sent ++ frames) heard_it.steps.frames)) all)))
 
     -- anything but an alarm that is raised
-    device_quiet : (heard : Heard) → IsUnraised heard → IsHeard follows.relation.told (told_at heard) → ((sequence : ℕ) → heard_as heard ≡ small.Call sequence small.Connects → sequence ≡ 0) → IsCallIn heard
+    device_inactive : (heard : Heard) → IsUnraised heard → IsHeard follows.relation.reported (reported_at heard) → ((sequence : ℕ) → heard_as heard ≡ small.Call sequence small.Connects → sequence ≡ 0) → IsCallIn heard
         → AtDevice as_flash before heard after → IsMeantAtDevice before heard → FollowsAt after (raised ++ []) taken
-    device_quiet heard unraised is first called made meant =
+    device_inactive heard unraised is first called made meant =
         device_on heard [] first called made meant (λ outcomes.
         turn_on setup follows.relation station.real.modules.items live.rest.calls live.rest.link heard (heard_step outcomes station live heard).live.rest.link (heard_step outcomes station live heard).sent
         follows.tied is unraised
@@ -241,7 +241,7 @@ module _ {F : Type 0} where
         → IsMeantAtDevice before (heard_of station.identity (Frame (record { items = octets }))) → Comes as_flash skipped before Device octets after → FollowsAt after (raised ++ []) taken
     comes_to_device octets true is meant comes = raised_none after raised taken (same_follows comes)
     comes_to_device octets false is meant comes =
-        device_quiet (heard_of station.identity (Frame (record { items = octets }))) (unraised_frame station.identity octets) is.told is.first is.called comes meant
+        device_inactive (heard_of station.identity (Frame (record { items = octets }))) (unraised_frame station.identity octets) is.reported is.first is.called comes meant
 
     delivered_to_device : (octets : Option (List ℕ))
         → ((frame : List ℕ) → octets ≡ Some frame → IsIn setup station.identity follows.relation frame)
@@ -266,7 +266,7 @@ module _ {F : Type 0} where
         ∙ ap (λ (frames : List (List ℕ)). record { device = before.device; controller = with_live before.controller turn.live; sent = before.sent ++ frames }) (frames_are before.controller one)) in
         let sayable = both_sized setup turn.sent sized.1 placed.sent in
         let all : FollowsAt there raised (taken ++ taken_at setup station live before.controller.live before.sent raised taken follows one) =
-        controller_follows setup station live before.controller.live before.sent raised taken follows one is meant (all_told hears setup station.identity follows.good follows.apart turn.sent sayable)
+        controller_follows setup station live before.controller.live before.sent raised taken follows one is meant (all_reported hears setup station.identity follows.good follows.apart turn.sent sayable)
         (all_called hears setup station follows.good turn.sent sayable meant) sized.0 placed.live in
         subst (λ (w : World F). FollowsAt w raised (taken ++ now)) (sym same) (subst (λ (xs : List AlarmNotification). FollowsAt there raised (taken ++ xs)) takes all)
 
@@ -298,9 +298,9 @@ module _ {F : Type 0} where
     one_follows (move.Deliver Controller number) happens meant =
         raised_none after raised (taken ++ taken_from before (slice_get before.sent number))
         (delivered_to_controller (slice_get before.sent number) (λ frame there. in_at number frame there) meant happens)
-    one_follows (move.Tick Device) happens meant = taken_none after (raised ++ []) taken (device_quiet Ticks tt tt never_first (λ caller address call e other. absurd (other refl)) happens meant)
+    one_follows (move.Tick Device) happens meant = taken_none after (raised ++ []) taken (device_inactive Ticks tt tt never_first (λ caller address call e other. absurd (other refl)) happens meant)
     one_follows (move.Tick Controller) happens meant = raised_none after raised (taken ++ []) (controller_on event.Tick [] tt refl meant (so.goes_sized setup before.controller.live event.Tick follows.good follows.lives tt, tt) happens)
-    one_follows (move.Input slot subslot value) happens meant = taken_none after (raised ++ []) taken (device_quiet (Given slot subslot value.items) tt tt never_first (λ caller address call e other. absurd (other refl)) happens meant)
+    one_follows (move.Input slot subslot value) happens meant = taken_none after (raised ++ []) taken (device_inactive (Given slot subslot value.items) tt tt never_first (λ caller address call e other. absurd (other refl)) happens meant)
     one_follows (move.Alarm slot subslot octets) happens meant = taken_none after _ taken (device_raises slot subslot octets.items happens meant)
     one_follows (move.Give slot subslot value) happens meant = raised_none after raised (taken ++ []) (controller_on (event.Give slot subslot value) [] tt refl meant
         (so.goes_sized setup before.controller.live (event.Give slot subslot value) follows.good follows.lives tt, tt) happens)
@@ -339,13 +339,13 @@ module _ {F : Type 0} where
     takes = refl;
     tied = λ l is. absurd (none_some l first.device.live.rest.link begins.unrelated is);
     unmade = λ none. refl;
-    linked = λ l is. absurd (none_some l (small_of first.controller.setup.activity first.device.live).link (ap (λ (o : Option Link). option_map link_of o) begins.unrelated) is);
+    linked = λ l is. absurd (none_some l (small_of first.controller.setup.activity first.device.live).link (ap (λ (o : Option RelationState). option_map link_of o) begins.unrelated) is);
     again = λ answer is. absurd (none_some answer (kept_at first.controller.setup first.device.live) (ap (λ (calls : List Answer). option_map kept_in (kept_of first.controller.setup.activity calls)) begins.uncalled) is);
     frames = subst (λ (frames : List (List ℕ)). AllByRecursion (IsIn first.controller.setup first.device.station.identity (start first.controller.setup)) frames) (sym begins.opened) (
       record {
         noted = subst (λ (h : controller.Heard). IsSaid [] [] (noted_at h)) (sym unheard) tt;
         good = subst (λ (h : controller.Heard). IsGood first.device.station.identity.mac h) (sym unheard) tt;
-        told = subst (λ (h : Heard). IsHeard [] (told_at h)) (sym asks_it) tt;
+        reported = subst (λ (h : Heard). IsHeard [] (reported_at h)) (sym asks_it) tt;
         first = λ sequence e. absurd (idle_call sequence (ap heard_as (sym asks_it) ∙ e));
         called = λ caller address call e other. absurd (other (ap heard_as asks_it));
         well = subst (λ (h : controller.Heard). IsWell first.controller.setup h) (sym unheard) tt;

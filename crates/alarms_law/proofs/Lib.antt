@@ -1,5 +1,5 @@
 pub mod Lists
-pub mod Told
+pub mod Reported
 pub mod Turns
 pub mod Tied
 pub mod Sizes

@@ -57,7 +57,7 @@ use Rattle.controller_frames.specs.Sent as said
 use Rattle.controller_frames.specs.Sent.{answer_frame, call_frame, calls_at, end_pdu}
 use Rattle.codec_laws.specs.blocks.Writable.{IsAck, IsAlarm}
 use Rattle.codec_laws.specs.alarms.Sendable.{IsHeader}
-use Rattle.message_laws.specs.hearing.Hearing.{comes, mine_hears, mine_told, own_hears, own_told}
+use Rattle.message_laws.specs.hearing.Hearing.{comes, mine_hears, mine_reported, own_hears, own_reported}
 use Rattle.message_laws.specs.hearing.Stations.{IsAddress, IsCalled, IsCaller, IsDevice, IsNumbered, IsRoute, IsSetup, ready_call}
 use Rattle.message_laws.specs.sending.Messages.{CanBeSent as CanBeSaid}
 use Rattle.message_laws.specs.sending.Sized.{IsNoted}
@@ -65,8 +65,8 @@ use Rattle.end_laws.specs.device.Owed.{IsOwed}
 use Rattle.alarms_law.specs.Sized.{IsChosenWell}
 use Rattle.alarms_law.proofs.Lists.{holds_if}
 use Rattle.alarms_law.proofs.Sizes.{AreSizedIn, IsSizedFrame, IsSizedSent}
-use Rattle.alarms_law.proofs.Told.{IsGood, IsNotedAs, IsNotedBy, IsToldAs, IsToldBy, noted_at, noted_by, noted_of, reply_of, told_at, told_of}
-use Rattle.alarms_law.proofs.Hearing.{data_good, data_unheard, data_unnoted, data_untold, datagram_good, packet_good, packet_unnoted, packet_untold}
+use Rattle.alarms_law.proofs.Reported.{IsGood, IsNotedAs, IsNotedBy, IsReportedAs, IsReportedBy, noted_at, noted_by, noted_of, reply_of, reported_at, reported_of}
+use Rattle.alarms_law.proofs.Hearing.{data_good, data_unheard, data_unnoted, data_unreported, datagram_good, packet_good, packet_unnoted, packet_unreported}
 use Rattle.alarms_law.proofs.Opening.{alarms_unheard, asks_unheard}
 
 -- ---- a message of the controller
@@ -129,22 +129,22 @@ pub record HearsSo : Type 0 where
   pub call_can : (setup : Setup) (request : Request) → IsSetup setup → IsCalled request → IsNumbered request → CanBeCalled devices (call_for setup request)
   pub call_at_device : (identity : Identity) (setup : Setup) (to : Mac) (call : Call) → IsSetup setup → IsMac to → CanBeCalled devices call
       → heard_of identity (comes (call_frame setup to call))
-      ≡ own_told identity setup.plan.controller.mac to (calls_at setup.plan.controller.address) (calls_at setup.plan.station.suite.address) (device.Calls call)
+      ≡ own_reported identity setup.plan.controller.mac to (calls_at setup.plan.controller.address) (calls_at setup.plan.station.suite.address) (device.Calls call)
   pub call_at_controller : (mine : Controller) (setup : Setup) (to : Mac) (call : Call) → IsSetup setup → IsMac to → CanBeCalled devices call
       → heard_by mine (call_frame setup to call) ≡ controller.Nothing
   pub agreed_at_device : (identity : Identity) (setup : Setup) (caller : Caller) (answer : Response) → IsSetup setup → IsCaller caller → CanBeAnswered answer
       → heard_of identity (comes (answer_frame setup caller answer))
-      ≡ own_told identity setup.plan.controller.mac caller.mac (calls_at setup.plan.controller.address) caller.endpoint (device.Responds answer)
+      ≡ own_reported identity setup.plan.controller.mac caller.mac (calls_at setup.plan.controller.address) caller.endpoint (device.Responds answer)
   pub agreed_at_controller : (mine : Controller) (setup : Setup) (caller : Caller) (answer : Response) → IsSetup setup → IsCaller caller → CanBeAnswered answer
-      → heard_by mine (answer_frame setup caller answer) ≡ mine_told mine caller.mac caller.endpoint (controller.Responds answer)
+      → heard_by mine (answer_frame setup caller answer) ≡ mine_reported mine caller.mac caller.endpoint (controller.Responds answer)
   pub ready_can : (ready : Ready) → IsCallHeader ready.header → ready.header.interface ≡ interface_uuid controllers → IsUuid ready.block.ar_uuid → CanBeCalled controllers (ready_call ready)
   pub ready_at_controller : (mine : Controller) (identity : Identity) (address : List ℕ) (ready : Ready)
       → IsDevice identity → IsMac ready.partner.mac → IsAddress ready.partner.address → IsAddress address → CanBeCalled controllers (ready_call ready)
       → heard_by mine (ready_frame identity address ready)
-      ≡ mine_told mine ready.partner.mac (calls_at ready.partner.address) (controller.Calls (record { mac = identity.mac; endpoint = calls_at address }) (ready_call ready))
+      ≡ mine_reported mine ready.partner.mac (calls_at ready.partner.address) (controller.Calls (record { mac = identity.mac; endpoint = calls_at address }) (ready_call ready))
   pub response_at_controller : (mine : Controller) (identity : Identity) (caller : Caller) (address : List ℕ) (answer : Response)
       → IsDevice identity → IsCaller caller → IsAddress address → CanBeAnswered answer
-      → heard_by mine (response_frame identity caller address answer) ≡ mine_told mine caller.mac caller.endpoint (controller.Responds answer)
+      → heard_by mine (response_frame identity caller address answer) ≡ mine_reported mine caller.mac caller.endpoint (controller.Responds answer)
   pub response_long : (mine : Controller) (identity : Identity) (caller : Caller) (address : List ℕ) (answer : Response)
       → IsDevice identity → IsCaller caller → IsAddress address → IsCallHeader answer.header → 1372 < length answer.blocks
       → heard_by mine (response_frame identity caller address answer) ≡ controller.Nothing
@@ -183,13 +183,13 @@ noted_or : (b : Bool) (heard : controller.Heard) → (noted_at (cond b heard con
 noted_or true heard = inl refl
 noted_or false heard = inr refl
 
-told_or : (b : Bool) (heard : Heard) → (told_at (cond b heard device.Elsewhere) ≡ told_at heard) ⊎ (told_at (cond b heard device.Elsewhere) ≡ None)
-told_or true heard = inl refl
-told_or false heard = inr refl
+reported_or : (b : Bool) (heard : Heard) → (reported_at (cond b heard device.Elsewhere) ≡ reported_at heard) ⊎ (reported_at (cond b heard device.Elsewhere) ≡ None)
+reported_or true heard = inl refl
+reported_or false heard = inr refl
 
-told_none : (b : Bool) (heard : Heard) → told_at heard ≡ None → told_at (cond b heard device.Elsewhere) ≡ None
-told_none true heard e = e
-told_none false heard e = refl
+reported_none : (b : Bool) (heard : Heard) → reported_at heard ≡ None → reported_at (cond b heard device.Elsewhere) ≡ None
+reported_none true heard e = e
+reported_none false heard e = refl
 
 -- an alarm for which an AlarmAck can be written
 noted_alarm : (alarm : AlarmNotification) → IsAlarm alarm → IsNoted alarm
@@ -202,17 +202,17 @@ noted_alarm alarm is = record {
 }
 
 -- a datagram says nothing of alarms to either end, and neither does a DCP request
-datagram_told : (identity : Identity) (source destination : Mac) (from to : Endpoint) (body : device.Said) → told_at (own_told identity source destination from to body) ≡ None
-datagram_told identity source destination from to body =
-    told_none (is_own identity destination && to.port == 34964) (device.Told (record { mac = source; endpoint = from }) to.address body) refl
+datagram_reported : (identity : Identity) (source destination : Mac) (from to : Endpoint) (body : device.Said) → reported_at (own_reported identity source destination from to body) ≡ None
+datagram_reported identity source destination from to body =
+    reported_none (is_own identity destination && to.port == 34964) (device.Reported (record { mac = source; endpoint = from }) to.address body) refl
 
 datagram_unheard : (mine : Controller) (destination : Mac) (to : Endpoint) (answer : Response) → pointwise nat_eq destination.octets mine.mac.octets ≡ false
-    → mine_told mine destination to (controller.Responds answer) ≡ controller.Nothing
+    → mine_reported mine destination to (controller.Responds answer) ≡ controller.Nothing
 datagram_unheard mine destination to answer other =
     ap (λ (b : Bool). cond b (cond (is_to mine.address to) (controller.Responds answer) controller.Nothing) controller.Nothing) other
 
-request_untold : (identity : Identity) (destination source : Mac) (request : Asked) → told_at (own_hears identity destination (device.Asks source request)) ≡ None
-request_untold identity destination source request = told_none (is_own identity destination) (device.Asks source request) refl
+request_unreported : (identity : Identity) (destination source : Mac) (request : Asked) → reported_at (own_hears identity destination (device.Asks source request)) ≡ None
+request_unreported identity destination source request = reported_none (is_own identity destination) (device.Asks source request) refl
 
 module _ (so : HearsSo) (setup : Setup) (identity : Identity) where
   abbrev mine : Controller
@@ -223,9 +223,9 @@ module _ (so : HearsSo) (setup : Setup) (identity : Identity) where
   noted_by_law octets destination heard e =
       subst (λ (h : controller.Heard). (noted_at h ≡ noted_at heard) ⊎ (noted_at h ≡ None)) (sym e) (noted_or (pointwise nat_eq destination.octets mine.mac.octets) heard)
 
-  told_by_law : (octets : List ℕ) (destination : Mac) (heard : Heard) → heard_of identity (comes octets) ≡ own_hears identity destination heard
-      → (told_of identity octets ≡ told_at heard) ⊎ (told_of identity octets ≡ None)
-  told_by_law octets destination heard e = subst (λ (h : Heard). (told_at h ≡ told_at heard) ⊎ (told_at h ≡ None)) (sym e) (told_or (is_own identity destination) heard)
+  reported_by_law : (octets : List ℕ) (destination : Mac) (heard : Heard) → heard_of identity (comes octets) ≡ own_hears identity destination heard
+      → (reported_of identity octets ≡ reported_at heard) ⊎ (reported_of identity octets ≡ None)
+  reported_by_law octets destination heard e = subst (λ (h : Heard). (reported_at h ≡ reported_at heard) ⊎ (reported_at h ≡ None)) (sym e) (reported_or (is_own identity destination) heard)
 
   good_by_law : (octets : List ℕ) (destination : Mac) (heard : controller.Heard) → heard_by mine octets ≡ mine_hears mine destination heard → IsGood identity.mac heard
       → IsGood identity.mac (heard_by mine octets)
@@ -287,15 +287,15 @@ module _ (so : HearsSo) (setup : Setup) (identity : Identity) where
   plain_noted destination tag frame_id body plain can =
       let reads = so.data_read destination identity.mac tag frame_id body can in (
         inl (data_unnoted mine destination identity.mac tag frame_id body _ reads (inr plain)),
-        data_untold identity destination identity.mac tag frame_id body _ reads (inr plain),
+        data_unreported identity destination identity.mac tag frame_id body _ reads (inr plain),
         data_good mine destination identity.mac tag frame_id body _ reads plain can.source,
       )
 
   -- the device does not hear its own alarm frames
-  alarm_untold : (destination : Mac) (tag : Option ℕ) (frame_id : ℕ) (body : List ℕ) → (destination ≡ identity.mac → ⊥) → CanBeSent (carrying destination identity.mac tag (RealTime frame_id body))
-      → told_of identity (frame_bytes (carrying destination identity.mac tag (RealTime frame_id body))) ≡ None
-  alarm_untold destination tag frame_id body apart can =
-      data_untold identity destination identity.mac tag frame_id body _ (so.data_read destination identity.mac tag frame_id body can) (inl (other_mac destination identity.mac apart))
+  alarm_unreported : (destination : Mac) (tag : Option ℕ) (frame_id : ℕ) (body : List ℕ) → (destination ≡ identity.mac → ⊥) → CanBeSent (carrying destination identity.mac tag (RealTime frame_id body))
+      → reported_of identity (frame_bytes (carrying destination identity.mac tag (RealTime frame_id body))) ≡ None
+  alarm_unreported destination tag frame_id body apart can =
+      data_unreported identity destination identity.mac tag frame_id body _ (so.data_read destination identity.mac tag frame_id body can) (inl (other_mac destination identity.mac apart))
 
   frame_noted : (route : Route) (frame : Frame) → IsSendable identity (sent.Exchanges route frame) → IsSizedFrame identity route frame
       → IsNotedBy setup identity (bytes_of identity (sent.Exchanges route frame)) (noted_by frame)
@@ -303,12 +303,12 @@ module _ (so : HearsSo) (setup : Setup) (identity : Identity) where
   frame_noted route (Notifies header one) can sized = (
     noted_by_law (bytes_of identity (sent.Exchanges route (Notifies header one))) route.partner (controller.Alarms identity.mac header (notice.Data header.send_number one))
         (so.alarm mine identity (alarm_route route) header one can.source (route_is route can.destination can.tag) sized.1 sized.2 sized.3),
-    alarm_untold route.partner (Some route.alarm_tag) (frame_id_of pdu.Data) (body_of (Notifies header one)) sized.0 can,
+    alarm_unreported route.partner (Some route.alarm_tag) (frame_id_of pdu.Data) (body_of (Notifies header one)) sized.0 can,
     good_by_law (bytes_of identity (sent.Exchanges route (Notifies header one))) route.partner (controller.Alarms identity.mac header (notice.Data header.send_number one))
         (so.alarm mine identity (alarm_route route) header one can.source (route_is route can.destination can.tag) sized.1 sized.2 sized.3) (sized.2.send_number, noted_alarm one sized.3),
   )
   frame_noted route (Answers header) can sized =
-      (by_kind sized.1, alarm_untold route.partner (Some route.alarm_tag) (frame_id_of header.kind) (body_of (Answers header)) sized.0 can, good_kind sized.1)
+      (by_kind sized.1, alarm_unreported route.partner (Some route.alarm_tag) (frame_id_of header.kind) (body_of (Answers header)) sized.0 can, good_kind sized.1)
     where
       good_kind : (header.kind ≡ pdu.Ack) ⊎ (header.kind ≡ pdu.Nack) → IsGood identity.mac (heard_by mine (bytes_of identity (sent.Exchanges route (Answers header))))
       good_kind (inl kind) = good_by_law (bytes_of identity (sent.Exchanges route (Answers header))) route.partner (controller.Alarms identity.mac header (notice.Ack header.ack_number))
@@ -333,7 +333,7 @@ module _ (so : HearsSo) (setup : Setup) (identity : Identity) where
   message_noted (sent.Ends farewell) can sized ready_so = (
     noted_by_law (bytes_of identity (sent.Ends farewell)) farewell.initiator (controller.Alarms identity.mac (said_by farewell).header notice.Abort)
         (so.end_heard mine identity farewell can.source can.destination can.tag sized.1),
-    alarm_untold farewell.initiator (Some farewell.tag) _ _ sized.0 can,
+    alarm_unreported farewell.initiator (Some farewell.tag) _ _ sized.0 can,
     good_by_law (bytes_of identity (sent.Ends farewell)) farewell.initiator (controller.Alarms identity.mac (said_by farewell).header notice.Abort)
         (so.end_heard mine identity farewell can.source can.destination can.tag sized.1) tt,
   )
@@ -342,19 +342,19 @@ module _ (so : HearsSo) (setup : Setup) (identity : Identity) where
   message_noted (sent.SetAnswer asker request answers) can sized ready_so = plain_noted asker None 65277 _ refl can
   message_noted (sent.ArpReply asker address target) can sized ready_so =
       let reads = so.packet_read asker identity.mac None _ can in
-      (inl (packet_unnoted mine _ _ reads tt), packet_untold identity _ _ reads tt, packet_good mine identity.mac _ asker identity.mac None _ reads)
+      (inl (packet_unnoted mine _ _ reads tt), packet_unreported identity _ _ reads tt, packet_good mine identity.mac _ asker identity.mac None _ reads)
   message_noted (sent.CallAnswer caller address answer) can sized ready_so =
       let reads = so.datagram_read caller.mac identity.mac None _ _ _ can in
       let none : IsErr (call_of controllers (response_bytes answer)) =
       subst (λ (octets : List ℕ). IsErr (call_of controllers octets)) (append-nil (response_bytes answer)) (so.response_no_call controllers answer []) in
-      (inl (packet_unnoted mine _ _ reads tt), packet_untold identity _ _ reads tt, datagram_good mine identity.mac _ caller.mac identity.mac None _ _ (response_bytes answer) reads none)
+      (inl (packet_unnoted mine _ _ reads tt), packet_unreported identity _ _ reads tt, datagram_good mine identity.mac _ caller.mac identity.mac None _ _ (response_bytes answer) reads none)
   message_noted (sent.ReadyCall address ready) can sized ready_so =
       let reads = so.datagram_read ready.partner.mac identity.mac None _ _ _ can in
       let caller : Caller = record { mac = identity.mac; endpoint = calls_at address } in
       let to = calls_at ready.partner.address in
       let calls : IsCaller caller = record { mac = can.source; endpoint = (can.content.0.0, omega arith) } in (
         inl (packet_unnoted mine _ _ reads tt),
-        packet_untold identity _ _ reads tt,
+        packet_unreported identity _ _ reads tt,
         good_by_law (bytes_of identity (sent.ReadyCall address ready)) ready.partner.mac (cond (is_to mine.address to) (controller.Calls caller (ready_call ready)) controller.Nothing)
             (so.ready_at_controller mine identity address ready can.source can.destination can.content.1.0 can.content.0.0 ready_so)
             (holds_if (IsGood identity.mac) (is_to mine.address to) (controller.Calls caller (ready_call ready)) controller.Nothing (refl, calls, ready_so.header, ready_so.maximum) tt),
@@ -382,69 +382,69 @@ module _ (so : HearsSo) (setup : Setup) (identity : Identity) where
     alarm_unheard destination octets source header message apart e =
         alarms_unheard (at_partner destination) setup octets source header message (own_heard destination octets (device.Alarms source header message) e) (other_mac destination mine.mac apart)
 
-    call_told : (to : Mac) (request : Request) → IsMac to → IsCalled request → IsNumbered request → IsToldBy setup identity (call_frame setup to (call_for setup request)) None
-    call_told to request mac called numbered =
+    call_reported : (to : Mac) (request : Request) → IsMac to → IsCalled request → IsNumbered request → IsReportedBy setup identity (call_frame setup to (call_for setup request)) None
+    call_reported to request mac called numbered =
         let can = so.call_can setup request good called numbered in (
-          inl (ap told_at (so.call_at_device identity setup to (call_for setup request) good mac can)
-              ∙ datagram_told identity mine.mac to (calls_at mine.address) (calls_at setup.plan.station.suite.address) (device.Calls (call_for setup request))),
+          inl (ap reported_at (so.call_at_device identity setup to (call_for setup request) good mac can)
+              ∙ datagram_reported identity mine.mac to (calls_at mine.address) (calls_at setup.plan.station.suite.address) (device.Calls (call_for setup request))),
           so.call_at_controller mine setup to (call_for setup request) good mac can,
         )
 
-    request_told : (to : Mac) (request : Request) → IsMac to → IsNumbered request → IsAimed setup (said.Requests to request) → IsToldBy setup identity (said.bytes_of setup (said.Requests to request)) None
-    request_told to asks.Identify mac numbered aimed =
-        (inl (ap told_at (so.identify identity setup to good)), asks_unheard identity setup _ _ _ (so.identify identity setup to good) (other_mac identity.mac mine.mac apart))
-    request_told to asks.Address mac numbered aimed = (
-      inl (ap told_at (so.address identity setup to good mac) ∙ request_untold identity to mine.mac (address_asked setup.plan)),
+    request_reported : (to : Mac) (request : Request) → IsMac to → IsNumbered request → IsAimed setup (said.Requests to request) → IsReportedBy setup identity (said.bytes_of setup (said.Requests to request)) None
+    request_reported to asks.Identify mac numbered aimed =
+        (inl (ap reported_at (so.identify identity setup to good)), asks_unheard identity setup _ _ _ (so.identify identity setup to good) (other_mac identity.mac mine.mac apart))
+    request_reported to asks.Address mac numbered aimed = (
+      inl (ap reported_at (so.address identity setup to good mac) ∙ request_unreported identity to mine.mac (address_asked setup.plan)),
       asks_unheard (at_partner to) setup _ _ _ (own_heard to _ _ (so.address (at_partner to) setup to good mac)) (other_mac to mine.mac aimed),
     )
-    request_told to asks.Connect mac numbered aimed = call_told to asks.Connect mac tt numbered
-    request_told to (asks.Write number) mac numbered aimed = call_told to (asks.Write number) mac tt numbered
-    request_told to asks.PrmEnd mac numbered aimed = call_told to asks.PrmEnd mac tt numbered
-    request_told to (asks.Release sequence) mac numbered aimed = call_told to (asks.Release sequence) mac tt numbered
+    request_reported to asks.Connect mac numbered aimed = call_reported to asks.Connect mac tt numbered
+    request_reported to (asks.Write number) mac numbered aimed = call_reported to (asks.Write number) mac tt numbered
+    request_reported to asks.PrmEnd mac numbered aimed = call_reported to asks.PrmEnd mac tt numbered
+    request_reported to (asks.Release sequence) mac numbered aimed = call_reported to (asks.Release sequence) mac tt numbered
 
-    reply_told : (route : Route) (header : Header) → IsMac route.partner → route.alarm_tag < 65536 → (route.partner ≡ mine.mac → ⊥) → (header.kind ≡ pdu.Ack) ⊎ (header.kind ≡ pdu.Nack) → IsHeader header
-        → IsToldBy setup identity (said.bytes_of setup (said.Replies route header)) (reply_of header.ack_number header.kind)
-    reply_told route header mac tag apart (inl kind) sized =
+    reply_reported : (route : Route) (header : Header) → IsMac route.partner → route.alarm_tag < 65536 → (route.partner ≡ mine.mac → ⊥) → (header.kind ≡ pdu.Ack) ⊎ (header.kind ≡ pdu.Nack) → IsHeader header
+        → IsReportedBy setup identity (said.bytes_of setup (said.Replies route header)) (reply_of header.ack_number header.kind)
+    reply_reported route header mac tag apart (inl kind) sized =
         let way = route_is route mac tag in (
-          subst (λ (k : PduType). (told_of identity (said.bytes_of setup (said.Replies route header)) ≡ reply_of header.ack_number k) ⊎ (told_of identity (said.bytes_of setup (said.Replies route header)) ≡ None)) (sym kind)
-              (told_by_law (said.bytes_of setup (said.Replies route header)) route.partner _ (so.acks identity setup (alarm_route route) header good way kind sized)),
+          subst (λ (k : PduType). (reported_of identity (said.bytes_of setup (said.Replies route header)) ≡ reply_of header.ack_number k) ⊎ (reported_of identity (said.bytes_of setup (said.Replies route header)) ≡ None)) (sym kind)
+              (reported_by_law (said.bytes_of setup (said.Replies route header)) route.partner _ (so.acks identity setup (alarm_route route) header good way kind sized)),
           alarm_unheard route.partner (said.bytes_of setup (said.Replies route header)) _ _ _ apart (so.acks (at_partner route.partner) setup (alarm_route route) header good way kind sized),
         )
-    reply_told route header mac tag apart (inr kind) sized =
+    reply_reported route header mac tag apart (inr kind) sized =
         let way = route_is route mac tag in (
-          subst (λ (k : PduType). (told_of identity (said.bytes_of setup (said.Replies route header)) ≡ reply_of header.ack_number k) ⊎ (told_of identity (said.bytes_of setup (said.Replies route header)) ≡ None)) (sym kind)
-              (told_by_law (said.bytes_of setup (said.Replies route header)) route.partner _ (so.nacks identity setup (alarm_route route) header good way kind sized)),
+          subst (λ (k : PduType). (reported_of identity (said.bytes_of setup (said.Replies route header)) ≡ reply_of header.ack_number k) ⊎ (reported_of identity (said.bytes_of setup (said.Replies route header)) ≡ None)) (sym kind)
+              (reported_by_law (said.bytes_of setup (said.Replies route header)) route.partner _ (so.nacks identity setup (alarm_route route) header good way kind sized)),
           alarm_unheard route.partner (said.bytes_of setup (said.Replies route header)) _ _ _ apart (so.nacks (at_partner route.partner) setup (alarm_route route) header good way kind sized),
         )
 
-    message_told : (message : said.Sent) → IsSizedSaid setup message → IsToldAs setup identity message
-    message_told (said.Requests to request) sized = request_told to request sized.0.0 sized.0.1 sized.1
-    message_told (said.Agrees caller answer) sized = (
-      inl (ap told_at (so.agreed_at_device identity setup caller answer good sized.0.0 sized.0.1)
-          ∙ datagram_told identity mine.mac caller.mac (calls_at mine.address) caller.endpoint (device.Responds answer)),
+    message_reported : (message : said.Sent) → IsSizedSaid setup message → IsReportedAs setup identity message
+    message_reported (said.Requests to request) sized = request_reported to request sized.0.0 sized.0.1 sized.1
+    message_reported (said.Agrees caller answer) sized = (
+      inl (ap reported_at (so.agreed_at_device identity setup caller answer good sized.0.0 sized.0.1)
+          ∙ datagram_reported identity mine.mac caller.mac (calls_at mine.address) caller.endpoint (device.Responds answer)),
       so.agreed_at_controller mine setup caller answer good sized.0.0 sized.0.1 ∙ datagram_unheard mine caller.mac caller.endpoint answer (other_mac caller.mac mine.mac sized.1),
     )
-    message_told (said.Cycles route shown counter) sized =
+    message_reported (said.Cycles route shown counter) sized =
         let way = sized.0.0 in
         let can : CanBeSent (carrying route.partner mine.mac (Some route.sent_tag) (RealTime route.sent_id (cyclic_body shown counter))) =
         record { destination = way.partner; source = good.mac; tag = way.sent_tag; content = (way.sent_id, sized.0.1) } in
         let reads = so.data_read route.partner mine.mac (Some route.sent_tag) route.sent_id (cyclic_body shown counter) can in (
-          inl (data_untold identity route.partner mine.mac (Some route.sent_tag) route.sent_id (cyclic_body shown counter) _ reads (inr sized.1.0)),
+          inl (data_unreported identity route.partner mine.mac (Some route.sent_tag) route.sent_id (cyclic_body shown counter) _ reads (inr sized.1.0)),
           data_unheard mine route.partner mine.mac (Some route.sent_tag) route.sent_id (cyclic_body shown counter) _ reads (other_mac route.partner mine.mac sized.1.1),
         )
-    message_told (said.Confirms route header one) sized =
+    message_reported (said.Confirms route header one) sized =
         let way = route_is route sized.0.0.partner sized.0.0.alarm_tag in (
-          told_by_law (said.bytes_of setup (said.Confirms route header one)) route.partner _ (so.confirms identity setup (alarm_route route) header one good way sized.0.1 sized.0.2 sized.0.3),
+          reported_by_law (said.bytes_of setup (said.Confirms route header one)) route.partner _ (so.confirms identity setup (alarm_route route) header one good way sized.0.1 sized.0.2 sized.0.3),
           alarm_unheard route.partner (said.bytes_of setup (said.Confirms route header one)) _ _ _ sized.1
               (so.confirms (at_partner route.partner) setup (alarm_route route) header one good way sized.0.1 sized.0.2 sized.0.3),
         )
-    message_told (said.Replies route header) sized = reply_told route header sized.0.0.partner sized.0.0.alarm_tag sized.1 sized.0.1 sized.0.2
-    message_told (said.Ends route header reason) sized =
+    message_reported (said.Replies route header) sized = reply_reported route header sized.0.0.partner sized.0.0.alarm_tag sized.1 sized.0.1 sized.0.2
+    message_reported (said.Ends route header reason) sized =
         let way = route_is route sized.0.0.partner sized.0.0.alarm_tag in (
-          told_by_law (said.bytes_of setup (said.Ends route header reason)) route.partner _ (so.ends identity setup (alarm_route route) header reason good way sized.0.1),
+          reported_by_law (said.bytes_of setup (said.Ends route header reason)) route.partner _ (so.ends identity setup (alarm_route route) header reason good way sized.0.1),
           alarm_unheard route.partner (said.bytes_of setup (said.Ends route header reason)) _ _ _ sized.1 (so.ends (at_partner route.partner) setup (alarm_route route) header reason good way sized.0.1),
         )
 
-    pub all_told : (messages : List said.Sent) → AllByRecursion (IsSizedSaid setup) messages → AllByRecursion (IsToldAs setup identity) messages
-    all_told [] sized = tt
-    all_told (message ∷ messages) sized = (message_told message sized.0, all_told messages sized.1)
+    pub all_reported : (messages : List said.Sent) → AllByRecursion (IsSizedSaid setup) messages → AllByRecursion (IsReportedAs setup identity) messages
+    all_reported [] sized = tt
+    all_reported (message ∷ messages) sized = (message_reported message sized.0, all_reported messages sized.1)

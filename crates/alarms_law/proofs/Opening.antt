@@ -16,7 +16,7 @@ use Rattle.pn_alarms.specs.declared.fault.AlarmFault.{AlarmFault}
 use Rattle.pn_alarms.specs.declared.pdu.Header.{Header}
 use Rattle.pn_alarms.specs.Message.{ToDevice, message_of}
 use Rattle.plans.specs.declared.parts.Controller.{Controller}
-use Rattle.device_frames.specs.Heard.{Heard, Ticks, Unreadable, Elsewhere, Asks, Resolves, Told, Cyclic, Alarms, Given, Raised, broadcast, heard_alarm, heard_content, heard_frame, heard_of, heard_request, identify_multicast, is_own, is_taken, said_by}
+use Rattle.device_frames.specs.Heard.{Heard, Ticks, Unreadable, Elsewhere, Asks, Resolves, Reported, Cyclic, Alarms, Given, Raised, broadcast, heard_alarm, heard_content, heard_frame, heard_of, heard_request, identify_multicast, is_own, is_taken, said_by}
 use Rattle.controller_frames.specs.declared.setup.Setup.{Setup}
 use Rattle.controller_frames.specs.Heard as controller
 use Rattle.controller_frames.specs.Heard.{heard_real_time, heard_read}
@@ -30,7 +30,7 @@ IsAsking Ticks = ⊥
 IsAsking Unreadable = ⊥
 IsAsking Elsewhere = ⊥
 IsAsking (Resolves asker packet) = ⊥
-IsAsking (Told caller address body) = ⊥
+IsAsking (Reported caller address body) = ⊥
 IsAsking (Cyclic source frame_id body) = ⊥
 IsAsking (Alarms source header message) = ⊥
 IsAsking (Given slot subslot value) = ⊥
@@ -96,7 +96,7 @@ asks_heard identity mine destination source (RealTime frame_id body) apart is = 
 asks_heard identity mine destination source (ArpPacket packet) apart is =
     absurd (holds_if (λ (h : Heard). IsAsking h → ⊥) (is_own identity destination || pointwise nat_eq destination.octets broadcast) (Resolves source packet) Elsewhere (λ i. i) (λ i. i) is)
 asks_heard identity mine destination source (UdpDatagram from to body) apart is =
-    absurd (holds_if (λ (h : Heard). IsAsking h → ⊥) (is_own identity destination && to.port == 34964) (Told (record { mac = source; endpoint = from }) to.address (said_by body)) Elsewhere (λ i. i) (λ i. i) is)
+    absurd (holds_if (λ (h : Heard). IsAsking h → ⊥) (is_own identity destination && to.port == 34964) (Reported (record { mac = source; endpoint = from }) to.address (said_by body)) Elsewhere (λ i. i) (λ i. i) is)
 
 asks_read : (identity : Identity) (mine : Controller) (read : Result Meaning FrameFault) → pointwise nat_eq identity.mac.octets mine.mac.octets ≡ false → IsAsking (heard_frame identity read)
     → heard_read mine read ≡ controller.Nothing
@@ -119,7 +119,7 @@ IsAlarming Ticks = ⊥
 IsAlarming Unreadable = ⊥
 IsAlarming Elsewhere = ⊥
 IsAlarming (Resolves asker packet) = ⊥
-IsAlarming (Told caller address body) = ⊥
+IsAlarming (Reported caller address body) = ⊥
 IsAlarming (Cyclic source frame_id body) = ⊥
 IsAlarming (Given slot subslot value) = ⊥
 IsAlarming (Raised slot subslot octets) = ⊥
@@ -141,7 +141,7 @@ alarms_owned identity destination source (RealTime frame_id body) is =
 alarms_owned identity destination source (ArpPacket packet) is =
     absurd (holds_if (λ (h : Heard). IsAlarming h → ⊥) (is_own identity destination || pointwise nat_eq destination.octets broadcast) (Resolves source packet) Elsewhere (λ i. i) (λ i. i) is)
 alarms_owned identity destination source (UdpDatagram from to body) is =
-    absurd (holds_if (λ (h : Heard). IsAlarming h → ⊥) (is_own identity destination && to.port == 34964) (Told (record { mac = source; endpoint = from }) to.address (said_by body)) Elsewhere (λ i. i) (λ i. i) is)
+    absurd (holds_if (λ (h : Heard). IsAlarming h → ⊥) (is_own identity destination && to.port == 34964) (Reported (record { mac = source; endpoint = from }) to.address (said_by body)) Elsewhere (λ i. i) (λ i. i) is)
 
 alarms_read : (identity : Identity) (mine : Controller) (read : Result Meaning FrameFault) → pointwise nat_eq identity.mac.octets mine.mac.octets ≡ false → IsAlarming (heard_frame identity read)
     → heard_read mine read ≡ controller.Nothing

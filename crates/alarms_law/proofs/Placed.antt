@@ -41,11 +41,11 @@ use Rattle.controller_core.specs.declared.state.State.TheVariants.{Looking, Addr
 use Rattle.controller_core.specs.Alarms.{is_alarm as is_of_relation}
 use Rattle.controller_core.specs.Answers.{is_addressed, is_answer, is_found, is_ready, is_right, is_set_answer}
 use Rattle.controller_core.specs.Connect.{found_in, is_whole, nothing}
-use Rattle.controller_core.specs.Machine.{Turn, acks_in, addressed, answered, behind_data, brought, called, come, connected, decided, done, first, flow_later, flowed, found, given, is_again, judged, later, noticed, outputs_of, over, readied, ready_in, related_by, released, requests_of, responded, standing, stays, stopped, taken, turn_of, turned, where_due, writing}
+use Rattle.controller_core.specs.Machine.{Turn, acks_in, addressed, answered, behind_data, brought, called, come, connected, decided, done, first, flow_later, flowed, found, given, is_again, handled, later, noticed, outputs_of, over, readied, ready_in, related_by, released, requests_of, responded, standing, stays, stopped, taken, turn_of, turned, where_due, writing}
 use Rattle.controller_core.specs.State.{Live}
 use Rattle.message_laws.specs.sending.Sized.{Found}
 use Rattle.alarms_law.specs.Sized.{IsChosenWell}
-use Rattle.alarms_law.proofs.Told.{IsWell}
+use Rattle.alarms_law.proofs.Reported.{IsWell}
 use Rattle.alarms_law.proofs.Lists.{each_behind}
 use Rattle.alarms_law.proofs.Turns.{frame_route}
 use Rattle.alarms_law.proofs.Messages.{IsAimed}
@@ -66,7 +66,7 @@ IsOf setup mac (Responds response) = IsWell setup (Responds response)
 IsOf setup mac (Calls caller call) = caller.mac ≡ mac
 IsOf setup mac Nothing = Unit {0}
 IsOf setup mac (Comes source frame_id body) = Unit {0}
-IsOf setup mac (Alarms source header told) = Unit {0}
+IsOf setup mac (Alarms source header reported) = Unit {0}
 
 module _ (setup : Setup) (mac : Mac) (apart : mac ≡ setup.plan.controller.mac → ⊥) where
   pub record PlacedTurn (turn : Turn) : Type 0 where
@@ -153,18 +153,18 @@ module _ (setup : Setup) (mac : Mac) (apart : mac ≡ setup.plan.controller.mac 
   done_placed live blocks (asks.Release sequence) now well p =
       stays_placed (record live { asked = None }) (record { plain = p.plain; partner = p.partner; asking = λ e. absurd cc; giving = p.giving; addressing = λ e. absurd cc })
 
-  judged_placed : (live : Live) (response : Response) (request : Request) → live.asked ≡ Some request → (request ≡ asks.Connect → is_done response.status ≡ true → IsChosenWell response.blocks) → IsPlaced mac live
-      → PlacedTurn (judged setup live response request)
-  judged_placed live response request now well p =
+  handled_placed : (live : Live) (response : Response) (request : Request) → live.asked ≡ Some request → (request ≡ asks.Connect → is_done response.status ≡ true → IsChosenWell response.blocks) → IsPlaced mac live
+      → PlacedTurn (handled setup live response request)
+  handled_placed live response request now well p =
       if_so (is_done response.status) _ _ (λ positive. done_placed live response.blocks request now (λ connects. well connects positive) p) (λ negative. ends_placed _ live p)
 
   decided_placed : (live : Live) (response : Response) (request : Request) → live.asked ≡ Some request → (request ≡ asks.Connect → is_done response.status ≡ true → IsChosenWell response.blocks) → IsPlaced mac live
       → PlacedTurn (decided setup live response request)
-  decided_placed live response asks.Identify now well p = judged_placed live response asks.Identify now well p
-  decided_placed live response asks.Address now well p = judged_placed live response asks.Address now well p
-  decided_placed live response asks.Connect now well p = judged_placed live response asks.Connect now well p
-  decided_placed live response (asks.Write number) now well p = judged_placed live response (asks.Write number) now well p
-  decided_placed live response asks.PrmEnd now well p = judged_placed live response asks.PrmEnd now well p
+  decided_placed live response asks.Identify now well p = handled_placed live response asks.Identify now well p
+  decided_placed live response asks.Address now well p = handled_placed live response asks.Address now well p
+  decided_placed live response asks.Connect now well p = handled_placed live response asks.Connect now well p
+  decided_placed live response (asks.Write number) now well p = handled_placed live response (asks.Write number) now well p
+  decided_placed live response asks.PrmEnd now well p = handled_placed live response asks.PrmEnd now well p
   decided_placed live response (asks.Release sequence) now well p =
       stays_placed (record live { asked = None }) (record { plain = p.plain; partner = p.partner; asking = λ e. absurd cc; giving = p.giving; addressing = λ e. absurd cc })
 
@@ -226,7 +226,7 @@ module _ (setup : Setup) (mac : Mac) (apart : mac ≡ setup.plan.controller.mac 
   taken_placed live alarm Again up p = record { live = p; sent = (partner_other live up p, tt) }
   taken_placed live alarm Refused up p = record { live = p; sent = (partner_other live up p, tt) }
 
-  noticed_placed : (live : Live) (told : ToController) → live.stands ≡ true → IsPlaced mac live → PlacedTurn (noticed live told)
+  noticed_placed : (live : Live) (reported : ToController) → live.stands ≡ true → IsPlaced mac live → PlacedTurn (noticed live reported)
   noticed_placed live (notice.Data number alarm) up p =
       taken_placed (behind_data live number) alarm (taken_as live.alarms.seen number) up (record { plain = p.plain; partner = p.partner; asking = p.asking; giving = p.giving; addressing = p.addressing })
   noticed_placed live (notice.Ack number) up p = record { live = record { plain = p.plain; partner = p.partner; asking = p.asking; giving = p.giving; addressing = p.addressing }; sent = tt }
@@ -237,10 +237,10 @@ module _ (setup : Setup) (mac : Mac) (apart : mac ≡ setup.plan.controller.mac 
   and_first true b e = refl
   and_first false b e = absurd cc
 
-  alarmed_placed : (live : Live) (source : Mac) (header : Header) (told : ToController) (b : Bool) → (live.stands && is_of_relation live.cyclic.route source header) ≡ b → IsPlaced mac live
-      → PlacedTurn (cond b (noticed live told) (stays live))
-  alarmed_placed live source header told true e p = noticed_placed live told (and_first live.stands (is_of_relation live.cyclic.route source header) e) p
-  alarmed_placed live source header told false e p = stays_placed live p
+  alarmed_placed : (live : Live) (source : Mac) (header : Header) (reported : ToController) (b : Bool) → (live.stands && is_of_relation live.cyclic.route source header) ≡ b → IsPlaced mac live
+      → PlacedTurn (cond b (noticed live reported) (stays live))
+  alarmed_placed live source header reported true e p = noticed_placed live reported (and_first live.stands (is_of_relation live.cyclic.route source header) e) p
+  alarmed_placed live source header reported false e p = stays_placed live p
 
   -- ---- what is heard
 
@@ -250,7 +250,7 @@ module _ (setup : Setup) (mac : Mac) (apart : mac ≡ setup.plan.controller.mac 
   heard_placed live (Responds response) is p = responded_placed live response live.asked refl is p
   heard_placed live (Calls caller call) is p = called_placed live caller call (ready_in call) is p
   heard_placed live (Comes source frame_id body) is p = stays_placed (come live source frame_id body) (come_placed live source frame_id body live.stands p)
-  heard_placed live (Alarms source header told) is p = alarmed_placed live source header told (live.stands && is_of_relation live.cyclic.route source header) refl p
+  heard_placed live (Alarms source header reported) is p = alarmed_placed live source header reported (live.stands && is_of_relation live.cyclic.route source header) refl p
 
   -- ---- units
 

@@ -17,13 +17,13 @@ use Rattle.controller_core.specs.declared.state.State.{State}
 use Rattle.controller_core.specs.declared.state.State.TheVariants.{Ended, Waiting}
 use Rattle.controller_core.specs.Answers.{is_answer}
 use Rattle.controller_core.specs.Connect.{found_in, is_whole, nothing}
-use Rattle.controller_core.specs.Machine.{Turn, asking, connected, decided, done, judged, next_sequence, over, phase_for, related_by, released, responded, standing, stays, writing}
+use Rattle.controller_core.specs.Machine.{Turn, asking, connected, decided, done, handled, next_sequence, over, phase_for, related_by, released, responded, standing, stays, writing}
 use Rattle.controller_core.specs.State.{Live}
 use Rattle.message_laws.specs.hearing.Stations.{IsNumbered, IsSetup}
 use Rattle.message_laws.specs.sending.Messages.{CanBeSent}
 use Rattle.message_laws.specs.sending.Sized.{AreFew, Found, IsFew, IsLive}
 use Rattle.alarms_law.specs.Sized.{IsChosenWell}
-use Rattle.alarms_law.proofs.Told.{IsWell}
+use Rattle.alarms_law.proofs.Reported.{IsWell}
 
 -- the state has its sizes, and so has what the controller sends
 abbrev pub IsRight : Setup → Turn → Type 0
@@ -113,18 +113,18 @@ module _ (setup : Setup) (good : IsSetup setup) where
   done_right live blocks asks.PrmEnd is well = stays_right _ (unasked live Waiting is)
   done_right live blocks (asks.Release sequence) is well = stays_right _ (unasked live live.phase is)
 
-  judged_right : (live : Live) (response : Response) (request : Request) → IsLive live → (request ≡ asks.Connect → is_done response.status ≡ true → IsChosenWell response.blocks)
-      → IsRight setup (judged setup live response request)
-  judged_right live response request is well =
+  handled_right : (live : Live) (response : Response) (request : Request) → IsLive live → (request ≡ asks.Connect → is_done response.status ≡ true → IsChosenWell response.blocks)
+      → IsRight setup (handled setup live response request)
+  handled_right live response request is well =
       either (is_done response.status) _ _ (λ positive. done_right live response.blocks request is (λ connects. well connects positive)) (λ negative. stays_right (over cause.Refused live) (over_live cause.Refused live is))
 
   decided_right : (live : Live) (response : Response) (request : Request) → IsLive live → (request ≡ asks.Connect → is_done response.status ≡ true → IsChosenWell response.blocks)
       → IsRight setup (decided setup live response request)
-  decided_right live response asks.Identify is well = judged_right live response asks.Identify is well
-  decided_right live response asks.Address is well = judged_right live response asks.Address is well
-  decided_right live response asks.Connect is well = judged_right live response asks.Connect is well
-  decided_right live response (asks.Write number) is well = judged_right live response (asks.Write number) is well
-  decided_right live response asks.PrmEnd is well = judged_right live response asks.PrmEnd is well
+  decided_right live response asks.Identify is well = handled_right live response asks.Identify is well
+  decided_right live response asks.Address is well = handled_right live response asks.Address is well
+  decided_right live response asks.Connect is well = handled_right live response asks.Connect is well
+  decided_right live response (asks.Write number) is well = handled_right live response (asks.Write number) is well
+  decided_right live response asks.PrmEnd is well = handled_right live response asks.PrmEnd is well
   decided_right live response (asks.Release sequence) is well = stays_right _ (unasked live live.phase is)
 
   pub responded_right : (live : Live) (response : Response) (asked : Option Request) → IsLive live → IsWell setup (Responds response) → IsRight setup (responded setup live response asked)

@@ -6,7 +6,7 @@ use Rattle.std.proofs.lemmas.Bool.{false≢true}
 use Rattle.wire.specs.Codec.{◌>>=◌}
 use Rattle.pn_values.specs.declared.set_item.BlockError.{BlockError}
 use Rattle.frame_codec.specs.declared.udp.Caller.{Caller}
-use Rattle.rpc_core.specs.Cache.{Told as Looked, new, again, old, looked}
+use Rattle.rpc_core.specs.Cache.{Reported as Looked, new, again, old, looked}
 use Rattle.rpc_core.specs.Call.{Asked as Call}
 use Rattle.rpc_core.specs.Response.{is_done}
 use Rattle.connect_blocks.specs.declared.control.ControlBlock.{ControlBlock}
@@ -22,20 +22,20 @@ use Rattle.record_blocks.specs.declared.write_record.IodWriteReq.{IodWriteReq}
 use Rattle.records.specs.declared.writes.write.Effect.{Effect}
 use Rattle.records.specs.declared.writes.write.Effect.TheVariants.{Stores, Keeps}
 use Rattle.records.specs.declared.writes.write.Write.{Write}
-use Rattle.records.specs.writes.Judged.{write_of}
+use Rattle.records.specs.writes.Handled.{write_of}
 use Rattle.connect_laws.specs.request.Request.{request_for}
-use Rattle.relations.specs.Link.{Link, uuid_of}
-use Rattle.relations.specs.Phases.{Parameterized, answered, keeping, moved}
+use Rattle.relations.specs.RelationState.{RelationState, uuid_of}
+use Rattle.relations.specs.Phases.{Parameterized, answered, keeping, updated}
 use Rattle.relations.specs.Calls.{control_block, done_of, in_started, named_of, prm_end_answer, prm_end_of, release_answer, release_of}
 use Rattle.relations.specs.Connect.{connect_answer, connect_blocks, differing_of}
-use Rattle.device_frames.specs.Heard.{Heard, Ticks, Unreadable, Elsewhere, Asks, Resolves, Told, Cyclic, Alarms, Given, Raised, Calls, Responds, Garbled}
+use Rattle.device_frames.specs.Heard.{Heard, Ticks, Unreadable, Elsewhere, Asks, Resolves, Reported, Cyclic, Alarms, Given, Raised, Calls, Responds, Garbled}
 use Rattle.device_frames.specs.Relation.{ready_calls}
 use Rattle.device_frames.specs.Sent.{Sent, IdentifyAnswer, GetAnswer, SetAnswer, ArpReply, CallAnswer, Again, ReadyCall, Ends, Exchanges}
 use Rattle.device_frames.specs.declared.note.Note.TheVariants as note
 use Rattle.settings_store.specs.Machine.{Outcome, carried}
 use Rattle.device_core.specs.State.{Station, Live}
-use Rattle.device_core.specs.Judged.{Judged, Refuses, is_running, answer_from, ready_behind, kept_answer, judged_effect, judged_write, judged_new, judged_looked, judged_blocks, judged_call, judged}
-use Rattle.device_core.specs.Machine.{finished, first_answer, items_in, judged_step, heard_step, written_as}
+use Rattle.device_core.specs.Handled.{Handled, Refuses, is_running, answer_from, ready_behind, kept_answer, handled_effect, handled_write, handled_new, handled_looked, handled_blocks, handled_call, handled}
+use Rattle.device_core.specs.Machine.{finished, first_answer, items_in, handled_step, heard_step, written_as}
 use Rattle.controller_frames.specs.declared.setup.Setup.{Setup}
 use Rattle.controller_core.specs.Connect.{found_in, is_whole, nothing}
 use Rattle.message_laws.specs.sending.Sized.{Found}
@@ -107,7 +107,7 @@ module _ (setup : Setup) (station : Station) (live : Live) where
   abbrev pub AreServed : List Sent → Type 0
   AreServed sent = AllByRecursion IsServed sent
 
-  abbrev Serves : Judged → Type 0
+  abbrev Serves : Handled → Type 0
   Serves what = (answers : List BlockError) → AreServed (finished station.identity live.rest what answers).sent
 
   abbrev IsWellOutcome : Call → Result (List ℕ) CallFault → Type 0
@@ -118,16 +118,16 @@ module _ (setup : Setup) (station : Station) (live : Live) where
   answer_served from caller call which (Ok blocks) well = λ chooses zero_is done. well chooses zero_is blocks refl
   answer_served from caller call which (Err why) well = λ chooses zero_is done. empty_well
 
-  readies_served : (address : List ℕ) (link : Option Link) → AreServed (ready_calls address link)
+  readies_served : (address : List ℕ) (link : Option RelationState) → AreServed (ready_calls address link)
   readies_served address None = tt
   readies_served address (Some link) = (tt, tt)
 
-  behind_served : (address : List ℕ) (link : Option Link) (ended : Result ControlBlock CallFault) → AreServed (ready_behind address link ended)
+  behind_served : (address : List ℕ) (link : Option RelationState) (ended : Result ControlBlock CallFault) → AreServed (ready_behind address link ended)
   behind_served address link (Ok block) = readies_served address link
   behind_served address link (Err why) = tt
 
   -- a message that is owed to no call is not a response to one
-  unserved : (heard : Heard) → ((caller : Caller) (address : List ℕ) (call : Call) → heard ≡ Told caller address (Calls call) → ⊥)
+  unserved : (heard : Heard) → ((caller : Caller) (address : List ℕ) (call : Call) → heard ≡ Reported caller address (Calls call) → ⊥)
       → (messages : List Sent) → AllByRecursion (IsOwed heard live) messages → AreServed messages
   unserved heard other [] owed = tt
   unserved heard other (CallAnswer caller address answer ∷ messages) owed = absurd (other caller owed.0.address owed.0.call owed.0.is)
@@ -154,31 +154,31 @@ module _ (setup : Setup) (station : Station) (live : Live) where
     connect_well blocks plan none = λ chooses zero_is value e.
         let is : connect_answer station.identity station.real None blocks ≡ Ok (connect_blocks station.identity asked (differing_of asked station.real)) =
         ap (λ (r : Result Request CallFault). r >>= λ request. Ok (connect_blocks station.identity request (differing_of request station.real))) plan in
-        let all = sym is ∙ (sym (ap (λ (l : Option Link). connect_answer station.identity station.real l blocks) (none zero_is)) ∙ e) in
+        let all = sym is ∙ (sym (ap (λ (l : Option RelationState). connect_answer station.identity station.real l blocks) (none zero_is)) ∙ e) in
         subst (λ (octets : List ℕ). IsChosenWell octets) (ok_is (connect_blocks station.identity asked (differing_of asked station.real)) value all) chooses
 
     end_well : (blocks : List ℕ) → (call.header.sequence ≡ 0 → live.rest.link ≡ None) → IsWellOutcome call (prm_end_answer live.rest.link blocks)
-    end_well blocks none = λ chooses zero_is value e. absurd (no_end blocks value (sym (ap (λ (l : Option Link). prm_end_answer l blocks) (none zero_is)) ∙ e))
+    end_well blocks none = λ chooses zero_is value e. absurd (no_end blocks value (sym (ap (λ (l : Option RelationState). prm_end_answer l blocks) (none zero_is)) ∙ e))
 
     release_well : (blocks : List ℕ) → (call.header.sequence ≡ 0 → live.rest.link ≡ None) → IsWellOutcome call (release_answer live.rest.link blocks)
-    release_well blocks none = λ chooses zero_is value e. absurd (no_release blocks value (sym (ap (λ (l : Option Link). release_answer l blocks) (none zero_is)) ∙ e))
+    release_well blocks none = λ chooses zero_is value e. absurd (no_release blocks value (sym (ap (λ (l : Option RelationState). release_answer l blocks) (none zero_is)) ∙ e))
 
     -- a Write has a number other than 0
     one_more : (number : ℕ) → number + 1 ≡ 0 → ⊥
     one_more number e = absurd (omega (arith, e))
 
-    effect_serves : (header : IodWriteReq) (effect : Effect) → (call.header.sequence ≡ 0 → ⊥) → Serves (judged_effect station live caller call header effect)
+    effect_serves : (header : IodWriteReq) (effect : Effect) → (call.header.sequence ≡ 0 → ⊥) → Serves (handled_effect station live caller call header effect)
     effect_serves header (Stores value) later = λ answers.
         (answer_served from caller call operation.Write (written_as header (first_answer answers)) (λ chooses zero_is. absurd (later zero_is)), tt)
     effect_serves header (Keeps parameter) later = λ answers.
         (answer_served from caller call operation.Write (kept_answer header (keeping parameter live.rest.link)) (λ chooses zero_is. absurd (later zero_is)), tt)
 
-    writes_serve : (write : Result Write CallFault) → (call.header.sequence ≡ 0 → ⊥) → Serves (judged_write station live caller call write)
+    writes_serve : (write : Result Write CallFault) → (call.header.sequence ≡ 0 → ⊥) → Serves (handled_write station live caller call write)
     writes_serve (Ok write) later = effect_serves write.request write.effect later
     writes_serve (Err why) later = λ answers. (answer_served from caller call operation.Write (Err why) (λ chooses zero_is. absurd (later zero_is)), tt)
 
     new_serves : (blocks : List ℕ) (which : Operation) → IsPlannedFor blocks (Some which) → (call.header.sequence ≡ 0 → live.rest.link ≡ None)
-        → Serves (judged_new station live caller call blocks which)
+        → Serves (handled_new station live caller call blocks which)
     new_serves blocks operation.Connect plan none = λ answers.
         (answer_served from caller call operation.Connect (connect_answer station.identity station.real live.rest.link blocks) (connect_well blocks plan none), tt)
     new_serves blocks operation.Release plan none = λ answers.
@@ -189,48 +189,48 @@ module _ (setup : Setup) (station : Station) (live : Live) where
     new_serves blocks operation.Control plan none = λ answers.
         let ended = prm_end_of live.rest.link blocks in (
           answer_served from caller call operation.Control (prm_end_answer live.rest.link blocks) (end_well blocks none),
-          behind_served from (moved (answered Parameterized ended) live.rest.link) ended,
+          behind_served from (updated (answered Parameterized ended) live.rest.link) ended,
         )
     new_serves blocks operation.ReadImplicit plan none = absurd plan
 
     module _ (none : call.header.sequence ≡ 0 → looked call.header.activity call.header.sequence live.rest.calls ≡ new → live.rest.link ≡ None) where
-      looked_serves : (blocks : List ℕ) (which : Operation) (told : Looked) → looked call.header.activity call.header.sequence live.rest.calls ≡ told
-          → IsPlannedFor blocks (Some which) → Serves (judged_looked station live caller call blocks which told)
+      looked_serves : (blocks : List ℕ) (which : Operation) (reported : Looked) → looked call.header.activity call.header.sequence live.rest.calls ≡ reported
+          → IsPlannedFor blocks (Some which) → Serves (handled_looked station live caller call blocks which reported)
       looked_serves blocks which new is plan = new_serves blocks which plan (λ zero_is. none zero_is is)
       looked_serves blocks which (again frame) is plan = λ answers. (tt, tt)
       looked_serves blocks which old is plan = λ answers. tt
 
       counted_serves : (which : Operation) (counted : Option (List ℕ)) (blocks : List ℕ) → counted ≡ Some blocks → IsPlannedFor blocks (Some which)
-          → Serves (judged_blocks station live caller call which counted)
+          → Serves (handled_blocks station live caller call which counted)
       counted_serves which None blocks there plan = absurd cc
       counted_serves which (Some counted) blocks there plan =
           looked_serves counted which (looked call.header.activity call.header.sequence live.rest.calls) refl
           (subst (λ (b : List ℕ). IsPlannedFor b (Some which)) (sym (some_is counted blocks there)) plan)
 
-      called_serves : (which : Option Operation) (blocks : List ℕ) → call.blocks ≡ Some blocks → IsPlannedFor blocks which → Serves (judged_call station live caller call which)
+      called_serves : (which : Option Operation) (blocks : List ℕ) → call.blocks ≡ Some blocks → IsPlannedFor blocks which → Serves (handled_call station live caller call which)
       called_serves None blocks there plan = absurd plan
       called_serves (Some which) blocks there plan = counted_serves which call.blocks blocks there plan
 
-      told_serves : (b : Bool) → IsPlannedCall (rules_of setup station) setup.activity station.real call
-          → Serves (cond b (judged_call station live caller call (operation_of call.header.operation)) (Refuses note.NotMine))
-      told_serves true plan = called_serves (operation_of call.header.operation) plan.blocks plan.counted plan.asks
-      told_serves false plan = λ answers. tt
+      reported_serves : (b : Bool) → IsPlannedCall (rules_of setup station) setup.activity station.real call
+          → Serves (cond b (handled_call station live caller call (operation_of call.header.operation)) (Refuses note.NotMine))
+      reported_serves true plan = called_serves (operation_of call.header.operation) plan.blocks plan.counted plan.asks
+      reported_serves false plan = λ answers. tt
 
   -- ---- a step, whatever the flash did
 
-  unanswered : (outcomes : List Outcome) (heard : Heard) → ((caller : Caller) (address : List ℕ) (call : Call) → heard ≡ Told caller address (Calls call) → ⊥)
+  unanswered : (outcomes : List Outcome) (heard : Heard) → ((caller : Caller) (address : List ℕ) (call : Call) → heard ≡ Reported caller address (Calls call) → ⊥)
       → AllByRecursion (IsOwed heard live) (heard_step outcomes station live heard).sent → AreServed (heard_step outcomes station live heard).sent
   unanswered outcomes heard other owed = unserved heard other (heard_step outcomes station live heard).sent owed
 
   pub all_served : (outcomes : List Outcome) (heard : Heard) → IsPlanned (rules_of setup station) setup.activity station.real heard
-      → ((caller : Caller) (address : List ℕ) (call : Call) → heard ≡ Told caller address (Calls call) → call.header.sequence ≡ 0
+      → ((caller : Caller) (address : List ℕ) (call : Call) → heard ≡ Reported caller address (Calls call) → call.header.sequence ≡ 0
       → looked call.header.activity call.header.sequence live.rest.calls ≡ new → live.rest.link ≡ None)
       → AllByRecursion (IsOwed heard live) (heard_step outcomes station live heard).sent → AreServed (heard_step outcomes station live heard).sent
-  unfolding heard_step judged_step
-  all_served outcomes (Told caller address (Calls call)) plan none owed =
-      told_serves caller call (none caller address call refl) (is_running live.values.running address) plan (carried outcomes live.values (items_in (judged station live (Told caller address (Calls call))))).answers
-  all_served outcomes (Told caller address (Responds response)) plan none owed = unanswered outcomes (Told caller address (Responds response)) (λ c a call e. absurd cc) owed
-  all_served outcomes (Told caller address Garbled) plan none owed = unanswered outcomes (Told caller address Garbled) (λ c a call e. absurd cc) owed
+  unfolding heard_step handled_step
+  all_served outcomes (Reported caller address (Calls call)) plan none owed =
+      reported_serves caller call (none caller address call refl) (is_running live.values.running address) plan (carried outcomes live.values (items_in (handled station live (Reported caller address (Calls call))))).answers
+  all_served outcomes (Reported caller address (Responds response)) plan none owed = unanswered outcomes (Reported caller address (Responds response)) (λ c a call e. absurd cc) owed
+  all_served outcomes (Reported caller address Garbled) plan none owed = unanswered outcomes (Reported caller address Garbled) (λ c a call e. absurd cc) owed
   all_served outcomes (Asks asker request) plan none owed = unanswered outcomes (Asks asker request) (λ c a call e. absurd cc) owed
   all_served outcomes (Resolves asker packet) plan none owed = unanswered outcomes (Resolves asker packet) (λ c a call e. absurd cc) owed
   all_served outcomes (Alarms source header message) plan none owed = unanswered outcomes (Alarms source header message) (λ c a call e. absurd cc) owed

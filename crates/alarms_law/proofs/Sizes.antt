@@ -33,7 +33,7 @@ use Rattle.plans.specs.declared.parts.Parts.{Parts}
 use Rattle.connect_laws.specs.request.Request.{request_for}
 use Rattle.relations.specs.declared.farewell.Farewell.{Farewell}
 use Rattle.relations.specs.Farewells.{farewell_of, said_by}
-use Rattle.relations.specs.Link.{Link}
+use Rattle.relations.specs.RelationState.{RelationState}
 use Rattle.relations.specs.Phases.{made_of, with_flow}
 use Rattle.relations.specs.Timers.{unit_later}
 use Rattle.device_frames.specs.Heard.{Heard}
@@ -85,8 +85,8 @@ pub record IsSizedWay (request : Request) (way : Way) : Type 0 where
   pub alarms : IsSizedEnd way.alarms
 
 -- the relation, if there is one, is that of the plan
-abbrev pub AreSizedIn : Request → Option Link → Type 0
-AreSizedIn request link = (l : Link) → link ≡ Some l → IsSizedWay request (way_of l)
+abbrev pub AreSizedIn : Request → Option RelationState → Type 0
+AreSizedIn request link = (l : RelationState) → link ≡ Some l → IsSizedWay request (way_of l)
 
 send_short : (last : Option ℕ) → IsShort last → send_number last < 65536
 send_short None short = omega arith
@@ -195,7 +195,7 @@ module _ (identity : Identity) (plan : Parts) (ar : List ℕ) (apart : identity.
     ack_number = ack_short flow.alarms.seen sized.seen;
   }
 
-  calm_sized : (before : Option Link) (message : Sent) → AreSizedIn request before → IsCalm before message → IsSizedSent identity message
+  calm_sized : (before : Option RelationState) (message : Sent) → AreSizedIn request before → IsCalm before message → IsSizedSent identity message
   calm_sized before (Exchanges route (Inputs inputs counter)) sized calm =
       ap (λ (r : Route). is_alarm r.sent_id) (calm.2 ∙ (sized calm.0 calm.1).routed)
   calm_sized before (Exchanges route (Notifies header alarm)) sized calm = absurd calm
@@ -219,29 +219,29 @@ module _ (identity : Identity) (plan : Parts) (ar : List ℕ) (apart : identity.
   calm_sized before (Again frame) sized calm = tt
   calm_sized before (ReadyCall address ready) sized calm = tt
 
-  all_calm : (before : Option Link) (messages : List Sent) → AreSizedIn request before → AreCalm before messages → AreSizedSent messages
+  all_calm : (before : Option RelationState) (messages : List Sent) → AreSizedIn request before → AreCalm before messages → AreSizedSent messages
   all_calm before [] sized calm = tt
   all_calm before (message ∷ messages) sized calm = (calm_sized before message sized calm.0, all_calm before messages sized calm.1)
 
-  same_sized : (before after : Option Link) → IsSameOr before after → AreSizedIn request before → AreSizedIn request after
+  same_sized : (before after : Option RelationState) → IsSameOr before after → AreSizedIn request before → AreSizedIn request after
   same_sized before after (inl same) sized l is =
-      let there = way_before before (way_of l) (ap (λ (o : Option Link). option_map way_of o) (sym is) ∙ same) in
+      let there = way_before before (way_of l) (ap (λ (o : Option RelationState). option_map way_of o) (sym is) ∙ same) in
       subst (λ (way : Way). IsSizedWay request way) (sym there.2) (sized there.0 there.1)
   same_sized before after (inr none) sized l is = absurd (none_some l after none is)
 
-  becomes_sized : (after : Option Link) (link : Link) → after ≡ Some link → IsSizedWay request (way_of link) → AreSizedIn request after
-  becomes_sized after link becomes sized l is = subst (λ (k : Link). IsSizedWay request (way_of k)) (some_is link l (sym becomes ∙ is)) sized
+  becomes_sized : (after : Option RelationState) (link : RelationState) → after ≡ Some link → IsSizedWay request (way_of link) → AreSizedIn request after
+  becomes_sized after link becomes sized l is = subst (λ (k : RelationState). IsSizedWay request (way_of k)) (some_is link l (sym becomes ∙ is)) sized
 
   stands_sized : (flow : Flow) (standing : Option AlarmNotification) → flow.cyclic.route ≡ route_of request → IsSizedEnd flow.alarms → IsAlarmOrNone standing
       → AreSizedSent (frames_in flow.cyclic.route (option_map (Notifies (header_of flow pdu.Data)) standing))
   stands_sized flow None routed sized is = tt
   stands_sized flow (Some alarm) routed sized is = ((to_other flow.cyclic.route routed, refl, flow_header flow pdu.Data routed sized, is), tt)
 
-  pub record SizedTurn (after : Option Link) (sent : List Sent) : Type 0 where
+  pub record SizedTurn (after : Option RelationState) (sent : List Sent) : Type 0 where
     pub link : AreSizedIn request after
     pub messages : AreSizedSent sent
 
-  raised_sized : (real : List RealModule) (before : Option Link) (heard : Heard) (after : Option Link) (sent : List Sent) → AreSizedModules real → AreSizedIn request before → Raises real before heard after sent
+  raised_sized : (real : List RealModule) (before : Option RelationState) (heard : Heard) (after : Option RelationState) (sent : List Sent) → AreSizedModules real → AreSizedIn request before → Raises real before heard after sent
       → SizedTurn after sent
   raised_sized real before heard after sent all sized raises =
       let flow = raises.link.flow in
@@ -268,7 +268,7 @@ module _ (identity : Identity) (plan : Parts) (ar : List ℕ) (apart : identity.
         messages = subst (λ (messages : List Sent). AreSizedSent messages) (sym raises.sends) (stands_sized raises.flow raises.flow.alarms.sender.standing now.routed now.alarms now.alarms.standing);
       }
 
-  acked_sized : (before : Option Link) (heard : Heard) (after : Option Link) (sent : List Sent) → AreSizedIn request before → HearsAck before heard after sent → SizedTurn after sent
+  acked_sized : (before : Option RelationState) (heard : Heard) (after : Option RelationState) (sent : List Sent) → AreSizedIn request before → HearsAck before heard after sent → SizedTurn after sent
   acked_sized before heard after sent sized acked =
       let way = sized acked.link acked.was in
       record {
@@ -282,7 +282,7 @@ module _ (identity : Identity) (plan : Parts) (ar : List ℕ) (apart : identity.
   answers_so Once_more = inl refl
   answers_so Not_taken = inr refl
 
-  came_sized : (before : Option Link) (heard : Heard) (after : Option Link) (sent : List Sent) → AreSizedIn request before → HearsData before heard after sent → SizedTurn after sent
+  came_sized : (before : Option RelationState) (heard : Heard) (after : Option RelationState) (sent : List Sent) → AreSizedIn request before → HearsData before heard after sent → SizedTurn after sent
   came_sized before heard after sent sized came =
       let way = sized came.link came.was in
       let flow = behind_message came.link.flow (notice.Data came.number came.ack) in
@@ -298,7 +298,7 @@ module _ (identity : Identity) (plan : Parts) (ar : List ℕ) (apart : identity.
   due_sized true messages sized = sized
   due_sized false messages sized = tt
 
-  passed_sized : (before : Option Link) (heard : Heard) (after : Option Link) (sent : List Sent) → AreSizedIn request before → Passes before heard after sent → SizedTurn after sent
+  passed_sized : (before : Option RelationState) (heard : Heard) (after : Option RelationState) (sent : List Sent) → AreSizedIn request before → Passes before heard after sent → SizedTurn after sent
   passed_sized before heard after sent sized passes =
       let way = sized passes.link passes.was in
       let flow = flow_later passes.link.flow in
@@ -312,7 +312,7 @@ module _ (identity : Identity) (plan : Parts) (ar : List ℕ) (apart : identity.
       }
 
   -- any turn, if a relation that is made now is that of the plan
-  pub turn_sized : (real : List RealModule) (calls : List Answer) (before : Option Link) (heard : Heard) (after : Option Link) (sent : List Sent) → AreSizedModules real → AreSizedIn request before
+  pub turn_sized : (real : List RealModule) (calls : List Answer) (before : Option RelationState) (heard : Heard) (after : Option RelationState) (sent : List Sent) → AreSizedModules real → AreSizedIn request before
       → ((makes : Makes calls before heard after sent) → makes.request ≡ request) → IsTurn real calls before heard after sent → SizedTurn after sent
   turn_sized real calls before heard after sent all sized planned (inl stays) =
       record { link = same_sized before after stays.link sized; messages = all_calm before sent sized stays.calm }

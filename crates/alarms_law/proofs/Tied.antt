@@ -33,18 +33,18 @@ use Rattle.relations.specs.exchange.Frames.{Inputs, Notifies, Replies as Answers
 use Rattle.relations.specs.exchange.Notices.{behind_message, header_of, may_raise, raised_at, raised_by as raised_from}
 use Rattle.relations.specs.exchange.Units.{flow_later, tick_of}
 use Rattle.relations.specs.Exchanged.{raised_to}
-use Rattle.relations.specs.Link.{Link}
+use Rattle.relations.specs.RelationState.{RelationState}
 use Rattle.relations.specs.Phases.{made_of, with_flow}
 use Rattle.relations.specs.Timers.{unit_later}
 use Rattle.codec_laws.specs.alarms.Line.{Line, with_sent}
 use Rattle.codec_laws.specs.alarms.World.{acks_after, line_after}
-use Rattle.device_frames.specs.Heard.{Heard, Ticks, Unreadable, Elsewhere, Asks, Resolves, Told, Cyclic as Comes, Alarms, Given, Raised}
+use Rattle.device_frames.specs.Heard.{Heard, Ticks, Unreadable, Elsewhere, Asks, Resolves, Reported, Cyclic as Comes, Alarms, Given, Raised}
 use Rattle.device_frames.specs.Relation.{alarms_of, frames_in, replies_of, where_due}
 use Rattle.device_frames.specs.Sent.{Sent, IdentifyAnswer, GetAnswer, SetAnswer, ArpReply, CallAnswer, Again, ReadyCall, Ends, Exchanges}
 use Rattle.controller_frames.specs.declared.setup.Setup.{Setup}
 use Rattle.controller_frames.specs.Sent as said
 use Rattle.message_laws.specs.turns.Alarms.{Relation, Move, Raises as raising, PassesAtDevice, ComesToDevice, behind, comes_to_device, passed_at_device, raised_by, replied_by}
-use Rattle.alarms_law.proofs.Told.{noted_in, reply_of, told_at}
+use Rattle.alarms_law.proofs.Reported.{noted_in, reply_of, reported_at}
 use Rattle.alarms_law.specs.Over.{one_in, raised_in}
 use Rattle.alarms_law.proofs.Lists.{Extends, at_end, each_behind, more_extends, none_some, some_is, unchanged}
 use Rattle.end_laws.specs.device.Turn.{AreCalm, HearsAck, HearsData, IsCalm, IsRaise, Makes, Passes, Raises, Refused}
@@ -59,27 +59,27 @@ IsSaid pdus acks (Some (notice.Ack number)) = (k : ℕ) × (slice_get acks k ≡
 IsSaid pdus acks (Some notice.Nack) = Unit {0}
 IsSaid pdus acks (Some notice.Abort) = Unit {0}
 
-pub record IsConfirmed (told : List said.Sent) (number : ℕ) (ack : AlarmAck) : Type 0 where
+pub record IsConfirmed (reported : List said.Sent) (number : ℕ) (ack : AlarmAck) : Type 0 where
   pub place : ℕ
   pub route : Route
   pub header : Header
-  pub there : slice_get told place ≡ Some (said.Confirms route header ack)
+  pub there : slice_get reported place ≡ Some (said.Confirms route header ack)
   pub same : header.send_number ≡ number
 
-pub record IsReplied (told : List said.Sent) (number : ℕ) : Type 0 where
+pub record IsReplied (reported : List said.Sent) (number : ℕ) : Type 0 where
   pub place : ℕ
   pub route : Route
   pub header : Header
-  pub there : slice_get told place ≡ Some (said.Replies route header)
+  pub there : slice_get reported place ≡ Some (said.Replies route header)
   pub kind : header.kind ≡ pdu.Ack
   pub same : header.ack_number ≡ number
 
 abbrev pub IsHeard : List said.Sent → Option (Notice AlarmAck) → Type 0
-IsHeard told None = Unit {0}
-IsHeard told (Some (notice.Data number ack)) = IsConfirmed told number ack
-IsHeard told (Some (notice.Ack number)) = IsReplied told number
-IsHeard told (Some notice.Nack) = Unit {0}
-IsHeard told (Some notice.Abort) = Unit {0}
+IsHeard reported None = Unit {0}
+IsHeard reported (Some (notice.Data number ack)) = IsConfirmed reported number ack
+IsHeard reported (Some (notice.Ack number)) = IsReplied reported number
+IsHeard reported (Some notice.Nack) = Unit {0}
+IsHeard reported (Some notice.Abort) = Unit {0}
 
 pub said_stays : (pdus more : List (ℕ × AlarmNotification)) (acks others : List ℕ) (says : Option (Notice AlarmNotification)) → Extends pdus more → Extends acks others
     → IsSaid pdus acks says → IsSaid more others says
@@ -89,38 +89,38 @@ said_stays pdus more acks others (Some (notice.Ack number)) p a is = (is.0, a is
 said_stays pdus more acks others (Some notice.Nack) p a is = tt
 said_stays pdus more acks others (Some notice.Abort) p a is = tt
 
-pub heard_stays : (told more : List said.Sent) (says : Option (Notice AlarmAck)) → Extends told more → IsHeard told says → IsHeard more says
-heard_stays told more None t is = tt
-heard_stays told more (Some (notice.Data number ack)) t is =
+pub heard_stays : (reported more : List said.Sent) (says : Option (Notice AlarmAck)) → Extends reported more → IsHeard reported says → IsHeard more says
+heard_stays reported more None t is = tt
+heard_stays reported more (Some (notice.Data number ack)) t is =
     record { place = is.place; route = is.route; header = is.header; there = t is.place (said.Confirms is.route is.header ack) is.there; same = is.same }
-heard_stays told more (Some (notice.Ack number)) t is =
+heard_stays reported more (Some (notice.Ack number)) t is =
     record { place = is.place; route = is.route; header = is.header; there = t is.place (said.Replies is.route is.header) is.there; kind = is.kind; same = is.same }
-heard_stays told more (Some notice.Nack) t is = tt
-heard_stays told more (Some notice.Abort) t is = tt
+heard_stays reported more (Some notice.Nack) t is = tt
+heard_stays reported more (Some notice.Abort) t is = tt
 
 -- ---- a turn of the device
 
 -- the effect on the alarms of a relation, if the device's relation was the first and is the second, and these alarms
 -- are raised
-pub record Goes (setup : Setup) (r : Relation) (before after : Option Link) (sent : List Sent) (now : List AlarmNotification) : Type 0 where
+pub record Goes (setup : Setup) (r : Relation) (before after : Option RelationState) (sent : List Sent) (now : List AlarmNotification) : Type 0 where
   pub next : Relation
   pub moves : List Move
   pub made : behind setup moves r ≡ next
   pub live : next.live ≡ r.live
-  pub told : next.told ≡ r.told
+  pub reported : next.reported ≡ r.reported
   pub pdus : Extends r.alarms.pdus next.alarms.pdus
   pub acks : Extends r.acks next.acks
   pub raised : next.alarms.sent ≡ r.alarms.sent ++ now
   pub taken : next.alarms.taken ≡ r.alarms.taken
-  pub tied : (l : Link) → after ≡ Some l → l.flow.alarms ≡ next.device
+  pub tied : (l : RelationState) → after ≡ Some l → l.flow.alarms ≡ next.device
   pub still : before ≡ None → next ≡ r
   pub said : AllByRecursion (λ message. IsSaid next.alarms.pdus next.acks (noted_in message)) sent
 
 -- the device's end of alarms is that of its relation
-abbrev pub IsTied : Relation → Option Link → Type 0
-IsTied r link = (l : Link) → link ≡ Some l → l.flow.alarms ≡ r.device
+abbrev pub IsTied : Relation → Option RelationState → Type 0
+IsTied r link = (l : RelationState) → link ≡ Some l → l.flow.alarms ≡ r.device
 
-calm_said : (pdus : List (ℕ × AlarmNotification)) (acks : List ℕ) (before : Option Link) (message : Sent) → IsCalm before message → IsSaid pdus acks (noted_in message)
+calm_said : (pdus : List (ℕ × AlarmNotification)) (acks : List ℕ) (before : Option RelationState) (message : Sent) → IsCalm before message → IsSaid pdus acks (noted_in message)
 calm_said pdus acks before (Exchanges route (Inputs inputs counter)) calm = tt
 calm_said pdus acks before (Exchanges route (Notifies header alarm)) calm = absurd calm
 calm_said pdus acks before (Exchanges route (Answers header)) calm = absurd calm
@@ -133,28 +133,28 @@ calm_said pdus acks before (Again frame) calm = tt
 calm_said pdus acks before (ReadyCall address ready) calm = tt
 calm_said pdus acks before (Ends farewell) calm = tt
 
-all_calm : (pdus : List (ℕ × AlarmNotification)) (acks : List ℕ) (before : Option Link) (messages : List Sent) → AreCalm before messages → AllByRecursion (λ message. IsSaid pdus acks (noted_in message)) messages
+all_calm : (pdus : List (ℕ × AlarmNotification)) (acks : List ℕ) (before : Option RelationState) (messages : List Sent) → AreCalm before messages → AllByRecursion (λ message. IsSaid pdus acks (noted_in message)) messages
 all_calm pdus acks before [] calm = tt
 all_calm pdus acks before (message ∷ messages) calm = (calm_said pdus acks before message calm.0, all_calm pdus acks before messages calm.1)
 
-pub way_before : (before : Option Link) (way : Way) → Some way ≡ option_map way_of before → (l : Link) × (before ≡ Some l) × (way ≡ way_of l)
+pub way_before : (before : Option RelationState) (way : Way) → Some way ≡ option_map way_of before → (l : RelationState) × (before ≡ Some l) × (way ≡ way_of l)
 way_before None way e = absurd cc
 way_before (Some link) way e = (link, refl, some_is way (way_of link) e)
 
-same_tied : (r : Relation) (before after : Option Link) → IsSameOr before after → IsTied r before → IsTied r after
+same_tied : (r : Relation) (before after : Option RelationState) → IsSameOr before after → IsTied r before → IsTied r after
 same_tied r before after (inl same) tied l is =
-    let there = way_before before (way_of l) (ap (λ (o : Option Link). option_map way_of o) (sym is) ∙ same) in
+    let there = way_before before (way_of l) (ap (λ (o : Option RelationState). option_map way_of o) (sym is) ∙ same) in
     ap (λ (way : Way). way.alarms) there.2 ∙ tied there.0 there.1
 same_tied r before after (inr none) tied l is = absurd (none_some l after none is)
 
 -- nothing happens to the alarms
-rests : (setup : Setup) (r : Relation) (before after : Option Link) (sent : List Sent) → IsTied r after → AreCalm before sent → Goes setup r before after sent []
+rests : (setup : Setup) (r : Relation) (before after : Option RelationState) (sent : List Sent) → IsTied r after → AreCalm before sent → Goes setup r before after sent []
 rests setup r before after sent tied calm = record {
   next = r;
   moves = [];
   made = refl;
   live = refl;
-  told = refl;
+  reported = refl;
   pdus = unchanged r.alarms.pdus;
   acks = unchanged r.acks;
   raised = sym (append-nil r.alarms.sent);
@@ -172,7 +172,7 @@ IsUnraised Unreadable = Unit {0}
 IsUnraised Elsewhere = Unit {0}
 IsUnraised (Asks source request) = Unit {0}
 IsUnraised (Resolves asker packet) = Unit {0}
-IsUnraised (Told caller address told) = Unit {0}
+IsUnraised (Reported caller address reported) = Unit {0}
 IsUnraised (Comes source frame_id body) = Unit {0}
 IsUnraised (Alarms source header message) = Unit {0}
 IsUnraised (Given slot subslot value) = Unit {0}
@@ -185,14 +185,14 @@ alarm_for slot subslot ident part octets =
     record { slot_number = slot; subslot_number = subslot; module_ident_number = ident; submodule_ident_number = part; alarm_data = record { ref_ptr = (0, 0); now = octets } }
 
 -- the effect of an alarm that is raised
-abbrev raised_for : List RealModule → Heard → Link → Option Flow
+abbrev raised_for : List RealModule → Heard → RelationState → Option Flow
 raised_for real (Raised slot subslot octets) link = raised_at link.flow real slot subslot octets
 raised_for real Ticks link = None
 raised_for real Unreadable link = None
 raised_for real Elsewhere link = None
 raised_for real (Asks source request) link = None
 raised_for real (Resolves asker packet) link = None
-raised_for real (Told caller address told) link = None
+raised_for real (Reported caller address reported) link = None
 raised_for real (Comes source frame_id body) link = None
 raised_for real (Alarms source header message) link = None
 raised_for real (Given slot subslot value) link = None
@@ -241,7 +241,7 @@ module _ (setup : Setup) (r : Relation) where
   raised_is alarm none few =
       ap (λ (standing : Option AlarmNotification). raised_by r alarm standing) none ∙ ap (λ (b : Bool). cond b (raised_now alarm) r) few
 
-  raises_on : (real : List RealModule) (before : Option Link) (heard : Heard) (after : Option Link) (sent : List Sent) → IsTied r before → (raises : Raises real before heard after sent)
+  raises_on : (real : List RealModule) (before : Option RelationState) (heard : Heard) (after : Option RelationState) (sent : List Sent) → IsTied r before → (raises : Raises real before heard after sent)
       → Goes setup r before after sent (raised_in (Some raises.flow))
   raises_on real before heard after sent tied raises =
       let flow = raises.link.flow in
@@ -258,12 +258,12 @@ module _ (setup : Setup) (r : Relation) where
         moves = raising alarm ∷ [];
         made = raised_is alarm (ap (λ (d : DeviceEnd). d.sender.standing) (sym e) ∙ may.none) may.few;
         live = refl;
-        told = refl;
+        reported = refl;
         pdus = more_extends r.alarms.pdus _;
         acks = unchanged r.acks;
         raised = ap (λ (o : Option AlarmNotification). r.alarms.sent ++ one_in o) (sym block);
         taken = refl;
-        tied = λ l is. ap (λ (k : Link). k.flow.alarms) (some_is l (with_flow raises.flow raises.link) (sym is ∙ raises.becomes)) ∙ now;
+        tied = λ l is. ap (λ (k : RelationState). k.flow.alarms) (some_is l (with_flow raises.flow raises.link) (sym is ∙ raises.becomes)) ∙ now;
         still = λ none. absurd (none_some raises.link before none raises.was);
         said = subst (λ (messages : List Sent). AllByRecursion (λ message. IsSaid next.alarms.pdus next.acks (noted_in message)) messages) (sym raises.sends)
             (stands_said raises.flow.cyclic.route (header_of raises.flow pdu.Data) raises.flow.alarms.sender.standing (notified r.device.sender.specifier alarm) next.alarms.pdus next.acks block
@@ -278,16 +278,16 @@ module _ (setup : Setup) (r : Relation) where
           ((there.0, there.1 ∙ ap (λ (a : AlarmNotification). Some (header.send_number, a)) (sym (some_is standing alarm e))), tt)
 
   -- the alarm is refused
-  refused_on : (real : List RealModule) (before : Option Link) (slot subslot : ℕ) (octets : List ℕ) (after : Option Link) (sent : List Sent) → IsTied r before
+  refused_on : (real : List RealModule) (before : Option RelationState) (slot subslot : ℕ) (octets : List ℕ) (after : Option RelationState) (sent : List Sent) → IsTied r before
       → Refused real before slot subslot octets after sent → Goes setup r before after sent []
   refused_on real before slot subslot octets after sent tied refused =
       rests setup r before after sent (λ l is. tied l (sym refused.same ∙ is)) (subst (λ (messages : List Sent). AreCalm before messages) (sym refused.silent) tt)
 
-  pub raise_on : (real : List RealModule) (before : Option Link) (slot subslot : ℕ) (octets : List ℕ) (after : Option Link) (sent : List Sent) → IsTied r before
+  pub raise_on : (real : List RealModule) (before : Option RelationState) (slot subslot : ℕ) (octets : List ℕ) (after : Option RelationState) (sent : List Sent) → IsTied r before
       → IsRaise real before slot subslot octets after sent → Goes setup r before after sent (raised_in (raised_to real slot subslot octets before))
   raise_on real before slot subslot octets after sent tied (inl raises) =
       let raised : Some raises.flow ≡ raised_to real slot subslot octets before =
-      sym raises.raised ∙ (ap (λ (h : Heard). raised_for real h raises.link) (sym raises.is) ∙ ap (λ (l : Option Link). raised_to real slot subslot octets l) (sym raises.was)) in
+      sym raises.raised ∙ (ap (λ (h : Heard). raised_for real h raises.link) (sym raises.is) ∙ ap (λ (l : Option RelationState). raised_to real slot subslot octets l) (sym raises.was)) in
       subst (λ (o : Option Flow). Goes setup r before after sent (raised_in o)) raised (raises_on real before (Raised slot subslot octets) after sent tied raises)
   raise_on real before slot subslot octets after sent tied (inr refused) =
       subst (λ (o : Option Flow). Goes setup r before after sent (raised_in o)) (sym refused.unraised) (refused_on real before slot subslot octets after sent tied refused)
@@ -327,7 +327,7 @@ module _ (setup : Setup) (r : Relation) where
       subst (λ (d : Due). AllByRecursion (λ message. IsSaid (line_after line header.send_number (Some alarm) d).pdus acks (noted_in message)) (Exchanges route (Notifies header alarm) ∷ [])) (sym (again refl))
       ((length line.pdus, at_end line.pdus (header.send_number, alarm)), tt)
 
-  passes_on : (before : Option Link) (heard : Heard) (after : Option Link) (sent : List Sent) → IsTied r before → Passes before heard after sent → Goes setup r before after sent []
+  passes_on : (before : Option RelationState) (heard : Heard) (after : Option RelationState) (sent : List Sent) → IsTied r before → Passes before heard after sent → Goes setup r before after sent []
   passes_on before heard after sent tied passes =
       let flow = passes.link.flow in
       let e = tied passes.link passes.was in
@@ -346,12 +346,12 @@ module _ (setup : Setup) (r : Relation) where
         moves = PassesAtDevice ∷ [];
         made = refl;
         live = refl;
-        told = refl;
+        reported = refl;
         pdus = line_extends r.alarms number r.device.sender.standing due_now;
         acks = unchanged r.acks;
         raised = line_sent r.alarms number r.device.sender.standing due_now ∙ sym (append-nil r.alarms.sent);
         taken = line_taken r.alarms number r.device.sender.standing due_now;
-        tied = λ l is. ap (λ (k : Link). k.flow.alarms) (some_is l (unit_later passes.link) (sym is ∙ passes.becomes)) ∙ ap (λ (d : DeviceEnd). end_later d) e;
+        tied = λ l is. ap (λ (k : RelationState). k.flow.alarms) (some_is l (unit_later passes.link) (sym is ∙ passes.becomes)) ∙ ap (λ (d : DeviceEnd). end_later d) e;
         still = λ none. absurd (none_some passes.link before none passes.was);
         said = subst (λ (messages : List Sent). AllByRecursion (λ message. IsSaid next.alarms.pdus next.acks (noted_in message)) messages) (sym passes.sends)
             (each_behind (λ message. IsSaid next.alarms.pdus next.acks (noted_in message)) (where_due (tick_of flow).is_alarm (alarms_of (Some (flow_later flow)))) passes.others
@@ -360,9 +360,9 @@ module _ (setup : Setup) (r : Relation) where
 
   -- ---- an ACK arrives
 
-  acks_on : (before : Option Link) (heard : Heard) (after : Option Link) (sent : List Sent) → IsTied r before → IsHeard r.told (told_at heard) → HearsAck before heard after sent → Goes setup r before after sent []
+  acks_on : (before : Option RelationState) (heard : Heard) (after : Option RelationState) (sent : List Sent) → IsTied r before → IsHeard r.reported (reported_at heard) → HearsAck before heard after sent → Goes setup r before after sent []
   acks_on before heard after sent tied is acked =
-      let replied : IsReplied r.told acked.number = subst (λ (h : Heard). IsHeard r.told (told_at h)) acked.is is in
+      let replied : IsReplied r.reported acked.number = subst (λ (h : Heard). IsHeard r.reported (reported_at h)) acked.is is in
       let e = tied acked.link acked.was in
       let next : Relation = record r { device = end_behind r.device (notice.Ack acked.number) } in
       record {
@@ -372,12 +372,12 @@ module _ (setup : Setup) (r : Relation) where
             ∙ (ap (λ (kind : PduType). replied_by r replied.header kind) replied.kind
             ∙ ap (λ (n : ℕ). record r { device = end_behind r.device (notice.Ack n) }) replied.same);
         live = refl;
-        told = refl;
+        reported = refl;
         pdus = unchanged r.alarms.pdus;
         acks = unchanged r.acks;
         raised = sym (append-nil r.alarms.sent);
         taken = refl;
-        tied = λ l is_l. ap (λ (k : Link). k.flow.alarms) (some_is l (with_flow (behind_message acked.link.flow (notice.Ack acked.number)) acked.link) (sym is_l ∙ acked.becomes))
+        tied = λ l is_l. ap (λ (k : RelationState). k.flow.alarms) (some_is l (with_flow (behind_message acked.link.flow (notice.Ack acked.number)) acked.link) (sym is_l ∙ acked.becomes))
             ∙ ap (λ (d : DeviceEnd). end_behind d (notice.Ack acked.number)) e;
         still = λ none. absurd (none_some acked.link before none acked.was);
         said = subst (λ (messages : List Sent). AllByRecursion (λ message. IsSaid r.alarms.pdus r.acks (noted_in message)) messages) (sym acked.silent) tt;
@@ -401,9 +401,9 @@ module _ (setup : Setup) (r : Relation) where
   answer_said pdus acks seen number false true e = (length acks, at_end acks number ∙ ap (λ (n : ℕ). Some n) (sym (last_fits seen number e)))
   answer_said pdus acks seen number false false e = tt
 
-  data_on : (before : Option Link) (heard : Heard) (after : Option Link) (sent : List Sent) → IsTied r before → IsHeard r.told (told_at heard) → HearsData before heard after sent → Goes setup r before after sent []
+  data_on : (before : Option RelationState) (heard : Heard) (after : Option RelationState) (sent : List Sent) → IsTied r before → IsHeard r.reported (reported_at heard) → HearsData before heard after sent → Goes setup r before after sent []
   data_on before heard after sent tied is came =
-      let there : IsConfirmed r.told came.number came.ack = subst (λ (h : Heard). IsHeard r.told (told_at h)) came.is is in
+      let there : IsConfirmed r.reported came.number came.ack = subst (λ (h : Heard). IsHeard r.reported (reported_at h)) came.is is in
       let e = tied came.link came.was in
       let number = came.number in
       let behind_it = notice.Data number came.ack in
@@ -418,12 +418,12 @@ module _ (setup : Setup) (r : Relation) where
         made = ap (λ (o : Option said.Sent). comes_to_device r o) there.there
             ∙ ap (λ (n : ℕ). record r { device = end_behind r.device (notice.Data n came.ack); acks = acks_after r.acks n (taken_as r.device.seen n) }) there.same;
         live = refl;
-        told = refl;
+        reported = refl;
         pdus = unchanged r.alarms.pdus;
         acks = extends_acks r.acks number (taken_as r.device.seen number);
         raised = sym (append-nil r.alarms.sent);
         taken = refl;
-        tied = λ l is_l. ap (λ (k : Link). k.flow.alarms) (some_is l (with_flow (behind_message came.link.flow behind_it) came.link) (sym is_l ∙ came.becomes))
+        tied = λ l is_l. ap (λ (k : RelationState). k.flow.alarms) (some_is l (with_flow (behind_message came.link.flow behind_it) came.link) (sym is_l ∙ came.becomes))
             ∙ ap (λ (d : DeviceEnd). end_behind d behind_it) e;
         still = λ none. absurd (none_some came.link before none came.was);
         said = subst (λ (messages : List Sent). AllByRecursion (λ message. IsSaid next.alarms.pdus next.acks (noted_in message)) messages) (sym came.sends) answered;
@@ -432,16 +432,16 @@ module _ (setup : Setup) (r : Relation) where
   -- ---- any turn
 
   -- a relation that is made now begins as if nothing had happened
-  abbrev pub IsFresh : List Answer → Option Link → Heard → Option Link → List Sent → Type 0
+  abbrev pub IsFresh : List Answer → Option RelationState → Heard → Option RelationState → List Sent → Type 0
   IsFresh calls before heard after sent = (makes : Makes calls before heard after sent) → idle makes.request.alarm.timeout_factor makes.request.alarm.retries ≡ r.device
 
-  pub turn_on : (real : List RealModule) (calls : List Answer) (before : Option Link) (heard : Heard) (after : Option Link) (sent : List Sent)
-      → IsTied r before → IsHeard r.told (told_at heard) → IsUnraised heard → IsFresh calls before heard after sent
+  pub turn_on : (real : List RealModule) (calls : List Answer) (before : Option RelationState) (heard : Heard) (after : Option RelationState) (sent : List Sent)
+      → IsTied r before → IsHeard r.reported (reported_at heard) → IsUnraised heard → IsFresh calls before heard after sent
       → IsTurn real calls before heard after sent → Goes setup r before after sent []
   turn_on real calls before heard after sent tied is unraised fresh (inl stays) = rests setup r before after sent (same_tied r before after stays.link tied) stays.calm
   turn_on real calls before heard after sent tied is unraised fresh (inr (inl makes)) =
       rests setup r before after sent
-      (λ l is_l. ap (λ (k : Link). k.flow.alarms) (some_is l (made_of makes.request makes.partner makes.rows) (sym is_l ∙ makes.made)) ∙ fresh makes) makes.calm
+      (λ l is_l. ap (λ (k : RelationState). k.flow.alarms) (some_is l (made_of makes.request makes.partner makes.rows) (sym is_l ∙ makes.made)) ∙ fresh makes) makes.calm
   turn_on real calls before heard after sent tied is unraised fresh (inr (inr (inl raises))) = absurd (subst (λ (h : Heard). IsUnraised h) raises.is unraised)
   turn_on real calls before heard after sent tied is unraised fresh (inr (inr (inr (inl acked)))) = acks_on before heard after sent tied is acked
   turn_on real calls before heard after sent tied is unraised fresh (inr (inr (inr (inr (inl came))))) = data_on before heard after sent tied is came

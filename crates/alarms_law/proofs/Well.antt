@@ -41,7 +41,7 @@ use Rattle.startup_law.specs.View.{IsSaidAs, rules_of}
 use Rattle.alarms_law.proofs.Lists.{holds_if}
 use Rattle.alarms_law.proofs.Messages.{HearsSo, IsSizedSaid}
 use Rattle.alarms_law.proofs.Served.{IsServed}
-use Rattle.alarms_law.proofs.Told.{IsCallIn, IsCalledAs, IsSizedCall, IsWell, IsWellBy, IsWellSent}
+use Rattle.alarms_law.proofs.Reported.{IsCallIn, IsCalledAs, IsSizedCall, IsWell, IsWellBy, IsWellSent}
 
 -- ---- at the controller
 
@@ -82,7 +82,7 @@ module _ (setup : Setup) where
   unanswered_well (controller.Answers source answer) says other at_most = tt
   unanswered_well (controller.Calls caller call) says other at_most = tt
   unanswered_well (controller.Cyclic source frame_id body) says other at_most = tt
-  unanswered_well (controller.Alarms source header told) says other at_most = tt
+  unanswered_well (controller.Alarms source header reported) says other at_most = tt
 
   nothing_well : (heard : controller.Heard) → (said_to setup heard ≡ small.Nothing) ⊎ (said_to setup heard ≡ small.Nothing) → IsWell setup heard
   nothing_well heard at_most = unanswered_well heard small.Nothing (λ e. absurd cc) at_most
@@ -102,7 +102,7 @@ module _ (so : HearsSo) (setup : Setup) (station : Station) (good : IsSetup setu
   planned_call (Some operation.ReadImplicit) sequence blocks plan e = absurd plan
   planned_call None sequence blocks plan e = absurd plan
 
-  sized_call : (caller : Caller) (address : List ℕ) (call : Call) → heard ≡ device.Told caller address (device.Calls call) → IsSizedCall call
+  sized_call : (caller : Caller) (address : List ℕ) (call : Call) → heard ≡ device.Reported caller address (device.Calls call) → IsSizedCall call
   sized_call caller address call is =
       let plan : IsPlannedCall (rules_of setup station) setup.activity station.real call =
       subst (λ (h : Heard). IsPlanned (rules_of setup station) setup.activity station.real h) is planned in
@@ -164,49 +164,49 @@ module _ (so : HearsSo) (setup : Setup) (station : Station) (good : IsSetup setu
 idle_called : (heard : Heard) → heard_as heard ≡ small.Idle → IsCallIn heard
 idle_called heard idle = λ caller address call is other. absurd (other idle)
 
-same_call : (one other : Caller) (here there : List ℕ) (call now : Call) → device.Told one here (device.Calls call) ≡ device.Told other there (device.Calls now) → call ≡ now
+same_call : (one other : Caller) (here there : List ℕ) (call now : Call) → device.Reported one here (device.Calls call) ≡ device.Reported other there (device.Calls now) → call ≡ now
 same_call one other here there call now e = cc
 
 module _ (so : HearsSo) (setup : Setup) (station : Station) (good : IsSetup setup) where
-  told_called : (caller : Caller) (address : List ℕ) (call : Call) → IsSizedCall call → IsCallIn (device.Told caller address (device.Calls call))
-  told_called caller address call sized = λ other there now is not_idle. subst (λ (c : Call). IsSizedCall c) (same_call caller other address there call now is) sized
+  reported_called : (caller : Caller) (address : List ℕ) (call : Call) → IsSizedCall call → IsCallIn (device.Reported caller address (device.Calls call))
+  reported_called caller address call sized = λ other there now is not_idle. subst (λ (c : Call). IsSizedCall c) (same_call caller other address there call now is) sized
 
   call_called : (to : Mac) (request : Request) → IsMac to → IsCalled request → IsNumbered request → IsCallIn (heard_of station.identity (comes (call_frame setup to (call_for setup request))))
   call_called to request mac called numbered =
       let can = so.call_can setup request good called numbered in
       subst (λ (h : Heard). IsCallIn h) (sym (so.call_at_device station.identity setup to (call_for setup request) good mac can))
       (holds_if IsCallIn (is_own station.identity to && (calls_at setup.plan.station.suite.address).port == 34964)
-      (device.Told (record { mac = setup.plan.controller.mac; endpoint = calls_at setup.plan.controller.address }) (calls_at setup.plan.station.suite.address).address (device.Calls (call_for setup request)))
+      (device.Reported (record { mac = setup.plan.controller.mac; endpoint = calls_at setup.plan.controller.address }) (calls_at setup.plan.station.suite.address).address (device.Calls (call_for setup request)))
       device.Elsewhere
-      (told_called _ _ (call_for setup request) (record { header = can.header; maximum = can.maximum })) (λ caller address call is other. absurd (other refl)))
+      (reported_called _ _ (call_for setup request) (record { header = can.header; maximum = can.maximum })) (λ caller address call is other. absurd (other refl)))
 
   answer_called : (caller : Caller) (answer : Response) → IsCaller caller → CanBeAnswered answer → IsCallIn (heard_of station.identity (comes (said.answer_frame setup caller answer)))
   answer_called caller answer calls can =
       subst (λ (h : Heard). IsCallIn h) (sym (so.agreed_at_device station.identity setup caller answer good calls can))
       (holds_if IsCallIn (is_own station.identity caller.mac && caller.endpoint.port == 34964)
-      (device.Told (record { mac = setup.plan.controller.mac; endpoint = calls_at setup.plan.controller.address }) caller.endpoint.address (device.Responds answer)) device.Elsewhere
+      (device.Reported (record { mac = setup.plan.controller.mac; endpoint = calls_at setup.plan.controller.address }) caller.endpoint.address (device.Responds answer)) device.Elsewhere
       (λ c address call is other. absurd cc) (λ c address call is other. absurd (other refl)))
 
   idle_either : (heard : ToDevice) → (heard ≡ small.Idle) ⊎ (heard ≡ small.Idle) → heard ≡ small.Idle
   idle_either heard (inl idle) = idle
   idle_either heard (inr idle) = idle
 
-  quiet_called : (octets : List ℕ) → (heard_as (heard_of station.identity (comes octets)) ≡ small.Idle) ⊎ (heard_as (heard_of station.identity (comes octets)) ≡ small.Idle)
+  inactive_called : (octets : List ℕ) → (heard_as (heard_of station.identity (comes octets)) ≡ small.Idle) ⊎ (heard_as (heard_of station.identity (comes octets)) ≡ small.Idle)
       → IsCallIn (heard_of station.identity (comes octets))
-  quiet_called octets either = idle_called (heard_of station.identity (comes octets)) (idle_either (heard_as (heard_of station.identity (comes octets))) either)
+  inactive_called octets either = idle_called (heard_of station.identity (comes octets)) (idle_either (heard_as (heard_of station.identity (comes octets))) either)
 
   message_called : (message : said.Sent) → IsSizedSaid setup message → IsSaidAs setup station message → IsCalledAs setup station.identity message
-  message_called (said.Requests to asks.Identify) sized meant = quiet_called (said.bytes_of setup (said.Requests to asks.Identify)) meant.1
-  message_called (said.Requests to asks.Address) sized meant = quiet_called (said.bytes_of setup (said.Requests to asks.Address)) meant.1
+  message_called (said.Requests to asks.Identify) sized meant = inactive_called (said.bytes_of setup (said.Requests to asks.Identify)) meant.1
+  message_called (said.Requests to asks.Address) sized meant = inactive_called (said.bytes_of setup (said.Requests to asks.Address)) meant.1
   message_called (said.Requests to asks.Connect) sized meant = call_called to asks.Connect sized.0.0 tt sized.0.1
   message_called (said.Requests to (asks.Write number)) sized meant = call_called to (asks.Write number) sized.0.0 tt sized.0.1
   message_called (said.Requests to asks.PrmEnd) sized meant = call_called to asks.PrmEnd sized.0.0 tt sized.0.1
   message_called (said.Requests to (asks.Release sequence)) sized meant = call_called to (asks.Release sequence) sized.0.0 tt sized.0.1
   message_called (said.Agrees caller answer) sized meant = answer_called caller answer sized.0.0 sized.0.1
-  message_called (said.Cycles route shown counter) sized meant = quiet_called (said.bytes_of setup (said.Cycles route shown counter)) meant.1
-  message_called (said.Confirms route header one) sized meant = quiet_called (said.bytes_of setup (said.Confirms route header one)) meant.1
-  message_called (said.Replies route header) sized meant = quiet_called (said.bytes_of setup (said.Replies route header)) meant.1
-  message_called (said.Ends route header reason) sized meant = quiet_called (said.bytes_of setup (said.Ends route header reason)) meant.1
+  message_called (said.Cycles route shown counter) sized meant = inactive_called (said.bytes_of setup (said.Cycles route shown counter)) meant.1
+  message_called (said.Confirms route header one) sized meant = inactive_called (said.bytes_of setup (said.Confirms route header one)) meant.1
+  message_called (said.Replies route header) sized meant = inactive_called (said.bytes_of setup (said.Replies route header)) meant.1
+  message_called (said.Ends route header reason) sized meant = inactive_called (said.bytes_of setup (said.Ends route header reason)) meant.1
 
   pub all_called : (messages : List said.Sent) → AllByRecursion (IsSizedSaid setup) messages → AllByRecursion (IsSaidAs setup station) messages
       → AllByRecursion (IsCalledAs setup station.identity) messages

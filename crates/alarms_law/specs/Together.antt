@@ -3,7 +3,7 @@ use Rattle.std.specs.Prelude.{◌≡◌, ◌≤◌, ◌<◌, ◌+◌, ℕ, true,
 use Rattle.flash_model.specs.declared.flash.Flash.{Ghosts as Flash}
 use Rattle.connect_laws.specs.request.Request.{request_for}
 use Rattle.relations.specs.Exchanged.{output_in}
-use Rattle.relations.specs.Link.{Link}
+use Rattle.relations.specs.RelationState.{RelationState}
 use Rattle.relations.specs.declared.phase.Phase.TheVariants.{Exchanging as in_exchange}
 use Rattle.device_core.specs.State.{State}
 use Rattle.controller_frames.specs.declared.setup.Setup.{Setup}
@@ -33,14 +33,14 @@ pub record IsBegunAndPlayed {F : Type 0} {S : ℕ} (as_flash : Flash F S) (setup
   -- each once.
   pub handed : last.controller.live.phase ≡ Exchanging → WasHanded (rules_of first.controller.setup first.device.station) (view_of first) (viewed run)
   -- If the device exchanges data, its controller did so before.
-  pub exchanging : (link : Link) → last.device.live.rest.link ≡ Some link → link.phase ≡ in_exchange → WasExchanging (viewed run)
+  pub exchanging : (link : RelationState) → last.device.live.rest.link ≡ Some link → link.phase ≡ in_exchange → WasExchanging (viewed run)
   -- A relation of the device is the plan's.
-  pub relation : (link : Link) → last.device.live.rest.link ≡ Some link → link.request ≡ request_for setup.plan setup.ar
+  pub relation : (link : RelationState) → last.device.live.rest.link ≡ Some link → link.request ≡ request_for setup.plan setup.ar
   -- All outputs that the device shows are zeros as long as it accepted no cyclic frame in its relation, then they come
   -- from one frame of the controller.
-  pub zeros : (link : Link) → last.device.live.rest.link ≡ Some link → has_accepted link ≡ false
+  pub zeros : (link : RelationState) → last.device.live.rest.link ≡ Some link → has_accepted link ≡ false
       → (slot subslot : ℕ) → output_in slot subslot (Some link) ≡ zero_for setup slot subslot
-  pub values : (link : Link) → last.device.live.rest.link ≡ Some link → has_accepted link ≡ true → AreOfOneFrame setup device.station.identity first run link
+  pub values : (link : RelationState) → last.device.live.rest.link ≡ Some link → has_accepted link ≡ true → AreOfOneFrame setup device.station.identity first run link
   -- If at most 32,768 alarms are raised, those that the controller accepted are a prefix of those that the device
   -- raised, and lack at most the last.
   pub front : length (raised_over first run) ≤ 32768 → IsPrefixOf (taken_over first run) (raised_over first run)

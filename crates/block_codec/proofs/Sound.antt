@@ -6,7 +6,7 @@ use Rattle.wire.specs.Formats.{big_bytes, big_number, number}
 use Rattle.wire.proofs.Fields.{number_in_front, number_sound, number_onward}
 use Rattle.wire.proofs.Joined.{then_by_sound, then_by_onward, seen_sound, seen_onward, framed_sound, framed_onward}
 use Rattle.wire.proofs.Wholes.{refused_sound}
-use Rattle.wire.proofs.Judged.{variant_sound}
+use Rattle.wire.proofs.Handled.{variant_sound}
 use Rattle.block_fields.specs.declared.fault.BlockFault.TheVariants.{Truncated, Kind}
 use Rattle.block_fields.proofs.Sound.{body_sound, open_body_sound}
 use Rattle.connect_blocks.specs.declared.ar_block.ArBlockReq.{ArBlockReq}

@@ -5,7 +5,7 @@ use Rattle.std.proofs.lemmas.List.{length-replicate}
 use Rattle.wire.specs.Codec.{Codec, Whole, IsSound, IsSoundWhole}
 use Rattle.wire.proofs.Fields.{raw_sound, number_sound}
 use Rattle.wire.proofs.Joined.{then_by_sound, seen_sound}
-use Rattle.wire.proofs.Judged.{checked_sound, closed_sound}
+use Rattle.wire.proofs.Handled.{checked_sound, closed_sound}
 use Rattle.wire.proofs.Wholes.{ends_by_sound, seen_whole_sound}
 use Rattle.block_fields.specs.declared.fault.BlockFault.{BlockFault}
 use Rattle.block_fields.specs.declared.fault.BlockFault.TheVariants.{Length, Version, Field}

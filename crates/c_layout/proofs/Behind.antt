@@ -3,7 +3,7 @@ use Rattle.std.proofs.Common.{◌≡◌, ◌+◌, ◌++◌, ◌≤◌, ℕ, List
 use Rattle.std.proofs.Math.Seq.{take-append_seam}
 use Rattle.std.proofs.lemmas.Slice.{drop-append-drop}
 use Rattle.c_layout.specs.declared.op.Op.{Op}
-use Rattle.c_layout.specs.Told.{with_octets}
+use Rattle.c_layout.specs.Reported.{with_octets}
 
 -- The memory, if it already begins with octets.
 pub both : (before octets room : List ℕ)

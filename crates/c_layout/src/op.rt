@@ -1,7 +1,7 @@
 //! One operation, as it lies in the memory of the host.
 ghost use Rattle.std.specs.Prelude.{◌≡◌, ◌+◌, ◌≤◌, ◌++◌, ℕ, List, drop, length, take};
 ghost use Rattle.c_layout.specs.Places.{place_in};
-ghost use Rattle.c_layout.specs.Told.{with_octets};
+ghost use Rattle.c_layout.specs.Reported.{with_octets};
 
 /// One operation: what is asked, and what is returned.
 #[repr(C)]

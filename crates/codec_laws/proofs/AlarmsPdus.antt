@@ -52,9 +52,9 @@ pdu_read fitting said more is = fitting said more (header_fits said.header is.he
 -- ---- the contents of a PDU
 
 -- what a PDU of a kind says to a station
-says : {B : Type 0} (fitting : FittingIsRead) (block : List ℕ → Result B AlarmFault) (said : Said) (more : List ℕ) (type : PduType) (told : Notice B)
-    → CanBeSaid said → said.header.kind ≡ type → notice_in block type said ≡ Ok told → notice_of block (pdu_bytes said ++ more) ≡ Ok (said.header, told)
-says {B = B} fitting block said more type told is same e =
+says : {B : Type 0} (fitting : FittingIsRead) (block : List ℕ → Result B AlarmFault) (said : Said) (more : List ℕ) (type : PduType) (reported : Notice B)
+    → CanBeSaid said → said.header.kind ≡ type → notice_in block type said ≡ Ok reported → notice_of block (pdu_bytes said ++ more) ≡ Ok (said.header, reported)
+says {B = B} fitting block said more type reported is same e =
     ap (λ (r : Result Said AlarmFault). r >>= (λ (s : Said). notice_in block s.header.kind s >>= λ (n : Notice B). Ok (s.header, n))) (pdu_read fitting said more is)
     ∙ ap (λ (k : PduType). notice_in block k said >>= λ (n : Notice B). Ok (said.header, n)) same
     ∙ ap (λ (r : Result (Notice B) AlarmFault). r >>= λ (n : Notice B). Ok (said.header, n)) e

@@ -43,16 +43,16 @@ made : {A H : Type 0} → (r : Result A FrameFault) (to : A → Content) (header
 made (Ok x) to header make is = is x
 made (Err fault) to header make is = tt
 
-judged : (long : Bool) (r : Result Meaning FrameFault) → IsRealTimeOrNone r → IsRealTimeOrNone (if long then Err TooLong else r)
-judged true r is = tt
-judged false r is = is
+handled : (long : Bool) (r : Result Meaning FrameFault) → IsRealTimeOrNone r → IsRealTimeOrNone (if long then Err TooLong else r)
+handled true r is = tt
+handled false r is = is
 
 -- the Ethernet header at the front decides
 under : (bytes rest : List ℕ) (destination source : Mac) (tag : Option ℕ) (frame_id : ℕ) (body : List ℕ)
     → ethernet.read bytes ≡ Ok (header_of (carrying destination source tag (RealTime frame_id body)), rest) → IsRealTimeOrNone (frame_of bytes)
 unfolding frame_of layers real_time
 under bytes rest destination source tag frame_id body e =
-    rw e (judged (nat_lt (longest tag) (length bytes)) _
+    rw e (handled (nat_lt (longest tag) (length bytes)) _
     (made {A = ℕ × List ℕ} {H = ValueOf ethernet} ((ends_by (number TooShort 2) (λ _. everything)).read rest) (λ x. RealTime x.0 x.1)
     (header_of (carrying destination source tag (RealTime frame_id body))) (λ x. record { destination = x.0.destination; source = x.0.source; tag = x.0.tag; content = x.1 }) (λ x. tt)))
 

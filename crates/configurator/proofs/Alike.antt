@@ -298,12 +298,12 @@ all_there found known is_known e slot =
 
 -- each module may stand in its slot exactly where the fixed ones stand in open slots, those that are put into slots stand well, and
 -- each slot is named once
-pub judged_alike : (found : Catalogue) (known : Known) → IsKnown found known
+pub handled_alike : (found : Catalogue) (known : Known) → IsKnown found known
     → (list_all (is_fixed_open (physical_in known) (fixed_by known) (number_in known)) found.access_point.references
     && list_all (stands_well (physical_in known) (fixed_by known) (taken_by known) (number_in known)) found.project.slots && are_once found.project.slots)
     ≡ are_allowed found
 unfolding are_allowed
-judged_alike found known is_known = either (list_all (is_fixed_open (physical_in known) (fixed_by known) (number_in known)) found.access_point.references) refl
+handled_alike found known is_known = either (list_all (is_fixed_open (physical_in known) (fixed_by known) (number_in known)) found.access_point.references) refl
   where
     put : Bool
     put = list_all (stands_well (physical_in known) (fixed_by known) (taken_by known) (number_in known)) found.project.slots

@@ -22,36 +22,36 @@ cmp_is x y = grind (arith, nat_tests)
 pub place_is : (slot n other m : ℕ) → is_eq (place_cmp (slot, n) (other, m)) ≡ (slot == other && n == m)
 place_is slot n other m = grind (arith, nat_tests)
 
-or_moved : (a b c : Bool) → (cond b true a || c) ≡ (a || (b || c))
-or_moved true true c = refl
-or_moved true false c = refl
-or_moved false true c = refl
-or_moved false false c = refl
+or_updated : (a b c : Bool) → (cond b true a || c) ≡ (a || (b || c))
+or_updated true true c = refl
+or_updated true false c = refl
+or_updated false true c = refl
+or_updated false false c = refl
 
 -- a set that has one more slot, and those that are left
 pub slot_more : (old new : BTreeSet ℕ) (slot : ℕ) → sorted.Updates nat_cmp old new slot true → (slots : List ℕ) (other : ℕ)
     → (contains nat_cmp new other || is_in other slots) ≡ (contains nat_cmp old other || is_in other (slot ∷ slots))
 slot_more old new slot updates slots other =
     ap (λ (b : Bool). b || is_in other slots) (updates.0 other ∙ ap (λ (b : Bool). cond b true (contains nat_cmp old other)) (cmp_is slot other))
-    ∙ or_moved (contains nat_cmp old other) (slot == other) (is_in other slots)
+    ∙ or_updated (contains nat_cmp old other) (slot == other) (is_in other slots)
 
 -- places into which a module is let
-place_moved : (a b c d : Bool) → (cond (b && c) true a || (c && d)) ≡ (a || (c && (b || d)))
-place_moved true true true d = refl
-place_moved true true false d = refl
-place_moved true false true d = refl
-place_moved true false false d = refl
-place_moved false true true d = refl
-place_moved false true false d = refl
-place_moved false false true d = refl
-place_moved false false false d = refl
+place_updated : (a b c d : Bool) → (cond (b && c) true a || (c && d)) ≡ (a || (c && (b || d)))
+place_updated true true true d = refl
+place_updated true true false d = refl
+place_updated true false true d = refl
+place_updated true false false d = refl
+place_updated false true true d = refl
+place_updated false true false d = refl
+place_updated false false true d = refl
+place_updated false false false d = refl
 
 pub place_more : (old new : BTreeSet (ℕ × ℕ)) (slot number : ℕ) → sorted.Updates place_cmp old new (slot, number) true → (slots : List ℕ) (other n : ℕ)
     → (contains place_cmp new (other, n) || (number == n && is_in other slots)) ≡ (contains place_cmp old (other, n) || (number == n && is_in other (slot ∷ slots)))
 place_more old new slot number updates slots other n =
     ap (λ (b : Bool). b || (number == n && is_in other slots))
     (updates.0 (other, n) ∙ ap (λ (b : Bool). cond b true (contains place_cmp old (other, n))) (place_is slot number other n))
-    ∙ place_moved (contains place_cmp old (other, n)) (slot == other) (number == n) (is_in other slots)
+    ∙ place_updated (contains place_cmp old (other, n)) (slot == other) (number == n) (is_in other slots)
 
 -- ---- what is fixed
 
@@ -91,18 +91,18 @@ fix_more o p number slot other slots is = ap (λ (q : Option ℕ). option_or q (
     either None true c = refl
     either None false c = refl
 
-pub option_or_moved : (a b c : Option ℕ) → option_or (option_or a b) c ≡ option_or a (option_or b c)
-option_or_moved None b c = refl
-option_or_moved (Some x) b c = refl
+pub option_or_updated : (a b c : Option ℕ) → option_or (option_or a b) c ≡ option_or a (option_or b c)
+option_or_updated None b c = refl
+option_or_updated (Some x) b c = refl
 
-pub or_or_moved : (a b c : Bool) → ((a || b) || c) ≡ (a || (b || c))
-or_or_moved true b c = refl
-or_or_moved false b c = refl
+pub or_or_updated : (a b c : Bool) → ((a || b) || c) ≡ (a || (b || c))
+or_or_updated true b c = refl
+or_or_updated false b c = refl
 
-pub and_or_moved : (a c x y : Bool) → ((a || (c && x)) || (c && y)) ≡ (a || (c && (x || y)))
-and_or_moved true c x y = refl
-and_or_moved false true x y = refl
-and_or_moved false false x y = refl
+pub and_or_updated : (a c x y : Bool) → ((a || (c && x)) || (c && y)) ≡ (a || (c && (x || y)))
+and_or_updated true c x y = refl
+and_or_updated false true x y = refl
+and_or_updated false false x y = refl
 
 pub or_nothing : (a : Bool) → (a || false) ≡ a
 or_nothing true = refl

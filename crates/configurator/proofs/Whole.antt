@@ -14,7 +14,7 @@ use Rattle.configurator.specs.Allowed.{are_allowed}
 use Rattle.configurator.specs.Few.{are_few, are_low, are_records_few, are_slots_low, is_small_if}
 use Rattle.configurator.specs.Fault.{of_length}
 use Rattle.configurator.specs.Standing.{all_slots, stands_in}
-use Rattle.configurator.specs.Planned.{ArePartsOf, IsAddressed, IsPlanOf, IsRefused, Judged, parts_of}
+use Rattle.configurator.specs.Planned.{ArePartsOf, IsAddressed, IsPlanOf, IsRefused, Handled, parts_of}
 
 abbrev pub addressed_with : (found : Catalogue) (addresses : Addresses) → AreNamed found.project → AreAddresses found.project addresses → IsAddressed found
 addressed_with found addresses named addressed = record { named = named; addresses = addresses; addressed = addressed }
@@ -29,24 +29,24 @@ same_of true false parts plan e = absurd cc
 same_of false connect parts plan e = absurd cc
 
 -- a plan of these parts
-pub judged_plan : (found : Catalogue) (parts plan : Parts) → ArePartsOf found parts → plan_of parts ≡ Ok plan → Judged found (Ok plan)
-judged_plan found parts plan made e =
+pub handled_plan : (found : Catalogue) (parts plan : Parts) → ArePartsOf found parts → plan_of parts ≡ Ok plan → Handled found (Ok plan)
+handled_plan found parts plan made e =
     let same = same_of (do_frames_fit parts) (does_connect_fit parts) parts plan e in
     subst (λ (p : Parts). ArePartsOf found p × (plan_of p ≡ Ok p)) same (made, (e ∙ ap Ok (sym same)))
 
 -- parts that are too long
-pub judged_long : (found : Catalogue) (parts : Parts) (fault : TooLong) → ArePartsOf found parts → plan_of parts ≡ Err fault → Judged found (Err (of_length fault))
-judged_long found parts Frame made e = (parts, made, e)
-judged_long found parts Connect made e = (parts, made, e)
+pub handled_long : (found : Catalogue) (parts : Parts) (fault : TooLong) → ArePartsOf found parts → plan_of parts ≡ Err fault → Handled found (Err (of_length fault))
+handled_long found parts Frame made e = (parts, made, e)
+handled_long found parts Connect made e = (parts, made, e)
 
 -- a text of this catalogue, as it is judged
-pub planned : (text : List ℕ) (found : Catalogue) (result : Result Parts PlanFault) → Found text found → Judged found result → IfOk result (IsPlanOf text)
-planned text found (Ok parts) is_found judged = (found, is_found, judged)
-planned text found (Err fault) is_found judged = tt
+pub planned : (text : List ℕ) (found : Catalogue) (result : Result Parts PlanFault) → Found text found → Handled found result → IfOk result (IsPlanOf text)
+planned text found (Ok parts) is_found handled = (found, is_found, handled)
+planned text found (Err fault) is_found handled = tt
 
-pub refused : (text : List ℕ) (found : Catalogue) (result : Result Parts PlanFault) → Found text found → Judged found result → IfErr result (IsRefused text)
-refused text found (Ok parts) is_found judged = tt
-refused text found (Err fault) is_found judged = inr (found, is_found, judged)
+pub refused : (text : List ℕ) (found : Catalogue) (result : Result Parts PlanFault) → Found text found → Handled found result → IfErr result (IsRefused text)
+refused text found (Ok parts) is_found handled = tt
+refused text found (Err fault) is_found handled = inr (found, is_found, handled)
 
 -- ---- what there are few of
 

@@ -63,29 +63,29 @@ pub record ArePartsOf (found : Catalogue) (parts : Parts) : Type 0 where
 
 -- the plan of a catalogue, or its first fault: a name, an address, a module that is not allowed in its slot, too many things, a
 -- frame or the Connect too long; memory may be refused
-abbrev pub Judged : Catalogue → Result Parts PlanFault → Type 0
-Judged found (Ok parts) = ArePartsOf found parts × (plan_of parts ≡ Ok parts)
-Judged found (Err Name) = ¬ AreNamed found.project
-Judged found (Err Address) = AreNamed found.project × ((addresses : Addresses) → ¬ AreAddresses found.project addresses)
-Judged found (Err NotAllowedInSlot) = IsAddressed found × (are_allowed found ≡ false)
-Judged found (Err TooManySlots) = IsAddressed found × (are_allowed found ≡ true) × (are_few found ≡ false)
-Judged found (Err FrameTooLong) = (parts : Parts) × ArePartsOf found parts × (plan_of parts ≡ Err long.Frame)
-Judged found (Err ConnectTooLong) = (parts : Parts) × ArePartsOf found parts × (plan_of parts ≡ Err long.Connect)
-Judged found (Err OutOfMemory) = Unit {0}
-Judged found (Err fault) = ⊥
+abbrev pub Handled : Catalogue → Result Parts PlanFault → Type 0
+Handled found (Ok parts) = ArePartsOf found parts × (plan_of parts ≡ Ok parts)
+Handled found (Err Name) = ¬ AreNamed found.project
+Handled found (Err Address) = AreNamed found.project × ((addresses : Addresses) → ¬ AreAddresses found.project addresses)
+Handled found (Err NotAllowedInSlot) = IsAddressed found × (are_allowed found ≡ false)
+Handled found (Err TooManySlots) = IsAddressed found × (are_allowed found ≡ true) × (are_few found ≡ false)
+Handled found (Err FrameTooLong) = (parts : Parts) × ArePartsOf found parts × (plan_of parts ≡ Err long.Frame)
+Handled found (Err ConnectTooLong) = (parts : Parts) × ArePartsOf found parts × (plan_of parts ≡ Err long.Connect)
+Handled found (Err OutOfMemory) = Unit {0}
+Handled found (Err fault) = ⊥
 
 -- a text is JSON of a tree that is a catalogue of this plan
 abbrev pub IsPlanOf : List ℕ → Parts → Type 0
-IsPlanOf text parts = (found : Catalogue) × Found text found × Judged found (Ok parts)
+IsPlanOf text parts = (found : Catalogue) × Found text found × Handled found (Ok parts)
 
 -- a text is refused as it is read; or it is a catalogue whose first fault over the whole is this
 abbrev pub IsRefused : List ℕ → PlanFault → Type 0
 IsRefused text fault =
     ((found : PlacedFault) × Refuses text found × (fault ≡ of_catalogue found.fault))
-    ⊎ ((found : Catalogue) × Found text found × Judged found (Err fault))
+    ⊎ ((found : Catalogue) × Found text found × Handled found (Err fault))
 
 -- the same, at the place of the fault
 abbrev pub IsRefusedAt : List ℕ → Refusal → Type 0
 IsRefusedAt text refusal =
     ((found : PlacedFault) × Refuses text found × (refusal.fault ≡ of_catalogue found.fault) × (refusal.place ≡ found.place))
-    ⊎ ((found : Catalogue) × Found text found × Judged found (Err refusal.fault) × (refusal.place.items ≡ place_of found refusal.fault))
+    ⊎ ((found : Catalogue) × Found text found × Handled found (Err refusal.fault) × (refusal.place.items ≡ place_of found refusal.fault))

@@ -106,7 +106,7 @@ fn fix_module(
 }
 
 /// Which module is fixed in which slot.
-#[tactic(auto, using(crate::proofs::Steps::option_or_moved))]
+#[tactic(auto, using(crate::proofs::Steps::option_or_updated))]
 fn fixed_of(
     alloc: Global,
     numbers: &BTreeMap<String, usize>,
@@ -162,7 +162,7 @@ fn take_module(
 }
 
 /// Which module may be put into which slot, or is fixed there.
-#[tactic(auto, using(crate::proofs::Steps::or_or_moved))]
+#[tactic(auto, using(crate::proofs::Steps::or_or_updated))]
 fn taken_of(
     alloc: Global,
     numbers: &BTreeMap<String, usize>,

@@ -6,7 +6,7 @@ ghost use Rattle.catalogue.specs.Kept.{IsInRange};
 ghost use Rattle.plans.specs.Parts.{AreParts};
 ghost use Rattle.configurator.specs.Addresses.{AreAddresses, AreNamed};
 ghost use Rattle.configurator.specs.Few.{are_few};
-ghost use Rattle.configurator.specs.Planned.{IsPlanOf, IsRefused, IsRefusedAt, Judged, parts_of};
+ghost use Rattle.configurator.specs.Planned.{IsPlanOf, IsRefused, IsRefusedAt, Handled, parts_of};
 
 use crate::addresses::{Addresses, addresses_of};
 use crate::allowed::are_allowed;
@@ -64,7 +64,7 @@ fn planned(
     requires station { names.station ≡ catalogue.now.project.station.name }
     requires controller { names.controller ≡ catalogue.now.project.controller.name }
     requires addressed { AreAddresses catalogue.now.project addresses }
-    ensures { Judged catalogue.now result }
+    ensures { Handled catalogue.now result }
 {
     if !are_allowed(alloc, catalogue)? {
         return Err(PlanFault::NotAllowedInSlot);
@@ -81,7 +81,7 @@ fn planned(
 /// The plan of a catalogue, or its first fault over the whole.
 fn plan_of(alloc: Global, catalogue: &Catalogue) -> Result<Plan, PlanFault>
     requires { IsInRange catalogue.now }
-    ensures { Judged catalogue.now result }
+    ensures { Handled catalogue.now result }
 {
     let names = match names_of(&catalogue.project) {
         Some(names) => names,
@@ -97,7 +97,7 @@ fn plan_of(alloc: Global, catalogue: &Catalogue) -> Result<Plan, PlanFault>
 /// The catalogue that a text of JSON is (the keys are GSDML's) and its plan, or the first fault and its place.
 pub fn plan_or_place(alloc: Global, text: &[u8]) -> Result<(Plan, Catalogue), Refusal>
     ensures found { IfOk result (λ both. Found text.now both.1) }
-    ensures judged { IfOk result (λ both. Judged both.1 (Ok both.0)) }
+    ensures handled { IfOk result (λ both. Handled both.1 (Ok both.0)) }
     ensures refused { IfErr result (IsRefusedAt text.now) }
 {
     let catalogue = match read(alloc, text) {

@@ -2,7 +2,7 @@
 use Rattle.std.proofs.Common.{◌≡◌, ℕ, List, Option, Some, None, refl}
 use Rattle.wire.specs.Codec.{IsSound}
 use Rattle.wire.proofs.Joined.{then_by_sound, seen_sound}
-use Rattle.wire.proofs.Judged.{checked_sound, named_sound}
+use Rattle.wire.proofs.Handled.{checked_sound, named_sound}
 use Rattle.wire.proofs.Counts.{bounded_sound, counted_sound}
 use Rattle.block_fields.specs.declared.fault.BlockFault.TheVariants.{Count, Field}
 use Rattle.connect_blocks.specs.declared.control.ControlBlock.{ControlBlock}

@@ -17,14 +17,14 @@ use Rattle.records.specs.declared.status.call_fault.CallFault.{CallFault}
 use Rattle.records.specs.declared.status.operation.Operation.TheVariants.{Connect}
 use Rattle.records.specs.status.Status.{done}
 use Rattle.connect_requests.specs.Request.{Request}
-use Rattle.connect_requests.specs.Judged.{request_of}
+use Rattle.connect_requests.specs.Handled.{request_of}
 use Rattle.rpc_core.specs.Response.{Answered, answer_to}
 use Rattle.wire.specs.Codec.{◌>>=◌}
-use Rattle.relations.specs.Link.{Link}
-use Rattle.relations.specs.Phases.{differing_octets, moved}
+use Rattle.relations.specs.RelationState.{RelationState}
+use Rattle.relations.specs.Phases.{differing_octets, updated}
 use Rattle.relations.specs.Connect.{connect_answer, connect_blocks, connect_of, differing_of, making}
 use Rattle.connect_laws.specs.request.Request.{no_rows, request_for}
-use Rattle.device_core.specs.Judged.{Moves, answer_from, kept_behind, partner_of}
+use Rattle.device_core.specs.Handled.{Moves, answer_from, kept_behind, partner_of}
 use Rattle.device_frames.specs.Sent.{bytes_of, response_frame}
 use Rattle.controller_frames.specs.declared.setup.Setup.{Setup}
 use Rattle.controller_frames.specs.declared.request.Request.{Request as Asking}
@@ -47,8 +47,8 @@ answers_so setup identity device none =
     let address = device.values.running.suite.address in
     let link = device.rest.link in
     let rest = kept_behind identity device.rest call (answer_from address caller call Connect (connect_answer identity setup.plan.real link blocks))
-    (moved (making setup.plan.real (partner_of caller) (connect_of link blocks)) link) in
-    (rest, ap (λ (l : Option Link). Moves rest (answer_from address caller call Connect (connect_answer identity setup.plan.real l blocks) ∷ [])) none)
+    (updated (making setup.plan.real (partner_of caller) (connect_of link blocks)) link) in
+    (rest, ap (λ (l : Option RelationState). Moves rest (answer_from address caller call Connect (connect_answer identity setup.plan.real l blocks) ∷ [])) none)
 
 -- if the device reads the plan's request and no module differs, it responds with these blocks
 blocks_by : (setup : Setup) (identity : Identity) → request_of None (blocks_of setup asks.Connect) ≡ Ok (request_for setup.plan setup.ar)

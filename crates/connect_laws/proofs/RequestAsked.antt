@@ -27,12 +27,12 @@ use Rattle.cyclic_data.specs.declared.place.ExpectedData.{ExpectedData}
 use Rattle.cyclic_data.specs.Places.{asked}
 use Rattle.cyclic_data.specs.Layout.{IsLayout}
 use Rattle.records.specs.declared.status.call_fault.CallFault.{CallFault}
-use Rattle.records.specs.calls.Judged.{judged}
+use Rattle.records.specs.calls.Handled.{handled}
 use Rattle.connect_requests.specs.declared.parts.AlarmCr.{AlarmCr}
 use Rattle.connect_requests.specs.Pieces.{block_in, piece_at, pieces_in}
 use Rattle.connect_requests.specs.Layouts.{data_of as asked_of, layout_at, layout_of}
 use Rattle.connect_requests.specs.Request.{alarm_of, ar_of}
-use Rattle.connect_requests.specs.Judged.{Sofar, ar_in, expected_with, is_further, nothing, request_behind, request_in, request_of, request_with, well_formed, with_pieces}
+use Rattle.connect_requests.specs.Handled.{Sofar, ar_in, expected_with, is_further, nothing, request_behind, request_in, request_of, request_with, well_formed, with_pieces}
 use Rattle.plans.specs.declared.parts.Parts.{Parts}
 use Rattle.plans.specs.Packed.{layout_in, object_of, octets_of, packed, packed_places}
 use Rattle.plans.specs.Parts.{AreOrdered, IsRising, data_in_slot, data_of, module_of, slots_of, submodule_of}
@@ -61,12 +61,12 @@ sofar_with input output first alarm has modules submodules = record {
 abbrev IsFree : List ExpectedModule → RealModule → Type 0
 IsFree before entry = list_any (λ (other : ExpectedModule). other.slot_number == entry.slot) before ≡ false
 
-judged_three : {A : Type 0} (a b c : Bool) (x y z : CallFault) (otherwise : Result A CallFault) → a ≡ false → b ≡ false → c ≡ false
-    → judged ((a, x) ∷ (b, y) ∷ (c, z) ∷ []) otherwise ≡ otherwise
-judged_three a b c x y z otherwise e f g = rw (e, f, g) refl
+handled_three : {A : Type 0} (a b c : Bool) (x y z : CallFault) (otherwise : Result A CallFault) → a ≡ false → b ≡ false → c ≡ false
+    → handled ((a, x) ∷ (b, y) ∷ (c, z) ∷ []) otherwise ≡ otherwise
+handled_three a b c x y z otherwise e f g = rw (e, f, g) refl
 
-judged_two : {A : Type 0} (a b : Bool) (x y : CallFault) (otherwise : Result A CallFault) → a ≡ false → b ≡ false → judged ((a, x) ∷ (b, y) ∷ []) otherwise ≡ otherwise
-judged_two a b x y otherwise e f = rw (e, f) refl
+handled_two : {A : Type 0} (a b : Bool) (x y : CallFault) (otherwise : Result A CallFault) → a ≡ false → b ≡ false → handled ((a, x) ∷ (b, y) ∷ []) otherwise ≡ otherwise
+handled_two a b x y otherwise e f = rw (e, f) refl
 
 one_expected : (before : List ExpectedModule) (submodules : List ExpectedSubmodule) (entry : RealModule) → IsFree before entry
     → length before + 1 ≤ 64 → length submodules + length entry.submodules.items ≤ 64
@@ -77,7 +77,7 @@ one_expected : (before : List ExpectedModule) (submodules : List ExpectedSubmodu
     })
 one_expected before submodules entry free few_modules few_submodules =
     let own = length-map entry.submodules.items submodule_of in
-    judged_three _ _ _ _ _ _ _
+    handled_three _ _ _ _ _ _ _
     (or_from (list_any (λ (other : ExpectedModule). other.slot_number == entry.slot) before) false free refl)
     (le-ltb 64 (length before + 1) few_modules)
     (le-ltb 64 (length submodules + length (map submodule_of entry.submodules.items)) (omega (arith, own, few_submodules)))
@@ -296,7 +296,7 @@ module _ (parts : Parts) (ar : List ℕ) where
   unfolding ar_in
   ar_taken rest read =
       let number = number_in_front (is.ArBlockReq (ar_block parts ar)) rest ar_short in
-      judged_two _ _ _ _ _
+      handled_two _ _ _ _ _
       (le-ltb (length (block_bytes (is.ArBlockReq (ar_block parts ar)) ++ rest)) 4 (four_at_least (is.ArBlockReq (ar_block parts ar)) rest))
       (ap (λ (n : ℕ). not (n == number_of kind.ArBlockReq)) number ∙ ar_number)
       ∙ ar_found rest read

@@ -9,9 +9,9 @@ use Rattle.block_codec.specs.declared.block_type.BlockType.TheVariants as kind
 use Rattle.block_codec.specs.Kinds.{number_of, type_of}
 use Rattle.block_codec.specs.Block.{block, block_bytes, block_of, body_of, kind_of}
 use Rattle.records.specs.declared.status.call_fault.CallFault.{CallFault}
-use Rattle.records.specs.calls.Judged.{judged}
+use Rattle.records.specs.calls.Handled.{handled}
 use Rattle.connect_requests.specs.Pieces.{Piece, behind, block_in, piece_at, pieces_in}
-use Rattle.connect_requests.specs.Judged.{Sofar, is_further, well_formed, with_block, with_piece, with_pieces}
+use Rattle.connect_requests.specs.Handled.{Sofar, is_further, well_formed, with_block, with_piece, with_pieces}
 use Rattle.plans.specs.Connect.{IsRead, bytes_of}
 
 -- ---- what a block begins with
@@ -53,7 +53,7 @@ as_many (value ∷ blocks) =
 -- ---- one block
 
 passes : {A : Type 0} (a b c : Bool) (x y z : CallFault) (otherwise : Result A CallFault) → a ≡ false → b ≡ false → c ≡ false
-    → judged ((a, x) ∷ (b, y) ∷ (c, z) ∷ []) otherwise ≡ otherwise
+    → handled ((a, x) ∷ (b, y) ∷ (c, z) ∷ []) otherwise ≡ otherwise
 passes a b c x y z otherwise e f g = rw (e, f, g) refl
 
 -- A block that is accepted: it is read as it was written, it may occur there, and the state with it becomes this.

@@ -1,3 +1,3 @@
 mod Accepted
-mod Judged
+mod Handled
 mod Read

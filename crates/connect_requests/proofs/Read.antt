@@ -9,7 +9,7 @@ use Rattle.module_diff.specs.declared.expected.Expected.{Expected}
 use Rattle.connect_requests.specs.declared.parts.Ar.{Ar}
 use Rattle.connect_requests.specs.declared.draft.Draft.{Draft}
 use Rattle.connect_requests.specs.Drafts.{sofar_of}
-use Rattle.connect_requests.specs.Judged.{Sofar, conflict, ar_in, nothing, request_behind, request_in, request_of, request_with, with_piece, with_pieces}
+use Rattle.connect_requests.specs.Handled.{Sofar, conflict, ar_in, nothing, request_behind, request_in, request_of, request_with, with_piece, with_pieces}
 
 pub none_left : (most : ℕ) (bytes : List ℕ) → (length bytes == 0) ≡ true → pieces_in most bytes ≡ []
 unfolding pieces_in

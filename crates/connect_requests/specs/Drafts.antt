@@ -3,7 +3,7 @@ use Rattle.std.specs.Prelude.{IfSome}
 use Rattle.connect_blocks.specs.Iocr.{IsIocrBlockReq}
 use Rattle.module_diff.specs.declared.expected.Expected.{Expected}
 use Rattle.connect_requests.specs.declared.draft.Draft.{Draft}
-use Rattle.connect_requests.specs.Judged.{Sofar}
+use Rattle.connect_requests.specs.Handled.{Sofar}
 use Rattle.connect_requests.specs.Request.{IsAlarmCr}
 
 -- What the blocks after the ARBlockReq contained so far.

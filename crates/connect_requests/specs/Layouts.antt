@@ -18,7 +18,7 @@ use Rattle.cyclic_data.specs.Layout.{Table, times_listed, times_required}
 use Rattle.wire.specs.Codec.{◌>>=◌}
 use Rattle.records.specs.declared.status.call_fault.CallFault.{CallFault}
 use Rattle.records.specs.declared.status.call_fault.CallFault.TheVariants as fault
-use Rattle.records.specs.calls.Judged.{judged}
+use Rattle.records.specs.calls.Handled.{handled}
 
 -- ---- what submodules have in cyclic frames
 
@@ -71,7 +71,7 @@ fault_of wrong.Missing = fault.LayoutMissing
 
 -- The layout of places in a frame with this many octets of data, or the first fault over all places.
 unfoldable pub layout_at : ℕ → IocrType → List ExpectedData → List Place → Result Table CallFault
-layout_at data_length direction expected places = judged
+layout_at data_length direction expected places = handled
     ((list_any (is_outside data_length) places, fault.LayoutOutside)
     ∷ (any_overlap places, fault.LayoutOverlap)
     ∷ (list_any (is_unknown direction expected places) places, fault.LayoutUnknown)

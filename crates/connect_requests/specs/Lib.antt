@@ -1,5 +1,5 @@
 pub mod Pieces
 pub mod Layouts
 pub mod Request
-pub mod Judged
+pub mod Handled
 pub mod Drafts

@@ -4,8 +4,8 @@ ghost use Rattle.wire.specs.Codec.{Gives};
 ghost use Rattle.wire.specs.Formats.{big_number};
 ghost use Rattle.block_codec.specs.Block.{block_of, IsAccepted};
 ghost use Rattle.connect_requests.specs.Pieces.{behind, block_in, piece_at, pieces_in};
-ghost use Rattle.connect_requests.specs.Judged.{faulty, field_of, has_iocr, is_further, nothing, well_formed, with_block, with_piece};
-ghost use Rattle.connect_requests.specs.Judged.{with_pieces};
+ghost use Rattle.connect_requests.specs.Handled.{faulty, field_of, has_iocr, is_further, nothing, well_formed, with_block, with_piece};
+ghost use Rattle.connect_requests.specs.Handled.{with_pieces};
 ghost use Rattle.connect_requests.specs.Drafts.{AreAccepted, sofar_of};
 
 use crate::expected::{Room, add_modules};
@@ -167,7 +167,7 @@ impl<'a> Draft<'a> {
     }
 
     /// Adds the block at the start of the octets. Returns the octets after it.
-    #[tactic(auto, unfolding(crate::specs::Judged::with_piece))]
+    #[tactic(auto, unfolding(crate::specs::Handled::with_piece))]
     fn add_piece(
         &mut self,
         bytes: &'a [u8],

@@ -3,7 +3,7 @@ ghost use Rattle.std.specs.Prelude.{◌≡◌, ◌==◌, ◌+◌, ◌≤◌, ◌
 ghost use Rattle.std.specs.List.{list_any};
 ghost use Rattle.arrayvec.specs.ArrayVec.{array_vec_len};
 ghost use Rattle.wire.specs.Codec.{Gives};
-ghost use Rattle.connect_requests.specs.Judged.{expected_with, nothing, repeats_slot};
+ghost use Rattle.connect_requests.specs.Handled.{expected_with, nothing, repeats_slot};
 ghost use Rattle.connect_requests.specs.Layouts.{data_in_slot, data_of};
 
 use arrayvec::ArrayVec;

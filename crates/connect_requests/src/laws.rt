@@ -8,7 +8,7 @@ ghost use Rattle.connect_requests.specs.Layouts.{layout_at};
 
 /// How places are checked. This is a law of the definitions that specify `ConnectRequest::read`; the function has no
 /// code.
-#[tactic(auto, using(crate::proofs::Judged::layout_good))]
+#[tactic(auto, using(crate::proofs::Handled::layout_good))]
 pub fn layouts_are_taken()
     // Places that are a valid layout are accepted as they are.
     ensures good { (size : ℕ) (direction : IocrType) (expected : List ExpectedData) (places : List Place)

@@ -3,7 +3,7 @@ ghost use Rattle.std.specs.Prelude.{◌≡◌, None, Some, Err, IfOk};
 ghost use Rattle.wire.specs.Codec.{Gives};
 ghost use Rattle.block_codec.specs.Block.{block_of};
 ghost use Rattle.connect_requests.specs.Pieces.{behind, piece_at, pieces_in};
-ghost use Rattle.connect_requests.specs.Judged.{conflict, ar_in, request_behind, request_of, request_with};
+ghost use Rattle.connect_requests.specs.Handled.{conflict, ar_in, request_behind, request_of, request_with};
 ghost use Rattle.connect_requests.specs.Drafts.{AreAccepted, sofar_of};
 ghost use Rattle.connect_requests.specs.Request.{IsAlarmCr, IsAr, IsIocr};
 
@@ -57,7 +57,7 @@ impl Model for ConnectRequest {
 }
 
 /// Reads the ARBlockReq, which is the first block. Returns it and the octets after it.
-#[tactic(auto, using(crate::proofs::Accepted::ar_in_range), unfolding(crate::specs::Judged::ar_in))]
+#[tactic(auto, using(crate::proofs::Accepted::ar_in_range), unfolding(crate::specs::Handled::ar_in))]
 fn first_block(bytes: &[u8]) -> Result<(Ar, &[u8]), CallFault>
     ensures ar { Gives (λ x. x.0) result (ar_in (piece_at bytes.now)) }
     ensures accepted { IfOk result (λ x. IsAr x.0) }
@@ -145,7 +145,7 @@ impl ConnectRequest {
     }
 
     /// Stores what was read, if no block is missing and the layouts are valid.
-    #[tactic(auto, using(crate::proofs::Accepted::iocr_in_range), unfolding(crate::specs::Judged::request_with))]
+    #[tactic(auto, using(crate::proofs::Accepted::iocr_in_range), unfolding(crate::specs::Handled::request_with))]
     fn finish(&mut self, ar: Ar, draft: &Draft) -> Result<(), CallFault>
         requires ar { IsAr ar }
         requires draft { AreAccepted draft.now }

@@ -8,7 +8,6 @@ use Rattle.controller_core.specs.declared.event.Event.TheVariants.{Tick}
 use Rattle.controller_abi.specs.State.{State, after, has_frames, is_stopped}
 use Rattle.controller_abi.specs.Steps.{Ticks}
 
-
 pub some_left : (n : ℕ) (frames : List (List ℕ)) → n < length frames → has_frames (drop n frames) ≡ true
 some_left n frames some = ap has_frames (drop_more frames n [] some)
 

@@ -186,20 +186,20 @@ all_parts written is =
     }
 
 -- A plan in which no fault is found is in its ranges.
-judged : (a b c d e f : Bool) (rest : ℕ)
+handled : (a b c d e f : Bool) (rest : ℕ)
     → ((if not a then 6 else (if not b then 4 else (if not c then 9 else (if not d then 10 else (if not e then 5 else (if not f then 6 else rest)))))) == 0) ≡ true
     → ((a && (b && (c && (d && (e && f))))) ≡ true) × ((rest == 0) ≡ true)
-judged true true true true true true rest is = (refl, is)
-judged true true true true true false rest is = cc
-judged true true true true false f rest is = cc
-judged true true true false e f rest is = cc
-judged true true false d e f rest is = cc
-judged true false c d e f rest is = cc
-judged false b c d e f rest is = cc
+handled true true true true true true rest is = (refl, is)
+handled true true true true true false rest is = cc
+handled true true true true false f rest is = cc
+handled true true true false e f rest is = cc
+handled true true false d e f rest is = cc
+handled true false c d e f rest is = cc
+handled false b c d e f rest is = cc
 
 pub planned_in : (written : WrittenPlan) → is_plan written ≡ true → (is_written written ≡ true) × ((fault_of_length (plan_of (parts_of written)) == 0) ≡ true)
 planned_in written is =
-    judged (has_room written) (are_numbers written) (are_named written) (are_addresses written) (are_placed written) (are_low written)
+    handled (has_room written) (are_numbers written) (are_named written) (are_addresses written) (are_placed written) (are_low written)
     (fault_of_length (plan_of (parts_of written))) is
 
 -- Then nothing is too long.

@@ -1,4 +1,4 @@
--- The result of an operation of a host. `asked` is the operation as the host wrote it, `told` as the host finds it
+-- The result of an operation of a host. `asked` is the operation as the host wrote it, `reported` as the host finds it
 -- afterwards: an equation of the whole operation says which fields are written, and with what. All other fields are
 -- unchanged, and so are the octets after those that are written. A refused operation changes nothing, neither in the
 -- controller nor in the operation.
@@ -12,7 +12,7 @@ use Rattle.controller_core.specs.declared.state.State as phase
 use Rattle.controller_core.specs.declared.state.State.TheVariants.{Looking, Addressing, Connecting, Writing, Ending, Waiting, Exchanging, Ended}
 use Rattle.c_layout.specs.declared.op.Op.{Op}
 use Rattle.c_layout.specs.Places.{place_in}
-use Rattle.c_layout.specs.Told.{with_octets}
+use Rattle.c_layout.specs.Reported.{with_octets}
 use Rattle.controller_abi.specs.declared.operation.Operation.{Operation}
 use Rattle.controller_abi.specs.declared.operation.Operation.TheVariants as operation
 use Rattle.controller_abi.specs.State.{State, advanced, after, has_frames}
@@ -50,15 +50,15 @@ IsGift (Some place) old given answer new =
 IsGift None old given answer new = (answer ≡ why_no_place (has_frames old.frames)) × (new ≡ old)
 
 -- Units of time passed, and the number that remains is reported.
-pub record IsPast (old : State) (asked : Op) (answer : ℕ) (new : State) (told : Op) : Type 0 where
+pub record IsPast (old : State) (asked : Op) (answer : ℕ) (new : State) (reported : Op) : Type 0 where
   pub answered : answer ≡ 0
   pub left : ℕ
   pub passes : Passes old asked.units left new
-  pub units : told ≡ record asked { units = left }
+  pub units : reported ≡ record asked { units = left }
 
 abbrev pub IsTick : Bool → State → Op → ℕ → State → Op → Type 0
-IsTick true old asked answer new told = (answer ≡ 7) × (new ≡ old) × (told ≡ asked)
-IsTick false old asked answer new told = IsPast old asked answer new told
+IsTick true old asked answer new reported = (answer ≡ 7) × (new ≡ old) × (reported ≡ asked)
+IsTick false old asked answer new reported = IsPast old asked answer new reported
 
 -- ---- frames
 
@@ -68,21 +68,21 @@ with_next [] asked = record asked { work = 0; length = 0 }
 with_next (frame ∷ frames) asked = with_octets frame (record asked { work = 3 })
 
 -- It is reported, and marked as fetched.
-pub record IsHandOut (old : State) (asked : Op) (answer : ℕ) (new : State) (told : Op) : Type 0 where
+pub record IsHandOut (old : State) (asked : Op) (answer : ℕ) (new : State) (reported : Op) : Type 0 where
   pub answered : answer ≡ 0
-  pub handed : told ≡ with_next old.frames asked
+  pub handed : reported ≡ with_next old.frames asked
   pub taken : new ≡ advanced old
 
 -- ---- values that are reported
 
 -- The input of a submodule; 9 if it has no place.
 abbrev pub IsValue : Option (List ℕ) → Op → ℕ → Op → Type 0
-IsValue (Some value) asked answer told = (answer ≡ 0) × (told ≡ with_octets value asked)
-IsValue None asked answer told = (answer ≡ 9) × (told ≡ asked)
+IsValue (Some value) asked answer reported = (answer ≡ 0) × (reported ≡ with_octets value asked)
+IsValue None asked answer reported = (answer ≡ 9) × (reported ≡ asked)
 
 abbrev pub IsInput : Option (ℕ × ℕ) → State → Op → ℕ → Op → Type 0
-IsInput (Some place) port asked answer told = IsValue (value_at port.controller.live.cyclic place.0 place.1) asked answer told
-IsInput None port asked answer told = (answer ≡ 9) × (told ≡ asked)
+IsInput (Some place) port asked answer reported = IsValue (value_at port.controller.live.cyclic place.0 place.1) asked answer reported
+IsInput None port asked answer reported = (answer ≡ 9) × (reported ≡ asked)
 
 abbrev pub phase_number : phase.State → ℕ
 phase_number Looking = 1
@@ -116,24 +116,24 @@ with_alarm alarm asked = with_octets (take 1520 alarm.alarm_data)
 
 -- The last alarm that was accepted; 9 if none was.
 abbrev pub IsAlarm : Option AlarmNotification → Op → ℕ → Op → Type 0
-IsAlarm (Some alarm) asked answer told = (answer ≡ 0) × (told ≡ with_alarm alarm asked)
-IsAlarm None asked answer told = (answer ≡ 9) × (told ≡ asked)
+IsAlarm (Some alarm) asked answer reported = (answer ≡ 0) × (reported ≡ with_alarm alarm asked)
+IsAlarm None asked answer reported = (answer ≡ 9) × (reported ≡ asked)
 
 -- ---- all of them
 
 -- The result of an operation: 10 if there is no such operation.
 abbrev pub Serves : Option Operation → State → Op → List ℕ → ℕ → State → Op → Type 0
-Serves (Some operation.Frame) old asked given answer new told =
-    (told ≡ asked) × IsEvent (has_frames old.frames) old (event.Frame (record { items = take 1519 given })) answer new
-Serves (Some operation.Tick) old asked given answer new told = IsTick (has_frames old.frames) old asked answer new told
-Serves (Some operation.Give) old asked given answer new told =
-    (told ≡ asked) × IsGift (place_in asked.slot asked.subslot) old given answer new
-Serves (Some operation.Next) old asked given answer new told = IsHandOut old asked answer new told
-Serves (Some operation.Value) old asked given answer new told =
-    (new ≡ old) × IsInput (place_in asked.slot asked.subslot) old asked answer told
-Serves (Some operation.State) old asked given answer new told =
-    (new ≡ old) × (answer ≡ 0) × (told ≡ with_state old.controller.live.phase asked)
-Serves (Some operation.Alarm) old asked given answer new told = (new ≡ old) × IsAlarm old.controller.live.alarm asked answer told
-Serves (Some operation.Stop) old asked given answer new told =
-    (told ≡ asked) × IsEvent (has_frames old.frames) old event.Stop answer new
-Serves None old asked given answer new told = (answer ≡ 10) × (new ≡ old) × (told ≡ asked)
+Serves (Some operation.Frame) old asked given answer new reported =
+    (reported ≡ asked) × IsEvent (has_frames old.frames) old (event.Frame (record { items = take 1519 given })) answer new
+Serves (Some operation.Tick) old asked given answer new reported = IsTick (has_frames old.frames) old asked answer new reported
+Serves (Some operation.Give) old asked given answer new reported =
+    (reported ≡ asked) × IsGift (place_in asked.slot asked.subslot) old given answer new
+Serves (Some operation.Next) old asked given answer new reported = IsHandOut old asked answer new reported
+Serves (Some operation.Value) old asked given answer new reported =
+    (new ≡ old) × IsInput (place_in asked.slot asked.subslot) old asked answer reported
+Serves (Some operation.State) old asked given answer new reported =
+    (new ≡ old) × (answer ≡ 0) × (reported ≡ with_state old.controller.live.phase asked)
+Serves (Some operation.Alarm) old asked given answer new reported = (new ≡ old) × IsAlarm old.controller.live.alarm asked answer reported
+Serves (Some operation.Stop) old asked given answer new reported =
+    (reported ≡ asked) × IsEvent (has_frames old.frames) old event.Stop answer new
+Serves None old asked given answer new reported = (answer ≡ 10) × (new ≡ old) × (reported ≡ asked)

@@ -160,7 +160,7 @@ fn tell_value(port: &Port, slot: u16, subslot: u16, op: &mut Op) -> u32
 
 fn state(port: &Port, op: &mut Op) -> u32
     ensures answer { result ≡ 0 }
-    ensures told { op.new ≡ with_state port.now.controller.live.phase op.old }
+    ensures reported { op.new ≡ with_state port.now.controller.live.phase op.old }
 {
     let reached = port.controller().state();
     op.phase = number_of_phase(reached);

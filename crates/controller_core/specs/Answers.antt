@@ -31,16 +31,16 @@ is_set Get = false
 is_set Identify = false
 
 -- Whether there is a value, and it equals the expected one.
-abbrev pub is_told : List ℕ → Option (List ℕ) → Bool
-is_told wanted (Some value) = pointwise nat_eq value wanted
-is_told wanted None = false
+abbrev pub is_reported : List ℕ → Option (List ℕ) → Bool
+is_reported wanted (Some value) = pointwise nat_eq value wanted
+is_reported wanted None = false
 
 -- An answer to the Identify, from the station that has the plan's name. An answer that Identify is not supported
 -- (ServiceType 5) does not count.
 abbrev pub is_found : Parts → Answered → Bool
 is_found plan answer =
     is_identify answer.service
-    && (answer.is_supported && (answer.xid == 1 && is_told plan.station.name (value_among NameOfStation answer.blocks)))
+    && (answer.is_supported && (answer.xid == 1 && is_reported plan.station.name (value_among NameOfStation answer.blocks)))
 
 -- VendorID and DeviceID.
 abbrev pub ident_bytes : Station → List ℕ
@@ -48,10 +48,10 @@ ident_bytes station = to_be_bytes w16 station.vendor_id ++ to_be_bytes w16 stati
 
 -- Whether it is the device of the plan, and whether it has the plan's IP suite.
 abbrev pub is_right : Parts → Answered → Bool
-is_right plan answer = is_told (ident_bytes plan.station) (value_among DeviceId answer.blocks)
+is_right plan answer = is_reported (ident_bytes plan.station) (value_among DeviceId answer.blocks)
 
 abbrev pub is_addressed : Parts → Answered → Bool
-is_addressed plan answer = is_told (suite_bytes plan.station.suite) (value_among IpSuite answer.blocks)
+is_addressed plan answer = is_reported (suite_bytes plan.station.suite) (value_among IpSuite answer.blocks)
 
 -- An answer to the Set of the IP suite.
 abbrev pub is_set_answer : Answered → Bool

@@ -171,13 +171,13 @@ done setup live blocks asks.PrmEnd = stays (record live { phase = Waiting; asked
 done setup live blocks (asks.Release sequence) = stays (record live { asked = None })
 
 -- After any response: the status decides, but the response to a Release counts with any status.
-abbrev pub judged : Setup → Live → Response → Request → Turn
-judged setup live response request =
+abbrev pub handled : Setup → Live → Response → Request → Turn
+handled setup live response request =
     if is_done response.status then done setup live response.blocks request else stays (over cause.Refused live)
 
 abbrev pub decided : Setup → Live → Response → Request → Turn
 decided setup live response (asks.Release sequence) = stays (record live { asked = None })
-decided setup live response request = judged setup live response request
+decided setup live response request = handled setup live response request
 
 abbrev pub responded : Setup → Live → Response → Option Request → Turn
 responded setup live response (Some request) =

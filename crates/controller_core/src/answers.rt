@@ -4,7 +4,7 @@ ghost use Rattle.dcp_core.specs.Answered.{answered as answered_as};
 ghost use Rattle.dcp_core.specs.Identify.{suite_bytes};
 ghost use Rattle.rpc_core.specs.Call.{asked};
 ghost use Rattle.controller_frames.specs.Requests.{writing_from};
-ghost use Rattle.controller_core.specs.Answers.{ident_bytes, is_addressed, is_found, is_right, is_set_answer, is_told};
+ghost use Rattle.controller_core.specs.Answers.{ident_bytes, is_addressed, is_found, is_right, is_set_answer, is_reported};
 ghost use Rattle.controller_core.specs.Machine.{cause_of, next_sequence, phase_for, ready_in};
 
 use crate::{Cause, State};
@@ -20,8 +20,8 @@ use rpc_core::Call;
 const CONTROL: u16 = 4;
 
 /// Whether there is a value, and it equals the expected one.
-pub(crate) fn is_told(wanted: &[u8], value: Option<&[u8]>) -> bool
-    ensures { result ≡ is_told wanted.now (option_map (λ value. value.now) value.entry) }
+pub(crate) fn is_reported(wanted: &[u8], value: Option<&[u8]>) -> bool
+    ensures { result ≡ is_reported wanted.now (option_map (λ value. value.now) value.entry) }
 {
     match value {
         Some(value) => value == wanted,
@@ -38,7 +38,7 @@ pub(crate) fn is_found(plan: &Plan, answer: &dcp_core::Response<'_>) -> bool
     matches!(answer.service, Service::Identify)
         && answer.is_supported
         && answer.xid == 1
-        && is_told(
+        && is_reported(
             plan.station().name.as_bytes(),
             answer.value(Kind::NameOfStation),
         )
@@ -58,7 +58,7 @@ pub(crate) fn is_right(plan: &Plan, answer: &dcp_core::Response<'_>) -> bool
     ensures { result ≡ is_right plan.now (answered_as answer.now) }
 {
     let ident = ident_octets(plan.station());
-    is_told(&ident, answer.value(Kind::DeviceId))
+    is_reported(&ident, answer.value(Kind::DeviceId))
 }
 
 /// Address, mask and gateway.
@@ -78,7 +78,7 @@ pub(crate) fn is_addressed(plan: &Plan, answer: &dcp_core::Response<'_>) -> bool
     ensures { result ≡ is_addressed plan.now (answered_as answer.now) }
 {
     let suite = suite_octets(plan);
-    is_told(suite.as_slice(), answer.value(Kind::IpSuite))
+    is_reported(suite.as_slice(), answer.value(Kind::IpSuite))
 }
 
 /// Whether an answer is to the Set of the IP suite.

@@ -6,13 +6,13 @@ ghost use Rattle.rpc_core.specs.Call.{asked};
 ghost use Rattle.rpc_core.specs.Response.{answered as responded_as};
 ghost use Rattle.controller_frames.specs.Heard.{heard_of, heard_real_time as heard_as};
 ghost use Rattle.controller_frames.specs.Sent.{bytes_of};
-ghost use Rattle.controller_frames.specs.Told.{told};
+ghost use Rattle.controller_frames.specs.Reported.{reported};
 ghost use Rattle.controller_core.specs.Answers.{is_answer, is_ready};
 ghost use Rattle.controller_core.specs.Connect.{nothing, found_in as all_found};
 ghost use Rattle.controller_core.specs.State.{with_live};
 ghost use Rattle.controller_core.specs.Machine.{acks_of, addressed, alarmed, answered, asking, called, come, connected, connected_by};
 ghost use Rattle.controller_core.specs.Machine.{brought, decided, done, due_frames, ended_by, exchange_later, flowed, found, given};
-ghost use Rattle.controller_core.specs.Machine.{gone_on, is_again, judged, later, outputs_of};
+ghost use Rattle.controller_core.specs.Machine.{gone_on, is_again, handled, later, outputs_of};
 ghost use Rattle.controller_core.specs.Machine.{readied, ready_in as block_of_ready, related_by, released, requests_of, responded, step_of};
 ghost use Rattle.controller_core.specs.Machine.{stopped, ticked, turned, where_due, writing};
 ghost use Rattle.frame_codec.specs.Outbox.{boxed};
@@ -165,8 +165,8 @@ impl Controller {
     // Handles what was received.
     fn turn(&mut self, hearing: &Hearing<'_>, outbox: &mut Outbox)
         requires empty { outbox.old.items ≡ [] }
-        ensures state { self.new ≡ with_live self.old (turned self.old.setup self.old.live (told hearing.now)).live }
-        ensures frames { boxed outbox.new ≡ map (bytes_of self.old.setup) (turned self.old.setup self.old.live (told hearing.now)).sent }
+        ensures state { self.new ≡ with_live self.old (turned self.old.setup self.old.live (reported hearing.now)).live }
+        ensures frames { boxed outbox.new ≡ map (bytes_of self.old.setup) (turned self.old.setup self.old.live (reported hearing.now)).sent }
     {
         match hearing {
             Hearing::Nothing => {}
@@ -295,9 +295,9 @@ impl Controller {
     // The status decides.
     fn judge(&mut self, request: Request, response: &Response<'_>, outbox: &mut Outbox)
         requires empty { outbox.old.items ≡ [] }
-        ensures state { self.new ≡ with_live self.old (judged self.old.setup self.old.live (responded_as response.now) request).live }
+        ensures state { self.new ≡ with_live self.old (handled self.old.setup self.old.live (responded_as response.now) request).live }
         ensures frames { boxed outbox.new
-            ≡ map (bytes_of self.old.setup) (judged self.old.setup self.old.live (responded_as response.now) request).sent }
+            ≡ map (bytes_of self.old.setup) (handled self.old.setup self.old.live (responded_as response.now) request).sent }
     {
         if response.status.is_done() {
             self.go_on(request, response.blocks, outbox);

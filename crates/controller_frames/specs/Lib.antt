@@ -1,4 +1,4 @@
 pub mod Heard
-pub mod Told
+pub mod Reported
 pub mod Requests
 pub mod Sent

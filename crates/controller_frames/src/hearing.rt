@@ -3,7 +3,7 @@ ghost use Rattle.std.specs.Prelude.{◌≡◌, ◌==◌, ◌&&◌, IfNone, IfSom
 ghost use Rattle.std.specs.Cmp.Lexicographic.{pointwise};
 ghost use Rattle.controller_frames.specs.Heard.{IsNoRealTimeTo, heard_alarm, heard_answer, heard_body, heard_by, heard_of, heard_real_time};
 ghost use Rattle.controller_frames.specs.Heard.{is_to as is_to_by};
-ghost use Rattle.controller_frames.specs.Told.{told};
+ghost use Rattle.controller_frames.specs.Reported.{reported};
 ghost use Rattle.dcp_core.specs.Answer.{answer_of};
 ghost use Rattle.frame_codec.specs.Frame.{datagram, frame_of};
 ghost use Rattle.pn_alarms.specs.Message.{alarm_of};
@@ -37,7 +37,7 @@ pub enum Hearing<'a> {
 
 /// The DCP answer under this FrameID.
 fn heard_answer<'a>(source: Mac, frame_id: u16, body: &'a [u8]) -> Hearing<'a>
-    ensures { told result ≡ heard_answer source (answer_of frame_id body.now) }
+    ensures { reported result ≡ heard_answer source (answer_of frame_id body.now) }
 {
     match dcp_core::read_answer(frame_id, body) {
         Ok(answer) => Hearing::Answers(source, answer),
@@ -47,7 +47,7 @@ fn heard_answer<'a>(source: Mac, frame_id: u16, body: &'a [u8]) -> Hearing<'a>
 
 /// The alarm frame of this station.
 fn heard_alarm<'a>(source: Mac, body: &'a [u8]) -> Hearing<'a>
-    ensures { told result ≡ heard_alarm source (alarm_of body.now) }
+    ensures { reported result ≡ heard_alarm source (alarm_of body.now) }
 {
     match read_alarm(body) {
         Ok((header, notice)) => Hearing::Alarms(source, header, notice),
@@ -58,7 +58,7 @@ fn heard_alarm<'a>(source: Mac, body: &'a [u8]) -> Hearing<'a>
 /// What the body of a datagram says: a call to the controller, or else a response.
 #[tactic(auto, unfolding(crate::specs::Heard::heard_body))]
 fn heard_body<'a>(caller: Caller, body: &'a [u8]) -> Hearing<'a>
-    ensures { told result ≡ heard_body caller body.now }
+    ensures { reported result ≡ heard_body caller body.now }
 {
     if let Ok(call) = read_call(Interface::Controller, body) {
         return match call.blocks {
@@ -78,7 +78,7 @@ fn heard_body<'a>(caller: Caller, body: &'a [u8]) -> Hearing<'a>
 #[inline(always)]
 #[tactic(auto, unfolding(crate::specs::Heard::heard_real_time))]
 pub fn heard_real_time<'a>(source: Mac, frame_id: u16, body: &'a [u8]) -> Hearing<'a>
-    ensures { told result ≡ heard_real_time source frame_id body.now }
+    ensures { reported result ≡ heard_real_time source frame_id body.now }
 {
     if is_cyclic(frame_id) {
         return Hearing::Cyclic(source, frame_id, body);
@@ -102,7 +102,7 @@ fn is_to(address: [u8; 4], to: &Endpoint) -> bool
 /// What an IPv4 packet from this station says to a controller.
 #[inline(never)]
 fn heard_datagram<'a>(controller: &Controller, source: Mac, content: &'a [u8]) -> Hearing<'a>
-    ensures { told result ≡ heard_by controller.now.address source (datagram.read content.now) }
+    ensures { reported result ≡ heard_by controller.now.address source (datagram.read content.now) }
 {
     let Ok(udp) = datagram_at(content) else {
         return Hearing::Nothing;
@@ -138,7 +138,7 @@ pub fn real_time_in<'a>(controller: &Controller, bytes: &'a Bytes) -> Option<Rea
 #[inline(always)]
 #[tactic(auto, unfolding(crate::specs::Heard::heard_of, frame_codec::specs::Frame::arp))]
 pub fn heard<'a>(controller: &Controller, bytes: &'a Bytes) -> Hearing<'a>
-    ensures { told result ≡ heard_of controller.now bytes.now.items }
+    ensures { reported result ≡ heard_of controller.now bytes.now.items }
 {
     let Ok(frame) = open(bytes.as_slice()) else {
         return Hearing::Nothing;

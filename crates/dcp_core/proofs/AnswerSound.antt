@@ -13,18 +13,18 @@ use Rattle.dcp_core.specs.declared.request.Service.{Service}
 use Rattle.dcp_core.specs.Request.{AskedBlock}
 use Rattle.dcp_core.specs.Format.{kind, block, id_of}
 use Rattle.dcp_core.specs.Response.{Answered, AnsweredBlock}
-use Rattle.dcp_core.specs.Answer.{judged, answer_block, answer_blocks, type_of, answer_to, answer_data, answer_header_and_data, answer, IsAnswer, answer_of}
-use Rattle.dcp_core.specs.Told.{IsSent}
+use Rattle.dcp_core.specs.Answer.{handled, answer_block, answer_blocks, type_of, answer_to, answer_data, answer_header_and_data, answer, IsAnswer, answer_of}
+use Rattle.dcp_core.specs.Reported.{IsSent}
 use Rattle.dcp_core.proofs.Sound.{viewed_whole_sound, block_sound}
 use Rattle.dcp_core.proofs.Every.{Shrinks, every_sound}
 
 module _ {F A B : Type 0} (judge : A → Result B F) (from : B → A) where
-  judged_sound : (codec : Codec F A) → IsSound codec → IsSound (judged judge from codec)
-  judged_sound codec sound = record {
+  handled_sound : (codec : Codec F A) → IsSound codec → IsSound (handled judge from codec)
+  handled_sound codec sound = record {
     takes = λ bytes value rest e.
         let a = bind_ok (codec.read bytes) (λ x. judge x.0 >>= λ v. Ok (v, x.1)) (value, rest) e in
         let b = bind_ok (judge a.0.0) (λ v. Ok (v, a.0.1)) (value, rest) a.2 in
-        subst (λ (y : B × List ℕ). (judged judge from codec).Spells bytes y.0 y.1) (ok_is {F = F} (b.0, a.0.1) (value, rest) b.2)
+        subst (λ (y : B × List ℕ). (handled judge from codec).Spells bytes y.0 y.1) (ok_is {F = F} (b.0, a.0.1) (value, rest) b.2)
         (a.0.0, b.1, sound.takes bytes a.0.0 a.0.1 a.1);
     again = λ bytes value rest s. rw (sound.again bytes s.0 rest s.2, s.1) refl;
     written = λ value rest fits. (from value, fits.1, sound.written (from value) rest fits.0);
@@ -36,7 +36,7 @@ module _ {F A B : Type 0} (judge : A → Result B F) (from : B → A) where
 
 pub answer_block_sound : IsSound answer_block
 unfolding answer_block
-answer_block_sound = judged_sound _ _ (block everything) (block_sound everything everything_sound)
+answer_block_sound = handled_sound _ _ (block everything) (block_sound everything everything_sound)
 
 -- a number of n bytes takes n bytes
 number_takes : {F : Type 0} (short : F) (size : ℕ) (bytes : List ℕ) (value : ℕ) (rest : List ℕ) → (number short size).Spells bytes value rest → length bytes ≡ size + length rest

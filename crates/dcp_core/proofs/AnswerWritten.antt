@@ -27,9 +27,9 @@ use Rattle.dcp_core.specs.Bytes.{block_bytes, error_number, response_bytes, answ
 use Rattle.dcp_core.specs.Identify.{valued, suite_bytes, known_options, identify_bytes}
 use Rattle.dcp_core.specs.Get.{got, firsts_of, get_bytes}
 use Rattle.dcp_core.specs.Set.{set_bytes}
-use Rattle.dcp_core.specs.Response.{AnsweredBlock, told, came_out}
+use Rattle.dcp_core.specs.Response.{AnsweredBlock, reported, came_out}
 use Rattle.dcp_core.specs.Answer.{outcome_of, said_by, value_in, answer_block, answer_blocks, answer_to, answer_data, answer_header_and_data, answer, IsAnswer}
-use Rattle.dcp_core.specs.Told.{named, told_of, outcome_told, supported, identify_kinds, identify_said, get_said, set_said}
+use Rattle.dcp_core.specs.Reported.{named, reported_of, outcome_reported, supported, identify_kinds, identify_said, get_said, set_said}
 use Rattle.dcp_core.proofs.AnswerSound.{answer_block_sound, answer_block_shrinks}
 
 -- ---- blocks
@@ -77,13 +77,13 @@ block_spelled about contents rest below =
 
 -- a value after a BlockInfo
 value_spelled : (about : Kind) (high low : ℕ) (value rest : List ℕ) → named about ≡ about → said_by about (high ∷ low ∷ value) ≡ value_in about (high ∷ low ∷ value)
-    → length value + 2 < 65536 → answer_block.Spells (block_bytes about (high ∷ low ∷ value) ++ rest) (told about (high * 256 + low) value) rest
+    → length value + 2 < 65536 → answer_block.Spells (block_bytes about (high ∷ low ∷ value) ++ rest) (reported about (high * 256 + low) value) rest
 unfolding answer_block
 value_spelled about high low value rest same is below =
     let contents : List ℕ = high ∷ low ∷ value in
     let info : big_number 2 contents ≡ high * 256 + low = omega arith in
     let long : 2 ≤ length contents = omega arith in
-    let said : value_in about contents ≡ Ok (told about (high * 256 + low) value) = rw (le-ltb (length contents) 2 long, info) refl in (
+    let said : value_in about contents ≡ Ok (reported about (high * 256 + low) value) = rw (le-ltb (length contents) 2 long, info) refl in (
       record { kind = about; contents = contents },
       is ∙ said,
       subst (λ (k : Kind). (block everything).Spells (block_bytes about contents ++ rest) (record { kind = k; contents = contents }) rest) same
@@ -118,19 +118,19 @@ block_long about contents =
 
 -- a value whose BlockInfo is 0
 plain : (about : Kind) (value rest : List ℕ) → named about ≡ about → said_by about (0 ∷ 0 ∷ value) ≡ value_in about (0 ∷ 0 ∷ value)
-    → length (block_bytes about (0 ∷ 0 ∷ value)) ≤ 1498 → answer_block.Spells (block_bytes about (0 ∷ 0 ∷ value) ++ rest) (told about 0 value) rest
+    → length (block_bytes about (0 ∷ 0 ∷ value)) ≤ 1498 → answer_block.Spells (block_bytes about (0 ∷ 0 ∷ value) ++ rest) (reported about 0 value) rest
 plain about value rest same is short = let long = block_long about (0 ∷ 0 ∷ value) in value_spelled about 0 0 value rest same is (omega arith)
 
 -- the IP suite, whose BlockInfo says whether an address is set
 suite_spelled : (is_zero : Bool) (value rest : List ℕ) → length (block_bytes named_kind.IpSuite (cond is_zero (0 ∷ 0 ∷ []) (0 ∷ 1 ∷ []) ++ value)) ≤ 1498
-    → answer_block.Spells (block_bytes named_kind.IpSuite (cond is_zero (0 ∷ 0 ∷ []) (0 ∷ 1 ∷ []) ++ value) ++ rest) (told named_kind.IpSuite (cond is_zero 0 1) value) rest
+    → answer_block.Spells (block_bytes named_kind.IpSuite (cond is_zero (0 ∷ 0 ∷ []) (0 ∷ 1 ∷ []) ++ value) ++ rest) (reported named_kind.IpSuite (cond is_zero 0 1) value) rest
 suite_spelled true value rest short = plain named_kind.IpSuite value rest refl refl short
 suite_spelled false value rest short =
     let long = block_long named_kind.IpSuite (0 ∷ 1 ∷ value) in value_spelled named_kind.IpSuite 0 1 value rest refl refl (omega arith)
 
 -- what a station reports of a kind
 got_spelled : (identity : Identity) (settings : Settings) (about : Kind) (rest : List ℕ) → length (got identity settings about) ≤ 1498
-    → answer_block.Spells (got identity settings about ++ rest) (told_of identity settings about) rest
+    → answer_block.Spells (got identity settings about ++ rest) (reported_of identity settings about) rest
 got_spelled identity settings named_kind.MacAddress rest short = plain named_kind.MacAddress identity.mac.octets rest refl refl short
 got_spelled identity settings named_kind.IpSuite rest short =
     suite_spelled (list_all (λ octet. octet == 0) (suite_bytes settings.suite)) (suite_bytes settings.suite) rest short
@@ -213,8 +213,8 @@ identify_spelled identity settings xid short below =
     let fits : length (answer_bytes 5 xid blocks) ≤ 1498 = subst (λ (bytes : List ℕ). length (answer_bytes 5 xid bytes) ≤ 1498) grouped short in
     let sized = header_long 5 xid blocks in
     subst (λ (bytes : List ℕ). IsAnswer 0xFEFF (answer_bytes 5 xid bytes) (identify_said identity settings xid)) (sym grouped)
-    (answer_spelled 0xFEFF Identify xid blocks (map (told_of identity settings) identify_kinds) refl below (omega arith)
-    (all_spelled (got identity settings) (told_of identity settings) (got_spelled identity settings) identify_kinds (omega arith)))
+    (answer_spelled 0xFEFF Identify xid blocks (map (reported_of identity settings) identify_kinds) refl below (omega arith)
+    (all_spelled (got identity settings) (reported_of identity settings) (got_spelled identity settings) identify_kinds (omega arith)))
 
 pub get_spelled : (identity : Identity) (settings : Settings) (request : Asked) → length (get_bytes identity settings request) ≤ 1498 → request.xid < 2 ^ 32
     → IsAnswer 0xFEFD (get_bytes identity settings request) (get_said identity settings request)
@@ -223,8 +223,8 @@ get_spelled identity settings request short below =
     let kinds : List Kind = firsts_of [] (map (λ (block : AskedBlock). block.kind) request.blocks) in
     let blocks : List ℕ = flat_map (got identity settings) kinds in
     let sized = header_long 3 request.xid blocks in
-    answer_spelled 0xFEFD Get request.xid blocks (map (told_of identity settings) kinds) refl below (omega arith)
-    (all_spelled (got identity settings) (told_of identity settings) (got_spelled identity settings) kinds (omega arith))
+    answer_spelled 0xFEFD Get request.xid blocks (map (reported_of identity settings) kinds) refl below (omega arith)
+    (all_spelled (got identity settings) (reported_of identity settings) (got_spelled identity settings) kinds (omega arith))
 
 pub set_spelled : (request : Asked) (answers : List BlockError) → length (set_bytes request answers) ≤ 1498 → request.xid < 2 ^ 32
     → IsAnswer 0xFEFD (set_bytes request answers) (set_said request answers)
@@ -234,5 +234,5 @@ set_spelled request answers short below =
     let pairs : List (AskedBlock × BlockError) = zip request.blocks answers in
     let blocks : List ℕ = flat_map bytes_of pairs in
     let sized = header_long 4 request.xid blocks in
-    answer_spelled 0xFEFD Set request.xid blocks (map outcome_told pairs) refl below (omega arith)
-    (all_spelled bytes_of outcome_told (λ pair rest _. response_spelled pair.0.kind pair.1 rest) pairs (omega arith))
+    answer_spelled 0xFEFD Set request.xid blocks (map outcome_reported pairs) refl below (omega arith)
+    (all_spelled bytes_of outcome_reported (λ pair rest _. response_spelled pair.0.kind pair.1 rest) pairs (omega arith))

@@ -12,7 +12,7 @@ use Rattle.dcp_core.specs.Identify.{identify_bytes}
 use Rattle.dcp_core.specs.Reading.{request_of}
 use Rattle.dcp_core.specs.Request.{Asked}
 use Rattle.dcp_core.specs.Set.{set_bytes}
-use Rattle.dcp_core.specs.Told.{get_said, identify_said, set_said}
+use Rattle.dcp_core.specs.Reported.{get_said, identify_said, set_said}
 use Rattle.dcp_core.specs.Writing.{blocks_size, request_bytes}
 use Rattle.dcp_core.proofs.AnswerSound.{answer_again, answer_behind}
 use Rattle.dcp_core.proofs.AnswerWritten.{get_spelled, identify_spelled, set_spelled}

@@ -15,7 +15,7 @@ use Rattle.dcp_core.specs.declared.response.Outcome.{Outcome}
 use Rattle.dcp_core.specs.declared.response.Outcome.TheVariants.{Known, Other}
 use Rattle.dcp_core.specs.Kinds.{kind_of, option_of, suboption_of}
 use Rattle.dcp_core.specs.Request.{AskedBlock}
-use Rattle.dcp_core.specs.Response.{Answered, AnsweredBlock, told, came_out}
+use Rattle.dcp_core.specs.Response.{Answered, AnsweredBlock, reported, came_out}
 use Rattle.dcp_core.specs.Bytes.{error_number}
 use Rattle.dcp_core.specs.Format.{viewed_whole, block, id_of}
 use Rattle.dcp_core.specs.Every.{every}
@@ -44,7 +44,7 @@ outcome_in contents =
 -- BlockInfo and a value
 abbrev pub value_in : Kind → List ℕ → Result AnsweredBlock DcpFault
 value_in kind contents =
-    if nat_lt (length contents) 2 then Err fault.Block else Ok (told kind (big_number 2 contents) (drop 2 contents))
+    if nat_lt (length contents) 2 then Err fault.Block else Ok (reported kind (big_number 2 contents) (drop 2 contents))
 
 -- What a block says: 5/4 is the outcome of another block or pair, and any other kind has its value.
 abbrev pub said_by : Kind → List ℕ → Result AnsweredBlock DcpFault
@@ -53,12 +53,12 @@ said_by kind contents = value_in kind contents
 
 -- the block that says this
 abbrev pub saying : AnsweredBlock → AskedBlock
-saying (told kind info value) = record { kind = kind; contents = to_be_bytes w16 info ++ value }
+saying (reported kind info value) = record { kind = kind; contents = to_be_bytes w16 info ++ value }
 saying (came_out kind outcome) = record { kind = Response; contents = option_of kind ∷ suboption_of kind ∷ number_of outcome ∷ [] }
 
 -- a format whose values are turned into others or refused; `from` says which value is written
-abbrev pub judged : {F A B : Type 0} → (A → Result B F) → (B → A) → Codec F A → Codec F B
-judged {A = A} judge from codec = record {
+abbrev pub handled : {F A B : Type 0} → (A → Result B F) → (B → A) → Codec F A → Codec F B
+handled {A = A} judge from codec = record {
   Spells = λ bytes value rest. (inner : A) × (judge inner ≡ Ok value) × codec.Spells bytes inner rest;
   write = λ value rest. codec.write (from value) rest;
   size = λ value. codec.size (from value);
@@ -68,7 +68,7 @@ judged {A = A} judge from codec = record {
 
 -- a block, spelled like a block of a request
 unfoldable pub answer_block : Codec DcpFault AnsweredBlock
-answer_block = judged (λ block. said_by block.kind block.contents) saying (block everything)
+answer_block = handled (λ block. said_by block.kind block.contents) saying (block everything)
 
 -- any number of blocks
 unfoldable pub answer_blocks : Whole DcpFault (List AnsweredBlock)

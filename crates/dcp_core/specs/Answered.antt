@@ -10,12 +10,12 @@ use Rattle.dcp_core.specs.declared.response.ResponseBlock.TheVariants as given
 use Rattle.dcp_core.specs.declared.response.ResponseBlocks.{ResponseBlocks}
 use Rattle.dcp_core.specs.declared.response.Response.{Response}
 use Rattle.dcp_core.specs.Kinds.{is_same}
-use Rattle.dcp_core.specs.Response.{Answered, AnsweredBlock, told, came_out}
+use Rattle.dcp_core.specs.Response.{Answered, AnsweredBlock, reported, came_out}
 use Rattle.dcp_core.specs.Every.{values_in}
 use Rattle.dcp_core.specs.Answer.{answer_block}
 
 abbrev pub answered_block : ResponseBlock → AnsweredBlock
-answered_block (given.Value kind info value) = told kind info value.now
+answered_block (given.Value kind info value) = reported kind info value.now
 answered_block (given.Outcome kind outcome) = came_out kind outcome
 
 -- the blocks that are still to come
@@ -33,7 +33,7 @@ answered response = record {
 -- the first value of a kind
 abbrev pub value_among : Kind → List AnsweredBlock → Option (List ℕ)
 value_among kind [] = None
-value_among kind (told found info value ∷ blocks) = if is_same kind found then Some value else value_among kind blocks
+value_among kind (reported found info value ∷ blocks) = if is_same kind found then Some value else value_among kind blocks
 value_among kind (came_out found outcome ∷ blocks) = value_among kind blocks
 
 abbrev pub is_done : Outcome → Bool
@@ -42,7 +42,7 @@ is_done outcome = false
 
 -- whether a block reports success or has a value
 abbrev pub is_positive : AnsweredBlock → Bool
-is_positive (told kind info value) = true
+is_positive (reported kind info value) = true
 is_positive (came_out kind outcome) = is_done outcome
 
 -- whether a response is positive: the service is supported, and no block or pair was refused

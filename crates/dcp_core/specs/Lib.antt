@@ -11,6 +11,6 @@ pub mod Every
 pub mod Response
 pub mod Answer
 pub mod Answered
-pub mod Told
+pub mod Reported
 pub mod Writing
 pub mod Sendable

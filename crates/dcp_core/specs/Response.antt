@@ -7,7 +7,7 @@ use Rattle.dcp_core.specs.declared.response.Outcome.{Outcome}
 -- a block
 pub data AnsweredBlock : Type 0 where
   -- a value of a kind, after its BlockInfo
-  told : Kind → ℕ → List ℕ → AnsweredBlock
+  reported : Kind → ℕ → List ℕ → AnsweredBlock
   -- the outcome of a block of a Set, or of a pair of a Get
   came_out : Kind → Outcome → AnsweredBlock
 

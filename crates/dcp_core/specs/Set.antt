@@ -34,21 +34,21 @@ abbrev pub suite_in : List ℕ → Suite
 suite_in value = record { address = take 4 value; mask = take 4 (drop 4 value); gateway = take 4 (drop 8 value) }
 
 -- the command, refused while an application relation exists: this is so for name and address
-abbrev pub judged : Bool → Command → SetItem
-judged in_operation command = if in_operation then Answer error.InOperation else Ask command
+abbrev pub handled : Bool → Command → SetItem
+handled in_operation command = if in_operation then Answer error.InOperation else Ask command
 
 -- NameOfStation: a qualifier, and then a name or nothing
 abbrev pub name_item : Bool → List ℕ → SetItem
 name_item in_operation contents =
     if nat_le 2 (length contents) && ((length contents == 2) || is_station_name (value_in contents))
-    then judged in_operation (SetName (is_permanent contents) (value_in contents))
+    then handled in_operation (SetName (is_permanent contents) (value_in contents))
     else Answer error.Value
 
 -- the IP suite: a qualifier and twelve bytes
 abbrev pub suite_item : Bool → List ℕ → SetItem
 suite_item in_operation contents =
     if (length contents == 14) && is_suite (suite_in (value_in contents))
-    then judged in_operation (SetIp (is_permanent contents) (suite_in (value_in contents)))
+    then handled in_operation (SetIp (is_permanent contents) (suite_in (value_in contents)))
     else Answer error.Value
 
 -- whether a Signal block asks to flash once, which is the only valid request

@@ -10,7 +10,7 @@ ghost use Rattle.dcp_core.specs.Response.{Answered};
 ghost use Rattle.dcp_core.specs.Identify.{identify_bytes};
 ghost use Rattle.dcp_core.specs.Get.{get_bytes};
 ghost use Rattle.dcp_core.specs.Set.{set_bytes};
-ghost use Rattle.dcp_core.specs.Told.{IsSent, identify_said, get_said, set_said};
+ghost use Rattle.dcp_core.specs.Reported.{IsSent, identify_said, get_said, set_said};
 ghost use Rattle.dcp_core.specs.Answered.{answered, answered_block, blocks_left, value_among, is_done, is_positive, is_agreed};
 ghost use Rattle.dcp_core.specs.Answer.{outcome_of, outcome_in, value_in, said_by, answer_block, answer_blocks, answered_service};
 ghost use Rattle.dcp_core.specs.Answer.{is_supported_by, IsAnswer, answer_of};

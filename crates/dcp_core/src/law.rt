@@ -10,7 +10,7 @@ ghost use Rattle.dcp_core.specs.Identify.{identify_bytes};
 ghost use Rattle.dcp_core.specs.Reading.{request_of};
 ghost use Rattle.dcp_core.specs.Request.{Asked};
 ghost use Rattle.dcp_core.specs.Set.{set_bytes};
-ghost use Rattle.dcp_core.specs.Told.{get_said, identify_said, set_said};
+ghost use Rattle.dcp_core.specs.Reported.{get_said, identify_said, set_said};
 ghost use Rattle.dcp_core.specs.Writing.{request_bytes};
 ghost use Rattle.dcp_core.specs.Sendable.{CanBeAsked};
 

@@ -3,7 +3,7 @@ ghost use Rattle.std.specs.Prelude.{◌≡◌, ◌≤◌, ◌==◌, ◌%◌, ◌
 ghost use Rattle.std.specs.Int.{w16, from_be_bytes};
 ghost use Rattle.dcp_core.specs.Request.{asked};
 ghost use Rattle.dcp_core.specs.Set.{plan_of, item_of, name_item, suite_item, suite_in, signal_item, is_flash, factory_item, reset_item};
-ghost use Rattle.dcp_core.specs.Set.{judged, set_bytes};
+ghost use Rattle.dcp_core.specs.Set.{handled, set_bytes};
 ghost use Rattle.pn_values.specs.IpSuite.{is_suite};
 
 use crate::bytes::{Answer, Blocks, put_answer, put_response};
@@ -55,7 +55,7 @@ pub fn plan_block(block: &Block<'_>, in_operation: bool) -> SetItem
 
 /// Refuses the command while an application relation exists. This is so for name and address.
 fn unless_operating(in_operation: bool, command: Command) -> SetItem
-    ensures { result ≡ judged in_operation command }
+    ensures { result ≡ handled in_operation command }
 {
     if in_operation {
         // The controller uses this name and address. With others it would lose the station.

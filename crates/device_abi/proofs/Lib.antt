@@ -8,4 +8,4 @@ pub mod PortHosted
 pub mod PortLeft
 pub mod PortStages
 pub mod OperationsCounts
-pub mod OperationsTold
+pub mod OperationsReported

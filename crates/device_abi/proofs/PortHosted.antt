@@ -21,8 +21,8 @@ use Rattle.device_frames.specs.declared.event.Event.{Event}
 use Rattle.device_frames.specs.declared.note.Note.{Note}
 use Rattle.device_frames.specs.Heard.{Heard, heard_of}
 use Rattle.device_core.specs.Cycle.{started}
-use Rattle.device_core.specs.Judged.{Judged, judged}
-use Rattle.device_core.specs.Machine.{Ran, Stepped, handed, heard_step, items_in, judged_step, run_of, step_of, then_run}
+use Rattle.device_core.specs.Handled.{Handled, handled}
+use Rattle.device_core.specs.Machine.{Ran, Stepped, handed, heard_step, items_in, handled_step, run_of, step_of, then_run}
 use Rattle.device_core.specs.State.{Live, Station}
 use Rattle.device_abi.specs.port.Host.{Begun, Ends, GoesOn, HandsIn, IsFresh, IsOpen, Stands, Stores, UnderWay, Carries, Performs, after, begun_by, events_of}
 use Rattle.device_abi.specs.port.State.{State, IsIdle, advanced, advanced_by, barred, barred_by, has_work}
@@ -78,13 +78,13 @@ power_all : (values : Values) (items : List SetItem) → values.is_lost ≡ fals
 power_all values [] power = power
 power_all values (item ∷ items) power = power_all (carried_one Pass values item).values items (power_one values item power)
 
-power_judged : (station : Station) (live : Live) (what : Judged) → live.values.is_lost ≡ false → (judged_step [] station live what).live.values.is_lost ≡ false
-unfolding judged_step
-power_judged station live what power = power_all live.values (items_in what) power
+power_handled : (station : Station) (live : Live) (what : Handled) → live.values.is_lost ≡ false → (handled_step [] station live what).live.values.is_lost ≡ false
+unfolding handled_step
+power_handled station live what power = power_all live.values (items_in what) power
 
 power_heard : (station : Station) (live : Live) (heard : Heard) → live.values.is_lost ≡ false → (heard_step [] station live heard).live.values.is_lost ≡ false
 unfolding heard_step
-power_heard station live heard power = power_judged station live (judged station live heard) power
+power_heard station live heard power = power_handled station live (handled station live heard) power
 
 power_step : (station : Station) (live : Live) (event : Event) → live.values.is_lost ≡ false → (step_of [] station live event).live.values.is_lost ≡ false
 power_step station live event power = power_heard station live (heard_of station.identity event) power

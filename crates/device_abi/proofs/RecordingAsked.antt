@@ -20,7 +20,7 @@ use Rattle.dcp_core.specs.Reading.{request_of}
 use Rattle.dcp_core.specs.Request.{Asked, AskedBlock}
 use Rattle.dcp_core.specs.Set.{plan_of, item_of}
 use Rattle.rpc_core.specs.Call.{Asked as Call, call_of}
-use Rattle.rpc_core.specs.Cache.{Told as Looked, new, again, old}
+use Rattle.rpc_core.specs.Cache.{Reported as Looked, new, again, old}
 use Rattle.records.specs.declared.status.operation.Operation.{Operation}
 use Rattle.records.specs.declared.status.operation.Operation.TheVariants.{Connect, Release, Read, Write, Control, ReadImplicit}
 use Rattle.records.specs.declared.status.call_fault.CallFault.{CallFault}
@@ -36,16 +36,16 @@ use Rattle.pn_alarms.specs.declared.pdu.Header.{Header}
 use Rattle.cyclic_exchange.specs.declared.received.Received.{Received}
 use Rattle.cyclic_exchange.specs.declared.received.Received.TheVariants as received
 use Rattle.relations.specs.exchange.Flow.{Flow}
-use Rattle.relations.specs.Link.{Link}
+use Rattle.relations.specs.RelationState.{RelationState}
 use Rattle.relations.specs.declared.hearing.ReadyAnswer.{ReadyAnswer}
 use Rattle.relations.specs.declared.hearing.ReadyAnswer.TheVariants as to_ready
 use Rattle.device_frames.specs.declared.event.Event.{Event}
 use Rattle.device_frames.specs.declared.event.Event.TheVariants.{Frame, Tick, Input, Alarm}
-use Rattle.device_frames.specs.Heard.{is_own, is_taken, said_by, Heard, Ticks, Unreadable, Elsewhere, Asks, Resolves, Told, Cyclic, Alarms, Given, Raised, Said, Calls, Responds, Garbled, heard_alarm, heard_request, heard_content, heard_frame, heard_of}
+use Rattle.device_frames.specs.Heard.{is_own, is_taken, said_by, Heard, Ticks, Unreadable, Elsewhere, Asks, Resolves, Reported, Cyclic, Alarms, Given, Raised, Said, Calls, Responds, Garbled, heard_alarm, heard_request, heard_content, heard_frame, heard_of}
 use Rattle.device_frames.specs.declared.note.Note.{Note}
 use Rattle.device_frames.specs.declared.note.Note.TheVariants as note
 use Rattle.device_frames.specs.Sent.{IdentifyAnswer, ArpReply}
-use Rattle.device_core.specs.Judged.{Judged, Refuses, Sets, Writes, Moves, judged_request, judged_effect, judged_write, judged_new, judged_looked, judged_blocks, judged_call, judged_answer, judged_said, judged_message, judged_received, judged_input, judged_notice, judged_pdu, judged}
+use Rattle.device_core.specs.Handled.{Handled, Refuses, Sets, Writes, Moves, handled_request, handled_effect, handled_write, handled_new, handled_looked, handled_blocks, handled_call, handled_answer, handled_said, handled_message, handled_received, handled_input, handled_notice, handled_pdu, handled}
 use Rattle.device_core.specs.Machine.{items_in, items_of}
 use Rattle.device_core.specs.State.{Station, Live}
 use Rattle.device_abi.proofs.RecordingFew.{of_bind, few_data}
@@ -92,7 +92,7 @@ IsShort Unreadable = Unit {0}
 IsShort Elsewhere = Unit {0}
 IsShort (Asks source request) = length request.blocks ≤ 16
 IsShort (Resolves asker arp) = Unit {0}
-IsShort (Told caller address said) = Unit {0}
+IsShort (Reported caller address said) = Unit {0}
 IsShort (Cyclic source frame_id body) = Unit {0}
 IsShort (Alarms source header message) = Unit {0}
 IsShort (Given slot subslot value) = Unit {0}
@@ -117,7 +117,7 @@ short_content identity destination source (RealTime frame_id body) =
     (short_if (is_own identity destination && is_alarm frame_id) (heard_alarm source (message_of body)) _ (short_alarm source (message_of body))
     (short_if (is_own identity destination && is_cyclic frame_id) (Cyclic source frame_id body) Elsewhere tt tt))
 short_content identity destination source (ArpPacket arp) = short_if _ (Resolves source arp) Elsewhere tt tt
-short_content identity destination source (UdpDatagram from to body) = short_if _ (Told (record { mac = source; endpoint = from }) to.address (said_by body)) Elsewhere tt tt
+short_content identity destination source (UdpDatagram from to body) = short_if _ (Reported (record { mac = source; endpoint = from }) to.address (said_by body)) Elsewhere tt tt
 
 short_frame : (identity : Identity) (read : Result Meaning FrameFault) → IsShort (heard_frame identity read)
 short_frame identity (Ok meaning) = short_content identity meaning.destination meaning.source meaning.content
@@ -132,15 +132,15 @@ short_of identity (Alarm slot subslot octets) = tt
 
 -- ---- what the step asks for
 
-abbrev IsFew : Judged → Type 0
+abbrev IsFew : Handled → Type 0
 IsFew what = length (items_in what) ≤ 16
 
-few_else : (b : Bool) (what : Judged) (note : Note) → IsFew what → IsFew (if b then what else Refuses note)
+few_else : (b : Bool) (what : Handled) (note : Note) → IsFew what → IsFew (if b then what else Refuses note)
 few_else true what note few = few
 few_else false what note few = omega arith
 
 module _ (station : Station) (live : Live) where
-  few_asked : (asker : Mac) (kind : Service) (request : Asked) → length request.blocks ≤ 16 → IsFew (judged_request station live asker kind request)
+  few_asked : (asker : Mac) (kind : Service) (request : Asked) → length request.blocks ≤ 16 → IsFew (handled_request station live asker kind request)
   unfolding plan_of
   few_asked asker service.Identify request few =
       few_else _ (Moves live.rest (IdentifyAnswer asker live.values.running request.xid ∷ [])) note.Filter (omega arith)
@@ -149,15 +149,15 @@ module _ (station : Station) (live : Live) where
       let same = length-map request.blocks (λ block. item_of (is_some live.rest.link) block.kind block.contents) in
       omega (arith, few, same)
 
-  few_effect : (caller : Caller) (call : Call) (header : IodWriteReq) (effect : Effect) → IsFew (judged_effect station live caller call header effect)
+  few_effect : (caller : Caller) (call : Call) (header : IodWriteReq) (effect : Effect) → IsFew (handled_effect station live caller call header effect)
   few_effect caller call header (Stores value) = omega arith
   few_effect caller call header (Keeps parameter) = omega arith
 
-  few_write : (caller : Caller) (call : Call) (asked : Result Asking CallFault) → IsFew (judged_write station live caller call asked)
+  few_write : (caller : Caller) (call : Call) (asked : Result Asking CallFault) → IsFew (handled_write station live caller call asked)
   few_write caller call (Ok write) = few_effect caller call write.request write.effect
   few_write caller call (Err fault) = omega arith
 
-  few_new : (caller : Caller) (call : Call) (blocks : List ℕ) (operation : Operation) → IsFew (judged_new station live caller call blocks operation)
+  few_new : (caller : Caller) (call : Call) (blocks : List ℕ) (operation : Operation) → IsFew (handled_new station live caller call blocks operation)
   few_new caller call blocks Connect = omega arith
   few_new caller call blocks Release = omega arith
   few_new caller call blocks Read = omega arith
@@ -165,63 +165,63 @@ module _ (station : Station) (live : Live) where
   few_new caller call blocks Control = omega arith
   few_new caller call blocks ReadImplicit = omega arith
 
-  few_looked : (caller : Caller) (call : Call) (blocks : List ℕ) (operation : Operation) (looked : Looked) → IsFew (judged_looked station live caller call blocks operation looked)
+  few_looked : (caller : Caller) (call : Call) (blocks : List ℕ) (operation : Operation) (looked : Looked) → IsFew (handled_looked station live caller call blocks operation looked)
   few_looked caller call blocks operation new = few_new caller call blocks operation
   few_looked caller call blocks operation (again frame) = omega arith
   few_looked caller call blocks operation old = omega arith
 
-  few_counted : (caller : Caller) (call : Call) (operation : Operation) (blocks : Option (List ℕ)) → IsFew (judged_blocks station live caller call operation blocks)
+  few_counted : (caller : Caller) (call : Call) (operation : Operation) (blocks : Option (List ℕ)) → IsFew (handled_blocks station live caller call operation blocks)
   few_counted caller call operation None = omega arith
   few_counted caller call operation (Some blocks) = few_looked caller call blocks operation _
 
-  few_call : (caller : Caller) (call : Call) (operation : Option Operation) → IsFew (judged_call station live caller call operation)
+  few_call : (caller : Caller) (call : Call) (operation : Option Operation) → IsFew (handled_call station live caller call operation)
   few_call caller call None = omega arith
   few_call caller call (Some operation) = few_counted caller call operation call.blocks
 
-  few_answer : (answer : ReadyAnswer) → IsFew (judged_answer live answer)
+  few_answer : (answer : ReadyAnswer) → IsFew (handled_answer live answer)
   few_answer to_ready.NotWanted = omega arith
   few_answer to_ready.Garbled = omega arith
   few_answer to_ready.Confirmed = omega arith
   few_answer (to_ready.Refused farewell) = omega arith
 
-  few_said : (caller : Caller) (said : Said) → IsFew (judged_said station live caller said)
+  few_said : (caller : Caller) (said : Said) → IsFew (handled_said station live caller said)
   few_said caller (Calls call) = few_call caller call _
   few_said caller (Responds response) = few_answer _
   few_said caller Garbled = omega arith
 
-  few_received : (received : Received) (link : Option Link) → IsFew (judged_received live received link)
+  few_received : (received : Received) (link : Option RelationState) → IsFew (handled_received live received link)
   few_received received.Foreign link = omega arith
   few_received received.Short link = omega arith
   few_received received.Stale link = omega arith
   few_received received.Taken link = omega arith
 
-  few_input : (flow : Option Flow) → IsFew (judged_input live flow)
+  few_input : (flow : Option Flow) → IsFew (handled_input live flow)
   few_input (Some flow) = omega arith
   few_input None = omega arith
 
-  few_notice : (flow : Option Flow) → IsFew (judged_notice live flow)
+  few_notice : (flow : Option Flow) → IsFew (handled_notice live flow)
   few_notice (Some flow) = omega arith
   few_notice None = omega arith
 
-  few_pdu : (fate : PduFate) (link : Option Link) → IsFew (judged_pdu live fate link)
+  few_pdu : (fate : PduFate) (link : Option RelationState) → IsFew (handled_pdu live fate link)
   few_pdu (fate.Data taken) link = omega arith
   few_pdu fate.Done link = omega arith
   few_pdu fate.Ignored link = omega arith
   few_pdu fate.Aborted link = omega arith
 
-  few_judged : (heard : Heard) → IsShort heard → IsFew (judged station live heard)
-  few_judged Ticks short = omega arith
-  few_judged Unreadable short = omega arith
-  few_judged Elsewhere short = omega arith
-  few_judged (Asks asker request) short = few_asked asker request.service request short
-  few_judged (Resolves asker arp) short =
+  few_handled : (heard : Heard) → IsShort heard → IsFew (handled station live heard)
+  few_handled Ticks short = omega arith
+  few_handled Unreadable short = omega arith
+  few_handled Elsewhere short = omega arith
+  few_handled (Asks asker request) short = few_asked asker request.service request short
+  few_handled (Resolves asker arp) short =
       few_else _ (Moves live.rest (ArpReply asker live.values.running.suite.address arp.sender ∷ [])) note.NotMine (omega arith)
-  few_judged (Told caller address said) short = few_else _ (judged_said station live caller said) note.NotMine (few_said caller said)
-  few_judged (Cyclic source frame_id body) short = few_received _ _
-  few_judged (Alarms source header message) short = few_else _ (judged_message live message) note.NoRelation (few_pdu _ _)
-  few_judged (Given slot subslot value) short = few_input _
-  few_judged (Raised slot subslot octets) short = few_notice _
+  few_handled (Reported caller address said) short = few_else _ (handled_said station live caller said) note.NotMine (few_said caller said)
+  few_handled (Cyclic source frame_id body) short = few_received _ _
+  few_handled (Alarms source header message) short = few_else _ (handled_message live message) note.NoRelation (few_pdu _ _)
+  few_handled (Given slot subslot value) short = few_input _
+  few_handled (Raised slot subslot octets) short = few_notice _
 
 -- an event asks the settings for at most 16 items
 pub few_items : (station : Station) (live : Live) (event : Event) → length (items_of station live (heard_of station.identity event)) ≤ 16
-few_items station live event = few_judged station live (heard_of station.identity event) (short_of station.identity event)
+few_items station live event = few_handled station live (heard_of station.identity event) (short_of station.identity event)

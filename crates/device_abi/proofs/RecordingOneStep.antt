@@ -1,6 +1,6 @@
 -- One step, from the calls that its items made to the flash.
 use Rattle.std.proofs.Common.{◌≡◌, ◌≤◌, ℕ, false, [], length, ap, ◌∙◌, arith}
-use Rattle.device_core.specs.Machine.{items_of, judged_step, heard_step, step_of}
+use Rattle.device_core.specs.Machine.{items_of, handled_step, heard_step, step_of}
 use Rattle.device_core.specs.State.{State, store_of}
 use Rattle.device_frames.specs.Heard.{heard_of}
 use Rattle.device_frames.specs.declared.event.Event.{Event}
@@ -17,7 +17,7 @@ use Rattle.device_abi.proofs.RecordingPlaced.{after_image, as_recorded, items_ca
 pub step_records : {S : ℕ} (old new : State (RecordedFlash S)) (event : Event) → Holds (image_of old.flash) old.live.values → old.live.values.has_failed ≡ false
     → OneByOne as_recorded [] (store_of old) (items_of old.station old.live (heard_of old.station.identity event)) (store_of new)
     → Stretch as_recorded (store_of old) (step_of [] old.station old.live event).accepted (store_of new) → new.live.values.has_failed ≡ false → Records old (step_of [] old.station old.live event).accepted new
-unfolding heard_step judged_step
+unfolding heard_step handled_step
 step_records old new event holds going placed stretch goes =
     let all = items_calls (store_of old) (store_of new) (items_of old.station old.live (heard_of old.station.identity event)) placed going holds in
     let is = all.asked all.writes in

@@ -9,7 +9,7 @@ use Rattle.dcp_core.specs.declared.request.Service.TheVariants as service
 use Rattle.dcp_core.specs.Request.{Asked}
 use Rattle.dcp_core.specs.Identify.{matches}
 use Rattle.rpc_core.specs.Call.{Asked as Called}
-use Rattle.rpc_core.specs.Cache.{Kept, Told as Looked, new, again, old, looked, kept_more, behind_told, behind_calls}
+use Rattle.rpc_core.specs.Cache.{Kept, Reported as Looked, new, again, old, looked, kept_more, behind_reported, behind_calls}
 use Rattle.records.specs.declared.status.operation.Operation.{Operation}
 use Rattle.records.specs.declared.status.operation.Operation.TheVariants.{Connect, Release, Read, Write, Control, ReadImplicit}
 use Rattle.records.specs.declared.status.call_fault.CallFault.{CallFault}
@@ -20,7 +20,7 @@ use Rattle.record_blocks.specs.declared.write_record.IodWriteReq.{IodWriteReq}
 use Rattle.records.specs.declared.writes.write.Effect.{Effect}
 use Rattle.records.specs.declared.writes.write.Effect.TheVariants.{Stores, Keeps}
 use Rattle.records.specs.declared.writes.write.Write.{Write as Asking}
-use Rattle.records.specs.writes.Judged.{write_of}
+use Rattle.records.specs.writes.Handled.{write_of}
 use Rattle.pn_alarms.specs.declared.device.PduFate.{PduFate}
 use Rattle.pn_alarms.specs.declared.device.PduFate.TheVariants as fate
 use Rattle.cyclic_exchange.specs.declared.received.Received.{Received}
@@ -29,8 +29,8 @@ use Rattle.relations.specs.exchange.Flow.{Flow}
 use Rattle.relations.specs.Exchanged.{given_to, heard_by, hearing, raised_to, received_by, receiving}
 use Rattle.relations.specs.declared.hearing.ReadyAnswer.{ReadyAnswer}
 use Rattle.relations.specs.declared.hearing.ReadyAnswer.TheVariants as to_ready
-use Rattle.relations.specs.Link.{Link, uuid_of, differing_in, is_alarm_of}
-use Rattle.relations.specs.Phases.{keeping, moved}
+use Rattle.relations.specs.RelationState.{RelationState, uuid_of, differing_in, is_alarm_of}
+use Rattle.relations.specs.Phases.{keeping, updated}
 use Rattle.relations.specs.Calls.{prm_end_answer, release_answer}
 use Rattle.relations.specs.Connect.{connect_answer}
 use Rattle.relations.specs.Ready.{answer_of as ready_answer}
@@ -38,9 +38,9 @@ use Rattle.device_frames.specs.declared.event.Event.{Event}
 use Rattle.frame_codec.specs.declared.udp.Caller.{Caller}
 use Rattle.device_core.specs.State.{Station, Live}
 use Rattle.device_frames.specs.Sent.{Sent}
-use Rattle.device_frames.specs.Heard.{Heard, Ticks, Unreadable, Elsewhere, Asks, Resolves, Told, Cyclic, Alarms, Given, Raised, Said, Calls, Responds, Garbled, heard_of}
-use Rattle.device_core.specs.Judged.{Judged, is_running, is_request, answer_from, kept_for, kept_answer, judged_request, judged_effect, judged_write, judged_new, judged_looked, judged_blocks, judged_call, judged_answer, judged_said, judged_pdu, judged_received, judged_input, judged_notice, judged}
-use Rattle.device_core.specs.Machine.{items_in, first_answer, written_as, finished, heard_step, judged_step, step_of, first_step, later_steps, run_of}
+use Rattle.device_frames.specs.Heard.{Heard, Ticks, Unreadable, Elsewhere, Asks, Resolves, Reported, Cyclic, Alarms, Given, Raised, Said, Calls, Responds, Garbled, heard_of}
+use Rattle.device_core.specs.Handled.{Handled, is_running, is_request, answer_from, kept_for, kept_answer, handled_request, handled_effect, handled_write, handled_new, handled_looked, handled_blocks, handled_call, handled_answer, handled_said, handled_pdu, handled_received, handled_input, handled_notice, handled}
+use Rattle.device_core.specs.Machine.{items_in, first_answer, written_as, finished, heard_step, handled_step, step_of, first_step, later_steps, run_of}
 use Rattle.device_core.specs.Steps.{IsBehindCalls}
 
 calls_then : (first later : List Kept) (cache : List Kept) → behind_calls 4 (first ++ later) cache ≡ behind_calls 4 later (behind_calls 4 first cache)
@@ -52,10 +52,10 @@ called_then before between now first later =
     (first.0 ++ later.0, later.1 ∙ ap (behind_calls 4 later.0) first.1 ∙ sym (calls_then first.0 later.0 before))
 
 -- What is stored after an outcome.
-abbrev IsKept : Station → Live → List BlockError → Judged → Type 0
+abbrev IsKept : Station → Live → List BlockError → Handled → Type 0
 IsKept station live answers what = IsBehindCalls live.rest.calls (finished station.identity live.rest what answers).rest.calls
 
-request_called : (station : Station) (live : Live) (answers : List BlockError) (asker : Mac) (asked : Service) (request : Asked) → IsKept station live answers (judged_request station live asker asked request)
+request_called : (station : Station) (live : Live) (answers : List BlockError) (asker : Mac) (asked : Service) (request : Asked) → IsKept station live answers (handled_request station live asker asked request)
 request_called station live answers asker service.Identify request =
     cond_both (matches station.identity live.values.running request) _ _ (IsKept station live answers) (λ _. ([], refl)) (λ _. ([], refl))
 request_called station live answers asker service.Get request = ([], refl)
@@ -63,27 +63,27 @@ request_called station live answers asker service.Set request = ([], refl)
 
 -- A new call with this answer stores it.
 kept_called : (station : Station) (live : Live) (call : Called) (answer : Sent) → looked call.header.activity call.header.sequence live.rest.calls ≡ new
-    → IsBehindCalls live.rest.calls (behind_told 4 (kept_for station.identity call answer) live.rest.calls new)
+    → IsBehindCalls live.rest.calls (behind_reported 4 (kept_for station.identity call answer) live.rest.calls new)
 kept_called station live call answer is_new =
-    let kept = kept_for station.identity call answer in (kept ∷ [], sym (ap (behind_told 4 kept live.rest.calls) is_new))
+    let kept = kept_for station.identity call answer in (kept ∷ [], sym (ap (behind_reported 4 kept live.rest.calls) is_new))
 
 served_called : (station : Station) (live : Live) (caller : Caller) (call : Called) (operation : Operation) (outcome : Result (List ℕ) CallFault) → looked call.header.activity call.header.sequence live.rest.calls ≡ new
     → IsBehindCalls live.rest.calls (kept_more 4 (kept_for station.identity call (answer_from live.values.running.suite.address caller call operation outcome)) live.rest.calls)
 served_called station live caller call operation outcome is_new = kept_called station live call (answer_from live.values.running.suite.address caller call operation outcome) is_new
 
 effect_called : (station : Station) (live : Live) (answers : List BlockError) (caller : Caller) (call : Called) (header : IodWriteReq) (effect : Effect)
-    → looked call.header.activity call.header.sequence live.rest.calls ≡ new → IsKept station live answers (judged_effect station live caller call header effect)
+    → looked call.header.activity call.header.sequence live.rest.calls ≡ new → IsKept station live answers (handled_effect station live caller call header effect)
 effect_called station live answers caller call header (Stores value) is_new =
     kept_called station live call (answer_from live.values.running.suite.address caller call Write (written_as header (first_answer answers))) is_new
 effect_called station live answers caller call header (Keeps parameter) is_new = served_called station live caller call Write (kept_answer header (keeping parameter live.rest.link)) is_new
 
 write_called : (station : Station) (live : Live) (answers : List BlockError) (caller : Caller) (call : Called) (write : Result Asking CallFault)
-    → looked call.header.activity call.header.sequence live.rest.calls ≡ new → IsKept station live answers (judged_write station live caller call write)
+    → looked call.header.activity call.header.sequence live.rest.calls ≡ new → IsKept station live answers (handled_write station live caller call write)
 write_called station live answers caller call (Ok write) is_new = effect_called station live answers caller call write.request write.effect is_new
 write_called station live answers caller call (Err fault) is_new = served_called station live caller call Write (Err fault) is_new
 
 new_called : (station : Station) (live : Live) (answers : List BlockError) (caller : Caller) (call : Called) (blocks : List ℕ) (operation : Operation)
-    → looked call.header.activity call.header.sequence live.rest.calls ≡ new → IsKept station live answers (judged_new station live caller call blocks operation)
+    → looked call.header.activity call.header.sequence live.rest.calls ≡ new → IsKept station live answers (handled_new station live caller call blocks operation)
 new_called station live answers caller call blocks Connect is_new =
     served_called station live caller call Connect (connect_answer station.identity station.real live.rest.link blocks) is_new
 new_called station live answers caller call blocks Release is_new =
@@ -97,71 +97,71 @@ new_called station live answers caller call blocks Control is_new =
 new_called station live answers caller call blocks ReadImplicit is_new =
     served_called station live caller call ReadImplicit (implicit_read station.identity station.real live.values.running blocks) is_new
 
-looked_called : (station : Station) (live : Live) (answers : List BlockError) (caller : Caller) (call : Called) (blocks : List ℕ) (operation : Operation) (told : Looked)
-    → looked call.header.activity call.header.sequence live.rest.calls ≡ told → IsKept station live answers (judged_looked station live caller call blocks operation told)
-looked_called station live answers caller call blocks operation new told = new_called station live answers caller call blocks operation told
-looked_called station live answers caller call blocks operation (again frame) told = ([], refl)
-looked_called station live answers caller call blocks operation old told = ([], refl)
+looked_called : (station : Station) (live : Live) (answers : List BlockError) (caller : Caller) (call : Called) (blocks : List ℕ) (operation : Operation) (reported : Looked)
+    → looked call.header.activity call.header.sequence live.rest.calls ≡ reported → IsKept station live answers (handled_looked station live caller call blocks operation reported)
+looked_called station live answers caller call blocks operation new reported = new_called station live answers caller call blocks operation reported
+looked_called station live answers caller call blocks operation (again frame) reported = ([], refl)
+looked_called station live answers caller call blocks operation old reported = ([], refl)
 
 blocks_called : (station : Station) (live : Live) (answers : List BlockError) (caller : Caller) (call : Called) (operation : Operation) (blocks : Option (List ℕ))
-    → IsKept station live answers (judged_blocks station live caller call operation blocks)
+    → IsKept station live answers (handled_blocks station live caller call operation blocks)
 blocks_called station live answers caller call operation None = ([], refl)
 blocks_called station live answers caller call operation (Some blocks) = looked_called station live answers caller call blocks operation _ refl
 
-call_called : (station : Station) (live : Live) (answers : List BlockError) (caller : Caller) (call : Called) (operation : Option Operation) → IsKept station live answers (judged_call station live caller call operation)
+call_called : (station : Station) (live : Live) (answers : List BlockError) (caller : Caller) (call : Called) (operation : Option Operation) → IsKept station live answers (handled_call station live caller call operation)
 call_called station live answers caller call None = ([], refl)
 call_called station live answers caller call (Some operation) = blocks_called station live answers caller call operation call.blocks
 
-answer_called : (station : Station) (live : Live) (answers : List BlockError) (answer : ReadyAnswer) → IsKept station live answers (judged_answer live answer)
+answer_called : (station : Station) (live : Live) (answers : List BlockError) (answer : ReadyAnswer) → IsKept station live answers (handled_answer live answer)
 answer_called station live answers to_ready.NotWanted = ([], refl)
 answer_called station live answers to_ready.Garbled = ([], refl)
 answer_called station live answers to_ready.Confirmed = ([], refl)
 answer_called station live answers (to_ready.Refused farewell) = ([], refl)
 
-said_called : (station : Station) (live : Live) (answers : List BlockError) (caller : Caller) (said : Said) → IsKept station live answers (judged_said station live caller said)
+said_called : (station : Station) (live : Live) (answers : List BlockError) (caller : Caller) (said : Said) → IsKept station live answers (handled_said station live caller said)
 said_called station live answers caller (Calls call) = call_called station live answers caller call (operation_of call.header.operation)
 said_called station live answers caller (Responds response) = answer_called station live answers (ready_answer response live.rest.link)
 said_called station live answers caller Garbled = ([], refl)
 
-pdu_called : (station : Station) (live : Live) (answers : List BlockError) (came : PduFate) (link : Option Link) → IsKept station live answers (judged_pdu live came link)
+pdu_called : (station : Station) (live : Live) (answers : List BlockError) (came : PduFate) (link : Option RelationState) → IsKept station live answers (handled_pdu live came link)
 pdu_called station live answers (fate.Data taken) link = ([], refl)
 pdu_called station live answers fate.Done link = ([], refl)
 pdu_called station live answers fate.Ignored link = ([], refl)
 pdu_called station live answers fate.Aborted link = ([], refl)
 
-received_called : (station : Station) (live : Live) (answers : List BlockError) (came : Received) (link : Option Link) → IsKept station live answers (judged_received live came link)
+received_called : (station : Station) (live : Live) (answers : List BlockError) (came : Received) (link : Option RelationState) → IsKept station live answers (handled_received live came link)
 received_called station live answers received.Foreign link = ([], refl)
 received_called station live answers received.Short link = ([], refl)
 received_called station live answers received.Stale link = ([], refl)
 received_called station live answers received.Taken link = ([], refl)
 
-input_called : (station : Station) (live : Live) (answers : List BlockError) (flow : Option Flow) → IsKept station live answers (judged_input live flow)
+input_called : (station : Station) (live : Live) (answers : List BlockError) (flow : Option Flow) → IsKept station live answers (handled_input live flow)
 input_called station live answers (Some flow) = ([], refl)
 input_called station live answers None = ([], refl)
 
-notice_called : (station : Station) (live : Live) (answers : List BlockError) (flow : Option Flow) → IsKept station live answers (judged_notice live flow)
+notice_called : (station : Station) (live : Live) (answers : List BlockError) (flow : Option Flow) → IsKept station live answers (handled_notice live flow)
 notice_called station live answers (Some flow) = ([], refl)
 notice_called station live answers None = ([], refl)
 
-judged_called : (station : Station) (live : Live) (answers : List BlockError) (heard : Heard) → IsKept station live answers (judged station live heard)
-judged_called station live answers (Asks asker request) = request_called station live answers asker request.service request
-judged_called station live answers (Resolves asker packet) =
+handled_called : (station : Station) (live : Live) (answers : List BlockError) (heard : Heard) → IsKept station live answers (handled station live heard)
+handled_called station live answers (Asks asker request) = request_called station live answers asker request.service request
+handled_called station live answers (Resolves asker packet) =
     cond_both (is_request packet.operation && is_running live.values.running packet.target.address) _ _ (IsKept station live answers) (λ _. ([], refl)) (λ _. ([], refl))
-judged_called station live answers (Told caller address said) =
+handled_called station live answers (Reported caller address said) =
     cond_both (is_running live.values.running address) _ _ (IsKept station live answers) (λ _. said_called station live answers caller said) (λ _. ([], refl))
-judged_called station live answers (Alarms source header message) =
-    cond_both (is_alarm_of source header.destination header.source live.rest.link) _ _ (IsKept station live answers) (λ _. pdu_called station live answers (heard_by message live.rest.link) (moved (hearing message live.rest.link) live.rest.link)) (λ _. ([], refl))
-judged_called station live answers (Cyclic source frame_id body) =
-    received_called station live answers (received_by source frame_id body live.rest.link) (moved (receiving source frame_id body live.rest.link) live.rest.link)
-judged_called station live answers (Given slot subslot value) = input_called station live answers (given_to slot subslot value live.rest.link)
-judged_called station live answers (Raised slot subslot octets) = notice_called station live answers (raised_to station.real.modules.items slot subslot octets live.rest.link)
-judged_called station live answers Ticks = ([], refl)
-judged_called station live answers Unreadable = ([], refl)
-judged_called station live answers Elsewhere = ([], refl)
+handled_called station live answers (Alarms source header message) =
+    cond_both (is_alarm_of source header.destination header.source live.rest.link) _ _ (IsKept station live answers) (λ _. pdu_called station live answers (heard_by message live.rest.link) (updated (hearing message live.rest.link) live.rest.link)) (λ _. ([], refl))
+handled_called station live answers (Cyclic source frame_id body) =
+    received_called station live answers (received_by source frame_id body live.rest.link) (updated (receiving source frame_id body live.rest.link) live.rest.link)
+handled_called station live answers (Given slot subslot value) = input_called station live answers (given_to slot subslot value live.rest.link)
+handled_called station live answers (Raised slot subslot octets) = notice_called station live answers (raised_to station.real.modules.items slot subslot octets live.rest.link)
+handled_called station live answers Ticks = ([], refl)
+handled_called station live answers Unreadable = ([], refl)
+handled_called station live answers Elsewhere = ([], refl)
 
 heard_called : (outcomes : List Outcome) (station : Station) (live : Live) (heard : Heard) → IsBehindCalls live.rest.calls (heard_step outcomes station live heard).live.rest.calls
-unfolding heard_step judged_step
-heard_called outcomes station live heard = judged_called station live (carried outcomes live.values (items_in (judged station live heard))).answers heard
+unfolding heard_step handled_step
+heard_called outcomes station live heard = handled_called station live (carried outcomes live.values (items_in (handled station live heard))).answers heard
 
 pub run_called : (outcomes : List (List Outcome)) (station : Station) (live : Live) (events : List Event) → IsBehindCalls live.rest.calls (run_of outcomes station live events).live.rest.calls
 run_called outcomes station live [] = ([], refl)

@@ -7,54 +7,54 @@ use Rattle.cyclic_exchange.specs.declared.received.Received.{Received}
 use Rattle.cyclic_exchange.specs.declared.received.Received.TheVariants.{Foreign, Short, Stale, Taken}
 use Rattle.relations.specs.exchange.Flow.{Flow}
 use Rattle.relations.specs.exchange.Received.{behind_frame, received_as}
-use Rattle.relations.specs.Link.{Link, flow_of}
-use Rattle.relations.specs.Phases.{moved}
+use Rattle.relations.specs.RelationState.{RelationState, flow_of}
+use Rattle.relations.specs.Phases.{updated}
 use Rattle.relations.specs.Exchanged.{becoming, heard_by, hearing, received_by, receiving, receiving_as}
 use Rattle.device_frames.specs.declared.note.Note.TheVariants.{Done, Refused}
 use Rattle.device_core.specs.State.{Station, Live}
-use Rattle.device_core.specs.Judged.{judged_cyclic, judged_notice, judged_received}
+use Rattle.device_core.specs.Handled.{handled_cyclic, handled_notice, handled_received}
 use Rattle.device_frames.specs.Relation.{alarms_of}
 use Rattle.device_core.specs.Machine.{Finished, end_of}
 
 -- A cyclic frame that is not accepted changes nothing.
-left_by : (one : Received) (flow : Flow) (link : Option Link) → one ≢ Taken → moved (receiving_as one flow) link ≡ link
+left_by : (one : Received) (flow : Flow) (link : Option RelationState) → one ≢ Taken → updated (receiving_as one flow) link ≡ link
 left_by Foreign flow link untaken = refl
 left_by Short flow link untaken = refl
 left_by Stale flow link untaken = refl
 left_by Taken flow link untaken = absurd (untaken refl)
 
-stays_untaken : (source : Mac) (frame_id : ℕ) (body : List ℕ) (link : Option Link) → received_by source frame_id body link ≢ Taken → moved (receiving source frame_id body link) link ≡ link
+stays_untaken : (source : Mac) (frame_id : ℕ) (body : List ℕ) (link : Option RelationState) → received_by source frame_id body link ≢ Taken → updated (receiving source frame_id body link) link ≡ link
 stays_untaken source frame_id body None untaken = refl
 stays_untaken source frame_id body (Some link) untaken =
     left_by (received_as link.flow source frame_id body) (behind_frame link.flow source frame_id body) (Some link) untaken
 
 -- The rest after it, for any outcome.
-received_leaves : (station : Station) (live : Live) (one : Received) (now : Option Link) → (one ≢ Taken → now ≡ live.rest.link)
-    → (end_of station live (judged_received live one now)).rest ≡ record live.rest { link = now }
+received_leaves : (station : Station) (live : Live) (one : Received) (now : Option RelationState) → (one ≢ Taken → now ≡ live.rest.link)
+    → (end_of station live (handled_received live one now)).rest ≡ record live.rest { link = now }
 received_leaves station live Foreign now stays = ap (λ l. record live.rest { link = l }) (sym (stays (λ e. cc)))
 received_leaves station live Short now stays = ap (λ l. record live.rest { link = l }) (sym (stays (λ e. cc)))
 received_leaves station live Stale now stays = ap (λ l. record live.rest { link = l }) (sym (stays (λ e. cc)))
 received_leaves station live Taken now stays = refl
 
 pub cyclic_leaves : (station : Station) (live : Live) (source : Mac) (frame_id : ℕ) (body : List ℕ)
-    → (end_of station live (judged_cyclic live source frame_id body)).rest ≡ record live.rest { link = moved (receiving source frame_id body live.rest.link) live.rest.link }
+    → (end_of station live (handled_cyclic live source frame_id body)).rest ≡ record live.rest { link = updated (receiving source frame_id body live.rest.link) live.rest.link }
 cyclic_leaves station live source frame_id body =
-    received_leaves station live (received_by source frame_id body live.rest.link) (moved (receiving source frame_id body live.rest.link) live.rest.link)
+    received_leaves station live (received_by source frame_id body live.rest.link) (updated (receiving source frame_id body live.rest.link) live.rest.link)
     (stays_untaken source frame_id body live.rest.link)
 
 -- An alarm that is refused changes nothing, and one that is raised is sent.
 pub notice_refused : (station : Station) (live : Live) (flow : Option Flow) → is_some flow ≡ false
-    → end_of station live (judged_notice live flow) ≡ record { rest = live.rest; sent = []; note = Refused }
+    → end_of station live (handled_notice live flow) ≡ record { rest = live.rest; sent = []; note = Refused }
 notice_refused station live (Some flow) none = cc
 notice_refused station live None none = refl
 
 pub notice_raised : (station : Station) (live : Live) (flow : Option Flow) → is_some flow ≡ true
-    → end_of station live (judged_notice live flow)
-    ≡ record { rest = record live.rest { link = moved (becoming flow) live.rest.link }; sent = alarms_of (flow_of (moved (becoming flow) live.rest.link)); note = Done }
+    → end_of station live (handled_notice live flow)
+    ≡ record { rest = record live.rest { link = updated (becoming flow) live.rest.link }; sent = alarms_of (flow_of (updated (becoming flow) live.rest.link)); note = Done }
 notice_raised station live (Some flow) some = refl
 notice_raised station live None some = cc
 
 -- A PDU that is ignored changes nothing.
-pub stays_ignored : (message : ToDevice) (link : Option Link) → heard_by message link ≡ fate.Ignored → moved (hearing message link) link ≡ link
+pub stays_ignored : (message : ToDevice) (link : Option RelationState) → heard_by message link ≡ fate.Ignored → updated (hearing message link) link ≡ link
 stays_ignored message None ignored = refl
 stays_ignored message (Some link) ignored = rw ignored refl

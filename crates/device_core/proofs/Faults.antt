@@ -15,8 +15,8 @@ use Rattle.device_frames.specs.declared.note.Note.{Note}
 use Rattle.device_core.specs.State.{Station, State, Live}
 use Rattle.device_frames.specs.Sent.{bytes_of}
 use Rattle.device_frames.specs.Heard.{Heard, heard_of}
-use Rattle.device_core.specs.Judged.{Judged, judged}
-use Rattle.device_core.specs.Machine.{items_in, items_of, finished, judged_step, heard_step}
+use Rattle.device_core.specs.Handled.{Handled, handled}
+use Rattle.device_core.specs.Machine.{items_in, items_of, finished, handled_step, heard_step}
 use Rattle.device_core.specs.Faults.{asks_nothing, IsAsIn, StepGoesOn, EachGoesOn, RunGoesOn}
 use Rattle.device_core.specs.Steps.{HandsOn}
 
@@ -32,16 +32,16 @@ with_seen : Live → Values → Live
 with_seen seen values = record { values = record values { running = seen.values.running }; rest = seen.rest }
 
 -- The outcome depends only on the running settings and the rest.
-judged_same : (station : Station) (one other : Live) (heard : Heard) → other.values.running ≡ one.values.running → other.rest ≡ one.rest → judged station other heard ≡ judged station one heard
-judged_same station one other heard running rest =
-    ap (λ r. judged station (record { values = record other.values { running = r }; rest = other.rest }) heard) running
-    ∙ ap (λ r. judged station (record { values = record other.values { running = one.values.running }; rest = r }) heard) rest
+handled_same : (station : Station) (one other : Live) (heard : Heard) → other.values.running ≡ one.values.running → other.rest ≡ one.rest → handled station other heard ≡ handled station one heard
+handled_same station one other heard running rest =
+    ap (λ r. handled station (record { values = record other.values { running = r }; rest = other.rest }) heard) running
+    ∙ ap (λ r. handled station (record { values = record other.values { running = one.values.running }; rest = r }) heard) rest
 
 -- An outcome that asks for nothing to be stored, at two devices.
-judged_alike : (outcomes : List Outcome) (station : Station) (one other : Live) (what : Judged) → asks_nothing (items_in what) ≡ true → other.rest ≡ one.rest
-    → IsAsIn (judged_step [] station other what) (judged_step outcomes station one what).frames (judged_step outcomes station one what).note (judged_step outcomes station one what).live
-unfolding judged_step
-judged_alike outcomes station one other what nothing same =
+handled_alike : (outcomes : List Outcome) (station : Station) (one other : Live) (what : Handled) → asks_nothing (items_in what) ≡ true → other.rest ≡ one.rest
+    → IsAsIn (handled_step [] station other what) (handled_step outcomes station one what).frames (handled_step outcomes station one what).note (handled_step outcomes station one what).live
+unfolding handled_step
+handled_alike outcomes station one other what nothing same =
     let items = items_in what in
     let answers : (carried outcomes one.values items).answers ≡ (carried [] other.values items).answers =
     plain_answers outcomes one.values items nothing ∙ sym (plain_answers [] other.values items nothing) in
@@ -58,17 +58,17 @@ heard_alike : (outcomes : List Outcome) (station : Station) (one other : Live) (
     → IsAsIn (heard_step [] station other heard) (heard_step outcomes station one heard).frames (heard_step outcomes station one heard).note (heard_step outcomes station one heard).live
 unfolding heard_step
 heard_alike outcomes station one other heard nothing running rest =
-    subst (λ what. IsAsIn (judged_step [] station other what) (heard_step outcomes station one heard).frames (heard_step outcomes station one heard).note (heard_step outcomes station one heard).live)
-    (sym (judged_same station one other heard running rest)) (judged_alike outcomes station one other (judged station one heard) nothing rest)
+    subst (λ what. IsAsIn (handled_step [] station other what) (heard_step outcomes station one heard).frames (heard_step outcomes station one heard).note (heard_step outcomes station one heard).live)
+    (sym (handled_same station one other heard running rest)) (handled_alike outcomes station one other (handled station one heard) nothing rest)
 
 -- A step goes on if its settings do.
 pub step_goes_on : (outcomes : List Outcome) (station : Station) (live next : Live) (heard : Heard) (sent : List (List ℕ)) (said : Note) (answers : List BlockError)
     → next ≡ (heard_step outcomes station live heard).live → sent ≡ (heard_step outcomes station live heard).frames → said ≡ (heard_step outcomes station live heard).note
     → answers ≡ (carried outcomes live.values (items_of station live heard)).answers → GoesOn live.values (items_of station live heard) answers next.values
     → StepGoesOn station live heard sent said next
-unfolding heard_step judged_step
+unfolding heard_step handled_step
 step_goes_on outcomes station live next heard sent said answers live_is frames_are note_is answers_are settings =
-    let what = judged station live heard in
+    let what = handled station live heard in
     let end : finished station.identity live.rest what (carried outcomes live.values (items_in what)).answers ≡ finished station.identity live.rest what answers = ap (finished station.identity live.rest what) (sym answers_are) in
     record {
       answers = answers;

@@ -1,6 +1,6 @@
 pub mod Machine
 pub mod Faults
-pub mod Judged
+pub mod Handled
 pub mod OfKind
 pub mod Sendable
 pub mod Served

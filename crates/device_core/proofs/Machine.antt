@@ -6,48 +6,48 @@ use Rattle.device_frames.specs.declared.event.Event.{Event}
 use Rattle.device_core.specs.State.{Station, Live}
 use Rattle.device_frames.specs.Heard.{Heard}
 use Rattle.device_frames.specs.Sent.{bytes_of}
-use Rattle.device_core.specs.Judged.{Judged, Refuses, Sets, Writes, Moves, judged}
-use Rattle.device_core.specs.Machine.{Stepped, Ran, items_in, items_of, finished, judged_step, heard_step, step_of, handed, first_step, later_steps, then_run, run_of}
+use Rattle.device_core.specs.Handled.{Handled, Refuses, Sets, Writes, Moves, handled}
+use Rattle.device_core.specs.Machine.{Stepped, Ran, items_in, items_of, finished, handled_step, heard_step, step_of, handed, first_step, later_steps, then_run, run_of}
 
 -- Whether the outcome is a Set or a Write of an I&M text, which are the only ones that ask something of the settings.
-abbrev pub is_asking : Judged → Bool
+abbrev pub is_asking : Handled → Bool
 is_asking (Refuses why) = false
 is_asking (Sets asker request in_operation) = true
 is_asking (Writes caller address call header value) = true
 is_asking (Moves rest sent) = false
 
 -- The result of any other outcome: nothing is asked of the settings.
-unfoldable pub quiet_step : Station → Live → Judged → Stepped
-quiet_step station live what =
+unfoldable pub inactive_step : Station → Live → Handled → Stepped
+inactive_step station live what =
     let end = finished station.identity live.rest what [] in
     record { live = record { values = live.values; rest = end.rest }; sent = end.sent; frames = map (bytes_of station.identity) end.sent; note = end.note; accepted = [] }
 
-judged_quiet : (outcomes : List Outcome) (station : Station) (live : Live) (what : Judged) → is_asking what ≡ false → judged_step outcomes station live what ≡ quiet_step station live what
-unfolding judged_step quiet_step
-judged_quiet outcomes station live (Refuses why) none = refl
-judged_quiet outcomes station live (Sets asker request in_operation) none = cc
-judged_quiet outcomes station live (Writes caller address call header value) none = cc
-judged_quiet outcomes station live (Moves rest sent) none = refl
+handled_inactive : (outcomes : List Outcome) (station : Station) (live : Live) (what : Handled) → is_asking what ≡ false → handled_step outcomes station live what ≡ inactive_step station live what
+unfolding handled_step inactive_step
+handled_inactive outcomes station live (Refuses why) none = refl
+handled_inactive outcomes station live (Sets asker request in_operation) none = cc
+handled_inactive outcomes station live (Writes caller address call header value) none = cc
+handled_inactive outcomes station live (Moves rest sent) none = refl
 
-pub is_quiet : (outcomes : List Outcome) (station : Station) (live : Live) (heard : Heard) → is_asking (judged station live heard) ≡ false
-    → heard_step outcomes station live heard ≡ quiet_step station live (judged station live heard)
+pub is_inactive : (outcomes : List Outcome) (station : Station) (live : Live) (heard : Heard) → is_asking (handled station live heard) ≡ false
+    → heard_step outcomes station live heard ≡ inactive_step station live (handled station live heard)
 unfolding heard_step
-is_quiet outcomes station live heard none = judged_quiet outcomes station live (judged station live heard) none
+is_inactive outcomes station live heard none = handled_inactive outcomes station live (handled station live heard) none
 
-no_items : (what : Judged) → is_asking what ≡ false → items_in what ≡ []
+no_items : (what : Handled) → is_asking what ≡ false → items_in what ≡ []
 no_items (Refuses why) none = refl
 no_items (Sets asker request in_operation) none = cc
 no_items (Writes caller address call header value) none = cc
 no_items (Moves rest sent) none = refl
 
-pub nothing_asked : (station : Station) (live : Live) (heard : Heard) → is_asking (judged station live heard) ≡ false → items_of station live heard ≡ []
-nothing_asked station live heard none = no_items (judged station live heard) none
+pub nothing_asked : (station : Station) (live : Live) (heard : Heard) → is_asking (handled station live heard) ≡ false → items_of station live heard ≡ []
+nothing_asked station live heard none = no_items (handled station live heard) none
 
 -- A step by its outcome.
-pub judged_as : (outcomes : List Outcome) (station : Station) (live : Live) (heard : Heard) (what : Judged) → judged station live heard ≡ what
-    → heard_step outcomes station live heard ≡ judged_step outcomes station live what
+pub handled_as : (outcomes : List Outcome) (station : Station) (live : Live) (heard : Heard) (what : Handled) → handled station live heard ≡ what
+    → heard_step outcomes station live heard ≡ handled_step outcomes station live what
 unfolding heard_step
-judged_as outcomes station live heard what is = ap (judged_step outcomes station live) is
+handled_as outcomes station live heard what is = ap (handled_step outcomes station live) is
 
 -- A run, and then a step.
 unfoldable pub then_step : Ran → Stepped → Ran
@@ -64,18 +64,18 @@ joined [] events [] = []
 joined [] events (outcome ∷ outcomes) = snoc [] events (outcome ∷ outcomes)
 joined (one ∷ front) events last = snoc (one ∷ front) events last
 
-pub joined_quiet : (front : List (List Outcome)) (events : List Event) (last : List Outcome) → front ≡ [] → last ≡ [] → joined front events last ≡ []
+pub joined_inactive : (front : List (List Outcome)) (events : List Event) (last : List Outcome) → front ≡ [] → last ≡ [] → joined front events last ≡ []
 unfolding joined
-joined_quiet [] events [] _ _ = refl
-joined_quiet [] events (outcome ∷ outcomes) _ none = cc
-joined_quiet (one ∷ front) events last none _ = cc
+joined_inactive [] events [] _ _ = refl
+joined_inactive [] events (outcome ∷ outcomes) _ none = cc
+joined_inactive (one ∷ front) events last none _ = cc
 
-run_quiet : (station : Station) (live : Live) (events : List Event) (event : Event)
+run_inactive : (station : Station) (live : Live) (events : List Event) (event : Event)
     → run_of [] station live (events ++ event ∷ []) ≡ then_step (run_of [] station live events) (step_of [] station (run_of [] station live events).live event)
 unfolding then_step
-run_quiet station live [] event = simp append-nil
-run_quiet station live (one ∷ events) event =
-    ap (then_run (step_of [] station live one)) (run_quiet station (step_of [] station live one).live events event) ∙ simp append_assoc
+run_inactive station live [] event = simp append-nil
+run_inactive station live (one ∷ events) event =
+    ap (then_run (step_of [] station live one)) (run_inactive station (step_of [] station live one).live events event) ∙ simp append_assoc
 
 run_snoc : (front : List (List Outcome)) (last : List Outcome) (station : Station) (live : Live) (events : List Event) (event : Event)
     → run_of (snoc front events last) station live (events ++ event ∷ []) ≡ then_step (run_of front station live events) (step_of last station (run_of front station live events).live event)
@@ -87,6 +87,6 @@ run_snoc front last station live (one ∷ events) event =
 pub run_joined : (front : List (List Outcome)) (last : List Outcome) (station : Station) (live : Live) (events : List Event) (event : Event)
     → run_of (joined front events last) station live (events ++ event ∷ []) ≡ then_step (run_of front station live events) (step_of last station (run_of front station live events).live event)
 unfolding joined
-run_joined [] [] station live events event = run_quiet station live events event
+run_joined [] [] station live events event = run_inactive station live events event
 run_joined [] (outcome ∷ outcomes) station live events event = run_snoc [] (outcome ∷ outcomes) station live events event
 run_joined (one ∷ front) last station live events event = run_snoc (one ∷ front) last station live events event

@@ -14,7 +14,7 @@ use Rattle.device_frames.specs.Hearing.{heard_as, heard_in}
 use Rattle.device_frames.specs.declared.note.Note.{Note}
 use Rattle.device_frames.specs.declared.note.Note.TheVariants.{Fault}
 use Rattle.settings_store.specs.Carries.{Holds}
-use Rattle.device_core.specs.Judged.{judged}
+use Rattle.device_core.specs.Handled.{handled}
 use Rattle.device_core.specs.State.{State}
 use Rattle.device_core.specs.Steps.{Steps}
 use Rattle.device_core.proofs.Steps.{refuses_steps}
@@ -43,7 +43,7 @@ pub unread_steps : {F X : Type 0} {S : ℕ} (as_flash : Flash F S) (old : State 
 unread_steps as_flash old destination source (Ok x) read frames said holds gives not' none note = absurd (not' x refl)
 unread_steps as_flash old destination source (Err fault) read frames said holds gives not' none note =
     refuses_steps as_flash old (heard_by old.station.identity destination source read) Fault frames said holds
-    (ap (λ r. judged old.station old.live (heard_by old.station.identity destination source r)) (gives fault refl)) none note
+    (ap (λ r. handled old.station old.live (heard_by old.station.identity destination source r)) (gives fault refl)) none note
 
 -- A frame of a kind changes a device as the frame does.
 pub kind_steps : {F : Type 0} {S : ℕ} (as_flash : Flash F S) (old new : State F) (inside : Identity) (destination source : Mac) (frame_id : ℕ) (body : List ℕ)

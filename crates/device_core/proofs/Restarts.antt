@@ -66,15 +66,15 @@ cycled_from : {F : Type 0} {S : ℕ} (as_flash : Flash F S) (station : Station) 
     → (runs : Runs as_flash (device_of begun station first room) events before now ran)
     → Cycled as_flash station flash first room events before now runs.outcomes ran.flash
 unfolding device_of
-cycled_from as_flash station flash begun first room events before now ran same_image same_failures quiet runs =
+cycled_from as_flash station flash begun first room events before now ran same_image same_failures inactive runs =
     let end = cycle_of runs.outcomes station first room events in
     let values : ran.live.values ≡ end.live.values = ap (λ l. l.values) runs.live in
     record {
       begun = begun;
-      begins = (same_image, same_failures, quiet);
+      begins = (same_image, same_failures, inactive);
       caused = subst (λ n. IsCaused n (as_flash.failures ran.flash) (started first room).values end.live.values) same_failures
           (subst (λ v. IsCaused (as_flash.failures begun) (as_flash.failures ran.flash) (started first room).values v) values runs.stretch.caused);
-      quiet = λ fine. runs.quiet (ap (λ v. v.has_failed) values ∙ fine);
+      inactive = λ fine. runs.inactive (ap (λ v. v.has_failed) values ∙ fine);
       placed = runs.placed;
       handed_on = runs.frames;
       safe = subst (λ i. CrashSafe false first end.accepted i (as_flash.image ran.flash)) same_image runs.stretch.safe;
@@ -98,9 +98,9 @@ pub cycle_restarts : {F : Type 0} {S : ℕ} (as_flash : Flash F S) (power_up : F
     → again.station ≡ ran.station → as_flash.image again.flash ≡ as_flash.image back → as_flash.failures again.flash ≡ as_flash.failures back → as_flash.asked back [] again.flash
     → Restarts as_flash power_up station flash first room events before now again
 unfolding device_of
-cycle_restarts as_flash power_up station flash first room events before now begun ran back again live is_station same_image same_failures quiet left run powered kept known fresh starts same_station image_is failures_is none_asked =
+cycle_restarts as_flash power_up station flash first room events before now begun ran back again live is_station same_image same_failures inactive left run powered kept known fresh starts same_station image_is failures_is none_asked =
     let runs = run_from as_flash station first room events before now begun ran live is_station run in
-    let cycled = cycled_from as_flash station flash begun.flash first room events before now ran same_image same_failures quiet runs in
+    let cycled = cycled_from as_flash station flash begun.flash first room events before now ran same_image same_failures inactive runs in
     let end = cycle_of runs.outcomes station first room events in
     let values = ap (λ l. l.values) runs.live in
     record {
@@ -132,10 +132,10 @@ pub restarts_if : {F : Type 0} {S : ℕ} (as_flash : Flash F S) (power_up : F �
     → MatchResult again (λ device. as_flash.failures device.flash ≡ as_flash.failures back) (λ refused. HasBootCause refused.0 (as_flash.failures back) (as_flash.failures refused.1))
     → MatchResult again (λ device. as_flash.asked back [] device.flash) (λ refused. as_flash.asked back [] refused.1)
     → IfOk again (λ device. Restarts as_flash power_up station flash first room events before now device)
-restarts_if as_flash power_up station flash first room events before now begun ran back (Ok again) live is_station same_image same_failures quiet left run powered kept known fresh starts same image_is cause none_asked =
-    cycle_restarts as_flash power_up station flash first room events before now begun ran back again live is_station same_image same_failures quiet left run powered kept
+restarts_if as_flash power_up station flash first room events before now begun ran back (Ok again) live is_station same_image same_failures inactive left run powered kept known fresh starts same image_is cause none_asked =
+    cycle_restarts as_flash power_up station flash first room events before now begun ran back again live is_station same_image same_failures inactive left run powered kept
     known fresh starts same image_is cause none_asked
-restarts_if as_flash power_up station flash first room events before now begun ran back (Err refused) live is_station same_image same_failures quiet left run powered kept known fresh starts same image_is cause none_asked = tt
+restarts_if as_flash power_up station flash first room events before now begun ran back (Err refused) live is_station same_image same_failures inactive left run powered kept known fresh starts same image_is cause none_asked = tt
 
 -- A start that is refused, from what the start returns.
 pub refuses_from : {F : Type 0} {S : ℕ} (as_flash : Flash F S) (flash : F) (fault : BootFault) (left : F)
@@ -158,8 +158,8 @@ pub refused_if : {F : Type 0} {S : ℕ} (as_flash : Flash F S) (power_up : F →
     → MatchResult again (λ device. as_flash.failures device.flash ≡ as_flash.failures back) (λ refused. HasBootCause refused.0 (as_flash.failures back) (as_flash.failures refused.1))
     → MatchResult again (λ device. as_flash.asked back [] device.flash) (λ refused. as_flash.asked back [] refused.1)
     → IfErr again (λ refused. IsRefused as_flash power_up station flash events before now refused.0 refused.1)
-refused_if as_flash power_up station flash events before now begun ran back (Ok again) live is_station starts same_image same_failures quiet run powered kept foreign same cause none_asked = tt
-refused_if as_flash power_up station flash events before now begun ran back (Err refused) live is_station starts same_image same_failures quiet run powered kept foreign same cause none_asked =
+refused_if as_flash power_up station flash events before now begun ran back (Ok again) live is_station starts same_image same_failures inactive run powered kept foreign same cause none_asked = tt
+refused_if as_flash power_up station flash events before now begun ran back (Err refused) live is_station starts same_image same_failures inactive run powered kept foreign same cause none_asked =
     let runs = run_from as_flash station _ _ events before now begun ran live is_station run in
     inr (record {
       first = begun.live.values.stored;
@@ -168,7 +168,7 @@ refused_if as_flash power_up station flash events before now begun ran back (Err
       lost = ran.flash;
       back = back;
       starts = starts;
-      cycled = cycled_from as_flash station flash begun.flash _ _ events before now ran same_image same_failures quiet runs;
+      cycled = cycled_from as_flash station flash begun.flash _ _ events before now ran same_image same_failures inactive runs;
       powered = powered;
       kept = kept;
       refuses = refuses_from as_flash back refused.0 refused.1 cause same none_asked foreign;

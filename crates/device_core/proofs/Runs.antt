@@ -12,7 +12,7 @@ use Rattle.device_frames.specs.Heard.{Heard, heard_of}
 use Rattle.device_core.specs.Machine.{Ran, Stepped, items_of, heard_step, step_of, run_of}
 use Rattle.device_frames.specs.declared.note.Note.{Note}
 use Rattle.device_core.specs.Steps.{Steps, HandsOn, Runs, IsExactStep, IsExactRun, TakesRoom}
-use Rattle.device_core.proofs.Machine.{then_step, joined, joined_quiet, run_joined}
+use Rattle.device_core.proofs.Machine.{then_step, joined, joined_inactive, run_joined}
 use Rattle.device_core.proofs.Placed.{placed_more}
 use Rattle.device_core.proofs.Steps.{no_stretch}
 
@@ -24,7 +24,7 @@ no_run as_flash state taken holds = record {
   same = refl;
   live = refl;
   frames = sym (append-nil taken);
-  quiet = λ _. refl;
+  inactive = λ _. refl;
   placed = refl;
   stretch = no_stretch as_flash (store_of state) holds;
   after_loss = λ _. refl;
@@ -58,9 +58,9 @@ run_more as_flash old mid new events event before between now run on =
           ∙ ap (λ f. between ++ f) (ap (λ l. if l.values.is_lost then [] else on.sent) live ∙ ap (λ f. if one.live.values.is_lost then [] else f) sent)
           ∙ ap (λ t. t ++ (if one.live.values.is_lost then [] else one.frames)) run.frames
           ∙ append_assoc before ran.frames _ ∙ ap (λ f. before ++ f) (sym (ap (λ r. r.frames) all));
-      quiet = λ same.
+      inactive = λ same.
           let neither = none_in_both _ _ _ (λ failed. (run.stretch.stays_failed failed).0) (λ failed. (step.stretch.stays_failed failed).0) same in
-          joined_quiet run.outcomes events step.outcomes (run.quiet neither.0) (step.quiet neither.1);
+          joined_inactive run.outcomes events step.outcomes (run.inactive neither.0) (step.inactive neither.1);
       placed = placed_more as_flash run.outcomes step.outcomes old.station old.flash mid.flash new.flash old.live events event run.placed
           (subst (λ v. OneByOne as_flash step.outcomes (record { flash = mid.flash; values = ran.live.values }) (items_of old.station ran.live (heard_of old.station.identity event)) (record { flash = new.flash; values = v }))
           (ap (λ l. l.values) live)
@@ -85,7 +85,7 @@ exact_run as_flash old new events before now runs none = record {
 no_failure : {F : Type 0} {S : ℕ} (as_flash : Flash F S) (first now : store.State F) (accepted : List Accepted)
     → Stretch as_flash first accepted now → as_flash.failures now.flash ≡ as_flash.failures first.flash → as_flash.failures first.flash < 18446744073709551615 → now.values.has_failed ≡ first.values.has_failed
 no_failure as_flash first now accepted stretch same below = elim stretch.caused [
-  | inl quiet ↦ quiet.1
+  | inl inactive ↦ inactive.1
   | inr fault ↦ absurd (grind (arith, fault.0))
 ]
 
@@ -93,7 +93,7 @@ no_failure as_flash first now accepted stretch same below = elim stretch.caused 
 no_fault : {F : Type 0} {S : ℕ} (as_flash : Flash F S) (first now : store.State F) (accepted : List Accepted)
     → Stretch as_flash first accepted now → now.values.has_failed ≡ false → now.values.has_failed ≡ first.values.has_failed
 no_fault as_flash first now accepted stretch fine = elim stretch.caused [
-  | inl quiet ↦ quiet.1
+  | inl inactive ↦ inactive.1
   | inr fault ↦ absurd (cc)
 ]
 
@@ -112,25 +112,25 @@ pub step_quietly : {F : Type 0} {S : ℕ} (as_flash : Flash F S) (old new : Stat
     → heard ≡ heard_of old.station.identity event → Steps as_flash old heard frames said new → as_flash.failures new.flash ≡ as_flash.failures old.flash → as_flash.failures old.flash < 18446744073709551615
     → IsExactStep old event frames said new
 step_quietly as_flash old new heard event frames said is steps same below = exact_step as_flash old new heard event frames said is steps
-    (steps.quiet (no_failure as_flash (store_of old) (store_of new) _ steps.stretch same below))
+    (steps.inactive (no_failure as_flash (store_of old) (store_of new) _ steps.stretch same below))
 
 pub step_finely : {F : Type 0} {S : ℕ} (as_flash : Flash F S) (old new : State F) (heard : Heard) (event : Event) (frames : List (List ℕ)) (said : Note)
     → heard ≡ heard_of old.station.identity event → Steps as_flash old heard frames said new → new.live.values.has_failed ≡ false → IsExactStep old event frames said new
 step_finely as_flash old new heard event frames said is steps fine = exact_step as_flash old new heard event frames said is steps
-    (steps.quiet (no_fault as_flash (store_of old) (store_of new) _ steps.stretch fine))
+    (steps.inactive (no_fault as_flash (store_of old) (store_of new) _ steps.stretch fine))
 
 pub run_quietly : {F : Type 0} {S : ℕ} (as_flash : Flash F S) (old new : State F) (events : List Event) (before now : List (List ℕ))
     → Runs as_flash old events before now new → as_flash.failures new.flash ≡ as_flash.failures old.flash → as_flash.failures old.flash < 18446744073709551615 → IsExactRun old events before now new
 run_quietly as_flash old new events before now runs same below = exact_run as_flash old new events before now runs
-    (runs.quiet (no_failure as_flash (store_of old) (store_of new) _ runs.stretch same below))
+    (runs.inactive (no_failure as_flash (store_of old) (store_of new) _ runs.stretch same below))
 
 pub run_finely : {F : Type 0} {S : ℕ} (as_flash : Flash F S) (old new : State F) (events : List Event) (before now : List (List ℕ))
     → Runs as_flash old events before now new → new.live.values.has_failed ≡ false → IsExactRun old events before now new
 run_finely as_flash old new events before now runs fine = exact_run as_flash old new events before now runs
-    (runs.quiet (no_fault as_flash (store_of old) (store_of new) _ runs.stretch fine))
+    (runs.inactive (no_fault as_flash (store_of old) (store_of new) _ runs.stretch fine))
 
 pub run_takes_room : {F : Type 0} {S : ℕ} (as_flash : Flash F S) (old new : State F) (events : List Event) (before now : List (List ℕ))
     → Runs as_flash old events before now new → new.live.values.has_failed ≡ false → TakesRoom old events new
 run_takes_room as_flash old new events before now runs fine =
-    let none : runs.outcomes ≡ [] = runs.quiet (no_fault as_flash (store_of old) (store_of new) _ runs.stretch fine) in
+    let none : runs.outcomes ≡ [] = runs.inactive (no_fault as_flash (store_of old) (store_of new) _ runs.stretch fine) in
     subst (λ o. new.live.values.room + length (run_of o old.station old.live events).accepted ≡ old.live.values.room) none (runs.stretch.room fine)

@@ -10,18 +10,18 @@ use Rattle.records.specs.writes.Answer.{answer_of}
 use Rattle.records.specs.declared.writes.write.Effect.{Effect}
 use Rattle.records.specs.declared.writes.write.Write.{Write}
 use Rattle.rpc_core.specs.Call.{Asked as Call}
-use Rattle.relations.specs.Phases.{Judged as Moving, answered}
+use Rattle.relations.specs.Phases.{Handled as Moving, answered}
 use Rattle.frame_codec.specs.declared.udp.Caller.{Caller}
 use Rattle.device_frames.specs.Heard.{Heard}
 use Rattle.device_frames.specs.Sendable.{AreSendable}
 use Rattle.device_frames.specs.Sent.{bytes_of}
 use Rattle.device_frames.specs.declared.note.Note.{Note}
 use Rattle.device_core.specs.State.{Station, Live, State, with_rest}
-use Rattle.device_core.specs.Judged.{came_with, judged, judged_effect, judged_new, judged_write, kept_answer}
+use Rattle.device_core.specs.Handled.{came_with, handled, handled_effect, handled_new, handled_write, kept_answer}
 use Rattle.device_core.specs.Machine.{end_of}
 use Rattle.device_core.specs.Steps.{Steps}
 use Rattle.device_core.proofs.Machine.{is_asking}
-use Rattle.device_core.proofs.Steps.{quiet_steps}
+use Rattle.device_core.proofs.Steps.{inactive_steps}
 
 -- A parameter record that is kept, or not: how it is answered, and what it does to the relation.
 pub kept_as : (came : Result (Unit {0}) CallFault) (kept : Result (List TakenRecord) CallFault) (header : IodWriteReq)
@@ -45,18 +45,18 @@ same_moving moving (Err fault) blocks = refl
 
 -- A Write that is carried out, by what it asks for.
 pub effect_as : (station : Station) (live : Live) (caller : Caller) (call : Call) (made : Result Write CallFault) (write : Write) (effect : Effect)
-    → made ≡ Ok write → write.effect ≡ effect → judged_write station live caller call made ≡ judged_effect station live caller call write.request effect
-effect_as station live caller call made write effect is asks = ap (judged_write station live caller call) is ∙ ap (judged_effect station live caller call write.request) asks
+    → made ≡ Ok write → write.effect ≡ effect → handled_write station live caller call made ≡ handled_effect station live caller call write.request effect
+effect_as station live caller call made write effect is asks = ap (handled_write station live caller call) is ∙ ap (handled_effect station live caller call write.request) asks
 
 -- A new call, of an operation that asks nothing of the settings.
 pub new_steps : {F : Type 0} {S : ℕ} (as_flash : Flash F S) (old new : State F) (caller : Caller) (call : Call) (blocks : List ℕ) (asks operation : Operation)
     (frames : List (List ℕ)) (said : Note) → Holds (as_flash.image old.flash) old.live.values → asks ≡ operation
-    → is_asking (judged_new old.station old.live caller call blocks operation) ≡ false
-    → new ≡ with_rest old (end_of old.station old.live (judged_new old.station old.live caller call blocks operation)).rest
-    → frames ≡ map (bytes_of old.station.identity) (end_of old.station old.live (judged_new old.station old.live caller call blocks operation)).sent
-    → said ≡ (end_of old.station old.live (judged_new old.station old.live caller call blocks operation)).note
-    → AreSendable old.station.identity (end_of old.station old.live (judged_new old.station old.live caller call blocks operation)).sent
-    → (heard : Heard) → judged old.station old.live heard ≡ judged_new old.station old.live caller call blocks asks → Steps as_flash old heard frames said new
-new_steps as_flash old new caller call blocks asks operation frames said holds asks_so none is frames_are note_is sendable heard judged_so =
-    quiet_steps as_flash old new heard (judged_new old.station old.live caller call blocks operation) frames said holds
-    (judged_so ∙ ap (judged_new old.station old.live caller call blocks) asks_so) none is frames_are note_is sendable
+    → is_asking (handled_new old.station old.live caller call blocks operation) ≡ false
+    → new ≡ with_rest old (end_of old.station old.live (handled_new old.station old.live caller call blocks operation)).rest
+    → frames ≡ map (bytes_of old.station.identity) (end_of old.station old.live (handled_new old.station old.live caller call blocks operation)).sent
+    → said ≡ (end_of old.station old.live (handled_new old.station old.live caller call blocks operation)).note
+    → AreSendable old.station.identity (end_of old.station old.live (handled_new old.station old.live caller call blocks operation)).sent
+    → (heard : Heard) → handled old.station old.live heard ≡ handled_new old.station old.live caller call blocks asks → Steps as_flash old heard frames said new
+new_steps as_flash old new caller call blocks asks operation frames said holds asks_so none is frames_are note_is sendable heard handled_so =
+    inactive_steps as_flash old new heard (handled_new old.station old.live caller call blocks operation) frames said holds
+    (handled_so ∙ ap (handled_new old.station old.live caller call blocks) asks_so) none is frames_are note_is sendable

@@ -12,7 +12,7 @@ use Rattle.settings_store.specs.Carries.{Carries, OneByOne, Holds, Stretch, Cont
 use Rattle.settings_store.specs.Faults.{GoesOn}
 use Rattle.rpc_core.specs.Call.{Asked as Called}
 use Rattle.rpc_core.specs.Cache.{Kept, looked, again}
-use Rattle.relations.specs.Link.{Link}
+use Rattle.relations.specs.RelationState.{RelationState}
 use Rattle.dcp_core.specs.declared.request.Service.TheVariants as service
 use Rattle.dcp_core.specs.Request.{Asked}
 use Rattle.dcp_core.specs.Identify.{matches}
@@ -24,10 +24,10 @@ use Rattle.device_core.specs.State.{Station, State, Rest, Live, store_of, with_r
 use Rattle.device_frames.specs.Heard.{Heard, Asks}
 use Rattle.device_frames.specs.Sendable.{AreSendable, IsSendable}
 use Rattle.device_frames.specs.Sent.{Sent, GetAnswer, SetAnswer, Again, bytes_of}
-use Rattle.device_core.specs.Judged.{Judged, Refuses, Sets, Writes, Moves, identified, judged_request, judged_looked, judged_blocks, judged_call, judged}
-use Rattle.device_core.specs.Machine.{Finished, Stepped, items_in, items_of, farewells_at, resets, finished, end_of, judged_step, heard_step}
+use Rattle.device_core.specs.Handled.{Handled, Refuses, Sets, Writes, Moves, identified, handled_request, handled_looked, handled_blocks, handled_call, handled}
+use Rattle.device_core.specs.Machine.{Finished, Stepped, items_in, items_of, farewells_at, resets, finished, end_of, handled_step, heard_step}
 use Rattle.device_core.specs.Steps.{Steps, Identifies, IsIdentified, IsServed, IsAgain}
-use Rattle.device_core.proofs.Machine.{is_asking, nothing_asked, quiet_step, is_quiet, judged_as}
+use Rattle.device_core.proofs.Machine.{is_asking, nothing_asked, inactive_step, is_inactive, handled_as}
 use Rattle.device_core.proofs.Faults.{step_goes_on}
 use Rattle.device_core.proofs.Sendable.{all_sendable}
 
@@ -50,14 +50,14 @@ same_values a b running stored room failed lost =
 
 -- The event asks nothing of the settings, and the parts of its outcome are those of the specified outcome: for a
 -- service whose parts see only one field of the device.
-pub record IsQuiet {F : Type 0} (old new : State F) (heard : Heard) (frames : List (List ℕ)) (said : Note) : Type 0 where
-  pub asks_nothing : is_asking (judged old.station old.live heard) ≡ false
+pub record IsInactive {F : Type 0} (old new : State F) (heard : Heard) (frames : List (List ℕ)) (said : Note) : Type 0 where
+  pub asks_nothing : is_asking (handled old.station old.live heard) ≡ false
   pub flash : new.flash ≡ old.flash
   pub same : new.station ≡ old.station
-  pub live : new.live ≡ record { values = old.live.values; rest = (finished old.station.identity old.live.rest (judged old.station old.live heard) []).rest }
-  pub frames_are : frames ≡ map (bytes_of old.station.identity) (finished old.station.identity old.live.rest (judged old.station old.live heard) []).sent
-  pub sendable : AreSendable old.station.identity (finished old.station.identity old.live.rest (judged old.station old.live heard) []).sent
-  pub note_is : said ≡ (finished old.station.identity old.live.rest (judged old.station old.live heard) []).note
+  pub live : new.live ≡ record { values = old.live.values; rest = (finished old.station.identity old.live.rest (handled old.station old.live heard) []).rest }
+  pub frames_are : frames ≡ map (bytes_of old.station.identity) (finished old.station.identity old.live.rest (handled old.station old.live heard) []).sent
+  pub sendable : AreSendable old.station.identity (finished old.station.identity old.live.rest (handled old.station old.live heard) []).sent
+  pub note_is : said ≡ (finished old.station.identity old.live.rest (handled old.station old.live heard) []).note
 
 -- If nothing is asked for, nothing happens to the settings.
 pub no_stretch : {F : Type 0} {S : ℕ} (as_flash : Flash F S) (state : store.State F) → Holds (as_flash.image state.flash) state.values → Stretch as_flash state [] state
@@ -72,18 +72,18 @@ no_stretch as_flash state holds = record {
   stays_lost = λ lost. lost;
 }
 
-pub is_quiet_steps : {F : Type 0} {S : ℕ} (as_flash : Flash F S) (old new : State F) (heard : Heard) (frames : List (List ℕ)) (said : Note)
-    → Holds (as_flash.image old.flash) old.live.values → IsQuiet old new heard frames said → Steps as_flash old heard frames said new
-unfolding quiet_step
-is_quiet_steps as_flash old new heard frames said holds parts =
+pub is_inactive_steps : {F : Type 0} {S : ℕ} (as_flash : Flash F S) (old new : State F) (heard : Heard) (frames : List (List ℕ)) (said : Note)
+    → Holds (as_flash.image old.flash) old.live.values → IsInactive old new heard frames said → Steps as_flash old heard frames said new
+unfolding inactive_step
+is_inactive_steps as_flash old new heard frames said holds parts =
     let step = heard_step [] old.station old.live heard in
-    let quiet = is_quiet [] old.station old.live heard parts.asks_nothing in
-    let none : step.accepted ≡ [] = ap (λ s. s.accepted) quiet in
+    let inactive = is_inactive [] old.station old.live heard parts.asks_nothing in
+    let none : step.accepted ≡ [] = ap (λ s. s.accepted) inactive in
     let nothing = nothing_asked old.station old.live heard parts.asks_nothing in
-    let live_is : new.live ≡ step.live = rw quiet parts.live in
-    let frames_are : frames ≡ step.frames = rw quiet parts.frames_are in
-    let sendable : AreSendable old.station.identity step.sent = rw quiet parts.sendable in
-    let note_is : said ≡ step.note = rw quiet parts.note_is in
+    let live_is : new.live ≡ step.live = rw inactive parts.live in
+    let frames_are : frames ≡ step.frames = rw inactive parts.frames_are in
+    let sendable : AreSendable old.station.identity step.sent = rw inactive parts.sendable in
+    let note_is : said ≡ step.note = rw inactive parts.note_is in
     let same_store : store_of new ≡ store_of old = ap (λ f. record { flash = f; values = new.live.values }) parts.flash ∙ ap (λ l. record { flash = old.flash; values = l.values }) parts.live in
     record {
       outcomes = [];
@@ -92,7 +92,7 @@ is_quiet_steps as_flash old new heard frames said holds parts =
       frames = frames_are;
       sendable = sendable;
       note = note_is;
-      quiet = λ _. refl;
+      inactive = λ _. refl;
       placed = subst (λ items. OneByOne as_flash [] (store_of old) items (store_of new)) (sym nothing) same_store;
       stretch = subst (λ a. Stretch as_flash (store_of old) a (store_of new)) (sym none)
           (subst (λ s. Stretch as_flash (store_of old) [] s) (sym same_store) (no_stretch as_flash (store_of old) holds));
@@ -112,14 +112,14 @@ is_quiet_steps as_flash old new heard frames said holds parts =
     }
 
 -- An outcome that asks nothing of the settings.
-pub quiet_steps : {F : Type 0} {S : ℕ} (as_flash : Flash F S) (old new : State F) (heard : Heard) (what : Judged) (frames : List (List ℕ)) (said : Note)
-    → Holds (as_flash.image old.flash) old.live.values → judged old.station old.live heard ≡ what → is_asking what ≡ false
+pub inactive_steps : {F : Type 0} {S : ℕ} (as_flash : Flash F S) (old new : State F) (heard : Heard) (what : Handled) (frames : List (List ℕ)) (said : Note)
+    → Holds (as_flash.image old.flash) old.live.values → handled old.station old.live heard ≡ what → is_asking what ≡ false
     → new ≡ with_rest old (end_of old.station old.live what).rest → frames ≡ map (bytes_of old.station.identity) (end_of old.station old.live what).sent → said ≡ (end_of old.station old.live what).note
     → AreSendable old.station.identity (end_of old.station old.live what).sent → Steps as_flash old heard frames said new
-quiet_steps as_flash old new heard what frames said holds judged_so none is frames_are note_is sendable =
-    let end = ap (end_of old.station old.live) judged_so in
-    is_quiet_steps as_flash old new heard frames said holds (record {
-      asks_nothing = ap is_asking judged_so ∙ none;
+inactive_steps as_flash old new heard what frames said holds handled_so none is frames_are note_is sendable =
+    let end = ap (end_of old.station old.live) handled_so in
+    is_inactive_steps as_flash old new heard frames said holds (record {
+      asks_nothing = ap is_asking handled_so ∙ none;
       flash = ap (λ s. s.flash) is;
       same = ap (λ s. s.station) is;
       live = ap (λ s. s.live) is ∙ ap (λ r. record { values = old.live.values; rest = r }) (sym (ap (λ e. e.rest) end));
@@ -130,18 +130,18 @@ quiet_steps as_flash old new heard what frames said holds judged_so none is fram
 
 -- An outcome that is a move.
 pub moves_steps : {F : Type 0} {S : ℕ} (as_flash : Flash F S) (old new : State F) (heard : Heard) (rest : Rest) (sent : List Sent) (frames : List (List ℕ)) (said : Note)
-    → Holds (as_flash.image old.flash) old.live.values → judged old.station old.live heard ≡ Moves rest sent
+    → Holds (as_flash.image old.flash) old.live.values → handled old.station old.live heard ≡ Moves rest sent
     → new ≡ with_rest old rest → frames ≡ map (bytes_of old.station.identity) sent → said ≡ note.Done
     → AreSendable old.station.identity sent → Steps as_flash old heard frames said new
 moves_steps as_flash old new heard rest sent frames said holds moves is frames_are done sendable =
-    quiet_steps as_flash old new heard (Moves rest sent) frames said holds moves refl is frames_are done sendable
+    inactive_steps as_flash old new heard (Moves rest sent) frames said holds moves refl is frames_are done sendable
 
 -- An outcome that is a refusal.
 pub refuses_steps : {F : Type 0} {S : ℕ} (as_flash : Flash F S) (state : State F) (heard : Heard) (why : Note) (frames : List (List ℕ)) (said : Note)
-    → Holds (as_flash.image state.flash) state.live.values → judged state.station state.live heard ≡ Refuses why → frames ≡ [] → said ≡ why
+    → Holds (as_flash.image state.flash) state.live.values → handled state.station state.live heard ≡ Refuses why → frames ≡ [] → said ≡ why
     → Steps as_flash state heard frames said state
 refuses_steps as_flash state heard why frames said holds refuses none is =
-    quiet_steps as_flash state state heard (Refuses why) frames said holds refuses refl refl none is tt
+    inactive_steps as_flash state state heard (Refuses why) frames said holds refuses refl refl none is tt
 
 -- An Identify request.
 identify_leaves : (station : Station) (live : Live) (asker : Mac) (request : Asked)
@@ -156,9 +156,9 @@ pub identify_steps : {F : Type 0} {S : ℕ} (as_flash : Flash F S) (state : Stat
     → AreSendable state.station.identity (finished state.station.identity state.live.rest (identified state.station state.live asker request) []).sent
     → Steps as_flash state (Asks asker request) frames said state
 identify_steps as_flash state asker request frames said holds identify frames_are note_is sendable =
-    let is = ap (λ s. judged_request state.station state.live asker s request) identify in
+    let is = ap (λ s. handled_request state.station state.live asker s request) identify in
     let leaves = identify_leaves state.station state.live asker request in
-    is_quiet_steps as_flash state state (Asks asker request) frames said holds (record {
+    is_inactive_steps as_flash state state (Asks asker request) frames said holds (record {
       asks_nothing = ap is_asking is ∙ leaves.0;
       flash = refl;
       same = refl;
@@ -175,19 +175,19 @@ pub get_steps : {F : Type 0} {S : ℕ} (as_flash : Flash F S) (state : State F) 
     → IsSendable state.station.identity (GetAnswer asker state.live.values.running request) → Steps as_flash state (Asks asker request) frames said state
 get_steps as_flash state asker request frames said holds get frames_are done sendable =
     moves_steps as_flash state state (Asks asker request) state.live.rest (GetAnswer asker state.live.values.running request ∷ []) frames said holds
-    (ap (λ s. judged_request state.station state.live asker s request) get) refl frames_are done (sendable, tt)
+    (ap (λ s. handled_request state.station state.live asker s request) get) refl frames_are done (sendable, tt)
 
 -- An outcome that asks something of the settings, which is carried out.
-pub settled_steps : {F : Type 0} {S : ℕ} (as_flash : Flash F S) (old new : State F) (heard : Heard) (what : Judged) (answers : List BlockError)
-    (frames : List (List ℕ)) (said : Note) → judged old.station old.live heard ≡ what
+pub settled_steps : {F : Type 0} {S : ℕ} (as_flash : Flash F S) (old new : State F) (heard : Heard) (what : Handled) (answers : List BlockError)
+    (frames : List (List ℕ)) (said : Note) → handled old.station old.live heard ≡ what
     → Carries as_flash (store_of old) (items_in what) answers (store_of new)
     → new.station ≡ old.station → new.live.rest ≡ (finished old.station.identity old.live.rest what answers).rest
     → frames ≡ map (bytes_of old.station.identity) (finished old.station.identity old.live.rest what answers).sent → said ≡ (finished old.station.identity old.live.rest what answers).note
     → AreSendable old.station.identity (finished old.station.identity old.live.rest what answers).sent → Steps as_flash old heard frames said new
-unfolding judged_step
+unfolding handled_step
 settled_steps as_flash old new heard what answers frames said is_what carries same rest frames_are note_is sendable =
     let step = heard_step carries.outcomes old.station old.live heard in
-    let is = judged_as carries.outcomes old.station old.live heard what is_what in
+    let is = handled_as carries.outcomes old.station old.live heard what is_what in
     let items : items_of old.station old.live heard ≡ items_in what = ap items_in is_what in
     let end : finished old.station.identity old.live.rest what answers ≡ finished old.station.identity old.live.rest what (carried carries.outcomes old.live.values (items_in what)).answers =
     ap (finished old.station.identity old.live.rest what) carries.answers_are in
@@ -203,7 +203,7 @@ settled_steps as_flash old new heard what answers frames said is_what carries sa
       frames = frames_now;
       sendable = sendable_now;
       note = note_now;
-      quiet = carries.quiet;
+      inactive = carries.inactive;
       placed = subst (λ i. OneByOne as_flash carries.outcomes (store_of old) i (store_of new)) (sym items) carries.placed;
       stretch = subst (λ a. Stretch as_flash (store_of old) a (store_of new)) accepted carries.stretch;
       continues = subst (λ a. Continues as_flash (store_of old) a (store_of new)) accepted carries.continues;
@@ -221,7 +221,7 @@ pub asked_set_steps : {F : Type 0} {S : ℕ} (as_flash : Flash F S) (old new : S
     → IsSendable old.station.identity (SetAnswer asker request answers) → Steps as_flash old (Asks asker request) frames said new
 asked_set_steps as_flash old new asker request answers frames said set carries same rest frames_are done ends last =
     settled_steps as_flash old new (Asks asker request) (Sets asker request (is_some old.live.rest.link)) answers frames said
-    (ap (λ s. judged_request old.station old.live asker s request) set) carries same rest
+    (ap (λ s. handled_request old.station old.live asker s request) set) carries same rest
     (frames_are ∙ sym (map-append (bytes_of old.station.identity) (farewells_at (resets (plan_of (is_some old.live.rest.link) request) answers) old.live.rest.link) (SetAnswer asker request answers ∷ []))) done
     (all_sendable old.station.identity _ (SetAnswer asker request answers ∷ []) ends (last, tt))
 
@@ -231,16 +231,16 @@ pub record IsNothing (live : Live) (step : Stepped) : Type 0 where
   pub none_sent : step.frames ≡ []
   pub none_accepted : step.accepted ≡ []
 
-refused_judged : (outcomes : List Outcome) (station : Station) (live : Live) (what : Judged) → (judged_step outcomes station live what).note ≢ note.Done → IsNothing live (judged_step outcomes station live what)
-unfolding judged_step
-refused_judged outcomes station live (Refuses why) refused = record { live_is = refl; none_sent = refl; none_accepted = refl }
-refused_judged outcomes station live (Sets asker request in_operation) refused = absurd (refused refl)
-refused_judged outcomes station live (Writes caller address call header value) refused = absurd (refused refl)
-refused_judged outcomes station live (Moves rest sent) refused = absurd (refused refl)
+refused_handled : (outcomes : List Outcome) (station : Station) (live : Live) (what : Handled) → (handled_step outcomes station live what).note ≢ note.Done → IsNothing live (handled_step outcomes station live what)
+unfolding handled_step
+refused_handled outcomes station live (Refuses why) refused = record { live_is = refl; none_sent = refl; none_accepted = refl }
+refused_handled outcomes station live (Sets asker request in_operation) refused = absurd (refused refl)
+refused_handled outcomes station live (Writes caller address call header value) refused = absurd (refused refl)
+refused_handled outcomes station live (Moves rest sent) refused = absurd (refused refl)
 
 refused_heard : (outcomes : List Outcome) (station : Station) (live : Live) (heard : Heard) → (heard_step outcomes station live heard).note ≢ note.Done → IsNothing live (heard_step outcomes station live heard)
 unfolding heard_step
-refused_heard outcomes station live heard refused = refused_judged outcomes station live (judged station live heard) refused
+refused_heard outcomes station live heard refused = refused_handled outcomes station live (handled station live heard) refused
 
 pub refused_step : {F : Type 0} {S : ℕ} (as_flash : Flash F S) (old new : State F) (heard : Heard) (frames : List (List ℕ)) (said : Note)
     → Steps as_flash old heard frames said new → said ≢ note.Done → (new ≡ old) × (frames ≡ [])
@@ -253,10 +253,10 @@ none_sent f [] none = refl
 none_sent f (x ∷ xs) none = cc
 
 -- An Identify request, if it matches and if it does not.
-identify_judged : (outcomes : List Outcome) (station : Station) (live : Live) (asker : Mac) (request : Asked) → IsIdentified station.identity live.values.running live asker request (judged_step outcomes station live (identified station live asker request))
-unfolding judged_step
-identify_judged outcomes station live asker request = cond_both (matches station.identity live.values.running request) _ _
-    (λ what. IsIdentified station.identity live.values.running live asker request (judged_step outcomes station live what))
+identify_handled : (outcomes : List Outcome) (station : Station) (live : Live) (asker : Mac) (request : Asked) → IsIdentified station.identity live.values.running live asker request (handled_step outcomes station live (identified station live asker request))
+unfolding handled_step
+identify_handled outcomes station live asker request = cond_both (matches station.identity live.values.running request) _ _
+    (λ what. IsIdentified station.identity live.values.running live asker request (handled_step outcomes station live what))
     (λ match. record { unchanged = refl; none_accepted = refl; answered = λ _. (refl, refl); filtered = λ none. cc })
     (λ none. record { unchanged = refl; none_accepted = refl; answered = λ match. cc; filtered = λ _. (refl, refl) })
 
@@ -264,8 +264,8 @@ pub identify_heard : (outcomes : List Outcome) (station : Station) (live : Live)
     → IsIdentified station.identity live.values.running live asker request (heard_step outcomes station live heard)
 identify_heard outcomes station live heard asker request is identify =
     subst (IsIdentified station.identity live.values.running live asker request)
-    (sym (judged_as outcomes station live heard (identified station live asker request) (ap (judged station live) is ∙ ap (λ s. judged_request station live asker s request) identify)))
-    (identify_judged outcomes station live asker request)
+    (sym (handled_as outcomes station live heard (identified station live asker request) (ap (handled station live) is ∙ ap (λ s. handled_request station live asker s request) identify)))
+    (identify_handled outcomes station live asker request)
 
 pub identify_step : {F : Type 0} {S : ℕ} (as_flash : Flash F S) (old new : State F) (heard : Heard) (frames : List (List ℕ)) (said : Note)
     → Steps as_flash old heard frames said new → (asker : Mac) (request : Asked) → heard ≡ Asks asker request → request.service ≡ service.Identify → Identifies old asker request frames said new
@@ -278,11 +278,11 @@ identify_step as_flash old new heard frames said steps asker request is identify
     }
 
 -- A call that was answered before.
-again_judged : (station : Station) (live : Live) (heard : Heard) (call : Called) (frame : List ℕ) → IsServed live heard call → looked call.header.activity call.header.sequence live.rest.calls ≡ again frame
-    → judged station live heard ≡ Moves live.rest (Again frame ∷ [])
-again_judged station live heard call frame it told =
-    ap (judged station live) it.is ∙ cond-true _ _ _ it.runs ∙ ap (judged_call station live it.caller call) it.served
-    ∙ ap (judged_blocks station live it.caller call it.operation) it.counted ∙ ap (judged_looked station live it.caller call it.blocks it.operation) told
+again_handled : (station : Station) (live : Live) (heard : Heard) (call : Called) (frame : List ℕ) → IsServed live heard call → looked call.header.activity call.header.sequence live.rest.calls ≡ again frame
+    → handled station live heard ≡ Moves live.rest (Again frame ∷ [])
+again_handled station live heard call frame it reported =
+    ap (handled station live) it.is ∙ cond-true _ _ _ it.runs ∙ ap (handled_call station live it.caller call) it.served
+    ∙ ap (handled_blocks station live it.caller call it.operation) it.counted ∙ ap (handled_looked station live it.caller call it.blocks it.operation) reported
 
 -- Its step.
 record IsSame (live : Live) (frame : List ℕ) (step : Stepped) : Type 0 where
@@ -291,16 +291,16 @@ record IsSame (live : Live) (frame : List ℕ) (step : Stepped) : Type 0 where
   sent : step.frames ≡ frame ∷ []
   done : step.note ≡ note.Done
 
-moved_again : (outcomes : List Outcome) (station : Station) (live : Live) (frame : List ℕ) → IsSame live frame (judged_step outcomes station live (Moves live.rest (Again frame ∷ [])))
-unfolding judged_step
-moved_again outcomes station live frame = record { live_is = refl; none_accepted = refl; sent = refl; done = refl }
+updated_again : (outcomes : List Outcome) (station : Station) (live : Live) (frame : List ℕ) → IsSame live frame (handled_step outcomes station live (Moves live.rest (Again frame ∷ [])))
+unfolding handled_step
+updated_again outcomes station live frame = record { live_is = refl; none_accepted = refl; sent = refl; done = refl }
 
 pub again_step : {F : Type 0} {S : ℕ} (as_flash : Flash F S) (old new : State F) (heard : Heard) (frames : List (List ℕ)) (said : Note)
     → Steps as_flash old heard frames said new → (call : Called) (frame : List ℕ) → IsServed old.live heard call
     → looked call.header.activity call.header.sequence old.live.rest.calls ≡ again frame → IsAgain old frame frames said new
-again_step as_flash old new heard frames said steps call frame served told =
-    let is = judged_as steps.outcomes old.station old.live heard (Moves old.live.rest (Again frame ∷ [])) (again_judged old.station old.live heard call frame served told) in
-    let one = subst (IsSame old.live frame) (sym is) (moved_again steps.outcomes old.station old.live frame) in
+again_step as_flash old new heard frames said steps call frame served reported =
+    let is = handled_as steps.outcomes old.station old.live heard (Moves old.live.rest (Again frame ∷ [])) (again_handled old.station old.live heard call frame served reported) in
+    let one = subst (IsSame old.live frame) (sym is) (updated_again steps.outcomes old.station old.live frame) in
     record {
       unchanged = same_state new old (steps.stretch.untouched one.none_accepted) steps.same (steps.live ∙ one.live_is);
       same = steps.frames ∙ one.sent;
@@ -308,7 +308,7 @@ again_step as_flash old new heard frames said steps call frame served told =
     }
 
 -- The values of a store that has just started, an empty cache, and no relation.
-pub as_started : (values : store.Values) (calls : List Kept) (link : Option Link) (settings : Settings) (room : ℕ) → values.running ≡ values.stored → values.has_failed ≡ false → values.is_lost ≡ false
+pub as_started : (values : store.Values) (calls : List Kept) (link : Option RelationState) (settings : Settings) (room : ℕ) → values.running ≡ values.stored → values.has_failed ≡ false → values.is_lost ≡ false
     → calls ≡ [] → link ≡ None → values.stored ≡ settings → values.room ≡ room → record { values = values; rest = record { lamp = 0; calls = calls; link = link; units = 0 } } ≡ started settings room
 as_started values calls link settings room running failed lost empty none stored left =
     same_live _ _ (same_values values (started settings room).values (running ∙ stored) stored left failed lost)

@@ -17,19 +17,19 @@ use Rattle.device_frames.specs.Sendable.{AreSendable}
 use Rattle.device_frames.specs.Sent.{Sent, bytes_of}
 use Rattle.device_core.specs.declared.calls.Serving.{Serving}
 use Rattle.device_core.specs.State.{State, with_rest}
-use Rattle.device_core.specs.Judged.{Judged, answer_from, judged_answer, judged_effect, judged_new, judged_write}
+use Rattle.device_core.specs.Handled.{Handled, answer_from, handled_answer, handled_effect, handled_new, handled_write}
 use Rattle.device_core.specs.Machine.{end_of}
 
 -- The device after it.
-abbrev pub behind : {F : Type 0} → State F → Judged → State F
+abbrev pub behind : {F : Type 0} → State F → Handled → State F
 behind old what = with_rest old (end_of old.station old.live what).rest
 
 -- The frames that it sends.
-abbrev pub frames_of : {F : Type 0} → State F → Judged → List (List ℕ)
+abbrev pub frames_of : {F : Type 0} → State F → Handled → List (List ℕ)
 frames_of old what = map (bytes_of old.station.identity) (end_of old.station old.live what).sent
 
 -- Each of the messages can be sent.
-abbrev pub CanSend : {F : Type 0} → State F → Judged → Type 0
+abbrev pub CanSend : {F : Type 0} → State F → Handled → Type 0
 CanSend old what = AreSendable old.station.identity (end_of old.station old.live what).sent
 
 -- What is due if no timeout is over: the active alarm, ApplicationReady, inputs.
@@ -45,24 +45,24 @@ brought old elapsed =
     due_frames old.live.values.running.suite.address old.live.rest.units (due_behind elapsed link) (left_behind elapsed.tick.ending link)
 
 -- The outcome of a call of this operation.
-abbrev pub called : {F : Type 0} → State F → Serving → Operation → Judged
-called old serving operation = judged_new old.station old.live serving.caller.now (asked serving.call.now) serving.blocks.now operation
+abbrev pub called : {F : Type 0} → State F → Serving → Operation → Handled
+called old serving operation = handled_new old.station old.live serving.caller.now (asked serving.call.now) serving.blocks.now operation
 
 -- The call, without where its octets lie.
 abbrev pub call_of : Serving → Call
 call_of serving = asked serving.call.now
 
 -- The outcome of a Write whose blocks were read as this.
-abbrev pub wrote : {F : Type 0} → State F → Serving → Result Asking CallFault → Judged
-wrote old serving judged = judged_write old.station old.live serving.caller.now (call_of serving) judged
+abbrev pub wrote : {F : Type 0} → State F → Serving → Result Asking CallFault → Handled
+wrote old serving handled = handled_write old.station old.live serving.caller.now (call_of serving) handled
 
 -- The outcome of a parameter record from a Write with this header.
-abbrev pub brings : {F : Type 0} → State F → Serving → IodWriteReq → TakenRecord → Judged
-brings old serving header parameter = judged_effect old.station old.live serving.caller.now (call_of serving) header (Keeps parameter)
+abbrev pub brings : {F : Type 0} → State F → Serving → IodWriteReq → TakenRecord → Handled
+brings old serving header parameter = handled_effect old.station old.live serving.caller.now (call_of serving) header (Keeps parameter)
 
 -- The outcome of a response.
-abbrev pub responded : {F : Type 0} → State F → Response → Judged
-responded old response = judged_answer old.live (answer_of (answered response) old.live.rest.link)
+abbrev pub responded : {F : Type 0} → State F → Response → Handled
+responded old response = handled_answer old.live (answer_of (answered response) old.live.rest.link)
 
 -- The answer to a call.
 abbrev pub answer_to : List ℕ → Serving → Result (List ℕ) CallFault → Sent

@@ -41,7 +41,7 @@ pub record Cycled {F : Type 0} {S : ℕ} (as_flash : Flash F S) (station : Stati
   pub begun : F
   pub begins : (as_flash.image begun ≡ as_flash.image flash) × (as_flash.failures begun ≡ as_flash.failures flash) × as_flash.asked flash [] begun
   pub caused : IsCaused (as_flash.failures flash) (as_flash.failures lost) (started first room).values (cycle_of outcomes station first room events).live.values
-  pub quiet : (cycle_of outcomes station first room events).live.values.has_failed ≡ false → outcomes ≡ []
+  pub inactive : (cycle_of outcomes station first room events).live.values.has_failed ≡ false → outcomes ≡ []
   pub placed : EventByEvent as_flash outcomes station begun (started first room) events lost
   pub handed_on : now ≡ before ++ (cycle_of outcomes station first room events).frames
   pub safe : CrashSafe false first (cycle_of outcomes station first room events).accepted (as_flash.image flash) (as_flash.image lost)

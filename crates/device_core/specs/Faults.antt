@@ -9,7 +9,7 @@ use Rattle.device_frames.specs.declared.note.Note.{Note}
 use Rattle.device_core.specs.State.{Station, State, Live}
 use Rattle.device_frames.specs.Sent.{bytes_of}
 use Rattle.device_frames.specs.Heard.{Heard, heard_of}
-use Rattle.device_core.specs.Judged.{judged}
+use Rattle.device_core.specs.Handled.{handled}
 use Rattle.device_core.specs.Machine.{Stepped, items_of, finished, heard_step}
 
 -- Whether items ask for nothing to be stored.
@@ -33,9 +33,9 @@ pub record IsAsIn (step : Stepped) (sent : List (List ℕ)) (said : Note) (next 
 pub record StepGoesOn (station : Station) (live : Live) (heard : Heard) (sent : List (List ℕ)) (said : Note) (next : Live) : Type 0 where
   pub answers : List BlockError
   pub settings : GoesOn live.values (items_of station live heard) answers next.values
-  pub rest : next.rest ≡ (finished station.identity live.rest (judged station live heard) answers).rest
-  pub frames : sent ≡ map (bytes_of station.identity) (finished station.identity live.rest (judged station live heard) answers).sent
-  pub note : said ≡ (finished station.identity live.rest (judged station live heard) answers).note
+  pub rest : next.rest ≡ (finished station.identity live.rest (handled station live heard) answers).rest
+  pub frames : sent ≡ map (bytes_of station.identity) (finished station.identity live.rest (handled station live heard) answers).sent
+  pub note : said ≡ (finished station.identity live.rest (handled station live heard) answers).note
   pub as_ever : asks_nothing (items_of station live heard) ≡ true → (other : Live) → other.values.running ≡ live.values.running → other.rest ≡ live.rest
       → IsAsIn (heard_step [] station other heard) sent said next
 

@@ -1,5 +1,5 @@
 pub mod State
-pub mod Judged
+pub mod Handled
 pub mod Machine
 pub mod Faults
 pub mod Behind

@@ -12,9 +12,9 @@ use Rattle.records.specs.declared.status.call_fault.CallFault.{CallFault}
 use Rattle.records.specs.declared.status.call_fault.CallFault.TheVariants as fault
 use Rattle.records.specs.writes.Answer.{answer_of}
 use Rattle.pn_alarms.specs.declared.abort.Abort.TheVariants.{Other}
-use Rattle.relations.specs.Link.{Link}
+use Rattle.relations.specs.RelationState.{RelationState}
 use Rattle.relations.specs.Farewells.{farewell_of}
-use Rattle.relations.specs.Phases.{Ended, Named, answered, moved}
+use Rattle.relations.specs.Phases.{Ended, Named, answered, updated}
 use Rattle.pn_values.specs.declared.identity.Identity.{Identity}
 use Rattle.settings_store.specs.Machine.{Outcome, Accepted, carried}
 use Rattle.dcp_core.specs.Set.{plan_of}
@@ -24,17 +24,17 @@ use Rattle.device_frames.specs.declared.note.Note.TheVariants as note
 use Rattle.device_core.specs.State.{Station, Rest, Live}
 use Rattle.device_frames.specs.Sent.{Sent, SetAnswer, Ends, bytes_of}
 use Rattle.device_frames.specs.Heard.{Heard, heard_of}
-use Rattle.device_core.specs.Judged.{Judged, Refuses, Sets, Writes, Moves, answer_from, kept_behind, judged}
+use Rattle.device_core.specs.Handled.{Handled, Refuses, Sets, Writes, Moves, answer_from, kept_behind, handled}
 
 -- What is asked of the settings: the blocks of a Set, in order, or the one I&M text of a Write.
-abbrev pub items_in : Judged → List SetItem
+abbrev pub items_in : Handled → List SetItem
 items_in (Refuses note) = []
 items_in (Sets asker request in_operation) = plan_of in_operation request
 items_in (Writes caller address call header value) = Ask (SetIm value) ∷ []
 items_in (Moves rest sent) = []
 
 abbrev pub items_of : Station → Live → Heard → List SetItem
-items_of station live heard = items_in (judged station live heard)
+items_of station live heard = items_in (handled station live heard)
 
 -- Whether an item makes the lamp flash.
 abbrev pub is_signal : SetItem → Bool
@@ -75,11 +75,11 @@ abbrev pub resets : List SetItem → List BlockError → Bool
 resets items answers = list_any is_reset_done (zip items answers)
 
 -- The relation ends with a reset that is done, and ERR is sent before the answer to the Set.
-abbrev pub link_after : Bool → Option Link → Option Link
-link_after true link = moved Ended link
+abbrev pub link_after : Bool → Option RelationState → Option RelationState
+link_after true link = updated Ended link
 link_after false link = link
 
-abbrev pub farewells_at : Bool → Option Link → List Sent
+abbrev pub farewells_at : Bool → Option RelationState → List Sent
 farewells_at true (Some link) = Ends (farewell_of Other link) ∷ []
 farewells_at true None = []
 farewells_at false link = []
@@ -110,7 +110,7 @@ pub record Finished : Type 0 where
 -- The result of an event with this outcome, given the answers to its items. A Set can make the lamp flash, and its resets that are done
 -- end the relation. A Write is answered by the outcome of its command, and the answer is stored; a Write that is done
 -- shows that the controller is alive.
-abbrev pub finished : Identity → Rest → Judged → List BlockError → Finished
+abbrev pub finished : Identity → Rest → Handled → List BlockError → Finished
 finished identity rest (Refuses note) answers = record { rest = rest; sent = []; note = note }
 finished identity rest (Sets asker request in_operation) answers =
     let items = plan_of in_operation request in
@@ -123,11 +123,11 @@ finished identity rest (Sets asker request in_operation) answers =
 finished identity rest (Writes caller address call header value) answers =
     let outcome = written_as header (first_answer answers) in
     let answer = answer_from address caller call Write outcome in
-    record { rest = kept_behind identity rest call answer (moved (answered Named outcome) rest.link); sent = answer ∷ []; note = note.Done }
+    record { rest = kept_behind identity rest call answer (updated (answered Named outcome) rest.link); sent = answer ∷ []; note = note.Done }
 finished identity rest (Moves later sent) answers = record { rest = later; sent = sent; note = note.Done }
 
 -- The same if nothing is asked of the settings.
-abbrev pub end_of : Station → Live → Judged → Finished
+abbrev pub end_of : Station → Live → Handled → Finished
 end_of station live what = finished station.identity live.rest what []
 
 -- A step: what changes, the messages that are sent and their frames, the note of the event, and the commands that were
@@ -140,8 +140,8 @@ pub record Stepped : Type 0 where
   pub accepted : List Accepted
 
 -- The settings carry out what is asked of them, and the step is finished with their answers.
-unfoldable pub judged_step : List Outcome → Station → Live → Judged → Stepped
-judged_step outcomes station live what =
+unfoldable pub handled_step : List Outcome → Station → Live → Handled → Stepped
+handled_step outcomes station live what =
     let settled = carried outcomes live.values (items_in what) in
     let end = finished station.identity live.rest what settled.answers in
     record {
@@ -153,7 +153,7 @@ judged_step outcomes station live what =
     }
 
 unfoldable pub heard_step : List Outcome → Station → Live → Heard → Stepped
-heard_step outcomes station live heard = judged_step outcomes station live (judged station live heard)
+heard_step outcomes station live heard = handled_step outcomes station live (handled station live heard)
 
 -- One step, with an outcome for each command.
 abbrev pub step_of : List Outcome → Station → Live → Event → Stepped

@@ -5,7 +5,7 @@ use Rattle.pn_values.specs.declared.real.Real.{Real}
 use Rattle.settings_store.specs.State as store
 use Rattle.settings_store.specs.State.{Values}
 use Rattle.rpc_core.specs.Cache.{Kept}
-use Rattle.relations.specs.Link.{Link}
+use Rattle.relations.specs.RelationState.{RelationState}
 
 -- The fixed properties of a device: its identity, and the modules that are plugged.
 pub record Station : Type 0 where
@@ -18,7 +18,7 @@ pub record Station : Type 0 where
 pub record Rest : Type 0 where
   pub lamp : ℕ
   pub calls : List Kept
-  pub link : Option Link
+  pub link : Option RelationState
   pub units : ℕ
 
 -- The state that changes from event to event: the settings, and the rest.

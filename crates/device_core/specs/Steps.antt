@@ -20,8 +20,8 @@ use Rattle.frame_codec.specs.declared.udp.Caller.{Caller}
 use Rattle.device_core.specs.State.{Station, State, Live, store_of}
 use Rattle.device_frames.specs.Sent.{answer_frame}
 use Rattle.device_frames.specs.Sendable.{AreSendable}
-use Rattle.device_frames.specs.Heard.{Heard, Asks, Told, Calls, heard_of}
-use Rattle.device_core.specs.Judged.{is_running}
+use Rattle.device_frames.specs.Heard.{Heard, Asks, Reported, Calls, heard_of}
+use Rattle.device_core.specs.Handled.{is_running}
 use Rattle.device_core.specs.Machine.{Stepped, items_of, heard_step, step_of, first_step, later_steps, run_of}
 use Rattle.device_core.specs.Faults.{StepGoesOn}
 
@@ -36,7 +36,7 @@ pub record Steps {F : Type 0} {S : ℕ} (as_flash : Flash F S) (old : State F) (
   pub frames : sent ≡ (heard_step outcomes old.station old.live heard).frames
   pub sendable : AreSendable old.station.identity (heard_step outcomes old.station old.live heard).sent
   pub note : said ≡ (heard_step outcomes old.station old.live heard).note
-  pub quiet : new.live.values.has_failed ≡ old.live.values.has_failed → outcomes ≡ []
+  pub inactive : new.live.values.has_failed ≡ old.live.values.has_failed → outcomes ≡ []
   pub placed : OneByOne as_flash outcomes (store_of old) (items_of old.station old.live heard) (store_of new)
   pub stretch : Stretch as_flash (store_of old) (heard_step outcomes old.station old.live heard).accepted (store_of new)
   pub continues : Continues as_flash (store_of old) (heard_step outcomes old.station old.live heard).accepted (store_of new)
@@ -76,7 +76,7 @@ pub record IsServed (live : Live) (heard : Heard) (call : Called) : Type 0 where
   pub caller : Caller
   pub address : List ℕ
   pub blocks : List ℕ
-  pub is : heard ≡ Told caller address (Calls call)
+  pub is : heard ≡ Reported caller address (Calls call)
   pub runs : is_running live.values.running address ≡ true
   pub operation : Operation
   pub served : operation_of call.header.operation ≡ Some operation
@@ -113,7 +113,7 @@ pub record Runs {F : Type 0} {S : ℕ} (as_flash : Flash F S) (old : State F) (e
   pub same : new.station ≡ old.station
   pub live : new.live ≡ (run_of outcomes old.station old.live events).live
   pub frames : now ≡ before ++ (run_of outcomes old.station old.live events).frames
-  pub quiet : new.live.values.has_failed ≡ old.live.values.has_failed → outcomes ≡ []
+  pub inactive : new.live.values.has_failed ≡ old.live.values.has_failed → outcomes ≡ []
   pub placed : EventByEvent as_flash outcomes old.station old.flash old.live events new.flash
   pub stretch : Stretch as_flash (store_of old) (run_of outcomes old.station old.live events).accepted (store_of new)
   pub after_loss : old.live.values.is_lost ≡ true → now ≡ before

@@ -1,7 +1,7 @@
 // Address resolution (RFC 826).
 ghost use Rattle.std.specs.Prelude.{◌≡◌, ◌<◌, [], ◌∷◌};
 ghost use Rattle.device_core.specs.Behind.{CanSend, frames_of};
-ghost use Rattle.device_core.specs.Judged.{is_running as runs, is_request as requests, judged_arp};
+ghost use Rattle.device_core.specs.Handled.{is_running as runs, is_request as requests, handled_arp};
 ghost use Rattle.device_core.specs.Machine.{end_of};
 ghost use Rattle.frame_codec.specs.Outbox.{boxed};
 
@@ -16,9 +16,9 @@ impl<F: Flash<S>, const S: usize> Device<F, S> {
     #[inline(never)]
     pub(crate) fn resolve(&self, asker: Mac, packet: &Arp, outbox: &mut Outbox) -> Note
         requires empty { outbox.old.items ≡ [] }
-        ensures frames { boxed outbox.new ≡ frames_of self.now (judged_arp self.now.live asker packet.now) }
-        ensures sendable { CanSend self.now (judged_arp self.now.live asker packet.now) }
-        ensures note { result ≡ (end_of self.now.station self.now.live (judged_arp self.now.live asker packet.now)).note }
+        ensures frames { boxed outbox.new ≡ frames_of self.now (handled_arp self.now.live asker packet.now) }
+        ensures sendable { CanSend self.now (handled_arp self.now.live asker packet.now) }
+        ensures note { result ≡ (end_of self.now.station self.now.live (handled_arp self.now.live asker packet.now)).note }
     {
         let running = self.store.running();
         if !is_request(packet.operation) || !is_running(running, packet.target.address) {

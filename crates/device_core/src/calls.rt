@@ -9,10 +9,10 @@ ghost use Rattle.records.specs.declared.status.operation.Operation.TheVariants a
 ghost use Rattle.record_blocks.specs.declared.write_record.IodWriteReq.{IodWriteReq as Header};
 ghost use Rattle.records.specs.writes.Answer.{answer_of};
 ghost use Rattle.records.specs.status.Operation.{operation_of};
-ghost use Rattle.device_frames.specs.Heard.{Heard as Hears, Told, said_by};
+ghost use Rattle.device_frames.specs.Heard.{Heard as Hears, Reported, said_by};
 ghost use Rattle.device_frames.specs.Sendable.{IsSendable};
 ghost use Rattle.device_frames.specs.Sent.{bytes_of};
-ghost use Rattle.device_core.specs.Judged.{Writes, answer_from, came_with, kept_for, judged, judged_call, outcome_of};
+ghost use Rattle.device_core.specs.Handled.{Writes, answer_from, came_with, kept_for, handled, handled_call, outcome_of};
 ghost use Rattle.device_core.specs.Behind.{CanSend, answer_to, behind, brings, called, frames_of, responded, wrote};
 ghost use Rattle.device_core.specs.Machine.{end_of, written_as as comes_out};
 ghost use Rattle.device_core.specs.Steps.{StaysReliable, Steps};
@@ -45,7 +45,7 @@ impl<F: Flash<S>, const S: usize> Device<F, S> {
     ) -> Note
         requires stored { Holds (F.image self.old.flash) self.old.live.values }
         requires empty { outbox.old.items ≡ [] }
-        ensures steps { Steps F.Flash self.old (Told caller.now address (said_by body.now)) (boxed outbox.new) result self.new }
+        ensures steps { Steps F.Flash self.old (Reported caller.now address (said_by body.now)) (boxed outbox.new) result self.new }
         ensures reliable { StaysReliable F.Flash self.old self.new }
     {
         if !is_running(self.store.running(), address) {
@@ -84,8 +84,8 @@ impl<F: Flash<S>, const S: usize> Device<F, S> {
     fn serve_call(&mut self, caller: &Caller, call: &Call<'_>, outbox: &mut Outbox) -> Note
         requires stored { Holds (F.image self.old.flash) self.old.live.values }
         requires empty { outbox.old.items ≡ [] }
-        ensures steps { (heard : Hears) → judged self.old.station self.old.live heard
-            ≡ judged_call self.old.station self.old.live caller.now (asked call.now) (operation_of call.now.header.operation) →
+        ensures steps { (heard : Hears) → handled self.old.station self.old.live heard
+            ≡ handled_call self.old.station self.old.live caller.now (asked call.now) (operation_of call.now.header.operation) →
             Steps F.Flash self.old heard (boxed outbox.new) result self.new }
         ensures reliable { StaysReliable F.Flash self.old self.new }
     {
@@ -144,7 +144,7 @@ impl<F: Flash<S>, const S: usize> Device<F, S> {
     fn serve_new(&mut self, serving: &Serving<'_>, outbox: &mut Outbox) -> Note
         requires stored { Holds (F.image self.old.flash) self.old.live.values }
         requires empty { outbox.old.items ≡ [] }
-        ensures steps { (heard : Hears) → judged self.old.station self.old.live heard ≡ called self.old serving.now serving.now.operation →
+        ensures steps { (heard : Hears) → handled self.old.station self.old.live heard ≡ called self.old serving.now serving.now.operation →
             Steps F.Flash self.old heard (boxed outbox.new) result self.new }
         ensures reliable { StaysReliable F.Flash self.old self.new }
     {
@@ -158,7 +158,7 @@ impl<F: Flash<S>, const S: usize> Device<F, S> {
         }
     }
 
-    // Each operation except a Write: state, frames and note are those of `judged_new .. OPERATION`.
+    // Each operation except a Write: state, frames and note are those of `handled_new .. OPERATION`.
     fn connect(&mut self, serving: &Serving<'_>, outbox: &mut Outbox) -> Note
         requires operation { serving.now.operation ≡ operation.Connect }
         requires empty { outbox.old.items ≡ [] }
@@ -283,7 +283,7 @@ impl<F: Flash<S>, const S: usize> Device<F, S> {
         requires operation { serving.now.operation ≡ operation.Write }
         requires stored { Holds (F.image self.old.flash) self.old.live.values }
         requires empty { outbox.old.items ≡ [] }
-        ensures steps { (heard : Hears) → judged self.old.station self.old.live heard ≡ called self.old serving.now operation.Write →
+        ensures steps { (heard : Hears) → handled self.old.station self.old.live heard ≡ called self.old serving.now operation.Write →
             Steps F.Flash self.old heard (boxed outbox.new) result self.new }
         ensures reliable { StaysReliable F.Flash self.old self.new }
     {
@@ -321,7 +321,7 @@ impl<F: Flash<S>, const S: usize> Device<F, S> {
     ) -> Note
         requires operation { serving.now.operation ≡ operation.Write }
         requires empty { outbox.old.items ≡ [] }
-        ensures steps { (heard : Hears) → judged self.old.station self.old.live heard
+        ensures steps { (heard : Hears) → handled self.old.station self.old.live heard
             ≡ Writes serving.now.caller.now self.old.live.values.running.suite.address (asked serving.now.call.now) header.now value →
             Steps F.Flash self.old heard (boxed outbox.new) result self.new }
         ensures reliable { StaysReliable F.Flash self.old self.new }

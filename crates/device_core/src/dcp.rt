@@ -9,7 +9,7 @@ ghost use Rattle.device_frames.specs.Heard.{Asks, heard_request};
 ghost use Rattle.device_frames.specs.Sendable.{AreSendable, IsSendable};
 ghost use Rattle.device_frames.specs.Sent.{GetAnswer, bytes_of};
 ghost use Rattle.device_core.specs.Behind.{CanSend, frames_of};
-ghost use Rattle.device_core.specs.Judged.{identified};
+ghost use Rattle.device_core.specs.Handled.{identified};
 ghost use Rattle.device_core.specs.Machine.{farewells_at, finished, is_done as is_done_by, is_reset as is_reset_by, is_signal};
 ghost use Rattle.device_core.specs.Machine.{lamp_after as lamp_of, link_after, resets};
 ghost use Rattle.device_core.specs.Steps.{StaysReliable, Steps};
@@ -79,8 +79,14 @@ impl<F: Flash<S>, const S: usize> Device<F, S> {
             // would answer at once.
             return Note::Filter;
         }
-        let told = identify_answer(&self.identity, running, request.xid);
-        send_dcp_answer(&self.identity, asker, DCP_IDENTIFY_RESPONSE, &told, outbox);
+        let reported = identify_answer(&self.identity, running, request.xid);
+        send_dcp_answer(
+            &self.identity,
+            asker,
+            DCP_IDENTIFY_RESPONSE,
+            &reported,
+            outbox,
+        );
         Note::Done
     }
 

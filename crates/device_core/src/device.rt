@@ -7,7 +7,7 @@ ghost use Rattle.pn_values.specs.declared.settings.Settings.{Settings};
 ghost use Rattle.settings_journal.specs.Commit.{HasBootCause};
 ghost use Rattle.settings_journal.specs.Image.{StartsWith, IsAmple, capacity, commits_left, IsForeign, LeftByDevice};
 ghost use Rattle.relations.specs.Exchanged.{output_in};
-ghost use Rattle.relations.specs.Link.{phase_of, taken_of, uuid_of};
+ghost use Rattle.relations.specs.RelationState.{phase_of, taken_of, uuid_of};
 ghost use Rattle.relations.specs.Outputs.{output_of};
 ghost use Rattle.device_core.specs.Cycle.{started};
 

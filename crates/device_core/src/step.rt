@@ -8,13 +8,13 @@ ghost use Rattle.frame_codec.specs.Meaning.{IsNoRealTime, RealTime};
 ghost use Rattle.pn_alarms.specs.Message.{message_of};
 ghost use Rattle.device_frames.specs.declared.event.Event.TheVariants.{Frame};
 ghost use Rattle.relations.specs.Farewells.{farewell_of};
-ghost use Rattle.relations.specs.Link.{Link, flow_of};
+ghost use Rattle.relations.specs.RelationState.{RelationState, flow_of};
 ghost use Rattle.relations.specs.Timers.{left_behind};
 ghost use Rattle.device_core.specs.State.{Live, Station, with_rest};
 ghost use Rattle.device_frames.specs.Sendable.{AreSendable};
 ghost use Rattle.device_frames.specs.Sent.{bytes_of};
-ghost use Rattle.device_core.specs.Judged.{judged_alarm, judged_message, judged_cyclic, judged_given, judged_raised, judged_received};
-ghost use Rattle.device_core.specs.Judged.{ticked};
+ghost use Rattle.device_core.specs.Handled.{handled_alarm, handled_message, handled_cyclic, handled_given, handled_raised, handled_received};
+ghost use Rattle.device_core.specs.Handled.{ticked};
 ghost use Rattle.device_frames.specs.Relation.{farewells_in, inputs_of};
 ghost use Rattle.device_core.specs.Behind.{CanSend, behind, brought, due_in, frames_of};
 ghost use Rattle.device_core.specs.Machine.{end_of};
@@ -302,8 +302,8 @@ impl<F: Flash<S>, const S: usize> Device<F, S> {
     // A cyclic frame: its outputs are accepted, or it changes nothing.
     #[inline(always)]
     fn hear_cyclic(&mut self, source: Mac, frame_id: u16, body: &[u8]) -> Note
-        ensures state { self.new ≡ behind self.old (judged_cyclic self.old.live source frame_id body.now) }
-        ensures note { result ≡ (end_of self.old.station self.old.live (judged_cyclic self.old.live source frame_id body.now)).note }
+        ensures state { self.new ≡ behind self.old (handled_cyclic self.old.live source frame_id body.now) }
+        ensures note { result ≡ (end_of self.old.station self.old.live (handled_cyclic self.old.live source frame_id body.now)).note }
     {
         let received = self.relation.receive(source, frame_id, body);
         note_of(received)
@@ -312,8 +312,8 @@ impl<F: Flash<S>, const S: usize> Device<F, S> {
     // An input that the application gives.
     #[inline(never)]
     fn give(&mut self, slot: u16, subslot: u16, value: &[u8]) -> Note
-        ensures state { self.new ≡ behind self.old (judged_given self.old.live slot subslot value.now) }
-        ensures note { result ≡ (end_of self.old.station self.old.live (judged_given self.old.live slot subslot value.now)).note }
+        ensures state { self.new ≡ behind self.old (handled_given self.old.live slot subslot value.now) }
+        ensures note { result ≡ (end_of self.old.station self.old.live (handled_given self.old.live slot subslot value.now)).note }
     {
         if self.relation.give(slot, subslot, value) {
             Note::Done
@@ -326,11 +326,11 @@ impl<F: Flash<S>, const S: usize> Device<F, S> {
     #[inline(never)]
     fn raise(&mut self, slot: u16, subslot: u16, octets: &[u8], outbox: &mut Outbox) -> Note
         requires empty { outbox.old.items ≡ [] }
-        ensures state { self.new ≡ behind self.old (judged_raised self.old.station self.old.live slot subslot octets.now) }
-        ensures frames { boxed outbox.new ≡ frames_of self.old (judged_raised self.old.station self.old.live slot subslot octets.now) }
-        ensures sendable { CanSend self.old (judged_raised self.old.station self.old.live slot subslot octets.now) }
+        ensures state { self.new ≡ behind self.old (handled_raised self.old.station self.old.live slot subslot octets.now) }
+        ensures frames { boxed outbox.new ≡ frames_of self.old (handled_raised self.old.station self.old.live slot subslot octets.now) }
+        ensures sendable { CanSend self.old (handled_raised self.old.station self.old.live slot subslot octets.now) }
         ensures note { result ≡ (end_of self.old.station self.old.live
-            (judged_raised self.old.station self.old.live slot subslot octets.now)).note }
+            (handled_raised self.old.station self.old.live slot subslot octets.now)).note }
     {
         if !self.relation.raise(&self.real, slot, subslot, octets) {
             return Note::Refused;
@@ -350,10 +350,10 @@ impl<F: Flash<S>, const S: usize> Device<F, S> {
         outbox: &mut Outbox,
     ) -> Note
         requires empty { outbox.old.items ≡ [] }
-        ensures state { self.new ≡ behind self.old (judged_alarm self.old.live source header.now message.now) }
-        ensures frames { boxed outbox.new ≡ frames_of self.old (judged_alarm self.old.live source header.now message.now) }
-        ensures sendable { CanSend self.old (judged_alarm self.old.live source header.now message.now) }
-        ensures note { result ≡ (end_of self.old.station self.old.live (judged_alarm self.old.live source header.now message.now)).note }
+        ensures state { self.new ≡ behind self.old (handled_alarm self.old.live source header.now message.now) }
+        ensures frames { boxed outbox.new ≡ frames_of self.old (handled_alarm self.old.live source header.now message.now) }
+        ensures sendable { CanSend self.old (handled_alarm self.old.live source header.now message.now) }
+        ensures note { result ≡ (end_of self.old.station self.old.live (handled_alarm self.old.live source header.now message.now)).note }
     {
         if !self
             .relation
@@ -368,10 +368,10 @@ impl<F: Flash<S>, const S: usize> Device<F, S> {
     #[tactic(auto, using(crate::proofs::Exchanged::stays_ignored))]
     fn hear_message(&mut self, message: &Message, outbox: &mut Outbox) -> Note
         requires empty { outbox.old.items ≡ [] }
-        ensures state { self.new ≡ behind self.old (judged_message self.old.live message.now) }
-        ensures frames { boxed outbox.new ≡ frames_of self.old (judged_message self.old.live message.now) }
-        ensures sendable { CanSend self.old (judged_message self.old.live message.now) }
-        ensures note { result ≡ (end_of self.old.station self.old.live (judged_message self.old.live message.now)).note }
+        ensures state { self.new ≡ behind self.old (handled_message self.old.live message.now) }
+        ensures frames { boxed outbox.new ≡ frames_of self.old (handled_message self.old.live message.now) }
+        ensures sendable { CanSend self.old (handled_message self.old.live message.now) }
+        ensures note { result ≡ (end_of self.old.station self.old.live (handled_message self.old.live message.now)).note }
     {
         match self.relation.hear(message) {
             PduFate::Data(taken) => {
@@ -387,8 +387,8 @@ impl<F: Flash<S>, const S: usize> Device<F, S> {
 
 // The note for a cyclic frame.
 fn note_of(received: Received) -> Note
-    ensures { (station : Station) (live : Live) (link : Option Link) →
-        result ≡ (end_of station live (judged_received live received link)).note }
+    ensures { (station : Station) (live : Live) (link : Option RelationState) →
+        result ≡ (end_of station live (handled_received live received link)).note }
 {
     match received {
         Received::Foreign => Note::NoRelation,

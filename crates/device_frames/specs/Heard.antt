@@ -39,7 +39,7 @@ pub data Heard : Type 0 where
   Elsewhere : Heard
   Asks : (source : Mac) → (request : Asked) → Heard
   Resolves : (asker : Mac) → (arp : Arp) → Heard
-  Told : (caller : Caller) → (address : List ℕ) → (said : Said) → Heard
+  Reported : (caller : Caller) → (address : List ℕ) → (said : Said) → Heard
   Cyclic : (source : Mac) → (frame_id : ℕ) → (body : List ℕ) → Heard
   Alarms : (source : Mac) → (header : Header) → (message : ToDevice) → Heard
   Given : (slot : ℕ) → (subslot : ℕ) → (value : List ℕ) → Heard
@@ -97,7 +97,7 @@ heard_content identity destination source (RealTime frame_id body) =
 heard_content identity destination source (ArpPacket arp) =
     if is_own identity destination || pointwise nat_eq destination.octets broadcast then Resolves source arp else Elsewhere
 heard_content identity destination source (UdpDatagram from to body) =
-    if is_own identity destination && to.port == call_port then Told (record { mac = source; endpoint = from }) to.address (said_by body) else Elsewhere
+    if is_own identity destination && to.port == call_port then Reported (record { mac = source; endpoint = from }) to.address (said_by body) else Elsewhere
 
 -- The content of a frame between these stations, or a frame that cannot be read.
 abbrev pub heard_by : Identity → Mac → Mac → Result Content FrameFault → Heard

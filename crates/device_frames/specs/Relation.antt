@@ -6,12 +6,12 @@ use Rattle.relations.specs.exchange.Flow.{Flow}
 use Rattle.relations.specs.exchange.Frames.{Frame, alarm_frame, inputs_frame, reply_frame}
 use Rattle.relations.specs.declared.farewell.Farewell.{Farewell}
 use Rattle.relations.specs.Timers.{Due}
-use Rattle.relations.specs.Link.{Link, flow_of}
+use Rattle.relations.specs.RelationState.{RelationState, flow_of}
 use Rattle.relations.specs.Ready.{ready_of}
 use Rattle.device_frames.specs.Sent.{Sent, ReadyCall, Ends, Exchanges}
 
 -- ApplicationReady of a relation, if there is one, from this address.
-abbrev pub ready_calls : List ℕ → Option Link → List Sent
+abbrev pub ready_calls : List ℕ → Option RelationState → List Sent
 ready_calls address None = []
 ready_calls address (Some link) = ReadyCall address (ready_of link) ∷ []
 
@@ -44,7 +44,7 @@ where_due is_due sent = if is_due then sent else []
 
 -- What is sent with a unit: the ERR of a timeout, and nothing else; or the active alarm again, ApplicationReady again,
 -- and inputs.
-abbrev pub due_frames : List ℕ → ℕ → Due → Option Link → List Sent
+abbrev pub due_frames : List ℕ → ℕ → Due → Option RelationState → List Sent
 due_frames address units due link =
     farewells_in due.farewell
     ++ (where_due due.is_alarm (alarms_of (flow_of link)) ++ (where_due due.is_ready (ready_calls address link) ++ where_due due.is_cyclic (inputs_of units (flow_of link))))

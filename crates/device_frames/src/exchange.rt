@@ -5,7 +5,7 @@ ghost use Rattle.arrayvec.specs.ArrayVec.{array_vec_len};
 ghost use Rattle.device_frames.specs.Sendable.{AreSendable};
 ghost use Rattle.device_frames.specs.Sent.{bytes_of};
 ghost use Rattle.device_frames.specs.Relation.{alarms_of, inputs_of, ready_calls, replies_of, where_due};
-ghost use Rattle.relations.specs.Link.{flow_of};
+ghost use Rattle.relations.specs.RelationState.{flow_of};
 ghost use Rattle.frame_codec.specs.Outbox.{boxed};
 
 use crate::relation::send_ready;

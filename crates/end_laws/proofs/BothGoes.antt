@@ -1,17 +1,17 @@
 -- The facts about a frame persist: records that were accepted stay accepted, and what was true of an earlier point
 -- stays true.
 use Rattle.std.proofs.Common.{◌≡◌, inl, inr, ℕ, zero, suc, true, false, List, Option, Some, None, sym, subst}
-use Rattle.end_laws.specs.both.Small.{Ask, ToDevice, Call, Confirms, Idle, ToController, Answers, Readies, Nothing, Rules, Link, Kept, Controller, Seeking, Asking, Waiting, Exchanges, Ended}
+use Rattle.end_laws.specs.both.Small.{Ask, ToDevice, Call, Confirms, Idle, ToController, Answers, Readies, Nothing, Rules, RelationState, Kept, Controller, Seeking, Asking, Waiting, Exchanges, Ended}
 use Rattle.end_laws.specs.both.Steps.{SaysAtMost}
 use Rattle.end_laws.proofs.BothEach.{each_so}
 use Rattle.end_laws.proofs.BothHolds.{Took, Behind, IsCall, TellsDevice, TellsController, IsFine, AreFine, KeepsFine, AsksBehind}
 
 module _ {T Q : Type 0} where
   -- the records that were accepted stay accepted
-  abbrev pub Grows : Option Kept → Option (Link T Q) → Option Kept → Option (Link T Q) → Type 0
+  abbrev pub Grows : Option Kept → Option (RelationState T Q) → Option Kept → Option (RelationState T Q) → Type 0
   Grows kept link kept_now link_now = (count : ℕ) → Took count kept link → Took count kept_now link_now
 
-  module _ (kept kept_now : Option Kept) (link link_now : Option (Link T Q)) (grows : Grows kept link kept_now link_now) where
+  module _ (kept kept_now : Option Kept) (link link_now : Option (RelationState T Q)) (grows : Grows kept link kept_now link_now) where
     behind_on : (sequence : ℕ) → Behind sequence kept link → Behind sequence kept_now link_now
     behind_on zero behind = tt
     behind_on (suc count) behind = grows count behind
@@ -52,11 +52,11 @@ module _ {T Q : Type 0} where
       keeps_on None fine = tt
       keeps_on (Some answer) fine = fine_on answer.frame fine
 
-  pub same_grows : (kept : Option Kept) (link : Option (Link T Q)) → Grows kept link kept link
+  pub same_grows : (kept : Option Kept) (link : Option (RelationState T Q)) → Grows kept link kept link
   same_grows kept link count took = took
 
   -- a frame is fine if what each end hears of it is
-  pub fine_as : (rules : Rules T Q) (Was : Type 0) (Good : List ℕ → Type 0) (kept : Option Kept) (link : Option (Link T Q)) (frame : List ℕ) (to_device : ToDevice) (to_controller : ToController)
+  pub fine_as : (rules : Rules T Q) (Was : Type 0) (Good : List ℕ → Type 0) (kept : Option Kept) (link : Option (RelationState T Q)) (frame : List ℕ) (to_device : ToDevice) (to_controller : ToController)
       → rules.to_device frame ≡ to_device → rules.to_controller frame ≡ to_controller
       → TellsDevice rules Was kept link to_device → TellsController rules Good kept link frame to_controller → IsFine rules Was Good kept link frame
   fine_as rules Was Good kept link frame to_device to_controller e f device controller = record {
@@ -65,7 +65,7 @@ module _ {T Q : Type 0} where
   }
 
   -- the same for a frame of which the controller hears at most this
-  pub fine_at_most : (rules : Rules T Q) (Was : Type 0) (Good : List ℕ → Type 0) (kept : Option Kept) (link : Option (Link T Q)) (frame : List ℕ) (heard : ToController)
+  pub fine_at_most : (rules : Rules T Q) (Was : Type 0) (Good : List ℕ → Type 0) (kept : Option Kept) (link : Option (RelationState T Q)) (frame : List ℕ) (heard : ToController)
       → rules.to_device frame ≡ Idle → SaysAtMost rules heard frame → TellsController rules Good kept link frame heard → IsFine rules Was Good kept link frame
   fine_at_most rules Was Good kept link frame heard idle (inl nothing) tells = fine_as rules Was Good kept link frame Idle Nothing idle nothing tt tt
   fine_at_most rules Was Good kept link frame heard idle (inr says) tells = fine_as rules Was Good kept link frame Idle heard idle says tt tells

@@ -3,7 +3,7 @@
 -- ApplicationReady. `Handed`: the controller received one.
 use Rattle.std.proofs.Common.{◌≡◌, ◌⊎◌, ◌<◌, ◌≤◌, ℕ, zero, suc, true, false, List, ◌++◌, length, Option, Some, None}
 use Rattle.std.specs.List.{AllByRecursion}
-use Rattle.end_laws.specs.both.Small.{Ask, Releases, ToDevice, Call, Confirms, Idle, ToController, Answers, Readies, Nothing, Rules, Started, Exchanging, Link, Kept, Controller, Seeking, Asking, Waiting, Exchanges, Ended, World}
+use Rattle.end_laws.specs.both.Small.{Ask, Releases, ToDevice, Call, Confirms, Idle, ToController, Answers, Readies, Nothing, Rules, Started, Exchanging, RelationState, Kept, Controller, Seeking, Asking, Waiting, Exchanges, Ended, World}
 use Rattle.end_laws.specs.both.Steps.{IsAsked}
 
 -- there is a response
@@ -13,17 +13,17 @@ IsSomeKept (Some kept) = Unit {0}
 
 module _ {T Q : Type 0} where
   -- at least this many records were accepted, from the first on, or the relation has ended
-  abbrev pub TookIn : ℕ → Option (Link T Q) → Type 0
+  abbrev pub TookIn : ℕ → Option (RelationState T Q) → Type 0
   TookIn count None = Unit {0}
   TookIn count (Some link) = count ≤ length link.taken
 
   -- The device accepted the Connect and this many records. This stays true.
-  pub record Took (count : ℕ) (kept : Option Kept) (link : Option (Link T Q)) : Type 0 where
+  pub record Took (count : ℕ) (kept : Option Kept) (link : Option (RelationState T Q)) : Type 0 where
     pub called : IsSomeKept kept
     pub taken : TookIn count link
 
   -- the relation, after the response that is stored
-  pub record IsHeld (rules : Rules T Q) (sequence : ℕ) (link : Link T Q) : Type 0 where
+  pub record IsHeld (rules : Rules T Q) (sequence : ℕ) (link : RelationState T Q) : Type 0 where
     pub few : length link.taken ≤ sequence
     pub made : link.request ≡ rules.request
     pub rest : List T
@@ -31,60 +31,60 @@ module _ {T Q : Type 0} where
     -- after PrmEnd, all records were accepted before, and no Write is new
     pub past : (link.phase ≡ Started) ⊎ ((length rules.records < sequence) × (link.taken ≡ rules.records))
 
-  abbrev pub IsHeldIn : Rules T Q → ℕ → Option (Link T Q) → Type 0
+  abbrev pub IsHeldIn : Rules T Q → ℕ → Option (RelationState T Q) → Type 0
   IsHeldIn rules sequence None = Unit {0}
   IsHeldIn rules sequence (Some link) = IsHeld rules sequence link
 
   -- without a response there is no relation
-  abbrev pub HoldsAt : Rules T Q → Option Kept → Option (Link T Q) → Type 0
+  abbrev pub HoldsAt : Rules T Q → Option Kept → Option (RelationState T Q) → Type 0
   HoldsAt rules None link = link ≡ None
   HoldsAt rules (Some kept) link = IsHeldIn rules kept.sequence link
 
   -- what was accepted before the call with a sequence number is made
-  abbrev pub Behind : ℕ → Option Kept → Option (Link T Q) → Type 0
+  abbrev pub Behind : ℕ → Option Kept → Option (RelationState T Q) → Type 0
   Behind zero kept link = Unit {0}
   Behind (suc count) kept link = Took count kept link
 
   -- a call that was sent at some time
-  abbrev pub IsCall : Rules T Q → ℕ → Ask → Option Kept → Option (Link T Q) → Type 0
+  abbrev pub IsCall : Rules T Q → ℕ → Ask → Option Kept → Option (RelationState T Q) → Type 0
   IsCall rules sequence ask kept link =
       (ask ≡ Releases) ⊎ (IsAsked (length rules.records) sequence ask × Behind sequence kept link)
 
   -- what the device may hear in a frame
-  abbrev pub TellsDevice : Rules T Q → Type 0 → Option Kept → Option (Link T Q) → ToDevice → Type 0
+  abbrev pub TellsDevice : Rules T Q → Type 0 → Option Kept → Option (RelationState T Q) → ToDevice → Type 0
   TellsDevice rules Was kept link (Call sequence ask) = IsCall rules sequence ask kept link
   TellsDevice rules Was kept link Confirms = Was
   TellsDevice rules Was kept link Idle = Unit {0}
 
   -- what the controller may hear in a frame
-  abbrev pub TellsController : Rules T Q → (List ℕ → Type 0) → Option Kept → Option (Link T Q) → List ℕ → ToController → Type 0
+  abbrev pub TellsController : Rules T Q → (List ℕ → Type 0) → Option Kept → Option (RelationState T Q) → List ℕ → ToController → Type 0
   TellsController rules Good kept link frame (Answers sequence true) = sequence ≤ length rules.records → Took sequence kept link
   TellsController rules Good kept link frame (Answers sequence false) = Unit {0}
   TellsController rules Good kept link frame Readies = Good frame
   TellsController rules Good kept link frame Nothing = Unit {0}
 
   -- the invariant of each frame that was ever sent
-  pub record IsFine (rules : Rules T Q) (Was : Type 0) (Good : List ℕ → Type 0) (kept : Option Kept) (link : Option (Link T Q)) (frame : List ℕ) : Type 0 where
+  pub record IsFine (rules : Rules T Q) (Was : Type 0) (Good : List ℕ → Type 0) (kept : Option Kept) (link : Option (RelationState T Q)) (frame : List ℕ) : Type 0 where
     pub device : TellsDevice rules Was kept link (rules.to_device frame)
     pub controller : TellsController rules Good kept link frame (rules.to_controller frame)
 
-  abbrev pub AreFine : Rules T Q → Type 0 → (List ℕ → Type 0) → Option Kept → Option (Link T Q) → List (List ℕ) → Type 0
+  abbrev pub AreFine : Rules T Q → Type 0 → (List ℕ → Type 0) → Option Kept → Option (RelationState T Q) → List (List ℕ) → Type 0
   AreFine rules Was Good kept link frames = AllByRecursion (IsFine rules Was Good kept link) frames
 
   -- the same for the frame that is stored
-  abbrev pub KeepsFine : Rules T Q → Type 0 → (List ℕ → Type 0) → Option Kept → Option (Link T Q) → Option Kept → Type 0
+  abbrev pub KeepsFine : Rules T Q → Type 0 → (List ℕ → Type 0) → Option Kept → Option (RelationState T Q) → Option Kept → Type 0
   KeepsFine rules Was Good kept link None = Unit {0}
   KeepsFine rules Was Good kept link (Some answer) = IsFine rules Was Good kept link answer.frame
 
   -- what was accepted before the controller makes a call
-  abbrev pub AsksBehind : Option Kept → Option (Link T Q) → Controller → Type 0
+  abbrev pub AsksBehind : Option Kept → Option (RelationState T Q) → Controller → Type 0
   AsksBehind kept link (Asking sequence) = Behind sequence kept link
   AsksBehind kept link Seeking = Unit {0}
   AsksBehind kept link Waiting = Unit {0}
   AsksBehind kept link Exchanges = Unit {0}
   AsksBehind kept link Ended = Unit {0}
 
-  abbrev pub ConfirmedIn : Type 0 → Option (Link T Q) → Type 0
+  abbrev pub ConfirmedIn : Type 0 → Option (RelationState T Q) → Type 0
   ConfirmedIn Past None = Unit {0}
   ConfirmedIn Past (Some link) = link.phase ≡ Exchanging → Past
 

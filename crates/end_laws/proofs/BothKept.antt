@@ -3,7 +3,7 @@
 use Rattle.std.proofs.Common.{◌≡◌, ◌⊎◌, inl, inr, ◌<◌, ◌≤◌, ℕ, suc, Bool, true, false, List, [], ◌∷◌, ◌++◌, length, Option, Some, None, refl, sym, ap, subst, ◌∙◌, append_assoc, append-nil, length-append, arith}
 use Rattle.std.specs.List.{AllByRecursion}
 use Rattle.std.specs.Prelude.{slice_get}
-use Rattle.end_laws.specs.both.Small.{Ask, Connects, Writes, Parameterized, Releases, ToDevice, Call, Confirms, Idle, Answers, Readies, Nothing, Rules, Started, Awaiting, Exchanging, Link, Kept, Device}
+use Rattle.end_laws.specs.both.Small.{Ask, Connects, Writes, Parameterized, Releases, ToDevice, Call, Confirms, Idle, Answers, Readies, Nothing, Rules, Started, Awaiting, Exchanging, RelationState, Kept, Device}
 use Rattle.end_laws.specs.both.Steps.{IsNew, made, TakesRecord, IsParameterized, Comes, IsReady, IsDull, IsAnswered, IsAgain, Rests, IsConfirmed, GoesBy, DeviceSteps}
 use Rattle.end_laws.proofs.BothHolds.{IsSomeKept, TookIn, Took, IsHeld, IsHeldIn, HoldsAt, Behind, IsCall, TellsDevice, TellsController, IsFine, AreFine, KeepsFine, ConfirmedIn}
 use Rattle.end_laws.proofs.BothGoes.{Grows, are_fine_on, keeps_on, same_grows, fine_as, fine_at_most}
@@ -32,18 +32,18 @@ module _ {T Q : Type 0} (rules : Rules T Q) where
   -- ---- a new call
 
   -- the effect of a call, if a Connect finds no relation
-  abbrev Does : Bool → Ask → Option (Link T Q) → Option (Link T Q) → Type 0
+  abbrev Does : Bool → Ask → Option (RelationState T Q) → Option (RelationState T Q) → Type 0
   Does false ask before after = after ≡ before
   Does true Connects before after = after ≡ Some (made rules)
   Does true (Writes number) before after = TakesRecord rules number before after
   Does true Parameterized before after = IsParameterized before after
   Does true Releases before after = after ≡ None
 
-  first_unrelated : (sequence : ℕ) (kept : Option Kept) (link : Option (Link T Q)) → sequence ≡ 0 → IsNew sequence kept → HoldsAt rules kept link → link ≡ None
+  first_unrelated : (sequence : ℕ) (kept : Option Kept) (link : Option (RelationState T Q)) → sequence ≡ 0 → IsNew sequence kept → HoldsAt rules kept link → link ≡ None
   first_unrelated sequence None link first new holds = holds
   first_unrelated sequence (Some kept) link first new holds = absurd (omega (arith, first, new))
 
-  does_by : (sequence : ℕ) (ask : Ask) (positive : Bool) (kept : Option Kept) (link after : Option (Link T Q))
+  does_by : (sequence : ℕ) (ask : Ask) (positive : Bool) (kept : Option Kept) (link after : Option (RelationState T Q))
       → IsNew sequence kept → IsCall rules sequence ask kept link → Comes rules positive ask link after → HoldsAt rules kept link → Does positive ask link after
   does_by sequence ask false kept link after new call comes holds = comes
   does_by sequence Connects true kept link after new (inl releases) comes holds = absurd cc
@@ -57,26 +57,26 @@ module _ {T Q : Type 0} (rules : Rules T Q) where
   never_first sequence None first new some = some
   never_first sequence (Some kept) first new some = absurd (omega (arith, first, new))
 
-  took_by : (sequence : ℕ) (ask : Ask) (positive : Bool) (kept : Option Kept) (link after : Option (Link T Q)) (count : ℕ)
+  took_by : (sequence : ℕ) (ask : Ask) (positive : Bool) (kept : Option Kept) (link after : Option (RelationState T Q)) (count : ℕ)
       → IsNew sequence kept → IsCall rules sequence ask kept link → Does positive ask link after → Took count kept link → TookIn count after
-  took_by sequence ask false kept link after count new call comes took = subst (λ (l : Option (Link T Q)). TookIn count l) (sym comes) took.taken
+  took_by sequence ask false kept link after count new call comes took = subst (λ (l : Option (RelationState T Q)). TookIn count l) (sym comes) took.taken
   took_by sequence Connects true kept link after count new (inl releases) comes took = absurd cc
   took_by sequence Connects true kept link after count new (inr asked) comes took = absurd (never_first sequence kept asked.0 new took.called)
   took_by sequence (Writes number) true kept link after count new call comes took =
-      let before : TookIn count (Some comes.link) = subst (λ (l : Option (Link T Q)). TookIn count l) comes.was took.taken in
-      subst (λ (l : Option (Link T Q)). TookIn count l) (sym comes.becomes) (omega (arith, before, length-append comes.link.taken (comes.value ∷ [])))
+      let before : TookIn count (Some comes.link) = subst (λ (l : Option (RelationState T Q)). TookIn count l) comes.was took.taken in
+      subst (λ (l : Option (RelationState T Q)). TookIn count l) (sym comes.becomes) (omega (arith, before, length-append comes.link.taken (comes.value ∷ [])))
   took_by sequence Parameterized true kept link after count new call comes took =
-      subst (λ (l : Option (Link T Q)). TookIn count l) (sym comes.becomes) (subst (λ (l : Option (Link T Q)). TookIn count l) comes.was took.taken)
-  took_by sequence Releases true kept link after count new call comes took = subst (λ (l : Option (Link T Q)). TookIn count l) (sym comes) tt
+      subst (λ (l : Option (RelationState T Q)). TookIn count l) (sym comes.becomes) (subst (λ (l : Option (RelationState T Q)). TookIn count l) comes.was took.taken)
+  took_by sequence Releases true kept link after count new call comes took = subst (λ (l : Option (RelationState T Q)). TookIn count l) (sym comes) tt
 
   -- the relation is held after a later response too
-  past_later : (sequence later : ℕ) (link : Link T Q) → sequence < later → (link.phase ≡ Started) ⊎ ((length rules.records < sequence) × (link.taken ≡ rules.records))
+  past_later : (sequence later : ℕ) (link : RelationState T Q) → sequence < later → (link.phase ≡ Started) ⊎ ((length rules.records < sequence) × (link.taken ≡ rules.records))
       → (link.phase ≡ Started) ⊎ ((length rules.records < later) × (link.taken ≡ rules.records))
   past_later sequence later link before (inl started) = inl started
   past_later sequence later link before (inr past) = inr (omega (arith, before, past.0), past.1)
 
-  held_later : (sequence : ℕ) (kept : Option Kept) (link : Option (Link T Q)) → IsNew sequence kept → HoldsAt rules kept link → IsHeldIn rules sequence link
-  held_later sequence None link new none = subst (λ (l : Option (Link T Q)). IsHeldIn rules sequence l) (sym none) tt
+  held_later : (sequence : ℕ) (kept : Option Kept) (link : Option (RelationState T Q)) → IsNew sequence kept → HoldsAt rules kept link → IsHeldIn rules sequence link
+  held_later sequence None link new none = subst (λ (l : Option (RelationState T Q)). IsHeldIn rules sequence l) (sym none) tt
   held_later sequence (Some kept) None new held = tt
   held_later sequence (Some kept) (Some link) new held = record {
     few = omega (arith, new, held.few);
@@ -87,25 +87,25 @@ module _ {T Q : Type 0} (rules : Rules T Q) where
   }
 
   -- the relation is held after the response that is stored
-  is_held : (kept : Option Kept) (link : Option (Link T Q)) (there : Link T Q) → link ≡ Some there → HoldsAt rules kept link → (answer : Kept) × (kept ≡ Some answer) × IsHeld rules answer.sequence there
+  is_held : (kept : Option Kept) (link : Option (RelationState T Q)) (there : RelationState T Q) → link ≡ Some there → HoldsAt rules kept link → (answer : Kept) × (kept ≡ Some answer) × IsHeld rules answer.sequence there
   is_held None link there is none = absurd cc
-  is_held (Some kept) link there is held = (kept, refl, subst (λ (l : Option (Link T Q)). IsHeldIn rules kept.sequence l) is held)
+  is_held (Some kept) link there is held = (kept, refl, subst (λ (l : Option (RelationState T Q)). IsHeldIn rules kept.sequence l) is held)
 
-  past_write : (number : ℕ) (sequence : ℕ) (link : Link T Q) → number < length rules.records → sequence ≤ number → (link.phase ≡ Started) ⊎ ((length rules.records < sequence) × (link.taken ≡ rules.records))
+  past_write : (number : ℕ) (sequence : ℕ) (link : RelationState T Q) → number < length rules.records → sequence ≤ number → (link.phase ≡ Started) ⊎ ((length rules.records < sequence) × (link.taken ≡ rules.records))
       → link.phase ≡ Started
   past_write number sequence link inside few (inl started) = started
   past_write number sequence link inside few (inr past) = absurd (omega (arith, inside, few, past.0))
 
   -- the next record is accepted
-  write_held : (sequence number : ℕ) (kept : Option Kept) (link after : Option (Link T Q)) → IsNew sequence kept → number < length rules.records → sequence ≡ suc number
+  write_held : (sequence number : ℕ) (kept : Option Kept) (link after : Option (RelationState T Q)) → IsNew sequence kept → number < length rules.records → sequence ≡ suc number
       → Took number kept link → TakesRecord rules number link after → HoldsAt rules kept link → IsHeldIn rules sequence after
   write_held sequence number kept link after new inside is took takes holds =
       let held = is_held kept link takes.link takes.was holds in
       let fresh : IsNew sequence (Some held.0) = subst (λ (k : Option Kept). IsNew sequence k) held.1 new in
-      let there : TookIn number (Some takes.link) = subst (λ (l : Option (Link T Q)). TookIn number l) takes.was took.taken in
+      let there : TookIn number (Some takes.link) = subst (λ (l : Option (RelationState T Q)). TookIn number l) takes.was took.taken in
       let long : length takes.link.taken ≡ number = omega (arith, there, held.2.few, fresh, is) in
       let next = next_of takes.link.taken held.2.rest rules.records takes.value number held.2.begins long takes.is in
-      subst (λ (l : Option (Link T Q)). IsHeldIn rules sequence l) (sym takes.becomes) (record {
+      subst (λ (l : Option (RelationState T Q)). IsHeldIn rules sequence l) (sym takes.becomes) (record {
         few = omega (arith, long, is, length-append takes.link.taken (takes.value ∷ []));
         made = held.2.made;
         rest = next.0;
@@ -114,13 +114,13 @@ module _ {T Q : Type 0} (rules : Rules T Q) where
       })
 
   -- all records are accepted
-  end_held : (sequence : ℕ) (kept : Option Kept) (link after : Option (Link T Q)) → sequence ≡ suc (length rules.records)
+  end_held : (sequence : ℕ) (kept : Option Kept) (link after : Option (RelationState T Q)) → sequence ≡ suc (length rules.records)
       → Took (length rules.records) kept link → IsParameterized link after → HoldsAt rules kept link → IsHeldIn rules sequence after
   end_held sequence kept link after is took ends holds =
       let held = is_held kept link ends.link ends.was holds in
-      let there : TookIn (length rules.records) (Some ends.link) = subst (λ (l : Option (Link T Q)). TookIn (length rules.records) l) ends.was took.taken in
+      let there : TookIn (length rules.records) (Some ends.link) = subst (λ (l : Option (RelationState T Q)). TookIn (length rules.records) l) ends.was took.taken in
       let whole : ends.link.taken ≡ rules.records = all_taken ends.link.taken held.2.rest rules.records held.2.begins there in
-      subst (λ (l : Option (Link T Q)). IsHeldIn rules sequence l) (sym ends.becomes) (record {
+      subst (λ (l : Option (RelationState T Q)). IsHeldIn rules sequence l) (sym ends.becomes) (record {
         few = omega (arith, is, ap length whole);
         made = held.2.made;
         rest = held.2.rest;
@@ -131,14 +131,14 @@ module _ {T Q : Type 0} (rules : Rules T Q) where
   new_held : (sequence : ℕ) → IsHeld rules sequence (made rules)
   new_held sequence = record { few = omega arith; made = refl; rest = rules.records; begins = refl; past = inl refl }
 
-  behind_suc : (sequence count : ℕ) (kept : Option Kept) (link : Option (Link T Q)) → sequence ≡ suc count → Behind sequence kept link → Took count kept link
+  behind_suc : (sequence count : ℕ) (kept : Option Kept) (link : Option (RelationState T Q)) → sequence ≡ suc count → Behind sequence kept link → Took count kept link
   behind_suc sequence count kept link is behind = subst (λ (s : ℕ). Behind s kept link) is behind
 
-  held_by : (sequence : ℕ) (ask : Ask) (positive : Bool) (kept : Option Kept) (link after : Option (Link T Q))
+  held_by : (sequence : ℕ) (ask : Ask) (positive : Bool) (kept : Option Kept) (link after : Option (RelationState T Q))
       → IsNew sequence kept → IsCall rules sequence ask kept link → Does positive ask link after → HoldsAt rules kept link → IsHeldIn rules sequence after
   held_by sequence ask false kept link after new call comes holds =
-      subst (λ (l : Option (Link T Q)). IsHeldIn rules sequence l) (sym comes) (held_later sequence kept link new holds)
-  held_by sequence Connects true kept link after new call comes holds = subst (λ (l : Option (Link T Q)). IsHeldIn rules sequence l) (sym comes) (new_held sequence)
+      subst (λ (l : Option (RelationState T Q)). IsHeldIn rules sequence l) (sym comes) (held_later sequence kept link new holds)
+  held_by sequence Connects true kept link after new call comes holds = subst (λ (l : Option (RelationState T Q)). IsHeldIn rules sequence l) (sym comes) (new_held sequence)
   held_by sequence (Writes number) true kept link after new (inl releases) comes holds = absurd cc
   held_by sequence (Writes number) true kept link after new (inr asked) comes holds =
       let is : sequence ≡ suc number = omega (arith, asked.0.1) in
@@ -147,37 +147,37 @@ module _ {T Q : Type 0} (rules : Rules T Q) where
   held_by sequence Parameterized true kept link after new (inr asked) comes holds =
       let is : sequence ≡ suc (length rules.records) = omega (arith, asked.0) in
       end_held sequence kept link after is (behind_suc sequence (length rules.records) kept link is asked.1) comes holds
-  held_by sequence Releases true kept link after new call comes holds = subst (λ (l : Option (Link T Q)). IsHeldIn rules sequence l) (sym comes) tt
+  held_by sequence Releases true kept link after new call comes holds = subst (λ (l : Option (RelationState T Q)). IsHeldIn rules sequence l) (sym comes) tt
 
   -- a positive response says what was accepted
-  told_by : (sequence : ℕ) (ask : Ask) (kept : Option Kept) (link after : Option (Link T Q))
+  reported_by : (sequence : ℕ) (ask : Ask) (kept : Option Kept) (link after : Option (RelationState T Q))
       → IsCall rules sequence ask kept link → Does true ask link after → sequence ≤ length rules.records → TookIn sequence after
-  told_by sequence Connects kept link after (inl releases) comes few = absurd cc
-  told_by sequence Connects kept link after (inr asked) comes few =
-      subst (λ (l : Option (Link T Q)). TookIn sequence l) (sym comes) (omega (arith, asked.0))
-  told_by sequence (Writes number) kept link after (inl releases) comes few = absurd cc
-  told_by sequence (Writes number) kept link after (inr asked) comes few =
+  reported_by sequence Connects kept link after (inl releases) comes few = absurd cc
+  reported_by sequence Connects kept link after (inr asked) comes few =
+      subst (λ (l : Option (RelationState T Q)). TookIn sequence l) (sym comes) (omega (arith, asked.0))
+  reported_by sequence (Writes number) kept link after (inl releases) comes few = absurd cc
+  reported_by sequence (Writes number) kept link after (inr asked) comes few =
       let is : sequence ≡ suc number = omega (arith, asked.0.1) in
       let took = behind_suc sequence number kept link is asked.1 in
-      let there : TookIn number (Some comes.link) = subst (λ (l : Option (Link T Q)). TookIn number l) comes.was took.taken in
-      subst (λ (l : Option (Link T Q)). TookIn sequence l) (sym comes.becomes) (omega (arith, is, there, length-append comes.link.taken (comes.value ∷ [])))
-  told_by sequence Parameterized kept link after (inl releases) comes few = absurd cc
-  told_by sequence Parameterized kept link after (inr asked) comes few = absurd (omega (arith, asked.0, few))
-  told_by sequence Releases kept link after call comes few = subst (λ (l : Option (Link T Q)). TookIn sequence l) (sym comes) tt
+      let there : TookIn number (Some comes.link) = subst (λ (l : Option (RelationState T Q)). TookIn number l) comes.was took.taken in
+      subst (λ (l : Option (RelationState T Q)). TookIn sequence l) (sym comes.becomes) (omega (arith, is, there, length-append comes.link.taken (comes.value ∷ [])))
+  reported_by sequence Parameterized kept link after (inl releases) comes few = absurd cc
+  reported_by sequence Parameterized kept link after (inr asked) comes few = absurd (omega (arith, asked.0, few))
+  reported_by sequence Releases kept link after call comes few = subst (λ (l : Option (RelationState T Q)). TookIn sequence l) (sym comes) tt
 
   -- while ApplicationReady waits for its response, all records were accepted
-  past_ready : (sequence : ℕ) (link : Link T Q) → link.phase ≡ Awaiting → (link.phase ≡ Started) ⊎ ((length rules.records < sequence) × (link.taken ≡ rules.records)) → link.taken ≡ rules.records
+  past_ready : (sequence : ℕ) (link : RelationState T Q) → link.phase ≡ Awaiting → (link.phase ≡ Started) ⊎ ((length rules.records < sequence) × (link.taken ≡ rules.records)) → link.taken ≡ rules.records
   past_ready sequence link awaits (inl started) = absurd cc
   past_ready sequence link awaits (inr past) = past.1
 
-  pub ready_is : (kept : Option Kept) (link : Option (Link T Q)) (there : Link T Q) → link ≡ Some there → there.phase ≡ Awaiting → HoldsAt rules kept link
+  pub ready_is : (kept : Option Kept) (link : Option (RelationState T Q)) (there : RelationState T Q) → link ≡ Some there → there.phase ≡ Awaiting → HoldsAt rules kept link
       → (there.request ≡ rules.request) × (there.taken ≡ rules.records)
   ready_is kept link there is awaits holds =
       let held = is_held kept link there is holds in
       (held.2.made, past_ready held.0.sequence there awaits held.2.past)
 
   -- a relation is the one that the Connect asks for
-  pub made_is : (kept : Option Kept) (link : Option (Link T Q)) (there : Link T Q) → link ≡ Some there → HoldsAt rules kept link → there.request ≡ rules.request
+  pub made_is : (kept : Option Kept) (link : Option (RelationState T Q)) (there : RelationState T Q) → link ≡ Some there → HoldsAt rules kept link → there.request ≡ rules.request
   made_is kept link there is holds = (is_held kept link there is holds).2.made
 
   -- ---- steps
@@ -222,33 +222,33 @@ module _ {T Q : Type 0} (rules : Rules T Q) where
     )
 
     -- a confirmed relation stays confirmed, and no call confirms another
-    still_confirmed : (link after : Option (Link T Q)) → (after ≡ link) ⊎ (after ≡ None) → ConfirmedIn Past link → ConfirmedIn PastNow after
-    still_confirmed None after (inl same) confirmed = subst (λ (l : Option (Link T Q)). ConfirmedIn PastNow l) (sym same) tt
+    still_confirmed : (link after : Option (RelationState T Q)) → (after ≡ link) ⊎ (after ≡ None) → ConfirmedIn Past link → ConfirmedIn PastNow after
+    still_confirmed None after (inl same) confirmed = subst (λ (l : Option (RelationState T Q)). ConfirmedIn PastNow l) (sym same) tt
     still_confirmed (Some link) after (inl same) confirmed =
-        subst (λ (l : Option (Link T Q)). ConfirmedIn PastNow l) (sym same) (λ exchanges. past_on (confirmed exchanges))
-    still_confirmed link after (inr none) confirmed = subst (λ (l : Option (Link T Q)). ConfirmedIn PastNow l) (sym none) tt
+        subst (λ (l : Option (RelationState T Q)). ConfirmedIn PastNow l) (sym same) (λ exchanges. past_on (confirmed exchanges))
+    still_confirmed link after (inr none) confirmed = subst (λ (l : Option (RelationState T Q)). ConfirmedIn PastNow l) (sym none) tt
 
-    confirmed_by : (ask : Ask) (positive : Bool) (link after : Option (Link T Q)) → Does positive ask link after → ConfirmedIn Past link → ConfirmedIn PastNow after
+    confirmed_by : (ask : Ask) (positive : Bool) (link after : Option (RelationState T Q)) → Does positive ask link after → ConfirmedIn Past link → ConfirmedIn PastNow after
     confirmed_by ask false link after comes confirmed = still_confirmed link after (inl comes) confirmed
     confirmed_by Connects true link after comes confirmed =
-        subst (λ (l : Option (Link T Q)). ConfirmedIn PastNow l) (sym comes) (λ exchanges. absurd (started_is exchanges))
+        subst (λ (l : Option (RelationState T Q)). ConfirmedIn PastNow l) (sym comes) (λ exchanges. absurd (started_is exchanges))
       where
         started_is : Started ≡ Exchanging → ⊥
         started_is e = absurd cc
     confirmed_by (Writes number) true link after comes confirmed =
-        let before : ConfirmedIn Past (Some comes.link) = subst (λ (l : Option (Link T Q)). ConfirmedIn Past l) comes.was confirmed in
-        subst (λ (l : Option (Link T Q)). ConfirmedIn PastNow l) (sym comes.becomes) (λ exchanges. past_on (before exchanges))
+        let before : ConfirmedIn Past (Some comes.link) = subst (λ (l : Option (RelationState T Q)). ConfirmedIn Past l) comes.was confirmed in
+        subst (λ (l : Option (RelationState T Q)). ConfirmedIn PastNow l) (sym comes.becomes) (λ exchanges. past_on (before exchanges))
     confirmed_by Parameterized true link after comes confirmed =
-        subst (λ (l : Option (Link T Q)). ConfirmedIn PastNow l) (sym comes.becomes) (λ exchanges. absurd (awaiting_is exchanges))
+        subst (λ (l : Option (RelationState T Q)). ConfirmedIn PastNow l) (sym comes.becomes) (λ exchanges. absurd (awaiting_is exchanges))
       where
         awaiting_is : Awaiting ≡ Exchanging → ⊥
         awaiting_is e = absurd cc
-    confirmed_by Releases true link after comes confirmed = subst (λ (l : Option (Link T Q)). ConfirmedIn PastNow l) (sym comes) tt
+    confirmed_by Releases true link after comes confirmed = subst (λ (l : Option (RelationState T Q)). ConfirmedIn PastNow l) (sym comes) tt
 
-    answer_tells : (sequence : ℕ) (ask : Ask) (positive : Bool) (kept : Option Kept) (link : Option (Link T Q)) (answer : Kept) (after : Option (Link T Q)) (frame : List ℕ)
+    answer_tells : (sequence : ℕ) (ask : Ask) (positive : Bool) (kept : Option Kept) (link : Option (RelationState T Q)) (answer : Kept) (after : Option (RelationState T Q)) (frame : List ℕ)
         → IsCall rules sequence ask kept link → Does positive ask link after
         → TellsController rules GoodNow (Some answer) after frame (Answers sequence positive)
-    answer_tells sequence ask true kept link answer after frame call comes = λ few. record { called = tt; taken = told_by sequence ask kept link after call comes few }
+    answer_tells sequence ask true kept link answer after frame call comes = λ few. record { called = tt; taken = reported_by sequence ask kept link after call comes few }
     answer_tells sequence ask false kept link answer after frame call comes = tt
 
     module _ (before after : Device T Q) (frames : List (List ℕ)) (held : HoldsAt rules before.kept before.link)
@@ -303,14 +303,14 @@ module _ {T Q : Type 0} (rules : Rules T Q) where
       call_leaves sequence ask call good (inr (inr rests)) = rests_leaves rests
 
       -- a move of the relation to another phase, or to its end, does not change what was accepted
-      took_same : (link now : Option (Link T Q)) (count : ℕ) → (now ≡ link) ⊎ (now ≡ None) → TookIn count link → TookIn count now
-      took_same link now count (inl same) took = subst (λ (l : Option (Link T Q)). TookIn count l) (sym same) took
-      took_same link now count (inr none) took = subst (λ (l : Option (Link T Q)). TookIn count l) (sym none) tt
+      took_same : (link now : Option (RelationState T Q)) (count : ℕ) → (now ≡ link) ⊎ (now ≡ None) → TookIn count link → TookIn count now
+      took_same link now count (inl same) took = subst (λ (l : Option (RelationState T Q)). TookIn count l) (sym same) took
+      took_same link now count (inr none) took = subst (λ (l : Option (RelationState T Q)). TookIn count l) (sym none) tt
 
-      held_same : (answer : Option Kept) (link now : Option (Link T Q)) → (now ≡ link) ⊎ (now ≡ None) → HoldsAt rules answer link → HoldsAt rules answer now
-      held_same answer link now (inl same) holds = subst (λ (l : Option (Link T Q)). HoldsAt rules answer l) (sym same) holds
+      held_same : (answer : Option Kept) (link now : Option (RelationState T Q)) → (now ≡ link) ⊎ (now ≡ None) → HoldsAt rules answer link → HoldsAt rules answer now
+      held_same answer link now (inl same) holds = subst (λ (l : Option (RelationState T Q)). HoldsAt rules answer l) (sym same) holds
       held_same None link now (inr none) holds = none
-      held_same (Some answer) link now (inr none) holds = subst (λ (l : Option (Link T Q)). IsHeldIn rules answer.sequence l) (sym none) tt
+      held_same (Some answer) link now (inr none) holds = subst (λ (l : Option (RelationState T Q)). IsHeldIn rules answer.sequence l) (sym none) tt
 
       by_leaves : AreGood after frames → GoesBy rules before after frames → Leaves before after frames
       by_leaves good goes =
@@ -327,7 +327,7 @@ module _ {T Q : Type 0} (rules : Rules T Q) where
             confirmed = still_confirmed before.link after.link goes.link confirmed;
           }
 
-      past_exchanging : (sequence : ℕ) (link : Link T Q) → IsHeld rules sequence link → link.phase ≡ Awaiting → IsHeld rules sequence (record link { phase = Exchanging })
+      past_exchanging : (sequence : ℕ) (link : RelationState T Q) → IsHeld rules sequence link → link.phase ≡ Awaiting → IsHeld rules sequence (record link { phase = Exchanging })
       past_exchanging sequence link there awaits = record {
         few = there.few;
         made = there.made;
@@ -336,7 +336,7 @@ module _ {T Q : Type 0} (rules : Rules T Q) where
         past = inr (is_past sequence link awaits there.past);
       }
         where
-          is_past : (sequence : ℕ) (link : Link T Q) → link.phase ≡ Awaiting → (link.phase ≡ Started) ⊎ ((length rules.records < sequence) × (link.taken ≡ rules.records))
+          is_past : (sequence : ℕ) (link : RelationState T Q) → link.phase ≡ Awaiting → (link.phase ≡ Started) ⊎ ((length rules.records < sequence) × (link.taken ≡ rules.records))
               → (length rules.records < sequence) × (link.taken ≡ rules.records)
           is_past sequence link awaits (inl started) = absurd cc
           is_past sequence link awaits (inr past) = past
@@ -344,10 +344,10 @@ module _ {T Q : Type 0} (rules : Rules T Q) where
       confirmed_leaves : PastNow → IsConfirmed before after frames → Leaves before after frames
       confirmed_leaves past confirms =
           let there = is_held before.kept before.link confirms.link confirms.was held in
-          let now : Option (Link T Q) = Some (record confirms.link { phase = Exchanging }) in
+          let now : Option (RelationState T Q) = Some (record confirms.link { phase = Exchanging }) in
           let grows : Grows before.kept before.link before.kept now = λ count took. record {
             called = took.called;
-            taken = subst (λ (l : Option (Link T Q)). TookIn count l) confirms.was took.taken;
+            taken = subst (λ (l : Option (RelationState T Q)). TookIn count l) confirms.was took.taken;
           } in
           subst (λ (d : Device T Q). Leaves before d frames) (sym confirms.becomes) (record {
             grows = grows;

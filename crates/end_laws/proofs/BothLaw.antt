@@ -2,7 +2,7 @@
 use Rattle.std.proofs.Common.{◌≡◌, ◌⊎◌, inl, inr, ◌+◌, ◌≤◌, ℕ, true, List, [], ◌∷◌, ◌++◌, length, Option, Some, None, refl, sym, ap, subst, ◌∙◌, add-one, append_assoc}
 use Rattle.std.specs.List.{AllByRecursion}
 use Rattle.std.specs.Prelude.{slice_get}
-use Rattle.end_laws.specs.both.Small.{Ask, ToDevice, Call, Confirms, Idle, ToController, Answers, Readies, Nothing, Rules, Awaiting, Exchanging, Link, Kept, Device, Controller, Seeking, Asking, Waiting, Exchanges, Ended, World, Move, ComesToDevice, ComesToController, AtDevice, AtController, IsByController, IsByDevice}
+use Rattle.end_laws.specs.both.Small.{Ask, ToDevice, Call, Confirms, Idle, ToController, Answers, Readies, Nothing, Rules, Awaiting, Exchanging, RelationState, Kept, Device, Controller, Seeking, Asking, Waiting, Exchanges, Ended, World, Move, ComesToDevice, ComesToController, AtDevice, AtController, IsByController, IsByDevice}
 use Rattle.end_laws.specs.both.Steps.{IsDull, CallsWhile, SaysToDevice, IsSaid, IsNext, Moves, StepsAtDevice, StepsAtController, ComesToDeviceAs, ComesToControllerAs, Steps}
 use Rattle.end_laws.specs.both.StartUp.{IsRun, last_of, Begins, WasSent, WasHanded, WasExchanging}
 use Rattle.end_laws.proofs.BothHolds.{HoldsAt, Behind, IsCall, TellsDevice, TellsController, IsFine, AreFine, KeepsFine, AsksBehind, ConfirmedIn, Holds}
@@ -14,15 +14,15 @@ use Rattle.end_laws.proofs.BothKept.{device_leaves, made_is, ready_is}
 module _ {T Q : Type 0} (rules : Rules T Q) where
   -- ---- the controller
 
-  module _ (Was : Type 0) (Good : List ℕ → Type 0) (kept : Option Kept) (link : Option (Link T Q)) where
+  module _ (Was : Type 0) (Good : List ℕ → Type 0) (kept : Option Kept) (link : Option (RelationState T Q)) where
     next_asks : (heard : ToController) (frame : List ℕ) (before after : Controller) (next : IsNext (length rules.records) heard before after)
         → TellsController rules Good kept link frame heard
         → ((next.sequence ≤ length rules.records) × (after ≡ Asking (next.sequence + 1))) ⊎ (after ≡ Waiting) → AsksBehind kept link after
     next_asks heard frame before after next tells (inl more) =
-        let told : TellsController rules Good kept link frame (Answers next.sequence true) =
+        let reported : TellsController rules Good kept link frame (Answers next.sequence true) =
         subst (λ (h : ToController). TellsController rules Good kept link frame h) next.answered tells in
         subst (λ (c : Controller). AsksBehind kept link c) (sym more.1)
-        (subst (λ (s : ℕ). Behind s kept link) (sym (add-one next.sequence)) (told more.0))
+        (subst (λ (s : ℕ). Behind s kept link) (sym (add-one next.sequence)) (reported more.0))
     next_asks heard frame before after next tells (inr waits) = subst (λ (c : Controller). AsksBehind kept link c) (sym waits) tt
 
     still_asks : (heard : ToController) (frame : List ℕ) (before after : Controller) → TellsController rules Good kept link frame heard
@@ -62,7 +62,7 @@ module _ {T Q : Type 0} (rules : Rules T Q) where
     pub past_now : (number : ℕ) → move ≡ ComesToDevice number → Was → PastNow
     pub good_now : IsByDevice move → (frames : List (List ℕ)) → v.sent ≡ w.sent ++ frames → v.controller ≡ w.controller
         → (number : ℕ) (frame : List ℕ) → slice_get frames number ≡ Some frame
-        → (link : Link T Q) → v.device.link ≡ Some link → link.phase ≡ Awaiting → link.request ≡ rules.request → link.taken ≡ rules.records → GoodNow frame
+        → (link : RelationState T Q) → v.device.link ≡ Some link → link.phase ≡ Awaiting → link.request ≡ rules.request → link.taken ≡ rules.records → GoodNow frame
     pub handed_now : (number : ℕ) → move ≡ ComesToController number → (frame : List ℕ) → slice_get w.sent number ≡ Some frame
         → rules.to_controller frame ≡ Readies → Good frame → v.controller ≡ Exchanges → HandedNow
 
@@ -99,7 +99,7 @@ module _ {T Q : Type 0} (rules : Rules T Q) where
           confirmed = leaves.confirmed;
         }
 
-    confirmed_on : (link : Option (Link T Q)) → ConfirmedIn Past link → ConfirmedIn PastNow link
+    confirmed_on : (link : Option (RelationState T Q)) → ConfirmedIn Past link → ConfirmedIn PastNow link
     confirmed_on None confirmed = tt
     confirmed_on (Some link) confirmed = λ exchanges. passes.past_on (confirmed exchanges)
 
@@ -335,7 +335,7 @@ module _ {T Q : Type 0} (rules : Rules T Q) where
         holds_behind (WasAtExchange run) (WasAtExchange (run ++ one ∷ [])) (WasExchanging run) (WasExchanging (run ++ one ∷ [])) (WasSent rules first run) (WasSent rules first (run ++ one ∷ []))
         (WasHanded rules first run) (WasHanded rules first (run ++ one ∷ [])) (last_of first run) one.0 one.1 (passes_on run one) holds steps
 
-    dull_fine : (Was : Type 0) (Good : List ℕ → Type 0) (kept : Option Kept) (link : Option (Link T Q)) (frames : List (List ℕ)) → AllByRecursion (IsDull rules) frames → AreFine rules Was Good kept link frames
+    dull_fine : (Was : Type 0) (Good : List ℕ → Type 0) (kept : Option Kept) (link : Option (RelationState T Q)) (frames : List (List ℕ)) → AllByRecursion (IsDull rules) frames → AreFine rules Was Good kept link frames
     dull_fine Was Good kept link frames all =
         each_so (IsDull rules) (IsFine rules Was Good kept link) (λ frame dull. fine_as rules Was Good kept link frame Idle Nothing dull.0 dull.1 tt tt) frames all
 
@@ -346,7 +346,7 @@ module _ {T Q : Type 0} (rules : Rules T Q) where
       sent = dull_fine (WasAtExchange []) (WasSent rules first []) first.device.kept first.device.link first.sent begins.dull;
       asked = subst (λ (c : Controller). AsksBehind first.device.kept first.device.link c) (sym begins.seeking) tt;
       readied = λ exchanges. absurd (not_seeking (sym begins.seeking ∙ exchanges));
-      confirmed = subst (λ (l : Option (Link T Q)). ConfirmedIn (WasExchanging {T = T} {Q = Q} []) l) (sym begins.unrelated) tt;
+      confirmed = subst (λ (l : Option (RelationState T Q)). ConfirmedIn (WasExchanging {T = T} {Q = Q} []) l) (sym begins.unrelated) tt;
     }
       where
         not_seeking : Seeking ≡ Exchanges → ⊥
@@ -358,14 +358,14 @@ module _ {T Q : Type 0} (rules : Rules T Q) where
     pub was_handed : (run : List (Move × World T Q)) → Begins rules first → IsRun rules first run → (last_of first run).controller ≡ Exchanges → WasHanded rules first run
     was_handed run begins steps exchanges = (holds_at run begins steps).readied exchanges
 
-    was_confirmed : (Was : Type 0) (link : Option (Link T Q)) (there : Link T Q) → link ≡ Some there → there.phase ≡ Exchanging → ConfirmedIn Was link → Was
-    was_confirmed Was link there is exchanges confirmed = (subst (λ (l : Option (Link T Q)). ConfirmedIn Was l) is confirmed) exchanges
+    was_confirmed : (Was : Type 0) (link : Option (RelationState T Q)) (there : RelationState T Q) → link ≡ Some there → there.phase ≡ Exchanging → ConfirmedIn Was link → Was
+    was_confirmed Was link there is exchanges confirmed = (subst (λ (l : Option (RelationState T Q)). ConfirmedIn Was l) is confirmed) exchanges
 
     pub was_exchanging : (run : List (Move × World T Q)) → Begins rules first → IsRun rules first run
-        → (link : Link T Q) → (last_of first run).device.link ≡ Some link → link.phase ≡ Exchanging → WasExchanging run
+        → (link : RelationState T Q) → (last_of first run).device.link ≡ Some link → link.phase ≡ Exchanging → WasExchanging run
     was_exchanging run begins steps link is exchanges =
         was_confirmed (WasExchanging run) (last_of first run).device.link link is exchanges (holds_at run begins steps).confirmed
 
     pub is_made : (run : List (Move × World T Q)) → Begins rules first → IsRun rules first run
-        → (link : Link T Q) → (last_of first run).device.link ≡ Some link → link.request ≡ rules.request
+        → (link : RelationState T Q) → (last_of first run).device.link ≡ Some link → link.request ≡ rules.request
     is_made run begins steps link is = made_is rules (last_of first run).device.kept (last_of first run).device.link link is (holds_at run begins steps).held

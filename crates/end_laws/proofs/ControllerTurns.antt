@@ -43,31 +43,31 @@ module _ (plan : Parts) where
   count = length plan.records.items
 
   -- a message that says nothing of a start-up
-  abbrev IsQuiet : Sent → Type 0
-  IsQuiet message = said_by plan message ≡ small.Idle
+  abbrev IsInactive : Sent → Type 0
+  IsInactive message = said_by plan message ≡ small.Idle
 
-  quiet_says : (now : Controller) (message : Sent) → IsQuiet message → SaysToDevice count now (said_by plan message)
-  quiet_says now message quiet = subst (λ (said : ToDevice). SaysToDevice count now said) (sym quiet) tt
+  inactive_says : (now : Controller) (message : Sent) → IsInactive message → SaysToDevice count now (said_by plan message)
+  inactive_says now message inactive = subst (λ (said : ToDevice). SaysToDevice count now said) (sym inactive) tt
 
-  all_quiet : (now : Controller) (sent : List Sent) → AllByRecursion IsQuiet sent → AllByRecursion (λ message. SaysToDevice count now (said_by plan message)) sent
-  all_quiet now [] all = tt
-  all_quiet now (message ∷ sent) all = (quiet_says now message all.0, all_quiet now sent all.1)
+  all_inactive : (now : Controller) (sent : List Sent) → AllByRecursion IsInactive sent → AllByRecursion (λ message. SaysToDevice count now (said_by plan message)) sent
+  all_inactive now [] all = tt
+  all_inactive now (message ∷ sent) all = (inactive_says now message all.0, all_inactive now sent all.1)
 
   -- ---- the cases in which nothing moves, and in which the relation has ended
 
   same_goes : (heard : ToController) (live after : Live) (sent : List Sent) → IsInStep plan live.phase live.asked → after.phase ≡ live.phase → after.asked ≡ live.asked
-      → AllByRecursion IsQuiet sent → GoesOn plan heard live (record { live = after; sent = sent })
-  same_goes heard live after sent in_step phase asked quiet = record {
+      → AllByRecursion IsInactive sent → GoesOn plan heard live (record { live = after; sent = sent })
+  same_goes heard live after sent in_step phase asked inactive = record {
     in_step = subst (λ (p : State). IsInStep plan p after.asked) (sym phase) (subst (λ (a : Option Request). IsInStep plan live.phase a) (sym asked) in_step);
     moves = inl (ap (λ (p : State). state_of plan p after.asked) phase ∙ ap (λ (a : Option Request). state_of plan live.phase a) asked);
-    says = all_quiet (small_of plan after) sent quiet;
+    says = all_inactive (small_of plan after) sent inactive;
   }
 
   stays_goes : (heard : ToController) (live : Live) → IsInStep plan live.phase live.asked → GoesOn plan heard live (stays live)
   stays_goes heard live in_step = same_goes heard live live [] in_step refl refl tt
 
-  over_goes : (heard : ToController) (reason : Cause) (live : Live) (sent : List Sent) → AllByRecursion IsQuiet sent → GoesOn plan heard live (record { live = over reason live; sent = sent })
-  over_goes heard reason live sent quiet = record { in_step = inl refl; moves = inr (inl refl); says = all_quiet small.Ended sent quiet }
+  over_goes : (heard : ToController) (reason : Cause) (live : Live) (sent : List Sent) → AllByRecursion IsInactive sent → GoesOn plan heard live (record { live = over reason live; sent = sent })
+  over_goes heard reason live sent inactive = record { in_step = inl refl; moves = inr (inl refl); says = all_inactive small.Ended sent inactive }
 
 module _ (setup : Setup) where
   released_goes : (heard : ToController) (reason : Cause) (live : Live) → GoesOn setup.plan heard live (released setup reason live)
@@ -84,7 +84,7 @@ module _ (setup : Setup) where
   Tells phase asked (asks.Release sequence) = IsInStep setup.plan phase None × (state_of setup.plan phase None ≡ small.Ended)
 
   tells_so : (phase : State) (asked : Option Request) (one request : Request) → asked ≡ Some one → Tells phase asked one → asked ≡ Some request → Tells phase asked request
-  tells_so phase asked one request is told stands = subst (λ (r : Request). Tells phase asked r) (some_is one request (sym is ∙ stands)) told
+  tells_so phase asked one request is reported stands = subst (λ (r : Request). Tells phase asked r) (some_is one request (sym is ∙ stands)) reported
 
   none_stands : (request : Request) → None ≡ Some request → ⊥
   none_stands request e = absurd cc
@@ -147,12 +147,12 @@ module _ (setup : Setup) where
   -- the pending request says what it may
   request_says : (phase : State) (asked : Option Request) (request : Request) → Tells phase asked request
       → SaysToDevice (length setup.plan.records.items) (state_of setup.plan phase asked) (asked_by setup.plan request)
-  request_says phase asked asks.Identify told = tt
-  request_says phase asked asks.Address told = tt
-  request_says phase asked asks.Connect told = inr (told, refl)
-  request_says phase asked (asks.Write number) told = inr (told.1, (told.0, refl))
-  request_says phase asked asks.PrmEnd told = inr (told, refl)
-  request_says phase asked (asks.Release sequence) told = inl refl
+  request_says phase asked asks.Identify reported = tt
+  request_says phase asked asks.Address reported = tt
+  request_says phase asked asks.Connect reported = inr (reported, refl)
+  request_says phase asked (asks.Write number) reported = inr (reported.1, (reported.0, refl))
+  request_says phase asked asks.PrmEnd reported = inr (reported, refl)
+  request_says phase asked (asks.Release sequence) reported = inl refl
 
   abbrev AreSaid : Controller → List Sent → Type 0
   AreSaid now sent = AllByRecursion (λ message. SaysToDevice (length setup.plan.records.items) now (said_by setup.plan message)) sent

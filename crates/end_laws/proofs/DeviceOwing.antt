@@ -22,25 +22,25 @@ use Rattle.records.specs.declared.status.operation.Operation.{Operation}
 use Rattle.records.specs.declared.status.operation.Operation.TheVariants as operation
 use Rattle.records.specs.status.Operation.{code_of}
 use Rattle.records.specs.status.Status.{status_of}
-use Rattle.records.specs.calls.Judged.{judged as in_order}
+use Rattle.records.specs.calls.Handled.{handled as in_order}
 use Rattle.records.specs.calls.Naming.{in_relation, is_relation}
 use Rattle.records.specs.calls.Single.{formed, single_of}
 use Rattle.connect_requests.specs.declared.parts.Ar.{Ar}
 use Rattle.connect_requests.specs.Pieces.{Piece, pieces_of}
 use Rattle.connect_requests.specs.Request.{Request}
-use Rattle.connect_requests.specs.Judged.{admitted, ar_in, conflict, request_behind, request_in, request_of}
+use Rattle.connect_requests.specs.Handled.{admitted, ar_in, conflict, request_behind, request_in, request_of}
 use Rattle.record_blocks.specs.declared.write_record.IodWriteReq.{IodWriteReq}
 use Rattle.im_records.specs.Indices.{is_anywhere, is_read_only, record_with}
 use Rattle.im_records.specs.Records.{is_real}
-use Rattle.records.specs.reads.Judged.{placed}
+use Rattle.records.specs.reads.Handled.{placed}
 use Rattle.records.specs.declared.writes.taken.TakenRecord.{TakenRecord}
-use Rattle.records.specs.writes.Judged.{effect_of, is_known, judged_request as write_judged, targeted, write_of, written}
+use Rattle.records.specs.writes.Handled.{effect_of, is_known, handled_request as write_handled, targeted, write_of, written}
 use Rattle.records.specs.writes.Taken.{keep_of}
-use Rattle.relations.specs.Link.{Link, is_named, is_session, is_started, phase_of, uuid_of}
+use Rattle.relations.specs.RelationState.{RelationState, is_named, is_session, is_started, phase_of, uuid_of}
 use Rattle.relations.specs.Phases.{keeping}
 use Rattle.relations.specs.Calls.{control_block, in_control, in_started, named_of, prm_end_of, release_of}
 use Rattle.relations.specs.Connect.{connect_of}
-use Rattle.device_core.specs.Judged.{outcome_of, kept_answer}
+use Rattle.device_core.specs.Handled.{outcome_of, kept_answer}
 use Rattle.device_core.specs.Machine.{written_as}
 use Rattle.end_laws.proofs.DeviceTurns.{bind_ok}
 
@@ -141,10 +141,10 @@ fault_plain : {A : Type 0} (why : CallFault) (value : Option A) → IsPlain why 
 fault_plain why (Some value) plain = tt
 fault_plain why None plain = plain
 
-judged_plain : {A : Type 0} (judgements : List (Bool × CallFault)) (otherwise : Result A CallFault) → AllByRecursion (λ (one : Bool × CallFault). IsPlain one.1) judgements → IsPlainIn otherwise
+handled_plain : {A : Type 0} (judgements : List (Bool × CallFault)) (otherwise : Result A CallFault) → AllByRecursion (λ (one : Bool × CallFault). IsPlain one.1) judgements → IsPlainIn otherwise
     → IsPlainIn (in_order judgements otherwise)
-judged_plain [] otherwise plain other = other
-judged_plain {A} (judgement ∷ others) otherwise plain other = by_test judgement.0 (judged_plain others otherwise plain.1 other)
+handled_plain [] otherwise plain other = other
+handled_plain {A} (judgement ∷ others) otherwise plain other = by_test judgement.0 (handled_plain others otherwise plain.1 other)
   where
     by_test : (b : Bool) → IsPlainIn (in_order others otherwise) → IsPlainIn (cond b (Err judgement.1) (in_order others otherwise))
     by_test true rest = plain.0
@@ -158,7 +158,7 @@ formed_plain (Err why) = tt
 
 single_plain : (type : BlockType) (blocks : List ℕ) → IsPlainIn (single_of type blocks)
 unfolding single_of
-single_plain type blocks = judged_plain
+single_plain type blocks = handled_plain
     ((length blocks == 0, fault.BlockMissing)
     ∷ (nat_lt (length blocks) 4, fault.BlockHeader)
     ∷ (not (big_number 2 blocks == number_of type), fault.BlockType)
@@ -169,25 +169,25 @@ control_plain : (type : BlockType) (blocks : List ℕ) → IsPlainIn (control_bl
 control_plain type blocks =
     bind_plain (single_of type blocks) (λ x. or_fault fault.BlockForm (in_control x.0)) (single_plain type blocks) (λ x. fault_plain fault.BlockForm (in_control x.0) tt)
 
-named_plain : (link : Option Link) (block : ControlBlock) (command : ℕ) → IsPlainIn (named_of link block command)
-named_plain link block command = judged_plain
+named_plain : (link : Option RelationState) (block : ControlBlock) (command : ℕ) → IsPlainIn (named_of link block command)
+named_plain link block command = handled_plain
     ((not (is_named block.ar_uuid link), fault.UnknownRelation)
     ∷ (not (is_session block.session_key link), fault.UnknownSession)
     ∷ (not (block.control_command == command), fault.ControlCommand)
     ∷ [])
     (Ok tt) (tt, (tt, (tt, tt))) tt
 
-started_plain : (link : Option Link) → IsPlainIn (in_started link)
-started_plain link = judged_plain ((not (is_started (phase_of link)), fault.Phase) ∷ []) (Ok tt) (tt, tt) tt
+started_plain : (link : Option RelationState) → IsPlainIn (in_started link)
+started_plain link = handled_plain ((not (is_started (phase_of link)), fault.Phase) ∷ []) (Ok tt) (tt, tt) tt
 
-pub prm_plain : (link : Option Link) (blocks : List ℕ) → IsPlainIn (prm_end_of link blocks)
+pub prm_plain : (link : Option RelationState) (blocks : List ℕ) → IsPlainIn (prm_end_of link blocks)
 unfolding prm_end_of
 prm_plain link blocks =
     bind_plain (control_block kind.PrmEnd blocks) (λ block. named_of link block 1 >>= λ _. in_started link >>= λ _. Ok block) (control_plain kind.PrmEnd blocks)
     (λ block. bind_plain (named_of link block 1) (λ _. in_started link >>= λ _. Ok block) (named_plain link block 1)
     (λ _. bind_plain (in_started link) (λ _. Ok block) (started_plain link) (λ _. tt)))
 
-pub release_plain : (link : Option Link) (blocks : List ℕ) → IsPlainIn (release_of link blocks)
+pub release_plain : (link : Option RelationState) (blocks : List ℕ) → IsPlainIn (release_of link blocks)
 unfolding release_of
 release_plain link blocks =
     bind_plain (control_block kind.Release blocks) (λ block. named_of link block 4 >>= λ _. Ok block) (control_plain kind.Release blocks)
@@ -197,11 +197,11 @@ release_plain link blocks =
 
 related_plain : (standing : Option (List ℕ)) (uuid : List ℕ) → IsPlainIn (in_relation standing uuid)
 unfolding in_relation
-related_plain standing uuid = judged_plain ((not (is_relation standing uuid), fault.UnknownRelation) ∷ []) (Ok tt) (tt, tt) tt
+related_plain standing uuid = handled_plain ((not (is_relation standing uuid), fault.UnknownRelation) ∷ []) (Ok tt) (tt, tt) tt
 
 placed_plain : (real : Real) (api slot subslot index : ℕ) → IsPlainIn (placed real api slot subslot index)
 unfolding placed
-placed_plain real api slot subslot index = judged_plain
+placed_plain real api slot subslot index = handled_plain
     ((not (api == 0), fault.Api)
     ∷ (not (is_anywhere (record_with index) || is_real real slot subslot), fault.Place)
     ∷ [])
@@ -215,7 +215,7 @@ targeted_plain standing real request =
 
 written_plain : (real : Real) (request : IodWriteReq) (behind : List ℕ) → IsPlainIn (written real request behind)
 unfolding written
-written_plain real request behind = judged_plain
+written_plain real request behind = handled_plain
     ((not (is_known real request), fault.Index)
     ∷ (is_read_only (record_with request.header.index), fault.Access)
     ∷ (nat_lt (length behind) request.header.record_data_length, fault.WriteLength)
@@ -223,8 +223,8 @@ written_plain real request behind = judged_plain
     (or_fault fault.WriteLength (effect_of real request (take request.header.record_data_length behind))) (tt, (tt, (tt, tt)))
     (fault_plain fault.WriteLength (effect_of real request (take request.header.record_data_length behind)) tt)
 
-request_plain : (standing : Option (List ℕ)) (real : Real) (request : IodWriteReq) (behind : List ℕ) → IsPlainIn (write_judged standing real request behind)
-unfolding write_judged
+request_plain : (standing : Option (List ℕ)) (real : Real) (request : IodWriteReq) (behind : List ℕ) → IsPlainIn (write_handled standing real request behind)
+unfolding write_handled
 request_plain standing real request behind =
     bind_plain (targeted standing real request) (λ _. written real request behind >>= λ effect. Ok (record { request = request; effect = effect })) (targeted_plain standing real request)
     (λ _. bind_plain (written real request behind) (λ effect. Ok (record { request = request; effect = effect })) (written_plain real request behind) (λ effect. tt))
@@ -232,9 +232,9 @@ request_plain standing real request behind =
 pub write_plain : (standing : Option (List ℕ)) (real : Real) (blocks : List ℕ) → IsPlainIn (write_of standing real blocks)
 unfolding write_of
 write_plain standing real blocks =
-    bind_plain (single_of kind.IodWriteReq blocks) (λ x. or_fault fault.BlockForm (in_iod_write_req x.0) >>= λ request. write_judged standing real request x.1)
+    bind_plain (single_of kind.IodWriteReq blocks) (λ x. or_fault fault.BlockForm (in_iod_write_req x.0) >>= λ request. write_handled standing real request x.1)
     (single_plain kind.IodWriteReq blocks)
-    (λ x. bind_plain (or_fault fault.BlockForm (in_iod_write_req x.0)) (λ request. write_judged standing real request x.1) (fault_plain fault.BlockForm (in_iod_write_req x.0) tt)
+    (λ x. bind_plain (or_fault fault.BlockForm (in_iod_write_req x.0)) (λ request. write_handled standing real request x.1) (fault_plain fault.BlockForm (in_iod_write_req x.0) tt)
     (λ request. request_plain standing real request x.1))
 
 keep_plain : (value : TakenRecord) (records : List TakenRecord) → IsPlainIn (keep_of value records)
@@ -245,7 +245,7 @@ keep_plain value records = by_room (nat_lt (length records) 64)
     by_room true = tt
     by_room false = tt
 
-pub keeping_plain : (value : TakenRecord) (link : Option Link) → IsPlainIn (keeping value link)
+pub keeping_plain : (value : TakenRecord) (link : Option RelationState) → IsPlainIn (keeping value link)
 keeping_plain value None = tt
 keeping_plain value (Some link) = keep_plain value link.taken
 
@@ -279,6 +279,6 @@ pieces_plain (Some standing) (piece ∷ pieces) request reads =
     let there = bind_ok (ar_in piece) (λ ar. admitted None ar >>= λ _. request_behind ar pieces) request reads in
     subst (λ (r : Result Ar CallFault). IsPlainIn (r >>= λ ar. admitted (Some standing) ar >>= λ _. request_behind ar pieces)) (sym there.1) (conflict_plain standing there.0.uuid)
 
-pub connect_plain : (link : Option Link) (blocks : List ℕ) (request : Request) → request_of None blocks ≡ Ok request → IsPlainIn (connect_of link blocks)
+pub connect_plain : (link : Option RelationState) (blocks : List ℕ) (request : Request) → request_of None blocks ≡ Ok request → IsPlainIn (connect_of link blocks)
 unfolding request_of
 connect_plain link blocks request reads = pieces_plain (uuid_of link) (pieces_of blocks) request reads

@@ -14,7 +14,7 @@ use Rattle.dcp_core.specs.declared.request.Service.TheVariants as service
 use Rattle.dcp_core.specs.Request.{Asked}
 use Rattle.dcp_core.specs.Identify.{matches}
 use Rattle.dcp_core.specs.Set.{plan_of}
-use Rattle.rpc_core.specs.Cache.{Kept as Answer, Told as Looked, new, again, old, kept_of, told_by, looked, without, kept_more}
+use Rattle.rpc_core.specs.Cache.{Kept as Answer, Reported as Looked, new, again, old, kept_of, reported_by, looked, without, kept_more}
 use Rattle.rpc_core.specs.Call.{Asked as Call}
 use Rattle.rpc_core.specs.Response.{Answered as Response, is_done}
 use Rattle.connect_blocks.specs.declared.control.ControlBlock.{ControlBlock}
@@ -28,13 +28,13 @@ use Rattle.records.specs.declared.status.operation.Operation.TheVariants as oper
 use Rattle.records.specs.status.Operation.{operation_of}
 use Rattle.records.specs.status.Status.{status_of}
 use Rattle.connect_requests.specs.Request.{Request}
-use Rattle.connect_requests.specs.Judged.{request_of}
+use Rattle.connect_requests.specs.Handled.{request_of}
 use Rattle.record_blocks.specs.declared.write_record.IodWriteReq.{IodWriteReq}
 use Rattle.records.specs.declared.writes.taken.TakenRecord.{TakenRecord}
 use Rattle.records.specs.declared.writes.write.Effect.{Effect}
 use Rattle.records.specs.declared.writes.write.Effect.TheVariants.{Stores, Keeps}
 use Rattle.records.specs.declared.writes.write.Write.{Write}
-use Rattle.records.specs.writes.Judged.{write_of}
+use Rattle.records.specs.writes.Handled.{write_of}
 use Rattle.records.specs.writes.Taken.{keep_of}
 use Rattle.pn_alarms.specs.declared.abort.Abort.{Abort}
 use Rattle.pn_alarms.specs.declared.abort.Abort.TheVariants.{Other}
@@ -56,22 +56,22 @@ use Rattle.relations.specs.declared.hearing.ReadyAnswer.{ReadyAnswer}
 use Rattle.relations.specs.declared.hearing.ReadyAnswer.TheVariants as to_ready
 use Rattle.relations.specs.declared.phase.Phase.{Phase}
 use Rattle.relations.specs.declared.phase.Phase.TheVariants.{Started, Awaiting, Exchanging}
-use Rattle.relations.specs.Link.{Link, phase_of, uuid_of, flow_of, is_started, is_awaiting, is_alarm_of}
-use Rattle.relations.specs.Phases.{Judged as Moving, Made, Parameterized, Confirmed, Named, Took, Exchanged, Passed, Ended, Unmoved, moved, passing, passing_by, answered, keeping, taking, awaiting_from}
+use Rattle.relations.specs.RelationState.{RelationState, phase_of, uuid_of, flow_of, is_started, is_awaiting, is_alarm_of}
+use Rattle.relations.specs.Phases.{Handled as Moving, Made, Parameterized, Confirmed, Named, Took, Exchanged, Passed, Ended, Unmoved, updated, passing, passing_by, answered, keeping, taking, awaiting_from}
 use Rattle.relations.specs.Calls.{control_block, named_of, in_started, done_of, prm_end_of, release_of}
 use Rattle.relations.specs.Connect.{connect_of, connect_blocks, differing_of, making}
 use Rattle.relations.specs.Ready.{answer_of, is_wanted, is_answer_to, confirmed_block, confirmed_by}
 use Rattle.relations.specs.Timers.{ending_of, due_by, due_of, is_again, unit_later}
 use Rattle.relations.specs.Exchanged.{received_by, receiving, receiving_as, given_to, raised_to, heard_by, hearing, hearing_as}
-use Rattle.device_frames.specs.Heard.{Heard, Ticks, Unreadable, Elsewhere, Asks, Resolves, Told, Cyclic, Alarms, Given, Raised, Said, Calls, Responds, Garbled}
+use Rattle.device_frames.specs.Heard.{Heard, Ticks, Unreadable, Elsewhere, Asks, Resolves, Reported, Cyclic, Alarms, Given, Raised, Said, Calls, Responds, Garbled}
 use Rattle.device_frames.specs.Relation.{alarms_of, farewells_in, frames_in, inputs_of, ready_calls, replies_of, where_due}
 use Rattle.device_frames.specs.Sent.{Sent, IdentifyAnswer, GetAnswer, SetAnswer, ArpReply, CallAnswer, Again, ReadyCall, Ends, Exchanges, bytes_of}
 use Rattle.device_frames.specs.declared.note.Note.{Note}
 use Rattle.device_frames.specs.declared.note.Note.TheVariants.{Filter, NotMine, NoRelation}
 use Rattle.device_core.specs.State.{Station, Rest, Live}
 use Rattle.settings_store.specs.Machine.{Outcome, carried}
-use Rattle.device_core.specs.Judged.{Judged, Refuses, Sets, Moves, is_running, is_request, outcome_of, answer_from, kept_for, kept_behind, served, ready_behind, partner_of, kept_answer, judged_effect, judged_write, judged_new, judged_looked, judged_blocks, judged_call, judged_answer, judged_said, judged_received, judged_input, judged_notice, judged_pdu, judged_message, judged_request, ticked, judged}
-use Rattle.device_core.specs.Machine.{resets, link_after, farewells_at, finished, items_in, judged_step, heard_step}
+use Rattle.device_core.specs.Handled.{Handled, Refuses, Sets, Moves, is_running, is_request, outcome_of, answer_from, kept_for, kept_behind, served, ready_behind, partner_of, kept_answer, handled_effect, handled_write, handled_new, handled_looked, handled_blocks, handled_call, handled_answer, handled_said, handled_received, handled_input, handled_notice, handled_pdu, handled_message, handled_request, ticked, handled}
+use Rattle.device_core.specs.Machine.{resets, link_after, farewells_at, finished, items_in, handled_step, heard_step}
 use Rattle.end_laws.specs.both.Small as small
 use Rattle.end_laws.specs.both.Small.{Rules, ToDevice, ToController}
 use Rattle.end_laws.specs.both.Steps.{IsNew, Comes, SaysAtMost, IsReady, IsDull, DeviceSteps}
@@ -122,10 +122,10 @@ IsMild Passed = Unit {0}
 IsMild Ended = Unit {0}
 IsMild Unmoved = Unit {0}
 
-abbrev IsSameOr : Option Link → Option Link → Type 0
+abbrev IsSameOr : Option RelationState → Option RelationState → Type 0
 IsSameOr before after = (option_map link_of after ≡ option_map link_of before) ⊎ (option_map link_of after ≡ None)
 
-mild_stays : (judged : Moving) (link : Option Link) → IsMild judged → IsSameOr link (moved judged link)
+mild_stays : (handled : Moving) (link : Option RelationState) → IsMild handled → IsSameOr link (updated handled link)
 mild_stays (Made request partner rows) link mild = absurd mild
 mild_stays Parameterized link mild = absurd mild
 mild_stays Confirmed link mild = absurd mild
@@ -143,7 +143,7 @@ passing_mild : (ending : Option Abort) → IsMild (passing_by ending)
 passing_mild (Some reason) = tt
 passing_mild None = tt
 
-passes_mildly : (link : Option Link) → IsMild (passing link)
+passes_mildly : (link : Option RelationState) → IsMild (passing link)
 passes_mildly None = tt
 passes_mildly (Some link) = passing_mild (ending_of link)
 
@@ -153,7 +153,7 @@ receives_mildly received.Short flow = tt
 receives_mildly received.Stale flow = tt
 receives_mildly received.Taken flow = tt
 
-received_mildly : (source : Mac) (frame_id : ℕ) (body : List ℕ) (link : Option Link) → IsMild (receiving source frame_id body link)
+received_mildly : (source : Mac) (frame_id : ℕ) (body : List ℕ) (link : Option RelationState) → IsMild (receiving source frame_id body link)
 received_mildly source frame_id body None = tt
 received_mildly source frame_id body (Some link) = receives_mildly (received_as link.flow source frame_id body) (behind_frame link.flow source frame_id body)
 
@@ -163,7 +163,7 @@ hears_mildly fate.Done flow = tt
 hears_mildly fate.Ignored flow = tt
 hears_mildly fate.Aborted flow = tt
 
-heard_mildly : (message : Message) (link : Option Link) → IsMild (hearing message link)
+heard_mildly : (message : Message) (link : Option RelationState) → IsMild (hearing message link)
 heard_mildly message None = tt
 heard_mildly message (Some link) = hears_mildly (pdu_heard link.flow.alarms message) (behind_message link.flow message)
 
@@ -172,7 +172,7 @@ awaiting_is Started e = absurd cc
 awaiting_is Awaiting e = refl
 awaiting_is Exchanging e = absurd cc
 
-started_is : (link : Option Link) → is_started (phase_of link) ≡ true → (l : Link) × (link ≡ Some l) × (l.phase ≡ Started)
+started_is : (link : Option RelationState) → is_started (phase_of link) ≡ true → (l : RelationState) × (link ≡ Some l) × (l.phase ≡ Started)
 started_is None e = absurd cc
 started_is (Some link) e = (link, refl, by_phase link.phase e)
   where
@@ -182,15 +182,15 @@ started_is (Some link) e = (link, refl, by_phase link.phase e)
     by_phase Exchanging f = absurd cc
 
 -- a PrmEnd is accepted for a relation that waits for it
-started_by_test : (link : Option Link) (nothing : Unit {0}) (b : Bool) → is_started (phase_of link) ≡ b
+started_by_test : (link : Option RelationState) (nothing : Unit {0}) (b : Bool) → is_started (phase_of link) ≡ b
     → ◌≡◌ {A = Result (Unit {0}) CallFault} (cond (not b) (Err fault.Phase) (Ok nothing)) (Ok nothing) → is_started (phase_of link) ≡ true
 started_by_test link nothing true f g = f
 started_by_test link nothing false f g = absurd cc
 
-started_by : (link : Option Link) (nothing : Unit {0}) → in_started link ≡ Ok nothing → is_started (phase_of link) ≡ true
+started_by : (link : Option RelationState) (nothing : Unit {0}) → in_started link ≡ Ok nothing → is_started (phase_of link) ≡ true
 started_by link nothing e = started_by_test link nothing (is_started (phase_of link)) refl e
 
-prm_started : (link : Option Link) (blocks : List ℕ) (block : ControlBlock) → prm_end_of link blocks ≡ Ok block → (l : Link) × (link ≡ Some l) × (l.phase ≡ Started)
+prm_started : (link : Option RelationState) (blocks : List ℕ) (block : ControlBlock) → prm_end_of link blocks ≡ Ok block → (l : RelationState) × (link ≡ Some l) × (l.phase ≡ Started)
 unfolding prm_end_of
 prm_started link blocks block e =
     let first = bind_ok (control_block kind.PrmEnd blocks) (λ b. named_of link b 1 >>= λ _. in_started link >>= λ _. Ok b) block e in
@@ -209,89 +209,89 @@ kept_is value records taken e = by_room (nat_lt (length records) 64) e
 
 -- ---- messages that are not responses to calls
 
-abbrev IsOther : Option Link → Sent → Type 0
+abbrev IsOther : Option RelationState → Sent → Type 0
 IsOther link (IdentifyAnswer asker running xid) = Unit {0}
 IsOther link (GetAnswer asker running request) = Unit {0}
 IsOther link (SetAnswer asker request answers) = Unit {0}
 IsOther link (ArpReply asker address target) = Unit {0}
 IsOther link (CallAnswer caller address answer) = ⊥
 IsOther link (Again frame) = ⊥
-IsOther link (ReadyCall address ready) = (l : Link) × (link ≡ Some l) × (l.phase ≡ Awaiting)
+IsOther link (ReadyCall address ready) = (l : RelationState) × (link ≡ Some l) × (l.phase ≡ Awaiting)
 IsOther link (Ends farewell) = Unit {0}
 IsOther link (Exchanges route frame) = Unit {0}
 
-abbrev AreOther : Option Link → List Sent → Type 0
+abbrev AreOther : Option RelationState → List Sent → Type 0
 AreOther link sent = AllByRecursion (IsOther link) sent
 
-both_other : (link : Option Link) (sent more : List Sent) → AreOther link sent → AreOther link more → AreOther link (sent ++ more)
+both_other : (link : Option RelationState) (sent more : List Sent) → AreOther link sent → AreOther link more → AreOther link (sent ++ more)
 both_other link [] more all others = others
 both_other link (message ∷ sent) more all others = (all.0, both_other link sent more all.1 others)
 
-due_other : (link : Option Link) (b : Bool) (sent : List Sent) → AreOther link sent → AreOther link (where_due b sent)
+due_other : (link : Option RelationState) (b : Bool) (sent : List Sent) → AreOther link sent → AreOther link (where_due b sent)
 due_other link true sent all = all
 due_other link false sent all = tt
 
-frames_other : (link : Option Link) (route : Route) (frame : Option Frame) → AreOther link (frames_in route frame)
+frames_other : (link : Option RelationState) (route : Route) (frame : Option Frame) → AreOther link (frames_in route frame)
 frames_other link route (Some frame) = (tt, tt)
 frames_other link route None = tt
 
-alarms_other : (link : Option Link) (flow : Option Flow) → AreOther link (alarms_of flow)
+alarms_other : (link : Option RelationState) (flow : Option Flow) → AreOther link (alarms_of flow)
 alarms_other link None = tt
 alarms_other link (Some flow) = frames_other link flow.cyclic.route (alarm_frame flow)
 
-inputs_other : (link : Option Link) (units : ℕ) (flow : Option Flow) → AreOther link (inputs_of units flow)
+inputs_other : (link : Option RelationState) (units : ℕ) (flow : Option Flow) → AreOther link (inputs_of units flow)
 inputs_other link units None = tt
 inputs_other link units (Some flow) = (tt, tt)
 
-replies_other : (link : Option Link) (taken : Taken) (flow : Option Flow) → AreOther link (replies_of taken flow)
+replies_other : (link : Option RelationState) (taken : Taken) (flow : Option Flow) → AreOther link (replies_of taken flow)
 replies_other link taken None = tt
 replies_other link taken (Some flow) = (tt, tt)
 
-farewell_other : (link : Option Link) (farewell : Option Farewell) → AreOther link (farewells_in farewell)
+farewell_other : (link : Option RelationState) (farewell : Option Farewell) → AreOther link (farewells_in farewell)
 farewell_other link None = tt
 farewell_other link (Some farewell) = (tt, tt)
 
 -- ApplicationReady after a response, for a relation that waits for its own response
-abbrev IsReadyCall : Option Link → Sent → Type 0
+abbrev IsReadyCall : Option RelationState → Sent → Type 0
 IsReadyCall link (IdentifyAnswer asker running xid) = ⊥
 IsReadyCall link (GetAnswer asker running request) = ⊥
 IsReadyCall link (SetAnswer asker request answers) = ⊥
 IsReadyCall link (ArpReply asker address target) = ⊥
 IsReadyCall link (CallAnswer caller address answer) = ⊥
 IsReadyCall link (Again frame) = ⊥
-IsReadyCall link (ReadyCall address ready) = (l : Link) × (link ≡ Some l) × (l.phase ≡ Awaiting)
+IsReadyCall link (ReadyCall address ready) = (l : RelationState) × (link ≡ Some l) × (l.phase ≡ Awaiting)
 IsReadyCall link (Ends farewell) = ⊥
 IsReadyCall link (Exchanges route frame) = ⊥
 
-abbrev AreReady : Option Link → List Sent → Type 0
+abbrev AreReady : Option RelationState → List Sent → Type 0
 AreReady link sent = AllByRecursion (IsReadyCall link) sent
 
-readies_behind : (address : List ℕ) (link : Option Link) → AreReady (option_map awaiting_from link) (ready_calls address (option_map awaiting_from link))
+readies_behind : (address : List ℕ) (link : Option RelationState) → AreReady (option_map awaiting_from link) (ready_calls address (option_map awaiting_from link))
 readies_behind address None = tt
 readies_behind address (Some link) = ((awaiting_from link, refl, refl), tt)
 
 -- ApplicationReady again, while its response is awaited
-again_other : (address : List ℕ) (link : Link) (b : Bool) → is_again link ≡ b → AreOther (Some (unit_later link)) (where_due b (ready_calls address (Some (unit_later link))))
+again_other : (address : List ℕ) (link : RelationState) (b : Bool) → is_again link ≡ b → AreOther (Some (unit_later link)) (where_due b (ready_calls address (Some (unit_later link))))
 again_other address link true e = ((unit_later link, refl, awaiting_is link.phase (and_true (is_awaiting link.phase) (link.waited + 1 == 32000) e).0), tt)
 again_other address link false e = tt
 
-ready_other : (address : List ℕ) (link : Link) (ending : Option Abort)
-    → AreOther (moved (passing_by ending) (Some link)) (where_due (due_by link ending).is_ready (ready_calls address (moved (passing_by ending) (Some link))))
+ready_other : (address : List ℕ) (link : RelationState) (ending : Option Abort)
+    → AreOther (updated (passing_by ending) (Some link)) (where_due (due_by link ending).is_ready (ready_calls address (updated (passing_by ending) (Some link))))
 ready_other address link (Some reason) = tt
 ready_other address link None = again_other address link (is_again link) refl
 
-readies_other : (address : List ℕ) (link : Option Link) → AreOther (moved (passing link) link) (where_due (due_of link).is_ready (ready_calls address (moved (passing link) link)))
+readies_other : (address : List ℕ) (link : Option RelationState) → AreOther (updated (passing link) link) (where_due (due_of link).is_ready (ready_calls address (updated (passing link) link)))
 readies_other address None = tt
 readies_other address (Some link) = ready_other address link (ending_of link)
 
-farewells_other : (now : Option Link) (b : Bool) (link : Option Link) → AreOther now (farewells_at b link)
+farewells_other : (now : Option RelationState) (b : Bool) (link : Option RelationState) → AreOther now (farewells_at b link)
 farewells_other now true (Some link) = (tt, tt)
 farewells_other now true None = tt
 farewells_other now false link = tt
 
 -- ---- the response that is stored
 
-new_is : (sequence : ℕ) (kept : Option Answer) → told_by sequence kept ≡ new → IsNew sequence (option_map kept_in kept)
+new_is : (sequence : ℕ) (kept : Option Answer) → reported_by sequence kept ≡ new → IsNew sequence (option_map kept_in kept)
 new_is sequence None e = tt
 new_is sequence (Some kept) e = by_same (sequence == kept.sequence) refl e
   where
@@ -307,7 +307,7 @@ new_is sequence (Some kept) e = by_same (sequence == kept.sequence) refl e
     by_same true f g = absurd cc
     by_same false f g = by_order (nat_lt sequence kept.sequence) refl f g
 
-pub again_is : (sequence : ℕ) (kept : Option Answer) (frame : List ℕ) → told_by sequence kept ≡ again frame
+pub again_is : (sequence : ℕ) (kept : Option Answer) (frame : List ℕ) → reported_by sequence kept ≡ again frame
     → (answer : Answer) × (kept ≡ Some answer) × (answer.sequence ≡ sequence) × (answer.frame ≡ frame)
 again_is sequence None frame e = absurd cc
 again_is sequence (Some kept) frame e = by_same (sequence == kept.sequence) refl e
@@ -360,7 +360,7 @@ module _ (refusals_are_not_done : RefusalsAreNotDone) (rules : Rules TakenRecord
     to_device = heard.0;
     to_controller = heard.1;
     link = link_of ready.0;
-    has = ap (λ (l : Option Link). option_map link_of l) ready.1;
+    has = ap (λ (l : Option RelationState). option_map link_of l) ready.1;
     awaits = ap phase_in ready.2;
   }
   one_ready later (Ends farewell) ready heard = absurd ready
@@ -401,7 +401,7 @@ module _ (refusals_are_not_done : RefusalsAreNotDone) (rules : Rules TakenRecord
 
   module _ (live : Live) where
     -- what was judged is completed, whatever the results of its items are
-    abbrev Comes_to : ToDevice → Judged → Type 0
+    abbrev Comes_to : ToDevice → Handled → Type 0
     Comes_to heard what = (answers : List BlockError)
         → Goes heard live.rest (finished station.identity live.rest what answers).rest (finished station.identity live.rest what answers).sent
 
@@ -432,7 +432,7 @@ module _ (refusals_are_not_done : RefusalsAreNotDone) (rules : Rules TakenRecord
     identifies asker request true = one_answer (IdentifyAnswer asker live.values.running request.xid) tt
     identifies asker request false = refuses small.Idle Filter
 
-    requests : (asker : Mac) (which : Service) (request : Asked) → Comes_to small.Idle (judged_request station live asker which request)
+    requests : (asker : Mac) (which : Service) (request : Asked) → Comes_to small.Idle (handled_request station live asker which request)
     requests asker service.Identify request = identifies asker request (matches station.identity live.values.running request)
     requests asker service.Get request = one_answer (GetAnswer asker live.values.running request) tt
     requests asker service.Set request = sets asker request (is_some live.rest.link)
@@ -444,41 +444,41 @@ module _ (refusals_are_not_done : RefusalsAreNotDone) (rules : Rules TakenRecord
 
     -- ---- what is exchanged
 
-    exchanges_on : (link : Option Link) (sent : List Sent) → IsSameOr live.rest.link link → AreOther link sent → Comes_to small.Idle (Moves (record live.rest { link = link }) sent)
+    exchanges_on : (link : Option RelationState) (sent : List Sent) → IsSameOr live.rest.link link → AreOther link sent → Comes_to small.Idle (Moves (record live.rest { link = link }) sent)
     exchanges_on link sent same other answers = goes_by live.rest (record live.rest { link = link }) sent refl same other
 
-    receives : (came : Received) (judged : Moving) → IsMild judged → Comes_to small.Idle (judged_received live came (moved judged live.rest.link))
-    receives received.Foreign judged mild = refuses small.Idle Filter
-    receives received.Short judged mild = refuses small.Idle Filter
-    receives received.Stale judged mild = refuses small.Idle Filter
-    receives received.Taken judged mild = exchanges_on (moved judged live.rest.link) [] (mild_stays judged live.rest.link mild) tt
+    receives : (came : Received) (handled : Moving) → IsMild handled → Comes_to small.Idle (handled_received live came (updated handled live.rest.link))
+    receives received.Foreign handled mild = refuses small.Idle Filter
+    receives received.Short handled mild = refuses small.Idle Filter
+    receives received.Stale handled mild = refuses small.Idle Filter
+    receives received.Taken handled mild = exchanges_on (updated handled live.rest.link) [] (mild_stays handled live.rest.link mild) tt
 
-    gives : (flow : Option Flow) → Comes_to small.Idle (judged_input live flow)
-    gives (Some flow) = exchanges_on (moved (Exchanged flow) live.rest.link) [] (mild_stays (Exchanged flow) live.rest.link tt) tt
+    gives : (flow : Option Flow) → Comes_to small.Idle (handled_input live flow)
+    gives (Some flow) = exchanges_on (updated (Exchanged flow) live.rest.link) [] (mild_stays (Exchanged flow) live.rest.link tt) tt
     gives None = refuses small.Idle Filter
 
-    raises : (flow : Option Flow) → Comes_to small.Idle (judged_notice live flow)
+    raises : (flow : Option Flow) → Comes_to small.Idle (handled_notice live flow)
     raises (Some flow) =
-        let link = moved (Exchanged flow) live.rest.link in
+        let link = updated (Exchanged flow) live.rest.link in
         exchanges_on link (alarms_of (flow_of link)) (mild_stays (Exchanged flow) live.rest.link tt) (alarms_other link (flow_of link))
     raises None = refuses small.Idle Filter
 
-    notices : (came : PduFate) (judged : Moving) → IsMild judged → Comes_to small.Idle (judged_pdu live came (moved judged live.rest.link))
-    notices (fate.Data taken) judged mild =
-        let link = moved judged live.rest.link in
-        exchanges_on link (replies_of taken (flow_of link)) (mild_stays judged live.rest.link mild) (replies_other link taken (flow_of link))
-    notices fate.Done judged mild = exchanges_on (moved judged live.rest.link) [] (mild_stays judged live.rest.link mild) tt
-    notices fate.Ignored judged mild = refuses small.Idle Filter
-    notices fate.Aborted judged mild = exchanges_on (moved judged live.rest.link) [] (mild_stays judged live.rest.link mild) tt
+    notices : (came : PduFate) (handled : Moving) → IsMild handled → Comes_to small.Idle (handled_pdu live came (updated handled live.rest.link))
+    notices (fate.Data taken) handled mild =
+        let link = updated handled live.rest.link in
+        exchanges_on link (replies_of taken (flow_of link)) (mild_stays handled live.rest.link mild) (replies_other link taken (flow_of link))
+    notices fate.Done handled mild = exchanges_on (updated handled live.rest.link) [] (mild_stays handled live.rest.link mild) tt
+    notices fate.Ignored handled mild = refuses small.Idle Filter
+    notices fate.Aborted handled mild = exchanges_on (updated handled live.rest.link) [] (mild_stays handled live.rest.link mild) tt
 
-    alarms : (message : Message) (b : Bool) → Comes_to small.Idle (cond b (judged_message live message) (Refuses NoRelation))
+    alarms : (message : Message) (b : Bool) → Comes_to small.Idle (cond b (handled_message live message) (Refuses NoRelation))
     alarms message true = notices (heard_by message live.rest.link) (hearing message live.rest.link) (heard_mildly message live.rest.link)
     alarms message false = refuses small.Idle NoRelation
 
     ticks : Comes_to small.Idle (ticked live)
     ticks answers =
         let before = live.rest.link in
-        let link = moved (passing before) before in
+        let link = updated (passing before) before in
         let address = live.values.running.suite.address in
         let due = due_of before in
         let units = (live.rest.units + 1) % 65536 in
@@ -496,7 +496,7 @@ module _ (refusals_are_not_done : RefusalsAreNotDone) (rules : Rules TakenRecord
 
     -- the response confirms a relation that waits for it
     record Awaits (response : Response) : Type 0 where
-      link : Link
+      link : RelationState
       was : live.rest.link ≡ Some link
       awaits : link.phase ≡ Awaiting
       confirmed : confirms response ≡ true
@@ -510,7 +510,7 @@ module _ (refusals_are_not_done : RefusalsAreNotDone) (rules : Rules TakenRecord
         by_name false f g = absurd cc
 
     -- by the tests of a response that is awaited, in order
-    confirmed_in : (response : Response) (link : Link) (wanted done : Bool) → is_wanted response link ≡ wanted → is_done response.status ≡ done
+    confirmed_in : (response : Response) (link : RelationState) (wanted done : Bool) → is_wanted response link ≡ wanted → is_done response.status ≡ done
         → cond wanted (cond done (confirmed_by link.request.ar.uuid (confirmed_block (block_of response.blocks))) (to_ready.Refused (farewell_of Other link))) to_ready.NotWanted ≡ to_ready.Confirmed
         → (link.phase ≡ Awaiting) × (confirms response ≡ true)
     confirmed_in response link true true wanted done e =
@@ -525,7 +525,7 @@ module _ (refusals_are_not_done : RefusalsAreNotDone) (rules : Rules TakenRecord
     confirmed_in response link true false wanted done e = absurd cc
     confirmed_in response link false done wanted f e = absurd cc
 
-    is_confirmed : (response : Response) (link : Option Link) → live.rest.link ≡ link → answer_of response link ≡ to_ready.Confirmed → Awaits response
+    is_confirmed : (response : Response) (link : Option RelationState) → live.rest.link ≡ link → answer_of response link ≡ to_ready.Confirmed → Awaits response
     unfolding answer_of
     is_confirmed response None is e = absurd cc
     is_confirmed response (Some link) is e =
@@ -533,7 +533,7 @@ module _ (refusals_are_not_done : RefusalsAreNotDone) (rules : Rules TakenRecord
         record { link = link; was = is; awaits = both.0; confirmed = both.1 }
 
     -- a refused response is not a positive one
-    refused_in : (response : Response) (link : Link) (farewell : Farewell) (wanted done : Bool) → is_done response.status ≡ done
+    refused_in : (response : Response) (link : RelationState) (farewell : Farewell) (wanted done : Bool) → is_done response.status ≡ done
         → cond wanted (cond done (confirmed_by link.request.ar.uuid (confirmed_block (block_of response.blocks))) (to_ready.Refused (farewell_of Other link))) to_ready.NotWanted ≡ to_ready.Refused farewell
         → is_done response.status ≡ false
     refused_in response link farewell true true done e = absurd (not_refused link.request.ar.uuid (confirmed_block (block_of response.blocks)) e)
@@ -548,7 +548,7 @@ module _ (refusals_are_not_done : RefusalsAreNotDone) (rules : Rules TakenRecord
     refused_in response link farewell true false done e = done
     refused_in response link farewell false done f e = absurd cc
 
-    is_refused : (response : Response) (link : Option Link) (farewell : Farewell) → answer_of response link ≡ to_ready.Refused farewell → is_done response.status ≡ false
+    is_refused : (response : Response) (link : Option RelationState) (farewell : Farewell) → answer_of response link ≡ to_ready.Refused farewell → is_done response.status ≡ false
     unfolding answer_of
     is_refused response None farewell e = absurd cc
     is_refused response (Some link) farewell e = refused_in response link farewell (is_wanted response link) (is_done response.status) refl e
@@ -557,21 +557,21 @@ module _ (refusals_are_not_done : RefusalsAreNotDone) (rules : Rules TakenRecord
     none_confirms true b c e = rw e refl
     none_confirms false b c e = refl
 
-    answers_as : (response : Response) (heard : ReadyAnswer) → answer_of response live.rest.link ≡ heard → Comes_to (cond (confirms response) small.Confirms small.Idle) (judged_answer live heard)
+    answers_as : (response : Response) (heard : ReadyAnswer) → answer_of response live.rest.link ≡ heard → Comes_to (cond (confirms response) small.Confirms small.Idle) (handled_answer live heard)
     answers_as response to_ready.NotWanted e = refuses (cond (confirms response) small.Confirms small.Idle) Filter
     answers_as response to_ready.Garbled e = refuses (cond (confirms response) small.Confirms small.Idle) Filter
     answers_as response to_ready.Confirmed e =
         let there = is_confirmed response live.rest.link refl e in
-        subst (λ (b : Bool). Comes_to (cond b small.Confirms small.Idle) (judged_answer live to_ready.Confirmed)) (sym there.confirmed) (λ answers all. inl (record {
+        subst (λ (b : Bool). Comes_to (cond b small.Confirms small.Idle) (handled_answer live to_ready.Confirmed)) (sym there.confirmed) (λ answers all. inl (record {
           link = link_of there.link;
-          was = ap (λ (l : Option Link). option_map link_of l) there.was;
+          was = ap (λ (l : Option RelationState). option_map link_of l) there.was;
           awaits = ap phase_in there.awaits;
-          becomes = ap (λ (l : Option Link). record { kept = option_map kept_in (kept_of activity live.rest.calls); link = option_map link_of (moved Confirmed l) }) there.was;
+          becomes = ap (λ (l : Option RelationState). record { kept = option_map kept_in (kept_of activity live.rest.calls); link = option_map link_of (updated Confirmed l) }) there.was;
           silent = refl;
         }))
     answers_as response (to_ready.Refused farewell) e =
         let none = none_confirms (response.header.sequence == 0 && response.header.operation == 4) (is_done response.status) (names_own response.header.activity (confirmed_block (block_of response.blocks))) (is_refused response live.rest.link farewell e) in
-        subst (λ (b : Bool). Comes_to (cond b small.Confirms small.Idle) (judged_answer live (to_ready.Refused farewell))) (sym none) (exchanges_on None (Ends farewell ∷ []) (inr refl) (tt, tt))
+        subst (λ (b : Bool). Comes_to (cond b small.Confirms small.Idle) (handled_answer live (to_ready.Refused farewell))) (sym none) (exchanges_on None (Ends farewell ∷ []) (inr refl) (tt, tt))
 
     -- ---- calls
 
@@ -593,9 +593,9 @@ module _ (refusals_are_not_done : RefusalsAreNotDone) (rules : Rules TakenRecord
           by_name true e = refl
           by_name false e = absurd cc
 
-      module _ (fresh : told_by call.header.sequence (kept_of activity live.rest.calls) ≡ new) where
+      module _ (fresh : reported_by call.header.sequence (kept_of activity live.rest.calls) ≡ new) where
         -- the call is answered by its outcome; then this is the relation, and this is sent
-        serves : (ask : small.Ask) (which : Operation) (outcome : Result (List ℕ) CallFault) (link : Option Link) (behind : List Sent)
+        serves : (ask : small.Ask) (which : Operation) (outcome : Result (List ℕ) CallFault) (link : Option RelationState) (behind : List Sent)
             → Comes rules (is_well outcome) ask (option_map link_of live.rest.link) (option_map link_of link) → AreReady link behind
             → Comes_to (small.Call call.header.sequence ask) (served station live caller call which outcome link behind)
         serves ask which outcome link behind comes ready = λ answers heard.
@@ -619,22 +619,22 @@ module _ (refusals_are_not_done : RefusalsAreNotDone) (rules : Rules TakenRecord
         connects_as : (blocks : List ℕ) (request : Result Request CallFault) → connect_of live.rest.link blocks ≡ request → request_of None blocks ≡ Ok rules.request
             → Comes_to (small.Call call.header.sequence small.Connects)
             (served station live caller call operation.Connect (request >>= λ r. Ok (connect_blocks station.identity r (differing_of r station.real)))
-            (moved (making station.real (partner_of caller) request) live.rest.link) [])
+            (updated (making station.real (partner_of caller) request) live.rest.link) [])
         connects_as blocks (Ok request) is reads =
             serves small.Connects operation.Connect (Ok (connect_blocks station.identity request (differing_of request station.real)))
-            (moved (making station.real (partner_of caller) (Ok request)) live.rest.link) []
+            (updated (making station.real (partner_of caller) (Ok request)) live.rest.link) []
             (λ none. ap (λ (r : Request). Some (record { phase = small.Started; request = r; taken = [] }))
-            (same_ok request rules.request (sym is ∙ (ap (λ (l : Option Link). connect_of l blocks) (unmapped live.rest.link none) ∙ reads)))) tt
+            (same_ok request rules.request (sym is ∙ (ap (λ (l : Option RelationState). connect_of l blocks) (unmapped live.rest.link none) ∙ reads)))) tt
           where
-            unmapped : (link : Option Link) → option_map link_of link ≡ None → link ≡ None
+            unmapped : (link : Option RelationState) → option_map link_of link ≡ None → link ≡ None
             unmapped None e = refl
             unmapped (Some link) e = absurd cc
         connects_as blocks (Err why) is reads = serves small.Connects operation.Connect (Err why) live.rest.link [] refl tt
 
         -- ---- Write
 
-        takes_record : (number : ℕ) (value : TakenRecord) (link : Option Link) (kept : Result (List TakenRecord) CallFault) → keeping value link ≡ kept → slice_get rules.records number ≡ Some value
-            → Comes rules (is_well kept) (small.Writes number) (option_map link_of link) (option_map link_of (moved (answered Named kept) (moved (taking kept) link)))
+        takes_record : (number : ℕ) (value : TakenRecord) (link : Option RelationState) (kept : Result (List TakenRecord) CallFault) → keeping value link ≡ kept → slice_get rules.records number ≡ Some value
+            → Comes rules (is_well kept) (small.Writes number) (option_map link_of link) (option_map link_of (updated (answered Named kept) (updated (taking kept) link)))
         takes_record number value None (Ok taken) e there = absurd cc
         takes_record number value None (Err why) e there = refl
         takes_record number value (Some link) (Err why) e there = refl
@@ -648,16 +648,16 @@ module _ (refusals_are_not_done : RefusalsAreNotDone) (rules : Rules TakenRecord
 
         writes_kept : (header : IodWriteReq) (number : ℕ) (value : TakenRecord) (kept : Result (List TakenRecord) CallFault) → keeping value live.rest.link ≡ kept → slice_get rules.records number ≡ Some value
             → Comes_to (small.Call call.header.sequence (small.Writes number))
-            (served station live caller call operation.Write (kept_answer header kept) (moved (answered Named kept) (moved (taking kept) live.rest.link)) [])
+            (served station live caller call operation.Write (kept_answer header kept) (updated (answered Named kept) (updated (taking kept) live.rest.link)) [])
         writes_kept header number value (Ok taken) e there =
-            serves (small.Writes number) operation.Write (kept_answer header (Ok taken)) (moved (answered Named (Ok taken)) (moved (taking (Ok taken)) live.rest.link)) []
+            serves (small.Writes number) operation.Write (kept_answer header (Ok taken)) (updated (answered Named (Ok taken)) (updated (taking (Ok taken)) live.rest.link)) []
             (takes_record number value live.rest.link (Ok taken) e there) tt
         writes_kept header number value (Err why) e there =
-            serves (small.Writes number) operation.Write (kept_answer header (Err why)) (moved (answered {A = List TakenRecord} Named (Err why)) (moved (taking (Err why)) live.rest.link)) []
+            serves (small.Writes number) operation.Write (kept_answer header (Err why)) (updated (answered {A = List TakenRecord} Named (Err why)) (updated (taking (Err why)) live.rest.link)) []
             (takes_record number value live.rest.link (Err why) e there) tt
 
         writes_effect : (header : IodWriteReq) (effect : Effect) (number : ℕ) (value : TakenRecord) → effect ≡ Keeps value → slice_get rules.records number ≡ Some value
-            → Comes_to (small.Call call.header.sequence (small.Writes number)) (judged_effect station live caller call header effect)
+            → Comes_to (small.Call call.header.sequence (small.Writes number)) (handled_effect station live caller call header effect)
         writes_effect header (Stores text) number value is there = absurd cc
         writes_effect header (Keeps parameter) number value is there =
             writes_kept header number parameter (keeping parameter live.rest.link) refl (there ∙ ap (λ (v : TakenRecord). Some v) (sym (same_kept parameter value is)))
@@ -667,7 +667,7 @@ module _ (refusals_are_not_done : RefusalsAreNotDone) (rules : Rules TakenRecord
 
         writes_as : (blocks : List ℕ) (write : Result Write CallFault) → write_of (uuid_of live.rest.link) station.real blocks ≡ write
             → IsPlannedWrite rules station.real call.header.sequence blocks
-            → Comes_to (small.Call call.header.sequence (small.Writes (call.header.sequence - 1))) (judged_write station live caller call write)
+            → Comes_to (small.Call call.header.sequence (small.Writes (call.header.sequence - 1))) (handled_write station live caller call write)
         writes_as blocks (Ok write) is plan =
             let before : call.header.sequence - 1 ≡ plan.number = omega (arith, plan.is) in
             writes_effect write.request write.effect (call.header.sequence - 1) plan.value (plan.keeps (uuid_of live.rest.link) write is)
@@ -678,30 +678,30 @@ module _ (refusals_are_not_done : RefusalsAreNotDone) (rules : Rules TakenRecord
 
         parameterizes : (blocks : List ℕ) (ended : Result ControlBlock CallFault) → prm_end_of live.rest.link blocks ≡ ended
             → Comes_to (small.Call call.header.sequence small.Parameterized)
-            (served station live caller call operation.Control (ended >>= λ block. Ok (block_bytes (is.PrmEndRes (done_of block)))) (moved (answered Parameterized ended) live.rest.link)
-            (ready_behind live.values.running.suite.address (moved (answered Parameterized ended) live.rest.link) ended))
-        parameterizes blocks (Ok block) judged_so =
-            let there = prm_started live.rest.link blocks block judged_so in
+            (served station live caller call operation.Control (ended >>= λ block. Ok (block_bytes (is.PrmEndRes (done_of block)))) (updated (answered Parameterized ended) live.rest.link)
+            (ready_behind live.values.running.suite.address (updated (answered Parameterized ended) live.rest.link) ended))
+        parameterizes blocks (Ok block) handled_so =
+            let there = prm_started live.rest.link blocks block handled_so in
             let address = live.values.running.suite.address in
             serves small.Parameterized operation.Control (Ok (block_bytes (is.PrmEndRes (done_of block)))) (option_map awaiting_from live.rest.link) (ready_calls address (option_map awaiting_from live.rest.link))
             (record {
               link = link_of there.0;
-              was = ap (λ (l : Option Link). option_map link_of l) there.1;
+              was = ap (λ (l : Option RelationState). option_map link_of l) there.1;
               started = ap phase_in there.2;
-              becomes = ap (λ (l : Option Link). option_map link_of (option_map awaiting_from l)) there.1;
+              becomes = ap (λ (l : Option RelationState). option_map link_of (option_map awaiting_from l)) there.1;
             }) (readies_behind address live.rest.link)
         parameterizes blocks (Err why) is = serves small.Parameterized operation.Control (Err why) live.rest.link [] refl tt
 
         releases : (blocks : List ℕ) (ended : Result ControlBlock CallFault)
             → Comes_to (small.Call call.header.sequence small.Releases)
-            (served station live caller call operation.Release (ended >>= λ block. Ok (block_bytes (is.ReleaseRes (done_of block)))) (moved (answered Ended ended) live.rest.link) [])
+            (served station live caller call operation.Release (ended >>= λ block. Ok (block_bytes (is.ReleaseRes (done_of block)))) (updated (answered Ended ended) live.rest.link) [])
         releases blocks (Ok block) = serves small.Releases operation.Release (Ok (block_bytes (is.ReleaseRes (done_of block)))) None [] refl tt
         releases blocks (Err why) = serves small.Releases operation.Release (Err why) live.rest.link [] refl tt
 
         -- ---- a call that is new
 
         new_call : (blocks : List ℕ) (which : Operation) → IsPlannedAs rules station.real call.header.sequence blocks (Some which)
-            → Comes_to (asked_by call.header.sequence (Some which)) (judged_new station live caller call blocks which)
+            → Comes_to (asked_by call.header.sequence (Some which)) (handled_new station live caller call blocks which)
         new_call blocks operation.Connect plan = connects_as blocks (connect_of live.rest.link blocks) refl plan
         new_call blocks operation.Release plan = releases blocks (release_of live.rest.link blocks)
         new_call blocks operation.Read plan = absurd plan
@@ -711,10 +711,10 @@ module _ (refusals_are_not_done : RefusalsAreNotDone) (rules : Rules TakenRecord
 
       -- ---- any call
 
-      repeats : (ask : small.Ask) (frame : List ℕ) → told_by call.header.sequence (kept_of activity live.rest.calls) ≡ again frame
+      repeats : (ask : small.Ask) (frame : List ℕ) → reported_by call.header.sequence (kept_of activity live.rest.calls) ≡ again frame
           → Comes_to (small.Call call.header.sequence ask) (Moves live.rest (Again frame ∷ []))
-      repeats ask frame told =
-          let there = again_is call.header.sequence (kept_of activity live.rest.calls) frame told in
+      repeats ask frame reported =
+          let there = again_is call.header.sequence (kept_of activity live.rest.calls) frame reported in
           λ answers heard. inr (inl (record {
             kept = kept_in there.0;
             has = ap (λ (k : Option Answer). option_map kept_in k) there.1;
@@ -724,48 +724,48 @@ module _ (refusals_are_not_done : RefusalsAreNotDone) (rules : Rules TakenRecord
           }))
 
       again_call : (blocks frame : List ℕ) (which : Operation) → IsPlannedAs rules station.real call.header.sequence blocks (Some which)
-          → told_by call.header.sequence (kept_of activity live.rest.calls) ≡ again frame
+          → reported_by call.header.sequence (kept_of activity live.rest.calls) ≡ again frame
           → Comes_to (asked_by call.header.sequence (Some which)) (Moves live.rest (Again frame ∷ []))
-      again_call blocks frame operation.Connect plan told = repeats small.Connects frame told
-      again_call blocks frame operation.Release plan told = repeats small.Releases frame told
-      again_call blocks frame operation.Read plan told = absurd plan
-      again_call blocks frame operation.Write plan told = repeats (small.Writes (call.header.sequence - 1)) frame told
-      again_call blocks frame operation.Control plan told = repeats small.Parameterized frame told
-      again_call blocks frame operation.ReadImplicit plan told = absurd plan
+      again_call blocks frame operation.Connect plan reported = repeats small.Connects frame reported
+      again_call blocks frame operation.Release plan reported = repeats small.Releases frame reported
+      again_call blocks frame operation.Read plan reported = absurd plan
+      again_call blocks frame operation.Write plan reported = repeats (small.Writes (call.header.sequence - 1)) frame reported
+      again_call blocks frame operation.Control plan reported = repeats small.Parameterized frame reported
+      again_call blocks frame operation.ReadImplicit plan reported = absurd plan
 
-      looked_call : (blocks : List ℕ) (which : Operation) (told : Looked) → told_by call.header.sequence (kept_of activity live.rest.calls) ≡ told
+      looked_call : (blocks : List ℕ) (which : Operation) (reported : Looked) → reported_by call.header.sequence (kept_of activity live.rest.calls) ≡ reported
           → IsPlannedAs rules station.real call.header.sequence blocks (Some which)
-          → Comes_to (asked_by call.header.sequence (Some which)) (judged_looked station live caller call blocks which told)
+          → Comes_to (asked_by call.header.sequence (Some which)) (handled_looked station live caller call blocks which reported)
       looked_call blocks which new is plan = new_call is blocks which plan
       looked_call blocks which (again frame) is plan = again_call blocks frame which plan is
       looked_call blocks which old is plan = refuses (asked_by call.header.sequence (Some which)) Filter
 
       counted_call : (which : Operation) (counted : Option (List ℕ)) (blocks : List ℕ) → counted ≡ Some blocks → IsPlannedAs rules station.real call.header.sequence blocks (Some which)
-          → Comes_to (asked_by call.header.sequence (Some which)) (judged_blocks station live caller call which counted)
+          → Comes_to (asked_by call.header.sequence (Some which)) (handled_blocks station live caller call which counted)
       counted_call which None blocks is plan = absurd cc
       counted_call which (Some there) blocks is plan =
           looked_call there which (looked call.header.activity call.header.sequence live.rest.calls)
-          (ap (λ (a : List ℕ). told_by call.header.sequence (kept_of a live.rest.calls)) (sym own))
+          (ap (λ (a : List ℕ). reported_by call.header.sequence (kept_of a live.rest.calls)) (sym own))
           (subst (λ (b : List ℕ). IsPlannedAs rules station.real call.header.sequence b (Some which)) (sym (some_is there blocks is)) plan)
 
       called : (which : Option Operation) (blocks : List ℕ) → call.blocks ≡ Some blocks → IsPlannedAs rules station.real call.header.sequence blocks which
-          → Comes_to (asked_by call.header.sequence which) (judged_call station live caller call which)
+          → Comes_to (asked_by call.header.sequence which) (handled_call station live caller call which)
       called None blocks is plan = absurd plan
       called (Some which) blocks is plan = counted_call which call.blocks blocks is plan
 
-    says : (caller : Caller) (said : Said) → IsPlannedIn rules activity station.real said → Comes_to (said_to said) (judged_said station live caller said)
+    says : (caller : Caller) (said : Said) → IsPlannedIn rules activity station.real said → Comes_to (said_to said) (handled_said station live caller said)
     says caller (Calls call) plan = called caller call plan.own (operation_of call.header.operation) plan.blocks plan.counted plan.asks
     says caller (Responds response) plan = answers_as response (answer_of response live.rest.link) refl
     says caller Garbled plan = refuses small.Idle Filter
 
-    told : (caller : Caller) (said : Said) (b : Bool) → IsPlannedIn rules activity station.real said → Comes_to (said_to said) (cond b (judged_said station live caller said) (Refuses NotMine))
-    told caller said true plan = says caller said plan
-    told caller said false plan = refuses (said_to said) NotMine
+    reported : (caller : Caller) (said : Said) (b : Bool) → IsPlannedIn rules activity station.real said → Comes_to (said_to said) (cond b (handled_said station live caller said) (Refuses NotMine))
+    reported caller said true plan = says caller said plan
+    reported caller said false plan = refuses (said_to said) NotMine
 
-    goes : (heard : Heard) → IsPlanned rules activity station.real heard → Comes_to (heard_as heard) (judged station live heard)
+    goes : (heard : Heard) → IsPlanned rules activity station.real heard → Comes_to (heard_as heard) (handled station live heard)
     goes (Asks asker request) plan = requests asker request.service request
     goes (Resolves asker packet) plan = resolves asker packet (is_request packet.operation && is_running live.values.running packet.target.address)
-    goes (Told caller address said) plan = told caller said (is_running live.values.running address) plan
+    goes (Reported caller address said) plan = reported caller said (is_running live.values.running address) plan
     goes (Alarms source header message) plan = alarms message (is_alarm_of source header.destination header.source live.rest.link)
     goes (Cyclic source frame_id body) plan = receives (received_by source frame_id body live.rest.link) (receiving source frame_id body live.rest.link) (received_mildly source frame_id body live.rest.link)
     goes (Given slot subslot value) plan = gives (given_to slot subslot value live.rest.link)
@@ -777,6 +777,6 @@ module _ (refusals_are_not_done : RefusalsAreNotDone) (rules : Rules TakenRecord
 pub step_goes : RefusalsAreNotDone → (rules : Rules TakenRecord Request) (activity : List ℕ) (outcomes : List Outcome) (station : Station) (live : Live) (heard : Heard)
     → IsPlanned rules activity station.real heard → AllByRecursion (IsHeardAs rules station.identity) (heard_step outcomes station live heard).sent
     → DeviceSteps rules (heard_as heard) (small_of activity live) (small_of activity (heard_step outcomes station live heard).live) (heard_step outcomes station live heard).frames
-unfolding heard_step judged_step
+unfolding heard_step handled_step
 step_goes refusals_are_not_done rules activity outcomes station live heard plan sent =
-    goes refusals_are_not_done rules activity station live heard plan (carried outcomes live.values (items_in (judged station live heard))).answers sent
+    goes refusals_are_not_done rules activity station live heard plan (carried outcomes live.values (items_in (handled station live heard))).answers sent

@@ -16,9 +16,9 @@ use Rattle.frame_codec.proofs.Layers.{ethernet_sound, arp_packet_onward, packet_
 -- ---- reading
 
 -- a length that passed the test
-judged : (b : Bool) (r : Result Meaning FrameFault) (meaning : Meaning) → cond b (Err TooLong) r ≡ Ok meaning → (b ≡ false) × (r ≡ Ok meaning)
-judged true r meaning e = absurd cc
-judged false r meaning e = (refl, e)
+handled : (b : Bool) (r : Result Meaning FrameFault) (meaning : Meaning) → cond b (Err TooLong) r ≡ Ok meaning → (b ≡ false) × (r ≡ Ok meaning)
+handled true r meaning e = absurd cc
+handled false r meaning e = (refl, e)
 
 -- the Ethernet header that comes before a frame
 record HasHeader (bytes : List ℕ) (meaning : Meaning) : Type 0 where
@@ -41,7 +41,7 @@ pub frame_takes : (bytes : List ℕ) (meaning : Meaning) → frame_of bytes ≡ 
 unfolding frame_of
 frame_takes bytes meaning e =
     let a = bind_ok (ethernet.read bytes) (λ header. cond (ltb (longest header.0.tag) (length bytes)) (Err TooLong) (layers.read bytes)) meaning e in
-    let j = judged (ltb (longest a.0.0.tag) (length bytes)) (layers.read bytes) meaning a.2 in
+    let j = handled (ltb (longest a.0.0.tag) (length bytes)) (layers.read bytes) meaning a.2 in
     let spelled = layers_sound.takes bytes meaning j.1 in
     let h = header_in bytes meaning spelled in
     let one : a.0.0 ≡ h.header = cc in

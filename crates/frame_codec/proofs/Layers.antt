@@ -5,7 +5,7 @@ use Rattle.wire.specs.Formats.{number, ◌⨾◌}
 use Rattle.wire.specs.Whole.{pick, refused}
 use Rattle.wire.proofs.Fields.{raw_sound, raw_onward, number_sound, number_onward}
 use Rattle.wire.proofs.Joined.{then_by_sound, then_by_onward, seen_sound, seen_onward, when_sound, when_onward, unchecked_sound, unchecked_onward}
-use Rattle.wire.proofs.Judged.{checked_sound, checked_onward, fixed_sound, fixed_onward, allowed_sound, named_sound, named_onward, variant_sound}
+use Rattle.wire.proofs.Handled.{checked_sound, checked_onward, fixed_sound, fixed_onward, allowed_sound, named_sound, named_onward, variant_sound}
 use Rattle.wire.proofs.Kept.{kept_sound, kept_onward, cut_sound, cut_onward}
 use Rattle.wire.proofs.Wholes.{everything_sound, refused_sound, ends_by_sound, seen_whole_sound, pick_sound, loose_sound, loose_behind}
 use Rattle.pn_values.specs.declared.mac.Mac.{Mac}

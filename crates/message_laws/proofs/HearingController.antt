@@ -11,7 +11,7 @@ use Rattle.frame_codec.specs.Meaning.{ArpPacket, Content, Meaning, RealTime, Udp
 use Rattle.frame_codec.specs.Frame.{frame_bytes, frame_of, padding_of}
 use Rattle.dcp_core.specs.declared.request.DcpFault.{DcpFault}
 use Rattle.dcp_core.specs.Answer.{answer_of}
-use Rattle.dcp_core.specs.Response.{Answered as Told}
+use Rattle.dcp_core.specs.Response.{Answered as Reported}
 use Rattle.rpc_core.specs.declared.fault.RpcFault.{RpcFault}
 use Rattle.rpc_core.specs.declared.interface.Interface.TheVariants.{Controller as controllers, Device as devices}
 use Rattle.rpc_core.specs.Call.{Asked as Call, call_bytes, call_of}
@@ -26,7 +26,7 @@ use Rattle.plans.specs.declared.parts.Controller.{Controller}
 use Rattle.controller_frames.specs.Heard.{Alarms, Answers, Calls, Cyclic, Heard, Nothing, Responds, heard_alarm, heard_answer, heard_body, heard_call, heard_content, heard_first, heard_of, heard_read, heard_real_time, heard_response, is_to}
 use Rattle.codec_laws.specs.frames.Sendable.{CanBeSent, IsMac, IsRealTime, IsRealTimeOrNone, IsTag, carrying}
 use Rattle.rpc_core.specs.Sendable.{CanBeAnswered, CanBeCalled}
-use Rattle.message_laws.specs.hearing.Hearing.{IsUncalled, mine_hears, mine_told, padded}
+use Rattle.message_laws.specs.hearing.Hearing.{IsUncalled, mine_hears, mine_reported, padded}
 use Rattle.message_laws.proofs.HearingGiven.{CallsAreNoResponses, CallsAreRead, DataIsAlone, DataIsRead, DatagramsAreRead, DeviceIsMeant, PacketsAreRead, ResponsesAreNoCalls, ResponsesAreRead}
 use Rattle.message_laws.proofs.HearingChoices.{bare, faulty, holds_if, same_chosen}
 
@@ -58,10 +58,10 @@ alarm_is source Nack body = refl
 alarm_is source Ack body = refl
 alarm_is source Error body = refl
 
-pub alarm_heard : DataIsRead → (mine : Controller) (destination source : Mac) (tag : Option ℕ) (kind : PduType) (body : List ℕ) (header : Header) (told : ToController)
-    → CanBeSent (carrying destination source tag (RealTime (frame_id_of kind) body)) → ((more : List ℕ) → alarm_of (body ++ more) ≡ Ok (header, told))
-    → heard_of mine (frame_bytes (carrying destination source tag (RealTime (frame_id_of kind) body))) ≡ mine_hears mine destination (Alarms source header told)
-alarm_heard reads mine destination source tag kind body header told is says =
+pub alarm_heard : DataIsRead → (mine : Controller) (destination source : Mac) (tag : Option ℕ) (kind : PduType) (body : List ℕ) (header : Header) (reported : ToController)
+    → CanBeSent (carrying destination source tag (RealTime (frame_id_of kind) body)) → ((more : List ℕ) → alarm_of (body ++ more) ≡ Ok (header, reported))
+    → heard_of mine (frame_bytes (carrying destination source tag (RealTime (frame_id_of kind) body))) ≡ mine_hears mine destination (Alarms source header reported)
+alarm_heard reads mine destination source tag kind body header reported is says =
     data_heard reads mine destination source tag (frame_id_of kind) body is
     ∙ ap (λ (h : Heard). mine_hears mine destination h)
     (alarm_is source kind (padded source destination tag (frame_id_of kind) body) ∙ ap (λ (r : Result (Header × ToController) AlarmFault). heard_alarm source r) (says (padding_of (carrying destination source tag (RealTime (frame_id_of kind) body)))))
@@ -75,13 +75,13 @@ pub get_set_is : (source : Mac) (body : List ℕ) → heard_real_time source 652
 unfolding heard_real_time
 get_set_is source body = refl
 
-pub answer_heard : DataIsRead → (frame_id : ℕ) → ((source : Mac) (body : List ℕ) → heard_real_time source frame_id body ≡ heard_answer source (answer_of frame_id body)) → (mine : Controller) (destination source : Mac) (tag : Option ℕ) (body : List ℕ) (told : Told)
-    → CanBeSent (carrying destination source tag (RealTime frame_id body)) → ((more : List ℕ) → answer_of frame_id (body ++ more) ≡ Ok told)
-    → heard_of mine (frame_bytes (carrying destination source tag (RealTime frame_id body))) ≡ mine_hears mine destination (Answers source told)
-answer_heard reads frame_id answers mine destination source tag body told is says =
+pub answer_heard : DataIsRead → (frame_id : ℕ) → ((source : Mac) (body : List ℕ) → heard_real_time source frame_id body ≡ heard_answer source (answer_of frame_id body)) → (mine : Controller) (destination source : Mac) (tag : Option ℕ) (body : List ℕ) (reported : Reported)
+    → CanBeSent (carrying destination source tag (RealTime frame_id body)) → ((more : List ℕ) → answer_of frame_id (body ++ more) ≡ Ok reported)
+    → heard_of mine (frame_bytes (carrying destination source tag (RealTime frame_id body))) ≡ mine_hears mine destination (Answers source reported)
+answer_heard reads frame_id answers mine destination source tag body reported is says =
     data_heard reads mine destination source tag frame_id body is
     ∙ ap (λ (h : Heard). mine_hears mine destination h)
-    (answers source (padded source destination tag frame_id body) ∙ ap (λ (r : Result Told DcpFault). heard_answer source r) (says (padding_of (carrying destination source tag (RealTime frame_id body)))))
+    (answers source (padded source destination tag frame_id body) ∙ ap (λ (r : Result Reported DcpFault). heard_answer source r) (says (padding_of (carrying destination source tag (RealTime frame_id body)))))
 
 -- ---- ARP
 
@@ -95,15 +95,15 @@ packet_heard reads mine destination source packet is =
 
 pub body_heard : DatagramsAreRead → (mine : Controller) (destination source : Mac) (from to : Endpoint) (body : List ℕ) (heard : Heard)
     → CanBeSent (carrying destination source None (UdpDatagram from to body)) → heard_body (record { mac = source; endpoint = from }) body ≡ heard
-    → heard_of mine (frame_bytes (carrying destination source None (UdpDatagram from to body))) ≡ mine_told mine destination to heard
+    → heard_of mine (frame_bytes (carrying destination source None (UdpDatagram from to body))) ≡ mine_reported mine destination to heard
 unfolding heard_of
 body_heard reads mine destination source from to body heard is says =
     ap (λ (r : Result Meaning FrameFault). heard_read mine r) (reads destination source None from to body is)
-    ∙ ap (λ (h : Heard). mine_told mine destination to h) says
+    ∙ ap (λ (h : Heard). mine_reported mine destination to h) says
 
 -- the case that nothing was said
-pub nothing_told : (mine : Controller) (destination : Mac) (to : Endpoint) → mine_told mine destination to Nothing ≡ Nothing
-nothing_told mine destination to =
+pub nothing_reported : (mine : Controller) (destination : Mac) (to : Endpoint) → mine_reported mine destination to Nothing ≡ Nothing
+nothing_reported mine destination to =
     ap (λ (h : Heard). mine_hears mine destination h) (same_chosen (is_to mine.address to) Nothing) ∙ same_chosen (pointwise nat_eq destination.octets mine.mac.octets) Nothing
 
 pub response_is : ResponsesAreRead → ResponsesAreNoCalls → (caller : Caller) (answer : Answered) → CanBeAnswered answer → heard_body caller (response_bytes answer) ≡ Responds answer
@@ -135,7 +135,7 @@ other_is reads differ meant caller call is =
 
 -- ---- real-time data is not a call
 
-uncalled_answer : (source : Mac) (read : Result Told DcpFault) → IsUncalled (heard_answer source read)
+uncalled_answer : (source : Mac) (read : Result Reported DcpFault) → IsUncalled (heard_answer source read)
 uncalled_answer source (Ok answer) = tt
 uncalled_answer source (Err fault) = tt
 

@@ -22,11 +22,11 @@ use Rattle.controller_frames.specs.Heard.{Calls as Called, Nothing, Responds as 
 use Rattle.controller_frames.specs.Sent.{answer_frame, call_frame, calls_at}
 use Rattle.codec_laws.specs.frames.Sendable.{CanBeSent, IsEndpoint, IsMac, carrying}
 use Rattle.rpc_core.specs.Sendable.{CanBeAnswered, CanBeCalled, IsHeader}
-use Rattle.message_laws.specs.hearing.Hearing.{comes, mine_told, own_told}
+use Rattle.message_laws.specs.hearing.Hearing.{comes, mine_reported, own_reported}
 use Rattle.message_laws.specs.hearing.Stations.{IsAddress, IsCaller, IsDevice, IsSetup, ready_call}
 use Rattle.message_laws.proofs.HearingGiven.{CallsAreNoResponses, CallsAreRead, CallsAreShort, ControllerIsMeant, DatagramsAreRead, DeviceIsMeant, LongDatagramsAreLost, ResponsesAreLong, ResponsesAreNoCalls, ResponsesAreRead, ResponsesAreShort}
-use Rattle.message_laws.proofs.HearingDevice.{call_said, ready_said, response_said, told_heard}
-use Rattle.message_laws.proofs.HearingController.{body_heard, call_is, nothing_told, other_is, response_is}
+use Rattle.message_laws.proofs.HearingDevice.{call_said, ready_said, response_said, reported_heard}
+use Rattle.message_laws.proofs.HearingController.{body_heard, call_is, nothing_reported, other_is, response_is}
 
 -- ---- datagrams that can be sent
 
@@ -46,9 +46,9 @@ module _ (datagrams : DatagramsAreRead) (reads : CallsAreRead) (short : CallsAre
 
   pub call_at_device : (identity : Identity) (setup : Setup) (to : Mac) (call : Call) → IsSetup setup → IsMac to → CanBeCalled devices call
       → device_hears identity (comes (call_frame setup to call))
-      ≡ own_told identity setup.plan.controller.mac to (calls_at setup.plan.controller.address) (calls_at setup.plan.station.suite.address) (Calls call)
+      ≡ own_reported identity setup.plan.controller.mac to (calls_at setup.plan.controller.address) (calls_at setup.plan.station.suite.address) (Calls call)
   call_at_device identity setup to call is mac can =
-      told_heard datagrams identity to setup.plan.controller.mac (calls_at setup.plan.controller.address) (calls_at setup.plan.station.suite.address) (call_bytes devices call) (Calls call)
+      reported_heard datagrams identity to setup.plan.controller.mac (calls_at setup.plan.controller.address) (calls_at setup.plan.station.suite.address) (call_bytes devices call) (Calls call)
       (call_sent setup to call is mac can) (call_said reads call can)
 
   pub call_at_controller : CallsAreNoResponses → DeviceIsMeant → (mine : Controller) (setup : Setup) (to : Mac) (call : Call) → IsSetup setup → IsMac to → CanBeCalled devices call
@@ -56,7 +56,7 @@ module _ (datagrams : DatagramsAreRead) (reads : CallsAreRead) (short : CallsAre
   call_at_controller differ meant mine setup to call is mac can =
       body_heard datagrams mine to setup.plan.controller.mac (calls_at setup.plan.controller.address) (calls_at setup.plan.station.suite.address) (call_bytes devices call) Nothing
       (call_sent setup to call is mac can) (other_is reads differ meant _ call can)
-      ∙ nothing_told mine to (calls_at setup.plan.station.suite.address)
+      ∙ nothing_reported mine to (calls_at setup.plan.station.suite.address)
 
   -- ---- ApplicationReady
 
@@ -68,7 +68,7 @@ module _ (datagrams : DatagramsAreRead) (reads : CallsAreRead) (short : CallsAre
   pub ready_at_controller : (mine : Controller) (identity : Identity) (address : List ℕ) (ready : Ready)
       → IsDevice identity → IsMac ready.partner.mac → IsAddress ready.partner.address → IsAddress address → CanBeCalled controllers (ready_call ready)
       → controller_hears mine (ready_frame identity address ready)
-      ≡ mine_told mine ready.partner.mac (calls_at ready.partner.address) (Called (record { mac = identity.mac; endpoint = calls_at address }) (ready_call ready))
+      ≡ mine_reported mine ready.partner.mac (calls_at ready.partner.address) (Called (record { mac = identity.mac; endpoint = calls_at address }) (ready_call ready))
   ready_at_controller mine identity address ready is mac to from can =
       body_heard datagrams mine ready.partner.mac identity.mac (calls_at address) (calls_at ready.partner.address) (call_bytes controllers (ready_call ready)) _
       (ready_sent identity address ready is mac to from can) (call_is reads _ (ready_call ready) can)
@@ -76,9 +76,9 @@ module _ (datagrams : DatagramsAreRead) (reads : CallsAreRead) (short : CallsAre
   pub ready_at_device : CallsAreNoResponses → ControllerIsMeant → (other identity : Identity) (address : List ℕ) (ready : Ready)
       → IsDevice identity → IsMac ready.partner.mac → IsAddress ready.partner.address → IsAddress address → CanBeCalled controllers (ready_call ready)
       → device_hears other (comes (ready_frame identity address ready))
-      ≡ own_told other identity.mac ready.partner.mac (calls_at address) (calls_at ready.partner.address) Garbled
+      ≡ own_reported other identity.mac ready.partner.mac (calls_at address) (calls_at ready.partner.address) Garbled
   ready_at_device differ meant other identity address ready is mac to from can =
-      told_heard datagrams other ready.partner.mac identity.mac (calls_at address) (calls_at ready.partner.address) (call_bytes controllers (ready_call ready)) Garbled
+      reported_heard datagrams other ready.partner.mac identity.mac (calls_at address) (calls_at ready.partner.address) (call_bytes controllers (ready_call ready)) Garbled
       (ready_sent identity address ready is mac to from can) (ready_said reads differ meant (ready_call ready) can)
 
 -- ---- responses of either end
@@ -90,35 +90,35 @@ module _ (datagrams : DatagramsAreRead) (reads : ResponsesAreRead) (short : Resp
 
   at_controller : (mine : Controller) (source : Mac) (address : List ℕ) (caller : Caller) (answer : Answered) → IsMac source → IsAddress address → IsCaller caller → CanBeAnswered answer
       → controller_hears mine (plain_frame source caller.mac (UdpDatagram (calls_at address) caller.endpoint (response_bytes answer)))
-      ≡ mine_told mine caller.mac caller.endpoint (Responded answer)
+      ≡ mine_reported mine caller.mac caller.endpoint (Responded answer)
   at_controller mine source address caller answer one from is can =
       body_heard datagrams mine caller.mac source (calls_at address) caller.endpoint (response_bytes answer) (Responded answer)
       (response_sent source address caller answer one from is can) (response_is reads differ _ answer can)
 
   at_device : (identity : Identity) (source : Mac) (address : List ℕ) (caller : Caller) (answer : Answered) → IsMac source → IsAddress address → IsCaller caller → CanBeAnswered answer
       → device_hears identity (comes (plain_frame source caller.mac (UdpDatagram (calls_at address) caller.endpoint (response_bytes answer))))
-      ≡ own_told identity source caller.mac (calls_at address) caller.endpoint (Responds answer)
+      ≡ own_reported identity source caller.mac (calls_at address) caller.endpoint (Responds answer)
   at_device identity source address caller answer one from is can =
-      told_heard datagrams identity caller.mac source (calls_at address) caller.endpoint (response_bytes answer) (Responds answer)
+      reported_heard datagrams identity caller.mac source (calls_at address) caller.endpoint (response_bytes answer) (Responds answer)
       (response_sent source address caller answer one from is can) (response_said reads differ answer can)
 
   pub response_at_controller : (mine : Controller) (identity : Identity) (caller : Caller) (address : List ℕ) (answer : Answered)
       → IsDevice identity → IsCaller caller → IsAddress address → CanBeAnswered answer
-      → controller_hears mine (response_frame identity caller address answer) ≡ mine_told mine caller.mac caller.endpoint (Responded answer)
+      → controller_hears mine (response_frame identity caller address answer) ≡ mine_reported mine caller.mac caller.endpoint (Responded answer)
   response_at_controller mine identity caller address answer is caller_is from can = at_controller mine identity.mac address caller answer is from caller_is can
 
   pub response_at_device : (other identity : Identity) (caller : Caller) (address : List ℕ) (answer : Answered)
       → IsDevice identity → IsCaller caller → IsAddress address → CanBeAnswered answer
-      → device_hears other (comes (response_frame identity caller address answer)) ≡ own_told other identity.mac caller.mac (calls_at address) caller.endpoint (Responds answer)
+      → device_hears other (comes (response_frame identity caller address answer)) ≡ own_reported other identity.mac caller.mac (calls_at address) caller.endpoint (Responds answer)
   response_at_device other identity caller address answer is caller_is from can = at_device other identity.mac address caller answer is from caller_is can
 
   pub answer_at_device : (identity : Identity) (setup : Setup) (caller : Caller) (answer : Answered) → IsSetup setup → IsCaller caller → CanBeAnswered answer
       → device_hears identity (comes (answer_frame setup caller answer))
-      ≡ own_told identity setup.plan.controller.mac caller.mac (calls_at setup.plan.controller.address) caller.endpoint (Responds answer)
+      ≡ own_reported identity setup.plan.controller.mac caller.mac (calls_at setup.plan.controller.address) caller.endpoint (Responds answer)
   answer_at_device identity setup caller answer is caller_is can = at_device identity setup.plan.controller.mac setup.plan.controller.address caller answer is.mac is.address caller_is can
 
   pub answer_at_controller : (mine : Controller) (setup : Setup) (caller : Caller) (answer : Answered) → IsSetup setup → IsCaller caller → CanBeAnswered answer
-      → controller_hears mine (answer_frame setup caller answer) ≡ mine_told mine caller.mac caller.endpoint (Responded answer)
+      → controller_hears mine (answer_frame setup caller answer) ≡ mine_reported mine caller.mac caller.endpoint (Responded answer)
   answer_at_controller mine setup caller answer is caller_is can = at_controller mine setup.plan.controller.mac setup.plan.controller.address caller answer is.mac is.address caller_is can
 
 -- ---- what does not fit

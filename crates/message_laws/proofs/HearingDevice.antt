@@ -24,7 +24,7 @@ use Rattle.pn_alarms.specs.Message.{ToDevice, message_of}
 use Rattle.device_frames.specs.Heard.{Alarms, Asks, Calls, Cyclic, Elsewhere, Garbled, Resolves, Responds, Said, heard_alarm, heard_content, heard_frame, heard_of, heard_request, identify_multicast, is_own, is_taken, said_by, said_else, said_first}
 use Rattle.codec_laws.specs.frames.Sendable.{CanBeSent, IsMac, IsRealTime, IsRealTimeOrNone, IsTag, carrying}
 use Rattle.rpc_core.specs.Sendable.{CanBeAnswered, CanBeCalled}
-use Rattle.message_laws.specs.hearing.Hearing.{IsUntold, all_hears, comes, own_hears, own_told, padded}
+use Rattle.message_laws.specs.hearing.Hearing.{IsUnreported, all_hears, comes, own_hears, own_reported, padded}
 use Rattle.message_laws.proofs.HearingGiven.{CallsAreNoResponses, CallsAreRead, ControllerIsMeant, DataIsAlone, DataIsRead, DatagramsAreRead, PacketsAreRead, ResponsesAreNoCalls, ResponsesAreRead}
 use Rattle.message_laws.proofs.HearingChoices.{alarm_chosen, alarm_is, alarm_no_get_set, alarm_no_identify, bare, cyclic_chosen, faulty, holds_if, no_alarm, no_get_set, no_identify}
 
@@ -48,10 +48,10 @@ cyclic_heard reads identity destination source tag frame_id body is cyclic =
     (heard_request source (request_of frame_id all)) (heard_alarm source (message_of all)) (Cyclic source frame_id all) Elsewhere
     (no_get_set frame_id cyclic) (no_identify frame_id cyclic) (no_alarm frame_id cyclic) cyclic
 
-pub alarm_heard : DataIsRead → (identity : Identity) (destination source : Mac) (tag : Option ℕ) (kind : PduType) (body : List ℕ) (header : Header) (told : ToDevice)
-    → CanBeSent (carrying destination source tag (RealTime (frame_id_of kind) body)) → ((more : List ℕ) → message_of (body ++ more) ≡ Ok (header, told))
-    → heard_of identity (comes (frame_bytes (carrying destination source tag (RealTime (frame_id_of kind) body)))) ≡ own_hears identity destination (Alarms source header told)
-alarm_heard reads identity destination source tag kind body header told is says =
+pub alarm_heard : DataIsRead → (identity : Identity) (destination source : Mac) (tag : Option ℕ) (kind : PduType) (body : List ℕ) (header : Header) (reported : ToDevice)
+    → CanBeSent (carrying destination source tag (RealTime (frame_id_of kind) body)) → ((more : List ℕ) → message_of (body ++ more) ≡ Ok (header, reported))
+    → heard_of identity (comes (frame_bytes (carrying destination source tag (RealTime (frame_id_of kind) body)))) ≡ own_hears identity destination (Alarms source header reported)
+alarm_heard reads identity destination source tag kind body header reported is says =
     let frame_id = frame_id_of kind in
     let all = padded source destination tag frame_id body in
     data_heard reads identity destination source tag frame_id body is
@@ -69,13 +69,13 @@ packet_heard reads identity destination source packet is = ap (λ (r : Result Me
 
 -- ---- datagrams
 
-pub told_heard : DatagramsAreRead → (identity : Identity) (destination source : Mac) (from to : Endpoint) (body : List ℕ) (said : Said)
+pub reported_heard : DatagramsAreRead → (identity : Identity) (destination source : Mac) (from to : Endpoint) (body : List ℕ) (said : Said)
     → CanBeSent (carrying destination source None (UdpDatagram from to body)) → said_by body ≡ said
-    → heard_of identity (comes (frame_bytes (carrying destination source None (UdpDatagram from to body)))) ≡ own_told identity source destination from to said
+    → heard_of identity (comes (frame_bytes (carrying destination source None (UdpDatagram from to body)))) ≡ own_reported identity source destination from to said
 unfolding heard_of
-told_heard reads identity destination source from to body said is says =
+reported_heard reads identity destination source from to body said is says =
     ap (λ (r : Result Meaning FrameFault). heard_frame identity r) (reads destination source None from to body is)
-    ∙ ap (λ (s : Said). own_told identity source destination from to s) says
+    ∙ ap (λ (s : Said). own_reported identity source destination from to s) says
 
 pub call_said : CallsAreRead → (call : Call) → CanBeCalled Device call → said_by (call_bytes Device call) ≡ Calls call
 unfolding said_by
@@ -101,27 +101,27 @@ ready_said reads differ meant call is =
 
 -- ---- real-time data is never a call or a response
 
-untold_request : (source : Mac) (read : Result Asked DcpFault) → IsUntold (heard_request source read)
-untold_request source (Ok request) = tt
-untold_request source (Err fault) = tt
+unreported_request : (source : Mac) (read : Result Asked DcpFault) → IsUnreported (heard_request source read)
+unreported_request source (Ok request) = tt
+unreported_request source (Err fault) = tt
 
-untold_alarm : (source : Mac) (read : Result (Header × ToDevice) AlarmFault) → IsUntold (heard_alarm source read)
-untold_alarm source (Ok x) = tt
-untold_alarm source (Err fault) = tt
+unreported_alarm : (source : Mac) (read : Result (Header × ToDevice) AlarmFault) → IsUnreported (heard_alarm source read)
+unreported_alarm source (Ok x) = tt
+unreported_alarm source (Err fault) = tt
 
-untold_content : (identity : Identity) (destination source : Mac) (content : Content) → IsRealTime content → IsUntold (heard_content identity destination source content)
-untold_content identity destination source (RealTime frame_id body) is =
-    holds_if IsUntold (is_taken identity destination frame_id) _ _ (untold_request source (request_of frame_id body))
-    (holds_if IsUntold (is_own identity destination && is_alarm frame_id) _ _ (untold_alarm source (message_of body))
-    (holds_if IsUntold (is_own identity destination && is_cyclic frame_id) (Cyclic source frame_id body) Elsewhere tt tt))
-untold_content identity destination source (ArpPacket arp) is = absurd is
-untold_content identity destination source (UdpDatagram from to body) is = absurd is
+unreported_content : (identity : Identity) (destination source : Mac) (content : Content) → IsRealTime content → IsUnreported (heard_content identity destination source content)
+unreported_content identity destination source (RealTime frame_id body) is =
+    holds_if IsUnreported (is_taken identity destination frame_id) _ _ (unreported_request source (request_of frame_id body))
+    (holds_if IsUnreported (is_own identity destination && is_alarm frame_id) _ _ (unreported_alarm source (message_of body))
+    (holds_if IsUnreported (is_own identity destination && is_cyclic frame_id) (Cyclic source frame_id body) Elsewhere tt tt))
+unreported_content identity destination source (ArpPacket arp) is = absurd is
+unreported_content identity destination source (UdpDatagram from to body) is = absurd is
 
-untold_read : (identity : Identity) (read : Result Meaning FrameFault) → IsRealTimeOrNone read → IsUntold (heard_frame identity read)
-untold_read identity (Ok meaning) is = untold_content identity meaning.destination meaning.source meaning.content is
-untold_read identity (Err fault) is = tt
+unreported_read : (identity : Identity) (read : Result Meaning FrameFault) → IsRealTimeOrNone read → IsUnreported (heard_frame identity read)
+unreported_read identity (Ok meaning) is = unreported_content identity meaning.destination meaning.source meaning.content is
+unreported_read identity (Err fault) is = tt
 
-pub untold : DataIsAlone → (identity : Identity) (destination source : Mac) (tag : Option ℕ) (frame_id : ℕ) (body : List ℕ) → IsMac destination → IsMac source → IsTag tag
-    → IsUntold (heard_of identity (comes (frame_bytes (carrying destination source tag (RealTime frame_id body)))))
+pub unreported : DataIsAlone → (identity : Identity) (destination source : Mac) (tag : Option ℕ) (frame_id : ℕ) (body : List ℕ) → IsMac destination → IsMac source → IsTag tag
+    → IsUnreported (heard_of identity (comes (frame_bytes (carrying destination source tag (RealTime frame_id body)))))
 unfolding heard_of
-untold stays identity destination source tag frame_id body one other tagged = untold_read identity _ (stays destination source tag frame_id body one other tagged)
+unreported stays identity destination source tag frame_id body one other tagged = unreported_read identity _ (stays destination source tag frame_id body one other tagged)

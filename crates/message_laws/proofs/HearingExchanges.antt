@@ -97,14 +97,14 @@ module _ (reads : DataIsRead) (long : PdusAreLong) where
       record { destination = one; source = other; tag = tagged; content = (kind_small kind, omega (arith, long said, few)) }
 
   -- a PDU from one station to another
-  pub pdu_at_device : (identity : Identity) (destination source : Mac) (tag : ℕ) (kind : PduType) (said : Said) (header : Header) (told : ToDevice)
-      → IsMac destination → IsMac source → tag < 65536 → length said.body ≤ 1486 → ((more : List ℕ) → message_of (pdu_bytes said ++ more) ≡ Ok (header, told))
-      → device_hears identity (comes (tagged_frame source destination tag (RealTime (frame_id_of kind) (pdu_bytes said)))) ≡ own_hears identity destination (Alarms source header told)
-  pdu_at_device identity destination source tag kind said header told one other tagged few says =
-      device.alarm_heard reads identity destination source (Some tag) kind (pdu_bytes said) header told (pdu_sent destination source tag kind said one other tagged few) says
+  pub pdu_at_device : (identity : Identity) (destination source : Mac) (tag : ℕ) (kind : PduType) (said : Said) (header : Header) (reported : ToDevice)
+      → IsMac destination → IsMac source → tag < 65536 → length said.body ≤ 1486 → ((more : List ℕ) → message_of (pdu_bytes said ++ more) ≡ Ok (header, reported))
+      → device_hears identity (comes (tagged_frame source destination tag (RealTime (frame_id_of kind) (pdu_bytes said)))) ≡ own_hears identity destination (Alarms source header reported)
+  pdu_at_device identity destination source tag kind said header reported one other tagged few says =
+      device.alarm_heard reads identity destination source (Some tag) kind (pdu_bytes said) header reported (pdu_sent destination source tag kind said one other tagged few) says
 
-  pub pdu_at_controller : (mine : Controller) (destination source : Mac) (tag : ℕ) (kind : PduType) (said : Said) (header : Header) (told : ToController)
-      → IsMac destination → IsMac source → tag < 65536 → length said.body ≤ 1486 → ((more : List ℕ) → alarm_of (pdu_bytes said ++ more) ≡ Ok (header, told))
-      → controller_hears mine (tagged_frame source destination tag (RealTime (frame_id_of kind) (pdu_bytes said))) ≡ mine_hears mine destination (Alarmed source header told)
-  pdu_at_controller mine destination source tag kind said header told one other tagged few says =
-      controller.alarm_heard reads mine destination source (Some tag) kind (pdu_bytes said) header told (pdu_sent destination source tag kind said one other tagged few) says
+  pub pdu_at_controller : (mine : Controller) (destination source : Mac) (tag : ℕ) (kind : PduType) (said : Said) (header : Header) (reported : ToController)
+      → IsMac destination → IsMac source → tag < 65536 → length said.body ≤ 1486 → ((more : List ℕ) → alarm_of (pdu_bytes said ++ more) ≡ Ok (header, reported))
+      → controller_hears mine (tagged_frame source destination tag (RealTime (frame_id_of kind) (pdu_bytes said))) ≡ mine_hears mine destination (Alarmed source header reported)
+  pdu_at_controller mine destination source tag kind said header reported one other tagged few says =
+      controller.alarm_heard reads mine destination source (Some tag) kind (pdu_bytes said) header reported (pdu_sent destination source tag kind said one other tagged few) says

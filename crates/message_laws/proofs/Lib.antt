@@ -9,7 +9,7 @@ pub mod HearingRequests
 pub mod TurnsOneTurn
 pub mod TurnsWhole
 pub mod TurnsEnded
-pub mod TurnsQuiet
+pub mod TurnsInactive
 pub mod TurnsAlarms
 pub mod SendingSizes
 pub mod SendingTurns

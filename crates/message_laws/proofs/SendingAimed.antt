@@ -92,16 +92,16 @@ module _ (mac : Mac) where
   -- ---- each kind
 
   module _ (long : BlocksAreLong) (setup : Setup) (live : Live) (came : Came) (good : IsSetup setup) (is : IsAimed live) (from : CameSo (IsHeardFrom mac) came) where
-    told : (other : Came) → came ≡ other → CameSo (IsHeardFrom mac) other
-    told other e = subst (λ (c : Came). CameSo (IsHeardFrom mac) c) e from
+    reported : (other : Came) → came ≡ other → CameSo (IsHeardFrom mac) other
+    reported other e = subst (λ (c : Came). CameSo (IsHeardFrom mac) c) e from
 
     at_station : (source : Mac) → (source ≡ live.device) ⊎ ((answer : Answered) × (came ≡ Hears (Answers source answer))) → IsAimed (record live { device = source })
     at_station source (inl same) = record { device = subst IsMac (sym same) is.device; asked = is.asked; way = is.way }
-    at_station source (inr heard) = record { device = told (Hears (Answers source heard.0)) heard.1; asked = is.asked; way = is.way }
+    at_station source (inr heard) = record { device = reported (Hears (Answers source heard.0)) heard.1; asked = is.asked; way = is.way }
 
     agrees : (caller : Caller) (call : Call) (block : ControlBlock) → IsReadied setup came caller call block → IsAimedAt mac (Agrees caller (ready_answer call block))
     agrees caller call block ready =
-        let heard : IsHeardFrom mac (Calls caller call) = told (Hears (Calls caller call)) ready.comes in
+        let heard : IsHeardFrom mac (Calls caller call) = reported (Hears (Calls caller call)) ready.comes in
         (heard.0, heard.1, answer_can long call block heard.2 heard.3 (named_so block.ar_uuid setup.ar (block.session_key == 1) ready.right good.ar))
 
     kind_sent : (kind : Kind) → IsKind setup live came kind → IsSent mac (turn_by setup live kind)

@@ -7,7 +7,7 @@ use Rattle.record_blocks.specs.declared.alarm_notification.AlarmNotification.{Al
 use Rattle.plans.specs.declared.parts.Controller.{Controller}
 use Rattle.controller_frames.specs.Heard.{Heard, Nothing, is_to}
 use Rattle.codec_laws.specs.blocks.Writable.{IsAlarm}
-use Rattle.message_laws.specs.hearing.Hearing.{mine_hears, mine_told}
+use Rattle.message_laws.specs.hearing.Hearing.{mine_hears, mine_reported}
 use Rattle.message_laws.specs.sending.Sized.{IsNoted, IsSized}
 
 sized_if : (test : Bool) (one other : Heard) → IsSized one → IsSized other → IsSized (if test then one else other)
@@ -18,8 +18,8 @@ pub mine_sized : (mine : Controller) (destination : Mac) (heard octets_heard : H
 mine_sized mine destination heard octets_heard e is =
     subst (λ (h : Heard). IsSized h) (sym e) (sized_if (pointwise nat_eq destination.octets mine.mac.octets) heard Nothing is tt)
 
-pub told_sized : (mine : Controller) (destination : Mac) (to : Endpoint) (heard octets_heard : Heard) → octets_heard ≡ mine_told mine destination to heard → IsSized heard → IsSized octets_heard
-told_sized mine destination to heard octets_heard e is =
+pub reported_sized : (mine : Controller) (destination : Mac) (to : Endpoint) (heard octets_heard : Heard) → octets_heard ≡ mine_reported mine destination to heard → IsSized heard → IsSized octets_heard
+reported_sized mine destination to heard octets_heard e is =
     mine_sized mine destination (if is_to mine.address to then heard else Nothing) octets_heard e (sized_if (is_to mine.address to) heard Nothing is tt)
 
 pub nothing_sized : (octets_heard : Heard) → octets_heard ≡ Nothing → IsSized octets_heard

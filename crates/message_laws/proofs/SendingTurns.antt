@@ -191,19 +191,19 @@ acks_all setup live None is good = tt
 -- ---- each kind
 
 module _ (long : BlocksAreLong) (setup : Setup) (live : Live) (came : Came) (good : IsSetup setup) (is : IsLive live) (sized : CameSo IsSized came) where
-  told : (other : Came) → came ≡ other → CameSo IsSized other
-  told other e = subst (λ (c : Came). CameSo IsSized c) e sized
+  reported : (other : Came) → came ≡ other → CameSo IsSized other
+  reported other e = subst (λ (c : Came). CameSo IsSized c) e sized
 
   with_station : (source : Mac) → IsMac source → IsLive (record live { device = source })
   with_station source six = record { device = six; asked = is.asked; way = is.way; few = is.few; last = is.last; seen = is.seen; confirming = is.confirming }
 
   at_station : (source : Mac) → (source ≡ live.device) ⊎ ((answer : Answered) × (came ≡ Hears (Answers source answer))) → IsLive (record live { device = source })
   at_station source (inl same) = with_station source (subst IsMac (sym same) is.device)
-  at_station source (inr heard) = with_station source (told (Hears (Answers source heard.0)) heard.1)
+  at_station source (inr heard) = with_station source (reported (Hears (Answers source heard.0)) heard.1)
 
   agrees : (caller : Caller) (call : Call) (block : ControlBlock) → IsReadied setup came caller call block → CanBeSent setup (Agrees caller (ready_answer call block))
   agrees caller call block ready =
-      let heard : IsSized (Calls caller call) = told (Hears (Calls caller call)) ready.comes in
+      let heard : IsSized (Calls caller call) = reported (Hears (Calls caller call)) ready.comes in
       (heard.0, answer_can long call block heard.1 heard.2 (named_so block.ar_uuid setup.ar (block.session_key == 1) ready.right good.ar))
 
   kind_right : (kind : Kind) → IsKind setup live came kind → IsRight setup (turn_by setup live kind)
@@ -213,7 +213,7 @@ module _ (long : BlocksAreLong) (setup : Setup) (live : Live) (came : Came) (goo
   kind_right (Ends why) holds = record { live = over_live why live is; sent = tt }
   kind_right (Releases why) holds = released_right setup why live good is
   kind_right (Relates frame_id) holds =
-      let chosen : IsSized (Responds holds.0.response) = told (Hears (Responds holds.0.response)) holds.0.comes in
+      let chosen : IsSized (Responds holds.0.response) = reported (Hears (Responds holds.0.response)) holds.0.comes in
       writing_right setup 0 (standing setup live frame_id) good (stands_live setup live frame_id is (chosen frame_id holds.1))
   kind_right (Writes number) holds = writing_right setup (number + 1) live good is
   kind_right Waits holds = record { live = unasked live Waiting is; sent = tt }
@@ -223,7 +223,7 @@ module _ (long : BlocksAreLong) (setup : Setup) (live : Live) (came : Came) (goo
   kind_right (Follows source frame_id body) holds =
       record { live = kept_live live (behind_frame live.cyclic source frame_id body) is (frame_stays live.cyclic source frame_id body); sent = tt }
   kind_right (Takes number alarm) holds =
-      let noted : IsSized (Alarms holds.1 holds.2 (notice.Data number alarm)) = told (Hears (Alarms holds.1 holds.2 (notice.Data number alarm))) holds.3 in
+      let noted : IsSized (Alarms holds.1 holds.2 (notice.Data number alarm)) = reported (Hears (Alarms holds.1 holds.2 (notice.Data number alarm))) holds.3 in
       taken_right setup (behind_data live number) alarm (taken_as live.alarms.seen number) (data_live live number is noted.0) noted.1
   kind_right (IsAcked number) holds = record {
     live = record { device = is.device; asked = is.asked; way = is.way; few = is.few; last = acked_last live number is; seen = is.seen; confirming = is.confirming };

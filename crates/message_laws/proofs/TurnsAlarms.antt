@@ -41,7 +41,7 @@ use Rattle.controller_core.specs.Machine.{Turn, acks_in, brought, due_frames, fl
 use Rattle.controller_core.specs.State.{Live}
 use Rattle.message_laws.specs.turns.Alarms.{AreTakenInOrder, LackAtMostTheLast, Move, Relation, Raises, PassesAtDevice, ComesToDevice, AlarmComes, AckComes, Hears, PassesAtController, Gives, Stops, ShowsTheLast, ack_comes, alarm_comes, behind, behind_one, comes_to_device, hears, is_looked_at, last_of, passed_at_device, raised_by, replied_by, start, turns}
 use Rattle.message_laws.specs.turns.Turns as came
-use Rattle.message_laws.proofs.TurnsQuiet.{IsQuiet, IsReply, IsThere, quiet_stays, requests_quiet, turn_quiet}
+use Rattle.message_laws.proofs.TurnsInactive.{IsInactive, IsReply, IsThere, inactive_stays, requests_inactive, turn_inactive}
 
 -- ---- lists
 
@@ -122,7 +122,7 @@ pub record IsPlayed (r : Relation) : Type 0 where
   pub rest : Rest
   pub moves : List Happening
   pub made : behind_all moves (nothing_happened 1 3) ≡ world_of r rest
-  pub told : AllByRecursion (IsThere rest.confirms.pdus rest.acks rest.nacks) r.told
+  pub reported : AllByRecursion (IsThere rest.confirms.pdus rest.acks rest.nacks) r.reported
   pub same : length rest.confirms.sent ≡ length r.alarms.taken
   pub shown : r.live.alarm ≡ last_of r.alarms.taken
 
@@ -131,24 +131,24 @@ runs_on [] more w = refl
 runs_on (move ∷ moves) more w = runs_on moves more (happens w move)
 
 goes_on : (r : Relation) (p : IsPlayed r) (more : List Happening) (next : Relation) (rest : Rest) → behind_all more (world_of r p.rest) ≡ world_of next rest
-    → AllByRecursion (IsThere rest.confirms.pdus rest.acks rest.nacks) next.told → length rest.confirms.sent ≡ length next.alarms.taken
+    → AllByRecursion (IsThere rest.confirms.pdus rest.acks rest.nacks) next.reported → length rest.confirms.sent ≡ length next.alarms.taken
     → next.live.alarm ≡ last_of next.alarms.taken → IsPlayed next
-goes_on r p more next rest e told same shown = record {
+goes_on r p more next rest e reported same shown = record {
   rest = rest;
   moves = p.moves ++ more;
   made = runs_on p.moves more (nothing_happened 1 3) ∙ (ap (behind_all more) p.made ∙ e);
-  told = told;
+  reported = reported;
   same = same;
   shown = shown;
 }
 
 -- A turn that does not concern alarms.
-quiet_on : (r : Relation) (turn : Turn) → IsPlayed r → IsQuiet r.live turn → IsPlayed (turns r turn)
-quiet_on r turn p q = record {
+inactive_on : (r : Relation) (turn : Turn) → IsPlayed r → IsInactive r.live turn → IsPlayed (turns r turn)
+inactive_on r turn p q = record {
   rest = p.rest;
   moves = p.moves;
   made = p.made ∙ ap (λ (end : ControllerEnd). record (world_of r p.rest) { controller = end }) (sym q.alarms);
-  told = all_behind (IsThere p.rest.confirms.pdus p.rest.acks p.rest.nacks) r.told turn.sent p.told (q.sent p.rest.confirms.pdus p.rest.acks p.rest.nacks);
+  reported = all_behind (IsThere p.rest.confirms.pdus p.rest.acks p.rest.nacks) r.reported turn.sent p.reported (q.sent p.rest.confirms.pdus p.rest.acks p.rest.nacks);
   same = p.same;
   shown = q.alarm ∙ p.shown;
 }
@@ -185,7 +185,7 @@ raised_now r alarm = record r {
 raise_as : (r : Relation) (p : IsPlayed r) (alarm : Alarm) (is : Bool)
     → happens (world_of r p.rest) (happening.Raise alarm) ≡ (if is then world_of (raised_now r alarm) p.rest else world_of r p.rest)
     → IsPlayed (if is then raised_now r alarm else r)
-raise_as r p alarm true e = goes_on r p (happening.Raise alarm ∷ []) (raised_now r alarm) p.rest e p.told p.same p.shown
+raise_as r p alarm true e = goes_on r p (happening.Raise alarm ∷ []) (raised_now r alarm) p.rest e p.reported p.same p.shown
 raise_as r p alarm false e = p
 
 raise_on : (r : Relation) (p : IsPlayed r) (alarm : Alarm) (standing : Option AlarmNotification)
@@ -197,16 +197,16 @@ raise_on r p alarm (Some notification) e = p
 device_passes : (r : Relation) → IsPlayed r → IsPlayed (passed_at_device r)
 device_passes r p =
     let taken_is = lines_taken r.alarms (send_number r.device.sender.sending.last) r.device.sender.standing (due r.device.sender.sending) in
-    goes_on r p (happening.DeviceTick ∷ []) (passed_at_device r) p.rest refl p.told
+    goes_on r p (happening.DeviceTick ∷ []) (passed_at_device r) p.rest refl p.reported
     (p.same ∙ ap length (sym taken_is)) (p.shown ∙ ap last_of (sym taken_is))
 
 replies_on : (r : Relation) (p : IsPlayed r) (header : Header) (kind : PduType) → IsReply p.rest.acks p.rest.nacks header kind → IsPlayed (replied_by r header kind)
 replies_on r p header pdu.Ack there =
     goes_on r p (happening.AckComesToDevice there.0 ∷ []) (replied_by r header pdu.Ack) p.rest
-    (ap (after_ack_to_device (world_of r p.rest)) there.1) p.told p.same p.shown
+    (ap (after_ack_to_device (world_of r p.rest)) there.1) p.reported p.same p.shown
 replies_on r p header pdu.Nack there =
     goes_on r p (happening.NackComesToDevice there.0 ∷ []) (replied_by r header pdu.Nack) p.rest
-    (ap (after_nack_to_device (world_of r p.rest)) there.2) p.told p.same p.shown
+    (ap (after_nack_to_device (world_of r p.rest)) there.2) p.reported p.same p.shown
 replies_on r p header kind there = p
 
 confirms_on : (r : Relation) (p : IsPlayed r) (route : Route) (header : Header) (ack : AlarmAck)
@@ -217,17 +217,17 @@ confirms_on r p route header ack there =
       confirms = with_come p.rest.confirms r.device.seen (header.send_number, ack);
       others = nacks_after p.rest.others header.send_number (taken_as r.device.seen header.send_number);
     })
-    (ap (after_confirms (world_of r p.rest)) there.1) p.told p.same p.shown
+    (ap (after_confirms (world_of r p.rest)) there.1) p.reported p.same p.shown
 
 message_on : (r : Relation) (p : IsPlayed r) (message : Sent) → IsThere p.rest.confirms.pdus p.rest.acks p.rest.nacks message → IsPlayed (comes_to_device r (Some message))
 message_on r p (Confirms route header ack) there = confirms_on r p route header ack there
 message_on r p (Replies route header) there = replies_on r p header header.kind there
 message_on r p message there = p
 
-comes_on : (r : Relation) (p : IsPlayed r) (place : ℕ) (message : Option Sent) → slice_get r.told place ≡ message → IsPlayed (comes_to_device r message)
+comes_on : (r : Relation) (p : IsPlayed r) (place : ℕ) (message : Option Sent) → slice_get r.reported place ≡ message → IsPlayed (comes_to_device r message)
 comes_on r p place None e = p
 comes_on r p place (Some message) e =
-    message_on r p message (all_at (IsThere p.rest.confirms.pdus p.rest.acks p.rest.nacks) r.told place message p.told e)
+    message_on r p message (all_at (IsThere p.rest.confirms.pdus p.rest.acks p.rest.nacks) r.reported place message p.reported e)
 
 -- ---- an alarm arrives at the controller
 
@@ -291,26 +291,26 @@ takes_on r p place number alarm New seen e fit =
     let longer = one_longer r.alarms.taken alarm in
     goes_on r p (happening.AlarmComes place ∷ happening.Confirm ack ∷ []) (taken_now r alarm New seen) rest
     (ap (λ (w : World). after_confirm w ack) e ∙ confirm_now (arrived r p.rest number alarm New seen) ack (omega (arith, longer, p.same)))
-    (all_behind (IsThere rest.confirms.pdus rest.acks rest.nacks) r.told (taken (seeing r.live seen) alarm New).sent
+    (all_behind (IsThere rest.confirms.pdus rest.acks rest.nacks) r.reported (taken (seeing r.live seen) alarm New).sent
     (all_stay p.rest.confirms.pdus rest.confirms.pdus p.rest.acks rest.acks p.rest.nacks rest.nacks
-    (one_more p.rest.confirms.pdus (sent_as, ack)) (one_more p.rest.acks number) (unchanged p.rest.nacks) r.told p.told)
+    (one_more p.rest.confirms.pdus (sent_as, ack)) (one_more p.rest.acks number) (unchanged p.rest.nacks) r.reported p.reported)
     ((length p.rest.acks, at_end p.rest.acks number ∙ ap (λ (n : ℕ). Some n) (sym fit)), ((length p.rest.confirms.pdus, at_end p.rest.confirms.pdus (sent_as, ack)), tt)))
     (omega (arith, longer, one_longer p.rest.confirms.sent ack, p.same))
     (sym (last_is r.alarms.taken alarm))
 takes_on r p place number alarm Again seen e fit =
     let rest = record p.rest { acks = p.rest.acks ++ number ∷ [] } in
     goes_on r p (happening.AlarmComes place ∷ []) (taken_now r alarm Again seen) rest e
-    (all_behind (IsThere rest.confirms.pdus rest.acks rest.nacks) r.told (taken (seeing r.live seen) alarm Again).sent
+    (all_behind (IsThere rest.confirms.pdus rest.acks rest.nacks) r.reported (taken (seeing r.live seen) alarm Again).sent
     (all_stay p.rest.confirms.pdus rest.confirms.pdus p.rest.acks rest.acks p.rest.nacks rest.nacks
-    (unchanged p.rest.confirms.pdus) (one_more p.rest.acks number) (unchanged p.rest.nacks) r.told p.told)
+    (unchanged p.rest.confirms.pdus) (one_more p.rest.acks number) (unchanged p.rest.nacks) r.reported p.reported)
     ((length p.rest.acks, at_end p.rest.acks number ∙ ap (λ (n : ℕ). Some n) (sym fit)), tt))
     p.same p.shown
 takes_on r p place number alarm Refused seen e fit =
     let rest = record p.rest { nacks = p.rest.nacks ++ number ∷ [] } in
     goes_on r p (happening.AlarmComes place ∷ []) (taken_now r alarm Refused seen) rest e
-    (all_behind (IsThere rest.confirms.pdus rest.acks rest.nacks) r.told (taken (seeing r.live seen) alarm Refused).sent
+    (all_behind (IsThere rest.confirms.pdus rest.acks rest.nacks) r.reported (taken (seeing r.live seen) alarm Refused).sent
     (all_stay p.rest.confirms.pdus rest.confirms.pdus p.rest.acks rest.acks p.rest.nacks rest.nacks
-    (unchanged p.rest.confirms.pdus) (unchanged p.rest.acks) (one_more p.rest.nacks number) r.told p.told)
+    (unchanged p.rest.confirms.pdus) (unchanged p.rest.acks) (one_more p.rest.nacks number) r.reported p.reported)
     ((length p.rest.nacks, number, at_end p.rest.nacks number), tt))
     p.same p.shown
 
@@ -322,7 +322,7 @@ looks_on : (r : Relation) (p : IsPlayed r) (place : ℕ) (data_is : ℕ × Alarm
 looks_on r p place data_is true there =
     takes_on r p place data_is.0 data_is.1 (taken_as r.live.alarms.seen data_is.0) (last_behind r.live.alarms.seen data_is.0)
     (ap (after_alarm (world_of r p.rest)) there) (fits r.live.alarms.seen data_is.0)
-looks_on r p place data_is false there = quiet_on r (stays r.live) p (quiet_stays r.live)
+looks_on r p place data_is false there = inactive_on r (stays r.live) p (inactive_stays r.live)
 
 alarm_on : (r : Relation) (p : IsPlayed r) (source : Mac) (header : Header) (place : ℕ) (data_is : Option (ℕ × AlarmNotification))
     → slice_get r.alarms.pdus place ≡ data_is → IsPlayed (alarm_comes r source header data_is)
@@ -336,8 +336,8 @@ acks_on : (r : Relation) (p : IsPlayed r) (place number : ℕ) (is : Bool) → s
 acks_on r p place number true there =
     goes_on r p (happening.AckComesToController place ∷ []) (turns r (noticed r.live (notice.Ack number))) p.rest
     (ap (after_ack_to_controller (world_of r p.rest)) there)
-    (all_behind (IsThere p.rest.confirms.pdus p.rest.acks p.rest.nacks) r.told [] p.told tt) p.same p.shown
-acks_on r p place number false there = quiet_on r (stays r.live) p (quiet_stays r.live)
+    (all_behind (IsThere p.rest.confirms.pdus p.rest.acks p.rest.nacks) r.reported [] p.reported tt) p.same p.shown
+acks_on r p place number false there = inactive_on r (stays r.live) p (inactive_stays r.live)
 
 ack_on : (r : Relation) (p : IsPlayed r) (source : Mac) (header : Header) (place : ℕ) (number : Option ℕ)
     → slice_get r.acks place ≡ number → IsPlayed (ack_comes r source header number)
@@ -347,7 +347,7 @@ ack_on r p source header place (Some number) there = acks_on r p place number (i
 hears_on : (setup : Setup) (r : Relation) (p : IsPlayed r) (heard : Heard) → IsPlayed (hears setup r heard)
 hears_on setup r p (Alarms source header (notice.Data number alarm)) = p
 hears_on setup r p (Alarms source header (notice.Ack number)) = p
-hears_on setup r p heard = quiet_on r (turned setup r.live heard) p (turn_quiet setup r.live (came.Hears heard) tt)
+hears_on setup r p heard = inactive_on r (turned setup r.live heard) p (turn_inactive setup r.live (came.Hears heard) tt)
 
 -- ---- a unit passes at the controller
 
@@ -372,9 +372,9 @@ flows_on r p is_request due_now (Some reason) e =
     let line = line_after p.rest.confirms (send_number r.live.alarms.sending.last) r.live.alarms.confirming due_now in
     let rest = record p.rest { confirms = line } in
     goes_on r p (happening.ControllerTick ∷ []) (turns r (flowed (flow_later r.live) is_request (tick_by r.live.cyclic due_now (Some reason)) (Some reason))) rest e
-    (all_behind (IsThere line.pdus rest.acks rest.nacks) r.told (flowed (flow_later r.live) is_request (tick_by r.live.cyclic due_now (Some reason)) (Some reason)).sent
+    (all_behind (IsThere line.pdus rest.acks rest.nacks) r.reported (flowed (flow_later r.live) is_request (tick_by r.live.cyclic due_now (Some reason)) (Some reason)).sent
     (all_stay p.rest.confirms.pdus line.pdus p.rest.acks rest.acks p.rest.nacks rest.nacks
-    (lines_extend p.rest.confirms (send_number r.live.alarms.sending.last) r.live.alarms.confirming due_now) (unchanged p.rest.acks) (unchanged p.rest.nacks) r.told p.told)
+    (lines_extend p.rest.confirms (send_number r.live.alarms.sending.last) r.live.alarms.confirming due_now) (unchanged p.rest.acks) (unchanged p.rest.nacks) r.reported p.reported)
     (tt, tt))
     (ap length (lines_same p.rest.confirms (send_number r.live.alarms.sending.last) r.live.alarms.confirming due_now) ∙ p.same) p.shown
 flows_on r p is_request due_now None e =
@@ -383,14 +383,14 @@ flows_on r p is_request due_now None e =
     let live = flow_later r.live in
     let tick = tick_by r.live.cyclic due_now None in
     goes_on r p (happening.ControllerTick ∷ []) (turns r (flowed live is_request tick None)) rest e
-    (all_behind (IsThere line.pdus rest.acks rest.nacks) r.told (due_frames live tick.is_alarm is_request tick.is_cyclic)
+    (all_behind (IsThere line.pdus rest.acks rest.nacks) r.reported (due_frames live tick.is_alarm is_request tick.is_cyclic)
     (all_stay p.rest.confirms.pdus line.pdus p.rest.acks rest.acks p.rest.nacks rest.nacks
-    (lines_extend p.rest.confirms (send_number r.live.alarms.sending.last) r.live.alarms.confirming due_now) (unchanged p.rest.acks) (unchanged p.rest.nacks) r.told p.told)
+    (lines_extend p.rest.confirms (send_number r.live.alarms.sending.last) r.live.alarms.confirming due_now) (unchanged p.rest.acks) (unchanged p.rest.nacks) r.reported p.reported)
     (all_behind (IsThere line.pdus rest.acks rest.nacks) (where_due tick.is_alarm (acks_in live live.alarms.confirming))
     (where_due is_request (requests_of live.device live.asked) ++ where_due tick.is_cyclic (outputs_of live))
     (acks_part p.rest.confirms rest.acks rest.nacks live r.live.alarms.confirming due_now)
     (all_behind (IsThere line.pdus rest.acks rest.nacks) (where_due is_request (requests_of live.device live.asked)) (where_due tick.is_cyclic (outputs_of live))
-    (requests_quiet line.pdus rest.acks rest.nacks live.device live.asked is_request)
+    (requests_inactive line.pdus rest.acks rest.nacks live.device live.asked is_request)
     (outputs_part line.pdus rest.acks rest.nacks live tick.is_cyclic))))
     (ap length (lines_same p.rest.confirms (send_number r.live.alarms.sending.last) r.live.alarms.confirming due_now) ∙ p.same) p.shown
 
@@ -408,22 +408,22 @@ stands_on r p true =
     subst (λ (o : Option Abort). IsPlayed (turns r (flowed (flow_later r.live) (is_again r.live) (tick_by r.live.cyclic due_now reason) o))) (sym (reason_is r due_now reason))
     (flows_on r p (is_again r.live) due_now reason refl)
 stands_on r p false =
-    quiet_on r (record { live = later r.live; sent = where_due (is_again r.live) (requests_of r.live.device r.live.asked) }) p
-    (record { alarms = refl; alarm = refl; sent = λ pdus acks nacks. requests_quiet pdus acks nacks r.live.device r.live.asked (is_again r.live) })
+    inactive_on r (record { live = later r.live; sent = where_due (is_again r.live) (requests_of r.live.device r.live.asked) }) p
+    (record { alarms = refl; alarm = refl; sent = λ pdus acks nacks. requests_inactive pdus acks nacks r.live.device r.live.asked (is_again r.live) })
 
 -- ---- any moves
 
 one_on : (setup : Setup) (r : Relation) (move : Move) → IsPlayed r → IsPlayed (behind_one setup r move)
 one_on setup r (Raises alarm) p = raise_on r p alarm r.device.sender.standing refl
 one_on setup r PassesAtDevice p = device_passes r p
-one_on setup r (ComesToDevice place) p = comes_on r p place (slice_get r.told place) refl
+one_on setup r (ComesToDevice place) p = comes_on r p place (slice_get r.reported place) refl
 one_on setup r (AlarmComes source header place) p = alarm_on r p source header place (slice_get r.alarms.pdus place) refl
 one_on setup r (AckComes source header place) p = ack_on r p source header place (slice_get r.acks place) refl
 one_on setup r (Hears heard) p = hears_on setup r p heard
 one_on setup r PassesAtController p = stands_on r p r.live.stands
 one_on setup r (Gives slot subslot value) p =
-    quiet_on r (stays (given r.live slot subslot value)) p (record { alarms = refl; alarm = refl; sent = λ pdus acks nacks. tt })
-one_on setup r Stops p = quiet_on r (stopped setup r.live r.live.phase) p (turn_quiet setup r.live came.Halts tt)
+    inactive_on r (stays (given r.live slot subslot value)) p (record { alarms = refl; alarm = refl; sent = λ pdus acks nacks. tt })
+one_on setup r Stops p = inactive_on r (stopped setup r.live r.live.phase) p (turn_inactive setup r.live came.Halts tt)
 
 all_on : (setup : Setup) (moves : List Move) (r : Relation) → IsPlayed r → IsPlayed (behind setup moves r)
 all_on setup [] r p = p
@@ -434,7 +434,7 @@ begins setup = record {
   rest = record { confirms = empty; acks = []; nacks = []; others = [] };
   moves = [];
   made = refl;
-  told = tt;
+  reported = tt;
   same = refl;
   shown = refl;
 }

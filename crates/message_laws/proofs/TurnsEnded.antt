@@ -23,8 +23,8 @@ use Rattle.controller_core.specs.Machine.{Turn, flow_later, flowed, brought, giv
 use Rattle.controller_core.specs.Machine.{where_due as sent_where_due}
 use Rattle.message_laws.specs.turns.Runs.{frames_of}
 use Rattle.message_laws.specs.turns.Ended.{CountsUnits, DropsWhatComes, HasEnded, IsAnswered, IsDropped, IsSilent, KeepsItsCause, RepeatsItsRelease, is_unit, may_release, release_in, release_of, where_due}
-use Rattle.message_laws.specs.turns.Turns.{Hears, Passes, Gets, IsEnd, IsKind, IsTold, Kind, Rests, Connects, Addresses, Ends, Releases, Relates, Writes, Waits, Forgets, Begins, Repeats, Follows, Takes, IsAcked, Gives, Flows, Breaks, Idles, turn_by}
-use Rattle.message_laws.proofs.TurnsOneTurn.{is_over, is_release, not_over, turn_is, untold}
+use Rattle.message_laws.specs.turns.Turns.{Hears, Passes, Gets, IsEnd, IsKind, IsReported, Kind, Rests, Connects, Addresses, Ends, Releases, Relates, Writes, Waits, Forgets, Begins, Repeats, Follows, Takes, IsAcked, Gives, Flows, Breaks, Idles, turn_by}
+use Rattle.message_laws.proofs.TurnsOneTurn.{is_over, is_release, not_over, turn_is, unreported}
 use Rattle.message_laws.proofs.TurnsWhole.{reached_on, whole_end}
 
 -- ---- a frame
@@ -36,7 +36,7 @@ IsUnmoved setup live heard turn = (turn ≡ stays live) ⊎ (IsAnswered setup li
 module _ (setup : Setup) (live : Live) (heard : Heard) (cause : Cause) (h : IsEnd cause live) where
   -- No other request than the Release is active.
   unasked : (request : Request) → is_release request ≡ false → live.asked ≡ Some request → ⊥
-  unasked request other stood = untold request cause other (subst (λ (o : Option Request). IsTold cause o) stood h.asked)
+  unasked request other stood = unreported request cause other (subst (λ (o : Option Request). IsReported cause o) stood h.asked)
 
   -- It is in no other phase.
   other_phase : (phase : State) → is_over phase ≡ false → live.phase ≡ phase → ⊥
@@ -108,13 +108,13 @@ ticked_as : (live : Live) → live.stands ≡ false → ticked live ≡ unit_of 
 ticked_as live down =
     ap (λ (is : Bool). if is then flowed (flow_later live) (is_again live) (brought live) (brought live).ending else unit_of live) down
 
-unit_frames : (setup : Setup) (device : Mac) (asked : Option Request) (is : Bool) (cause : Cause) → IsTold cause asked
+unit_frames : (setup : Setup) (device : Mac) (asked : Option Request) (is : Bool) (cause : Cause) → IsReported cause asked
     → map (bytes_of setup) (sent_where_due is (requests_of device asked)) ≡ where_due is (release_in setup device asked)
-unit_frames setup device None true cause told = refl
-unit_frames setup device None false cause told = refl
-unit_frames setup device (Some (asks.Release sequence)) true cause told = refl
-unit_frames setup device (Some (asks.Release sequence)) false cause told = refl
-unit_frames setup device (Some request) is cause told = absurd told
+unit_frames setup device None true cause reported = refl
+unit_frames setup device None false cause reported = refl
+unit_frames setup device (Some (asks.Release sequence)) true cause reported = refl
+unit_frames setup device (Some (asks.Release sequence)) false cause reported = refl
+unit_frames setup device (Some request) is cause reported = absurd reported
 
 unit_frames_of : (setup : Setup) (live : Live) (cause : Cause) → IsEnd cause live
     → map (bytes_of setup) (ticked live).sent ≡ where_due (is_again live) (release_in setup live.device live.asked)
@@ -244,9 +244,9 @@ all_sent (event ∷ events) controller cause h =
     (carried (release_of next) (release_of controller) (frames_of events next) (left controller cause event end).release
     (all_sent events next cause (ended_on controller cause event h)))
 
-none_stands : (setup : Setup) (device : Mac) (asked : Option Request) (cause : Cause) → may_release cause ≡ false → IsTold cause asked → release_in setup device asked ≡ None
-none_stands setup device (Some (asks.Release sequence)) cause other told = absurd (no_unit (sym told ∙ other))
-none_stands setup device asked cause other told = refl
+none_stands : (setup : Setup) (device : Mac) (asked : Option Request) (cause : Cause) → may_release cause ≡ false → IsReported cause asked → release_in setup device asked ≡ None
+none_stands setup device (Some (asks.Release sequence)) cause other reported = absurd (no_unit (sym reported ∙ other))
+none_stands setup device asked cause other reported = refl
 
 none_sent : (release : Option (List ℕ)) (frames : List (List ℕ)) → release ≡ None → AllByRecursion (λ frame. Some frame ≡ release) frames → frames ≡ []
 none_sent release [] e all = refl

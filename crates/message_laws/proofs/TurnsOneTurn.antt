@@ -29,8 +29,8 @@ use Rattle.controller_core.specs.State.{Live}
 use Rattle.controller_core.specs.Alarms.{is_alarm}
 use Rattle.controller_core.specs.Answers.{is_addressed, is_answer, is_found, is_ready, is_right, is_set_answer}
 use Rattle.controller_core.specs.Connect.{found_in, is_whole, nothing}
-use Rattle.controller_core.specs.Machine.{Turn, answered, brought, called, connected, decided, done, flow_later, flowed, is_again, judged, later, noticed, readied, ready_in, related_by, requests_of, responded, stays, stopped, turn_of, turned, where_due}
-use Rattle.message_laws.specs.turns.Turns.{Came, Hears, Passes, Gets, Halts, Found, IsGoing, IsGranted, IsKind, IsReadied, IsSought, IsTold, IsTurn, Kind, Rests, Connects, Addresses, Ends, Releases, Relates, Writes, Waits, Forgets, Begins, Repeats, Follows, Takes, IsAcked, Gives, Flows, Breaks, Idles, came_by, chosen_in, turn_by, turn_for}
+use Rattle.controller_core.specs.Machine.{Turn, answered, brought, called, connected, decided, done, flow_later, flowed, is_again, handled, later, noticed, readied, ready_in, related_by, requests_of, responded, stays, stopped, turn_of, turned, where_due}
+use Rattle.message_laws.specs.turns.Turns.{Came, Hears, Passes, Gets, Halts, Found, IsGoing, IsGranted, IsKind, IsReadied, IsSought, IsReported, IsTurn, Kind, Rests, Connects, Addresses, Ends, Releases, Relates, Writes, Waits, Forgets, Begins, Repeats, Follows, Takes, IsAcked, Gives, Flows, Breaks, Idles, came_by, chosen_in, turn_by, turn_for}
 
 -- No other phase is an end.
 abbrev pub is_over : State → Bool
@@ -45,16 +45,16 @@ abbrev pub is_release : Request → Bool
 is_release (asks.Release sequence) = true
 is_release request = false
 
-pub untold : (request : Request) (cause : Cause) → is_release request ≡ false → IsTold cause (Some request) → ⊥
-untold (asks.Release sequence) cause other told = false≢true (sym other)
-untold request cause other told = told
+pub unreported : (request : Request) (cause : Cause) → is_release request ≡ false → IsReported cause (Some request) → ⊥
+unreported (asks.Release sequence) cause other reported = false≢true (sym other)
+unreported request cause other reported = reported
 
 module _ (setup : Setup) (live : Live) where
   going : (phase : State) → live.phase ≡ phase → is_over phase ≡ false → IsGoing live
   going phase is stands = λ cause end. not_over phase cause stands (sym is ∙ end.phase)
 
   asked_going : (request : Request) → live.asked ≡ Some request → is_release request ≡ false → IsGoing live
-  asked_going request stood other = λ cause end. untold request cause other (subst (λ (o : Option Request). IsTold cause o) stood end.asked)
+  asked_going request stood other = λ cause end. unreported request cause other (subst (λ (o : Option Request). IsReported cause o) stood end.asked)
 
   up_going : live.stands ≡ true → IsGoing live
   up_going up = λ cause end. false≢true (sym end.down ∙ up)
@@ -132,15 +132,15 @@ module _ (setup : Setup) (live : Live) where
     done_is asks.PrmEnd stood right granted = as_kind heard_now Waits (granted_by asks.PrmEnd stood right granted)
     done_is (asks.Release sequence) stood right granted = forgets sequence stood right
 
-    judged_is : (request : Request) → live.asked ≡ Some request → is_answer setup request response.header ≡ true → is_release request ≡ false
-        → IsTurn setup live heard_now (judged setup live response request)
-    judged_is request stood right other =
+    handled_is : (request : Request) → live.asked ≡ Some request → is_answer setup request response.header ≡ true → is_release request ≡ false
+        → IsTurn setup live heard_now (handled setup live response request)
+    handled_is request stood right other =
         if_so (is_done response.status) (λ granted. done_is request stood right granted) (as_kind heard_now (Ends why.Refused) (asked_going request stood other))
 
     decided_is : (request : Request) → live.asked ≡ Some request → is_answer setup request response.header ≡ true
         → IsTurn setup live heard_now (decided setup live response request)
     decided_is (asks.Release sequence) stood right = forgets sequence stood right
-    decided_is request stood right = judged_is request stood right refl
+    decided_is request stood right = handled_is request stood right refl
 
     responded_is : (asked : Option Request) → live.asked ≡ asked → IsTurn setup live heard_now (responded setup live response asked)
     responded_is (Some request) stood = if_so (is_answer setup request response.header) (λ right. decided_is request stood right) (rests heard_now)
@@ -163,7 +163,7 @@ module _ (setup : Setup) (live : Live) where
 
   -- ---- alarms, and cyclic frames
 
-  noticed_is : (source : Mac) (header : Header) (told : ToController) → live.stands ≡ true → IsTurn setup live (Hears (Alarms source header told)) (noticed live told)
+  noticed_is : (source : Mac) (header : Header) (reported : ToController) → live.stands ≡ true → IsTurn setup live (Hears (Alarms source header reported)) (noticed live reported)
   noticed_is source header (notice.Data number alarm) up = as_kind _ (Takes number alarm) (up, source, header, refl)
   noticed_is source header (notice.Ack number) up = as_kind _ (IsAcked number) (up, source, header, refl)
   noticed_is source header notice.Nack up = rests _
@@ -180,10 +180,10 @@ module _ (setup : Setup) (live : Live) where
   turned_is (Responds response) = responded_is response live.asked refl
   turned_is (Calls caller call) = called_is caller call (ready_in call) refl
   turned_is (Comes source frame_id body) = come_is source frame_id body live.stands refl
-  turned_is (Alarms source header told) =
+  turned_is (Alarms source header reported) =
       if_so (live.stands && is_alarm live.cyclic.route source header)
-      (λ e. noticed_is source header told (and_parts live.stands (is_alarm live.cyclic.route source header) e).0)
-      (rests (Hears (Alarms source header told)))
+      (λ e. noticed_is source header reported (and_parts live.stands (is_alarm live.cyclic.route source header) e).0)
+      (rests (Hears (Alarms source header reported)))
 
   -- ---- units, and the application
 

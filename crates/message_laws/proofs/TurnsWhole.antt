@@ -18,7 +18,7 @@ use Rattle.controller_core.specs.State.{Controlling, Live}
 use Rattle.controller_core.specs.Machine.{Turn, behind_data, cause_of, confirming, first, flow_later, fresh, over, phase_for, released, standing, stays, step_of, taken, turn_of, writing}
 use Rattle.message_laws.specs.turns.Ended.{HasEnded, may_release}
 use Rattle.message_laws.specs.turns.Runs.{IsReached, behind_all}
-use Rattle.message_laws.specs.turns.Turns.{Came, IsEnd, IsKind, IsTold, Kind, Rests, Connects, Addresses, Ends, Releases, Relates, Writes, Waits, Forgets, Begins, Repeats, Follows, Takes, IsAcked, Gives, Flows, Breaks, Idles, came_by, turn_by}
+use Rattle.message_laws.specs.turns.Turns.{Came, IsEnd, IsKind, IsReported, Kind, Rests, Connects, Addresses, Ends, Releases, Relates, Writes, Waits, Forgets, Begins, Repeats, Follows, Takes, IsAcked, Gives, Flows, Breaks, Idles, came_by, turn_by}
 use Rattle.message_laws.proofs.TurnsOneTurn.{event_is, is_over, not_over}
 
 -- After a turn the controller has not ended, or its end is complete.
@@ -35,7 +35,7 @@ same : (live next : Live) (sent : List Sent) → next.phase ≡ live.phase → n
     → Kept (stays live) → Kept (record { live = next; sent = sent })
 same live next sent phase stands asked k = record {
   whole = λ cause e. let i = k.whole cause (sym phase ∙ e) in
-      record { phase = e; down = stands ∙ i.down; asked = subst (λ (o : Option Request). IsTold cause o) (sym asked) i.asked };
+      record { phase = e; down = stands ∙ i.down; asked = subst (λ (o : Option Request). IsReported cause o) (sym asked) i.asked };
 }
 
 goes_on : (live : Live) (sent : List Sent) → is_over live.phase ≡ false → Kept (record { live = live; sent = sent })
@@ -49,8 +49,8 @@ ends : (mine : Cause) (live : Live) (sent : List Sent) → Kept (record { live =
 ends mine live sent = record { whole = λ cause e. record { phase = e; down = refl; asked = tt } }
 
 releases : (setup : Setup) (mine : Cause) (live : Live) → may_release mine ≡ true → Kept (released setup mine live)
-releases setup mine live told = record {
-  whole = λ cause e. record { phase = e; down = refl; asked = subst (λ (c : Cause). may_release c ≡ true) (same_cause mine cause e) told };
+releases setup mine live reported = record {
+  whole = λ cause e. record { phase = e; down = refl; asked = subst (λ (c : Cause). may_release c ≡ true) (same_cause mine cause e) reported };
 }
 
 -- ---- each kind

@@ -1,4 +1,4 @@
 pub mod Wanted
 pub mod Diff
 pub mod Accepted
-pub mod Judged
+pub mod Handled

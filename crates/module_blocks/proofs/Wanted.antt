@@ -2,7 +2,7 @@
 use Rattle.std.proofs.Common.{◌≡◌, ℕ, ◌+◌, ◌*◌, ◌≤◌, ◌%◌, ◌==◌, Bool, ◌||◌, List, length, Option, Some, None, refl, arith}
 use Rattle.wire.specs.Codec.{IsSound}
 use Rattle.wire.proofs.Joined.{then_by_sound, seen_sound, when_sound}
-use Rattle.wire.proofs.Judged.{checked_sound}
+use Rattle.wire.proofs.Handled.{checked_sound}
 use Rattle.block_fields.specs.declared.fault.BlockFault.TheVariants.{Field}
 use Rattle.block_fields.specs.Fields.{two}
 use Rattle.block_fields.proofs.Sound.{numeral_sound, ranged_sound, fixed_one_sound, fixed_four_sound}

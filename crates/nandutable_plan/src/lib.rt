@@ -5,7 +5,7 @@
 ghost use Rattle.std.specs.Prelude.{◌≡◌, ◌≢◌, ◌≤◌, length};
 ghost use Rattle.configurator.specs.Planned.{IsPlanOf};
 ghost use Rattle.controller_abi.specs.Plans.{parts_of};
-ghost use Rattle.plan_abi.specs.Places.{IsTold};
+ghost use Rattle.plan_abi.specs.Places.{IsReported};
 ghost use Rattle.plan_abi.specs.Readings.{IsBlank, IsFault, IsWritten};
 
 use controller_abi::WrittenPlan;
@@ -38,7 +38,7 @@ pub extern "C" fn pn_plan_make(
 pub extern "C" fn pn_plan_show(text: &[u8], room: &mut [u8], alloc: Global) -> u32
     ensures length { length room.new ≡ length room.old }
     ensures kept { result ≡ 0 → room.new ≡ room.old }
-    ensures told { result ≢ 0 → IsTold text.now room.old room.new }
+    ensures reported { result ≢ 0 → IsReported text.now room.old room.new }
     ensures one { result ≤ 1 }
 {
     show(alloc, text, room)

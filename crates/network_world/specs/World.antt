@@ -6,7 +6,7 @@ use Rattle.frame_codec.specs.FrameId.{is_cyclic}
 use Rattle.frame_codec.specs.Meaning.{Meaning, Content, RealTime, ArpPacket, UdpDatagram}
 use Rattle.frame_codec.specs.Frame.{frame_of}
 use Rattle.records.specs.calls.Naming.{is_relation}
-use Rattle.relations.specs.Link.{uuid_of}
+use Rattle.relations.specs.RelationState.{uuid_of}
 use Rattle.device_frames.specs.declared.event.Event.TheVariants.{Frame}
 use Rattle.device_frames.specs.Heard.{Heard, Ticks, Given, Raised, heard_of}
 use Rattle.device_frames.specs.declared.note.Note.{Note}

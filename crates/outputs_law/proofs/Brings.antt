@@ -48,7 +48,7 @@ use Rattle.controller_frames.specs.declared.request.Request.{Request}
 use Rattle.controller_frames.specs.declared.request.Request.TheVariants as asks
 use Rattle.controller_frames.specs.Requests.{address_asked, call_for, identify_asked}
 use Rattle.controller_frames.specs.Sent.{Sent as Message, Requests, Agrees, Cycles, Confirms, Replies, Ends as Leaves, ack_pdu, alarm_frame, bytes_of as bytes_said, call_frame, calls_at, end_frame, end_pdu, identify_multicast, reply_pdu, request_frame}
-use Rattle.device_frames.specs.Heard.{Heard, Cyclic, Elsewhere, Resolves, Told, Unreadable, broadcast, heard_alarm, heard_content, heard_frame, heard_of, heard_request, is_own, is_taken, said_by}
+use Rattle.device_frames.specs.Heard.{Heard, Cyclic, Elsewhere, Resolves, Reported, Unreadable, broadcast, heard_alarm, heard_content, heard_frame, heard_of, heard_request, is_own, is_taken, said_by}
 use Rattle.controller_frames.specs.declared.setup.Setup.{Setup}
 use Rattle.end_laws.specs.both.Outputs.{BringsNone, Outputs}
 use Rattle.outputs_law.specs.Shown.{brought_in, octets_in, outputs_of, route_for, zeros_for}
@@ -180,7 +180,7 @@ module _ (setup : Setup) (identity : Identity) where
   other_none destination source (ArpPacket packet) is =
       holds_if IsNone (is_own identity destination || pointwise nat_eq destination.octets broadcast) (Resolves source packet) Elsewhere refl refl
   other_none destination source (UdpDatagram from to body) is =
-      holds_if IsNone (is_own identity destination && to.port == 34964) (Told (record { mac = source; endpoint = from }) to.address (said_by body)) Elsewhere refl refl
+      holds_if IsNone (is_own identity destination && to.port == 34964) (Reported (record { mac = source; endpoint = from }) to.address (said_by body)) Elsewhere refl refl
 
   -- ---- what is heard of a frame that was written
 

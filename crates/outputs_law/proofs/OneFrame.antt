@@ -11,7 +11,7 @@ use Rattle.codec_laws.specs.frames.Sendable.{IsMac}
 use Rattle.cyclic_data.specs.declared.place.PlaceKind.TheVariants.{Data}
 use Rattle.cyclic_data.specs.Image.{Shown as Image, cell_at, octets_of, output_of, with_frame}
 use Rattle.relations.specs.Exchanged.{output_in}
-use Rattle.relations.specs.Link.{Link}
+use Rattle.relations.specs.RelationState.{RelationState}
 use Rattle.controller_frames.specs.declared.setup.Setup.{Setup}
 use Rattle.network_world.specs.declared.moves.End.TheVariants.{Device, Controller}
 use Rattle.network_world.specs.declared.moves.Move.{Move}
@@ -101,7 +101,7 @@ module _ (turns : TurnsSo) (kinds : KindsSo) (sound : IsSound ethernet) (whole :
   abbrev rules : Outputs Image Image
   rules = outputs_of setup identity
 
-  one_frame : (link : Link) → ComesFromOne rules (shown_of first) (shown_run run) (taken_in link) → AreOfOneFrame setup identity first run link
+  one_frame : (link : RelationState) → ComesFromOne rules (shown_of first) (shown_run run) (taken_in link) → AreOfOneFrame setup identity first run link
   one_frame link came =
       let cut : Divides seen run came.before (came.move, came.point) came.later =
       divides seen run came.before (came.move, came.point) came.later came.all in
@@ -162,12 +162,12 @@ module _ (turns : TurnsSo) (kinds : KindsSo) (sound : IsSound ethernet) (whole :
 
   -- what a relation shows at the end of the run
   module _ (so : AreAsGiven rules (shown_of first) (shown_run run) (shown_of (last_world first run)).accepted (shown_of (last_world first run)).outputs)
-      (link : Link) (is : (last_world first run).device.live.rest.link ≡ Some link) where
+      (link : RelationState) (is : (last_world first run).device.live.rest.link ≡ Some link) where
     accepted_is : (b : Bool) → has_accepted link ≡ b → (shown_of (last_world first run)).accepted ≡ b
-    accepted_is b e = ap (λ (l : Option Link). accepted_in l) is ∙ e
+    accepted_is b e = ap (λ (l : Option RelationState). accepted_in l) is ∙ e
 
     outputs_are : (shown_of (last_world first run)).outputs ≡ taken_in link
-    outputs_are = ap (λ (l : Option Link). image_in (last_world first run).controller.setup l) is
+    outputs_are = ap (λ (l : Option RelationState). image_in (last_world first run).controller.setup l) is
 
     pub shows_zeros : has_accepted link ≡ false → (slot subslot : ℕ) → output_in slot subslot (Some link) ≡ zero_for setup slot subslot
     shows_zeros none slot subslot =

@@ -69,15 +69,15 @@ made : (meaning : Meaning) (rest : List ℕ) (r : Result Content FrameFault) →
 made meaning rest (Ok content) e = (refl, refl, e)
 made meaning rest (Err fault) e = tt
 
-judged : (meaning : Meaning) (rest : List ℕ) (long : Bool) (r : Result Meaning FrameFault) → IsReadAs meaning rest r → IsReadAs meaning rest (if long then Err TooLong else r)
-judged meaning rest true r is = tt
-judged meaning rest false r is = is
+handled : (meaning : Meaning) (rest : List ℕ) (long : Bool) (r : Result Meaning FrameFault) → IsReadAs meaning rest r → IsReadAs meaning rest (if long then Err TooLong else r)
+handled meaning rest true r is = tt
+handled meaning rest false r is = is
 
 -- the Ethernet header at the front decides
 under : (meaning : Meaning) (bytes rest : List ℕ) → ethernet.read bytes ≡ Ok (header_of meaning, rest) → IsReadAs meaning rest (frame_of bytes)
 unfolding frame_of layers
 under meaning bytes rest e =
-    rw e (judged meaning rest (nat_lt (longest meaning.tag) (length bytes)) _ (made meaning rest ((content_under (type_of meaning.content)).read rest) refl))
+    rw e (handled meaning rest (nat_lt (longest meaning.tag) (length bytes)) _ (made meaning rest ((content_under (type_of meaning.content)).read rest) refl))
 
 pub reads_as : IsSound ethernet → (meaning : Meaning) → IsMac meaning.destination → IsMac meaning.source → IsTag meaning.tag
     → IsReadAs meaning (rest_of meaning) (frame_of (frame_bytes meaning))

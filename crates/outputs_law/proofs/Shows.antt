@@ -22,7 +22,7 @@ use Rattle.cyclic_exchange.specs.Cyclic.{Cyclic}
 use Rattle.cyclic_exchange.specs.Received.{behind_read, is_new, is_of_partner, received_in}
 use Rattle.relations.specs.exchange.Flow.{Flow}
 use Rattle.relations.specs.exchange.Notices.{may_raise, raised_by}
-use Rattle.relations.specs.Link.{Link}
+use Rattle.relations.specs.RelationState.{RelationState}
 use Rattle.relations.specs.Exchanged.{hearing}
 use Rattle.connect_laws.specs.request.Request.{request_for}
 use Rattle.device_frames.specs.Heard.{Heard, Cyclic as Comes}
@@ -30,8 +30,8 @@ use Rattle.device_frames.specs.Sent.{Sent, IdentifyAnswer, GetAnswer, SetAnswer,
 use Rattle.device_frames.specs.Sendable.{AreSendable}
 use Rattle.device_core.specs.State.{Station, Rest, Live}
 use Rattle.settings_store.specs.Machine.{Outcome, carried}
-use Rattle.device_core.specs.Judged.{kept_for, judged}
-use Rattle.device_core.specs.Machine.{finished, items_in, judged_step, heard_step}
+use Rattle.device_core.specs.Handled.{kept_for, handled}
+use Rattle.device_core.specs.Machine.{finished, items_in, handled_step, heard_step}
 use Rattle.end_laws.specs.both.Outputs.{BringsNone, Outputs}
 use Rattle.end_laws.specs.device.Small.{IsPlanned}
 use Rattle.controller_frames.specs.declared.setup.Setup.{Setup}
@@ -43,7 +43,7 @@ use Rattle.outputs_law.specs.Shown.{accepted_in, brought_in, image_in, octets_in
 use Rattle.rpc_core.specs.Cache.{is_of, kept_of, without, kept_more}
 use Rattle.wire.specs.Codec.{◌>>=◌}
 use Rattle.connect_requests.specs.Pieces.{Piece, pieces_of}
-use Rattle.connect_requests.specs.Judged.{admitted, ar_in, request_behind, request_in, request_of}
+use Rattle.connect_requests.specs.Handled.{admitted, ar_in, request_behind, request_in, request_of}
 use Rattle.records.specs.declared.status.call_fault.CallFault.{CallFault}
 use Rattle.records.specs.declared.status.operation.Operation.{Operation}
 use Rattle.records.specs.declared.status.operation.Operation.TheVariants as operation
@@ -79,42 +79,42 @@ held_last false hearing = refl
 -- ---- a relation
 
 -- the relation ends, or what it accepts is unchanged
-abbrev IsSameIn : Option Link → Link → Type 0
+abbrev IsSameIn : Option RelationState → RelationState → Type 0
 IsSameIn None after = ⊥
 IsSameIn (Some before) after = IsSame before.flow.cyclic after.flow.cyclic
 
-abbrev Stays : Option Link → Option Link → Type 0
+abbrev Stays : Option RelationState → Option RelationState → Type 0
 Stays before None = Unit {0}
 Stays before (Some after) = IsSameIn before after
 
 some_is : {A : Type 0} (x y : A) → Some x ≡ Some y → x ≡ y
 some_is x y e = cc
 
-standing_same : (before after : Option Link) → option_map standing_of after ≡ option_map standing_of before → Stays before after
+standing_same : (before after : Option RelationState) → option_map standing_of after ≡ option_map standing_of before → Stays before after
 standing_same before None e = tt
 standing_same None (Some after) e = absurd cc
 standing_same (Some before) (Some after) e =
     let same = some_is (standing_of after) (standing_of before) e in
     record { route = ap (λ (s : Standing). s.route) same; last = ap (λ (s : Standing). s.last) same; taken = ap (λ (s : Standing). s.outputs) same }
 
-stays_by : (before after : Option Link) → IsSameOr before after → Stays before after
+stays_by : (before after : Option RelationState) → IsSameOr before after → Stays before after
 stays_by before after (inl same) = standing_same before after same
-stays_by before after (inr ends) = subst (λ (l : Option Link). Stays before l) (sym ends) tt
+stays_by before after (inr ends) = subst (λ (l : Option RelationState). Stays before l) (sym ends) tt
 
 -- the relation became this
-becomes_so : (before after : Option Link) (link now : Link) → before ≡ Some link → after ≡ Some now → IsSame link.flow.cyclic now.flow.cyclic → Stays before after
-becomes_so before after link now was is same = subst (λ (l : Option Link). Stays l after) (sym was) (subst (λ (l : Option Link). Stays (Some link) l) (sym is) same)
+becomes_so : (before after : Option RelationState) (link now : RelationState) → before ≡ Some link → after ≡ Some now → IsSame link.flow.cyclic now.flow.cyclic → Stays before after
+becomes_so before after link now was is same = subst (λ (l : Option RelationState). Stays l after) (sym was) (subst (λ (l : Option RelationState). Stays (Some link) l) (sym is) same)
 
 -- an alarm does not change the outputs
-abbrev IsSameFlow : Link → Option Flow → Type 0
+abbrev IsSameFlow : RelationState → Option Flow → Type 0
 IsSameFlow link None = Unit {0}
 IsSameFlow link (Some flow) = IsSame link.flow.cyclic flow.cyclic
 
-raised_if : (link : Link) (may : Bool) (flow : Flow) → IsSame link.flow.cyclic flow.cyclic → IsSameFlow link (cond may (Some flow) None)
+raised_if : (link : RelationState) (may : Bool) (flow : Flow) → IsSame link.flow.cyclic flow.cyclic → IsSameFlow link (cond may (Some flow) None)
 raised_if link true flow is = is
 raised_if link false flow is = tt
 
-raised_same : (link : Link) (slot subslot : ℕ) (octets : List ℕ) (ident part : Option ℕ) → IsSameFlow link (raised_by link.flow slot subslot octets ident part)
+raised_same : (link : RelationState) (slot subslot : ℕ) (octets : List ℕ) (ident part : Option ℕ) → IsSameFlow link (raised_by link.flow slot subslot octets ident part)
 raised_same link slot subslot octets (Some ident) (Some part) =
     raised_if link (may_raise link.flow octets)
     (record link.flow { alarms = end_with link.flow.alarms (notice_of link.flow.alarms.sender.specifier slot subslot ident part octets) }) (same link.flow.cyclic)
@@ -141,7 +141,7 @@ none_beside standing (piece ∷ pieces) request e =
     refused : {why : CallFault} → ◌≡◌ {A = Result Request CallFault} (Err why) (Ok request) → ⊥
     refused f = absurd cc
 
-made_from : (link : Option Link) (blocks : List ℕ) (request asked : Request) → connect_of link blocks ≡ Ok request → request_of None blocks ≡ Ok asked → request ≡ asked
+made_from : (link : Option RelationState) (blocks : List ℕ) (request asked : Request) → connect_of link blocks ≡ Ok request → request_of None blocks ≡ Ok asked → request ≡ asked
 unfolding request_of
 made_from None blocks request asked is reads = same_ok request asked (sym is ∙ reads)
 made_from (Some link) blocks request asked is reads = absurd (none_beside link.request.ar.uuid (pieces_of blocks) request is)
@@ -192,7 +192,7 @@ module _ (setup : Setup) (station : Station) where
     pub size : cyclic.taken.data_length ≡ (zeros_for setup).data_length
     pub places : (octets : List ℕ) → with_frame octets cyclic.taken ≡ with_frame octets (zeros_for setup)
 
-  abbrev pub IsOursIn : Option Link → Type 0
+  abbrev pub IsOursIn : Option RelationState → Type 0
   IsOursIn None = Unit {0}
   IsOursIn (Some link) = IsOurs link.flow.cyclic
 
@@ -201,23 +201,23 @@ module _ (setup : Setup) (station : Station) where
   AreKeptSilent calls = AreKept (BringsNone rules) calls
 
   -- a frame that brings these octets is accepted
-  pub record Accepts (brought : Option (List ℕ)) (after : Option Link) : Type 0 where
+  pub record Accepts (brought : Option (List ℕ)) (after : Option RelationState) : Type 0 where
     pub octets : List ℕ
     pub brings : brought ≡ Some octets
     pub accepted : accepted_in after ≡ true
     pub shown : image_in setup after ≡ with_frame octets (zeros_for setup)
 
-  abbrev pub ShowsIn : Option (List ℕ) → Option Link → Option Link → Type 0
+  abbrev pub ShowsIn : Option (List ℕ) → Option RelationState → Option RelationState → Type 0
   ShowsIn brought before after =
       ((accepted_in after ≡ accepted_in before) × (image_in setup after ≡ image_in setup before))
       ⊎ (((accepted_in after ≡ false) × (image_in setup after ≡ zeros_for setup)) ⊎ Accepts brought after)
 
-  stays_shows : (brought : Option (List ℕ)) (before after : Option Link) → Stays before after → ShowsIn brought before after
+  stays_shows : (brought : Option (List ℕ)) (before after : Option RelationState) → Stays before after → ShowsIn brought before after
   stays_shows brought before None stays = inr (inl (refl, refl))
   stays_shows brought None (Some after) stays = absurd stays
   stays_shows brought (Some before) (Some after) stays = inl (ap (λ (last : Option ℕ). is_some last) stays.last, stays.taken)
 
-  stays_ours : (before after : Option Link) → Stays before after → IsOursIn before → IsOursIn after
+  stays_ours : (before after : Option RelationState) → Stays before after → IsOursIn before → IsOursIn after
   stays_ours before None stays ours = tt
   stays_ours None (Some after) stays ours = absurd stays
   stays_ours (Some before) (Some after) stays ours = record {
@@ -242,17 +242,17 @@ module _ (setup : Setup) (station : Station) where
 
     module _ (source : Mac) (frame_id : ℕ) (body : List ℕ) where
       -- a frame that is accepted
-      abbrev Shows_by : Link → Option Link → Type 0
+      abbrev Shows_by : RelationState → Option RelationState → Type 0
       Shows_by link after = ShowsIn (brought_in setup (Comes source frame_id body)) (Some link) after × IsOursIn after
 
-      brought_is : (link : Link) (x : List ℕ × CyclicTail) → IsOurs link.flow.cyclic → is_of_partner link.flow.cyclic.route source frame_id ≡ true
+      brought_is : (link : RelationState) (x : List ℕ × CyclicTail) → IsOurs link.flow.cyclic → is_of_partner link.flow.cyclic.route source frame_id ≡ true
           → cyclic_of link.flow.cyclic.taken.data_length body ≡ Ok x → brought_in setup (Comes source frame_id body) ≡ Some x.0
       brought_is link x is partner read =
           ap (λ (b : Bool). cond b (octets_in (cyclic_of (zeros_for setup).data_length body)) None)
           (ap (λ (r : Route). is_of_partner r source frame_id) (sym is.route) ∙ partner)
           ∙ ap (λ (r : Result (List ℕ × CyclicTail) ShortFrame). octets_in r) (ap (λ (n : ℕ). cyclic_of n body) (sym is.size) ∙ read)
 
-      new_as : (link : Link) (x : List ℕ × CyclicTail) → IsOurs link.flow.cyclic → brought_in setup (Comes source frame_id body) ≡ Some x.0 → (b : Bool)
+      new_as : (link : RelationState) (x : List ℕ × CyclicTail) → IsOurs link.flow.cyclic → brought_in setup (Comes source frame_id body) ≡ Some x.0 → (b : Bool)
           → cond b received.Taken received.Stale ≡ received.Taken
           → Shows_by link (Some (record link {
             flow = record link.flow {
@@ -268,13 +268,13 @@ module _ (setup : Setup) (station : Station) where
       )
       new_as link x is brings false e = absurd cc
 
-      read_as : (link : Link) → IsOurs link.flow.cyclic → is_of_partner link.flow.cyclic.route source frame_id ≡ true
+      read_as : (link : RelationState) → IsOurs link.flow.cyclic → is_of_partner link.flow.cyclic.route source frame_id ≡ true
           → (read : Result (List ℕ × CyclicTail) ShortFrame) → cyclic_of link.flow.cyclic.taken.data_length body ≡ read
           → received_in link.flow.cyclic read ≡ received.Taken → Shows_by link (Some (record link { flow = record link.flow { cyclic = behind_read link.flow.cyclic read } }))
       read_as link is partner (Ok x) reads e = new_as link x is (brought_is link x is partner reads) (is_new link.flow.cyclic x.1) e
       read_as link is partner (Err short) reads e = absurd cc
 
-      partner_as : (link : Link) → IsOurs link.flow.cyclic → (b : Bool) → is_of_partner link.flow.cyclic.route source frame_id ≡ b
+      partner_as : (link : RelationState) → IsOurs link.flow.cyclic → (b : Bool) → is_of_partner link.flow.cyclic.route source frame_id ≡ b
           → cond b (received_in link.flow.cyclic (cyclic_of link.flow.cyclic.taken.data_length body)) received.Foreign ≡ received.Taken
           → Shows_by link (Some (record link { flow = record link.flow { cyclic = cond b (behind_read link.flow.cyclic (cyclic_of link.flow.cyclic.taken.data_length body)) link.flow.cyclic } }))
       partner_as link is true partner e = read_as link is partner (cyclic_of link.flow.cyclic.taken.data_length body) refl e
@@ -285,14 +285,14 @@ module _ (setup : Setup) (station : Station) where
     module _ (live : Live) (heard : Heard) (ours : IsOursIn live.rest.link) (silent : AreKeptSilent live.rest.calls)
         (planned : IsPlanned (rules_of setup station) setup.activity station.real heard) where
       -- what is shown after a turn, and that it is of the plan
-      abbrev ShowsSo : Option Link → Type 0
+      abbrev ShowsSo : Option RelationState → Type 0
       ShowsSo after = ShowsIn (brought_in setup heard) live.rest.link after × IsOursIn after
 
-      stays_so : (after : Option Link) → Stays live.rest.link after → ShowsSo after
+      stays_so : (after : Option RelationState) → Stays live.rest.link after → ShowsSo after
       stays_so after stays = (stays_shows (brought_in setup heard) live.rest.link after stays, stays_ours live.rest.link after stays ours)
 
       -- a relation that is made is that of the plan
-      makes_so : (after : Option Link) (sent : List Sent) → Makes live.rest.calls live.rest.link heard after sent → ShowsSo after
+      makes_so : (after : Option RelationState) (sent : List Sent) → Makes live.rest.calls live.rest.link heard after sent → ShowsSo after
       makes_so after sent makes =
           let plan : IsPlannedCall (rules_of setup station) setup.activity station.real makes.call =
           subst (λ (h : Heard). IsPlanned (rules_of setup station) setup.activity station.real h) makes.is planned in
@@ -301,19 +301,19 @@ module _ (setup : Setup) (station : Station) where
           let same : plan.blocks ≡ makes.blocks = some_is plan.blocks makes.blocks (sym plan.counted ∙ makes.counted) in
           let request : makes.request ≡ request_for setup.plan setup.ar =
           made_from live.rest.link makes.blocks makes.request (request_for setup.plan setup.ar) makes.read (ap (λ (b : List ℕ). request_of None b) (sym same) ∙ asks) in
-          subst (λ (l : Option Link). ShowsSo l) (sym (makes.made ∙ ap (λ (r : Request). Some (made_of r makes.partner makes.rows)) request))
+          subst (λ (l : Option RelationState). ShowsSo l) (sym (makes.made ∙ ap (λ (r : Request). Some (made_of r makes.partner makes.rows)) request))
           (inr (inl (refl, refl)), record { route = refl; size = refl; places = λ octets. refl })
 
-      takes_so : (after : Option Link) (sent : List Sent) → Takes live.rest.link heard after sent → ShowsSo after
+      takes_so : (after : Option RelationState) (sent : List Sent) → Takes live.rest.link heard after sent → ShowsSo after
       takes_so after sent takes =
           let link = takes.link in
-          let here : IsOursIn (Some link) = subst (λ (l : Option Link). IsOursIn l) takes.was ours in
+          let here : IsOursIn (Some link) = subst (λ (l : Option RelationState). IsOursIn l) takes.was ours in
           subst (λ (h : Heard). ShowsIn (brought_in setup h) live.rest.link after × IsOursIn after) (sym takes.is)
-          (subst (λ (l : Option Link). ShowsIn (brought_in setup (Comes takes.source takes.frame_id takes.body)) l after × IsOursIn after) (sym takes.was)
-          (subst (λ (l : Option Link). Shows_by takes.source takes.frame_id takes.body link l) (sym takes.becomes)
+          (subst (λ (l : Option RelationState). ShowsIn (brought_in setup (Comes takes.source takes.frame_id takes.body)) l after × IsOursIn after) (sym takes.was)
+          (subst (λ (l : Option RelationState). Shows_by takes.source takes.frame_id takes.body link l) (sym takes.becomes)
           (partner_as takes.source takes.frame_id takes.body link here (is_of_partner link.flow.cyclic.route takes.source takes.frame_id) refl takes.taken)))
 
-      link_shows : (after : Option Link) (sent : List Sent) → IsTurn station.real.modules.items live.rest.calls live.rest.link heard after sent → ShowsSo after
+      link_shows : (after : Option RelationState) (sent : List Sent) → IsTurn station.real.modules.items live.rest.calls live.rest.link heard after sent → ShowsSo after
       link_shows after sent (inl stays) = stays_so after (stays_by live.rest.link after stays.link)
       link_shows after sent (inr (inl makes)) = makes_so after sent makes
       link_shows after sent (inr (inr (inl raises))) =
@@ -361,6 +361,6 @@ module _ (setup : Setup) (station : Station) where
 
     pub frames_silent : (outcomes : List Outcome) (live : Live) (heard : Heard) → AreSendable station.identity (heard_step outcomes station live heard).sent
         → AllByRecursion (IsKnown rules) (heard_step outcomes station live heard).sent → AllByRecursion (BringsNone rules) (heard_step outcomes station live heard).frames
-    unfolding heard_step judged_step
+    unfolding heard_step handled_step
     frames_silent outcomes live heard silent known =
-        all_silent (finished station.identity live.rest (judged station live heard) (carried outcomes live.values (items_in (judged station live heard))).answers).sent silent known
+        all_silent (finished station.identity live.rest (handled station live heard) (carried outcomes live.values (items_in (handled station live heard))).answers).sent silent known

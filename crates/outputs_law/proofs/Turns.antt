@@ -45,7 +45,7 @@ use Rattle.controller_core.specs.Alarms.{is_alarm}
 use Rattle.controller_core.specs.Answers.{is_addressed, is_answer, is_found, is_ready, is_right, is_set_answer}
 use Rattle.controller_core.specs.Connect.{found_in, is_whole, nothing}
 use Rattle.controller_frames.specs.Requests.{writing_from}
-use Rattle.controller_core.specs.Machine.{Turn, acks_in, addressed, answered, asking, behind_data, brought, called, come, connected, decided, done, flow_later, flowed, found, given, is_again, judged, next_sequence, noticed, over, phase_for, readied, ready_in, standing, writing, related_by, released, requests_of, responded, stays, stopped, taken, ticked, turn_of, turned, where_due}
+use Rattle.controller_core.specs.Machine.{Turn, acks_in, addressed, answered, asking, behind_data, brought, called, come, connected, decided, done, flow_later, flowed, found, given, is_again, handled, next_sequence, noticed, over, phase_for, readied, ready_in, standing, writing, related_by, released, requests_of, responded, stays, stopped, taken, ticked, turn_of, turned, where_due}
 use Rattle.controller_core.specs.State.{Live}
 use Rattle.message_laws.specs.turns.Turns.{Came, Hears, Passes, Gets, Halts, IsKind, IsReadied, IsSought, IsTurn, Kind, Rests, Connects, Addresses, Releases, Relates, Writes, Waits, Forgets, Begins, Repeats, Follows, Takes, IsAcked, Gives, Flows, Breaks, Idles, came_by, turn_by}
 use Rattle.message_laws.specs.turns.Turns as sort
@@ -71,7 +71,7 @@ IsSix (Answers source answer) = IsMac source
 IsSix (Responds response) = Unit {0}
 IsSix (Calls caller call) = IsMac caller.mac
 IsSix (Comes source frame_id body) = Unit {0}
-IsSix (Alarms source header told) = Unit {0}
+IsSix (Alarms source header reported) = Unit {0}
 
 abbrev pub IsSixAt : Setup → Event → Type 0
 IsSixAt setup (Frame bytes) = IsSix (heard_of setup.plan.controller bytes.items)
@@ -100,33 +100,33 @@ KindsSo = (setup : Setup) (live : Live) (event : Event) → IsTurn setup live (c
 module _ (size : ℕ) where
   -- a turn of the controller, after which it goes on like this, and the outputs that it sends are these
   pub record Tells (shown : Image) (turn : Turn) : Type 0 where
-    pub told : AllByRecursion (IsSaid turn.live.cyclic.shown) turn.sent
+    pub reported : AllByRecursion (IsSaid turn.live.cyclic.shown) turn.sent
     pub kept : IsKept size turn.live
     pub same : turn.live.cyclic.shown ≡ shown
 
   stays_tells : (live : Live) → IsKept size live → Tells live.cyclic.shown (stays live)
-  stays_tells live k = record { told = tt; kept = k; same = refl }
+  stays_tells live k = record { reported = tt; kept = k; same = refl }
 
   asking_tells : (phase : State) (request : Request) (live : Live) → IsKept size live → Tells live.cyclic.shown (asking phase request live)
-  asking_tells phase request live k = record { told = ((tt, k.device), tt); kept = k; same = refl }
+  asking_tells phase request live k = record { reported = ((tt, k.device), tt); kept = k; same = refl }
 
   over_tells : (why : Cause) (live : Live) → IsKept size live → Tells live.cyclic.shown (stays (over why live))
-  over_tells why live k = record { told = tt; kept = k; same = refl }
+  over_tells why live k = record { reported = tt; kept = k; same = refl }
 
   released_tells : (setup : Setup) (why : Cause) (live : Live) → IsKept size live → Tells live.cyclic.shown (released setup why live)
   released_tells setup why live k = asking_tells (Ended why) (asks.Release (next_sequence setup.plan live.asked)) (over why live) k
 
   related_tells : (setup : Setup) (live : Live) (frame_id : ℕ) → IsKept size live → Tells live.cyclic.shown (writing (writing_from setup.plan 0) (standing setup live frame_id))
   related_tells setup live frame_id k = record {
-    told = ((tt, k.device), tt);
+    reported = ((tt, k.device), tt);
     same = refl;
     kept = record { device = k.device; way = record { partner = k.device; sent_tag = omega arith; alarm_tag = omega arith }; size = k.size };
   }
 
   taken_tells : (live : Live) (alarm : AlarmNotification) (as_is : Taken) → IsKept size live → Tells live.cyclic.shown (taken live alarm as_is)
-  taken_tells live alarm New k = record { told = ((tt, k.way), ((tt, k.way), tt)); same = refl; kept = k }
-  taken_tells live alarm Again k = record { told = ((tt, k.way), tt); same = refl; kept = k }
-  taken_tells live alarm Refused k = record { told = ((tt, k.way), tt); same = refl; kept = k }
+  taken_tells live alarm New k = record { reported = ((tt, k.way), ((tt, k.way), tt)); same = refl; kept = k }
+  taken_tells live alarm Again k = record { reported = ((tt, k.way), tt); same = refl; kept = k }
+  taken_tells live alarm Refused k = record { reported = ((tt, k.way), tt); same = refl; kept = k }
 
   -- a cyclic frame changes neither the route nor the outputs
   read_keeps : (cyclic : Cyclic) (read : Result (List ℕ × CyclicTail) ShortFrame)
@@ -174,11 +174,11 @@ module _ (size : ℕ) where
   acks_tell shown live None way = tt
 
   flowed_tells : (live : Live) (is_request : Bool) (tick : Brought) (ending : Option Abort) → IsKept size live → Tells live.cyclic.shown (flowed live is_request tick ending)
-  flowed_tells live is_request tick (Some reason) k = record { told = ((tt, k.way), tt); same = refl; kept = k }
+  flowed_tells live is_request tick (Some reason) k = record { reported = ((tt, k.way), tt); same = refl; kept = k }
   flowed_tells live is_request tick None k =
       let shown = live.cyclic.shown in
       record {
-        told = all_append (IsSaid shown) (where_due tick.is_alarm (acks_in live live.alarms.confirming)) _
+        reported = all_append (IsSaid shown) (where_due tick.is_alarm (acks_in live live.alarms.confirming)) _
             (due_tells shown tick.is_alarm _ (acks_tell shown live live.alarms.confirming k.way))
             (all_append (IsSaid shown) (where_due is_request (requests_of live.device live.asked)) _
             (due_tells shown is_request _ (request_tells shown live.device live.asked k.device))
@@ -206,7 +206,7 @@ module _ (size : ℕ) where
     met_tells : (phase : State) (request : Request) (source : Mac) → IsSought live came source → Tells live.cyclic.shown (asking phase request (record live { device = source }))
     met_tells phase request source sought =
         let one = source_six source sought.known in
-        record { told = ((tt, one), tt); kept = record { device = one; way = k.way; size = k.size }; same = refl }
+        record { reported = ((tt, one), tt); kept = record { device = one; way = k.way; size = k.size }; same = refl }
 
     readied_tells : (caller : Caller) (call : Call) (block : ControlBlock) → IsReadied setup came caller call block → IsMac caller.mac
     readied_tells caller call block readied = subst (λ (c : Came). IsSixIn c) readied.comes six
@@ -219,20 +219,20 @@ module _ (size : ℕ) where
     kind_tells (Releases why) holds = released_tells setup why live k
     kind_tells (Relates frame_id) holds = related_tells setup live frame_id k
     kind_tells (Writes number) holds = let next = writing_from setup.plan (number + 1) in asking_tells (phase_for next) next live k
-    kind_tells Waits holds = record { told = tt; kept = k; same = refl }
-    kind_tells Forgets holds = record { told = tt; kept = k; same = refl }
-    kind_tells (Begins caller call block) holds = record { told = ((tt, readied_tells caller call block holds.1), tt); kept = k; same = refl }
-    kind_tells (Repeats caller call block) holds = record { told = ((tt, readied_tells caller call block holds.1), tt); kept = k; same = refl }
+    kind_tells Waits holds = record { reported = tt; kept = k; same = refl }
+    kind_tells Forgets holds = record { reported = tt; kept = k; same = refl }
+    kind_tells (Begins caller call block) holds = record { reported = ((tt, readied_tells caller call block holds.1), tt); kept = k; same = refl }
+    kind_tells (Repeats caller call block) holds = record { reported = ((tt, readied_tells caller call block holds.1), tt); kept = k; same = refl }
     kind_tells (Follows source frame_id body) holds =
         let keeps = frame_keeps live.cyclic source frame_id body in
-        record { told = tt; kept = with_cyclic live (behind_frame live.cyclic source frame_id body) keeps.0 (ap (λ (image : Image). image.data_length) keeps.1) k; same = keeps.1 }
+        record { reported = tt; kept = with_cyclic live (behind_frame live.cyclic source frame_id body) keeps.0 (ap (λ (image : Image). image.data_length) keeps.1) k; same = keeps.1 }
     kind_tells (Takes number alarm) holds = taken_tells (behind_data live number) alarm (taken_as live.alarms.seen number) k
-    kind_tells (IsAcked number) holds = record { told = tt; kept = k; same = refl }
+    kind_tells (IsAcked number) holds = record { reported = tt; kept = k; same = refl }
     kind_tells (Gives slot subslot value) holds = absurd (subst (λ (c : Came). IsSixIn c) holds six)
     kind_tells Flows holds = flowed_tells (flow_later live) (is_again live) (brought live) None k
     kind_tells (Breaks reason) holds = flowed_tells (flow_later live) (is_again live) (brought live) (Some reason) k
     kind_tells Idles holds =
-        record { told = due_tells live.cyclic.shown (is_again live) (requests_of live.device live.asked) (request_tells live.cyclic.shown live.device live.asked k.device); same = refl; kept = k }
+        record { reported = due_tells live.cyclic.shown (is_again live) (requests_of live.device live.asked) (request_tells live.cyclic.shown live.device live.asked k.device); same = refl; kept = k }
 
     came_tells : (turn : Turn) → IsTurn setup live came turn → Tells live.cyclic.shown turn
     came_tells turn of = subst (λ (t : Turn). Tells live.cyclic.shown t) (sym of.is) (kind_tells of.kind of.holds)
@@ -240,5 +240,5 @@ module _ (size : ℕ) where
   pub turn_tells : KindsSo → (setup : Setup) (live : Live) (event : Event) → IsSixAt setup event → IsKept size live → Tells (shown_behind live event) (turn_of setup live event)
   turn_tells kinds setup live (Frame bytes) six k = came_tells setup live (Hears (heard_of setup.plan.controller bytes.items)) six k _ (kinds setup live (Frame bytes))
   turn_tells kinds setup live Ticks six k = came_tells setup live Passes tt k _ (kinds setup live Ticks)
-  turn_tells kinds setup live (Give slot subslot value) six k = record { told = tt; same = refl; kept = given_keeps live slot subslot value.items k }
+  turn_tells kinds setup live (Give slot subslot value) six k = record { reported = tt; same = refl; kept = given_keeps live slot subslot value.items k }
   turn_tells kinds setup live Stop six k = came_tells setup live Halts tt k _ (kinds setup live Stop)

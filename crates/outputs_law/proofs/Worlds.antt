@@ -10,7 +10,7 @@ use Rattle.frame_codec.specs.Frame.{ethernet, layers}
 use Rattle.codec_laws.specs.frames.Sendable.{IsMac}
 use Rattle.rpc_core.specs.Cache.{Kept as Answer}
 use Rattle.cyclic_data.specs.Image.{Shown as Image}
-use Rattle.relations.specs.Link.{Link}
+use Rattle.relations.specs.RelationState.{RelationState}
 use Rattle.device_frames.specs.declared.event.Event.TheVariants.{Frame}
 use Rattle.device_frames.specs.Heard.{Heard, Ticks, Given, Raised, heard_of}
 use Rattle.device_core.specs.State.{Live, Station}
@@ -54,17 +54,17 @@ frames_are old event = refl
 
 -- the relation is that of the plan, the stored responses bring no outputs, and the controller goes on as that of the
 -- plan
-record HoldsBy (setup : Setup) (station : Station) (link_is : Option Link) (calls : List Answer) (live : ControllerLive) : Type 0 where
+record HoldsBy (setup : Setup) (station : Station) (link_is : Option RelationState) (calls : List Answer) (live : ControllerLive) : Type 0 where
   ours : IsOursIn setup station link_is
   calls_silent : AreKeptSilent setup station calls
   kept : IsKept (zeros_for setup).data_length live
   apart : pointwise nat_eq station.identity.mac.octets setup.plan.controller.mac.octets ≡ false
   six : IsMac setup.plan.controller.mac
 
-abbrev seen : Setup → Option Link → Image → List (List ℕ) → Shown Image Image
+abbrev seen : Setup → Option RelationState → Image → List (List ℕ) → Shown Image Image
 seen setup link given sent = record { accepted = accepted_in link; outputs = image_in setup link; given = given; sent = sent }
 
-shows_as : (setup : Setup) (station : Station) (brought : Option (List ℕ)) (before after : Option Link) (given now : Image) (sent all : List (List ℕ)) → ShowsIn setup station brought before after
+shows_as : (setup : Setup) (station : Station) (brought : Option (List ℕ)) (before after : Option RelationState) (given now : Image) (sent all : List (List ℕ)) → ShowsIn setup station brought before after
     → Shows (outputs_of setup station.identity) brought (seen setup before given sent) (seen setup after now all)
 shows_as setup station brought before after given now sent all (inl stays) = inl stays
 shows_as setup station brought before after given now sent all (inr (inl none)) = inr (inl none)
@@ -129,7 +129,7 @@ module _ (turns : TurnsSo) (kinds : KindsSo) (sound : IsSound ethernet) (whole :
           accepted = refl;
           outputs = refl;
           frames = map (bytes_of setup) turn.sent;
-          brings = all_bring setup before.device.station.identity sound holds.six shown tells.kept.size turn.sent (all_now shown turn.sent tells.told) (all_addressed shown turn.sent tells.told);
+          brings = all_bring setup before.device.station.identity sound holds.six shown tells.kept.size turn.sent (all_now shown turn.sent tells.reported) (all_addressed shown turn.sent tells.reported);
           behind = refl;
         };
         shown_is = tells.same;
@@ -285,7 +285,7 @@ module _ (turns : TurnsSo) (kinds : KindsSo) (sound : IsSound ethernet) (whole :
 
     holds_first : Holds first
     holds_first =
-        subst (λ (l : Option Link). HoldsBy first.controller.setup first.device.station l first.device.live.rest.calls first.controller.live) (sym begins.unrelated)
+        subst (λ (l : Option RelationState). HoldsBy first.controller.setup first.device.station l first.device.live.rest.calls first.controller.live) (sym begins.unrelated)
         (subst (λ (c : List Answer). HoldsBy first.controller.setup first.device.station None c first.controller.live) (sym begins.uncalled)
         (record { ours = tt; calls_silent = tt; kept = kept; apart = both.0; six = both.1 }))
 
@@ -295,8 +295,8 @@ module _ (turns : TurnsSo) (kinds : KindsSo) (sound : IsSound ethernet) (whole :
 
     pub shows_none : ShowsNone (outputs_of setup identity) (shown_of first)
     shows_none = subst (λ (r : Outputs Image Image). ShowsNone r (shown_of first)) rules_are (record {
-      unaccepted = ap (λ (l : Option Link). accepted_in l) begins.unrelated;
-      zeros = ap (λ (l : Option Link). image_in first.controller.setup l) begins.unrelated;
+      unaccepted = ap (λ (l : Option RelationState). accepted_in l) begins.unrelated;
+      zeros = ap (λ (l : Option RelationState). image_in first.controller.setup l) begins.unrelated;
       none = subst (λ (frames : List (List ℕ)). AllByRecursion (BringsNone (rules_at first)) frames) (sym begins.opened) (opening_silent, tt);
     })
 

@@ -8,7 +8,7 @@ use Rattle.cyclic_data.specs.declared.place.PlaceKind.TheVariants.{Data, Iocs}
 use Rattle.cyclic_data.specs.Image.{Cell, Shown as Image, good, place_at}
 use Rattle.connect_laws.specs.request.Request.{iocr_for}
 use Rattle.relations.specs.Exchanged.{output_in}
-use Rattle.relations.specs.Link.{Link}
+use Rattle.relations.specs.RelationState.{RelationState}
 use Rattle.controller_frames.specs.declared.setup.Setup.{Setup}
 use Rattle.network_world.specs.declared.moves.End.TheVariants.{Device, Controller}
 use Rattle.network_world.specs.declared.moves.Move.{Move}
@@ -69,7 +69,7 @@ given_for setup moves slot subslot = option_map (λ place. value_or_zeros place 
 -- All outputs of this relation that a device shows come from one frame. The controller sent it with one of its moves.
 -- It brings for each submodule the value set last at that point, or zeros if none was set. It was delivered to the
 -- device by a later move.
-pub record AreOfOneFrame {F : Type 0} (setup : Setup) (identity : Identity) (first : World F) (run : List (Move × World F)) (link : Link) : Type 0 where
+pub record AreOfOneFrame {F : Type 0} (setup : Setup) (identity : Identity) (first : World F) (run : List (Move × World F)) (link : RelationState) : Type 0 where
   pub before : List (Move × World F)
   pub one : Move × World F
   pub later : List (Move × World F)

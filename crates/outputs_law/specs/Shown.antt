@@ -11,7 +11,7 @@ use Rattle.cyclic_exchange.specs.Opening.{first_taken}
 use Rattle.cyclic_exchange.specs.Received.{is_of_partner}
 use Rattle.relations.specs.exchange.Opening.{route_of}
 use Rattle.connect_laws.specs.request.Request.{iocr_for, request_for}
-use Rattle.relations.specs.Link.{Link}
+use Rattle.relations.specs.RelationState.{RelationState}
 use Rattle.device_frames.specs.declared.event.Event.TheVariants.{Frame}
 use Rattle.device_frames.specs.Heard.{Heard, Cyclic, heard_of}
 use Rattle.controller_frames.specs.declared.setup.Setup.{Setup}
@@ -55,19 +55,19 @@ outputs_of setup identity = record {
 -- ---- what is shown in a world
 
 -- whether a relation has accepted a cyclic frame: then the counter of the last one is stored
-abbrev pub has_accepted : Link → Bool
+abbrev pub has_accepted : RelationState → Bool
 has_accepted link = is_some link.flow.cyclic.hearing.last
 
 -- the image from which the outputs of a relation are read
-abbrev pub taken_in : Link → Image
+abbrev pub taken_in : RelationState → Image
 taken_in link = link.flow.cyclic.taken
 
 -- the same if there may be no relation: without one, no frame was accepted and the image is zeros
-abbrev pub accepted_in : Option Link → Bool
+abbrev pub accepted_in : Option RelationState → Bool
 accepted_in None = false
 accepted_in (Some link) = has_accepted link
 
-abbrev pub image_in : Setup → Option Link → Image
+abbrev pub image_in : Setup → Option RelationState → Image
 image_in setup None = zeros_for setup
 image_in setup (Some link) = taken_in link
 

@@ -1,7 +1,7 @@
 //! The law of outputs, for the worlds that moves lead to.
 ghost use Rattle.std.specs.Prelude.{◌≡◌, List, ℕ, Some, false, true};
 ghost use Rattle.relations.specs.Exchanged.{output_in};
-ghost use Rattle.relations.specs.Link.{Link};
+ghost use Rattle.relations.specs.RelationState.{RelationState};
 ghost use Rattle.network_world.specs.declared.moves.Move.{Move};
 ghost use Rattle.network_world.specs.World.{World};
 ghost use Rattle.startup_law.specs.Played.{AreMade, Begins, CanMeet, last_world};
@@ -24,7 +24,7 @@ pub fn worlds_show_what_is_given<F: Flash<S>, const S: usize>(setup: &Setup, ide
     ensures zeros { CanMeet setup.now identity.now →
         (first : World F) (run : List (Move × World F)) → Begins setup.now identity.now first
         → AreMade F.Flash first run
-        → (link : Link) → (last_world first run).device.live.rest.link ≡ Some link → has_accepted link ≡ false
+        → (link : RelationState) → (last_world first run).device.live.rest.link ≡ Some link → has_accepted link ≡ false
         → (slot subslot : ℕ) → output_in slot subslot (Some link) ≡ zero_for setup.now slot subslot }
     // After that, all outputs come from one frame, which the controller sent with one of its moves and which was
     // delivered to the device by a later move. Each is the value set last for its submodule when the frame was sent, or
@@ -32,7 +32,7 @@ pub fn worlds_show_what_is_given<F: Flash<S>, const S: usize>(setup: &Setup, ide
     ensures values { CanMeet setup.now identity.now →
         (first : World F) (run : List (Move × World F)) → Begins setup.now identity.now first
         → AreMade F.Flash first run
-        → (link : Link) → (last_world first run).device.live.rest.link ≡ Some link → has_accepted link ≡ true
+        → (link : RelationState) → (last_world first run).device.live.rest.link ≡ Some link → has_accepted link ≡ true
         → AreOfOneFrame setup.now identity.now first run link }
 {
     packed_places_are_asked();

@@ -32,7 +32,7 @@ is_memory OutOfMemory = true
 is_memory fault = false
 
 -- a room has the place of the first fault of a text
-pub record IsTold (text before after : List ℕ) : Type 0 where
+pub record IsReported (text before after : List ℕ) : Type 0 where
   pub refusal : Refusal
   pub refused : IsRefusedAt text refusal
   pub known : refusal.fault ≢ OutOfMemory

@@ -8,7 +8,7 @@ use Rattle.plans.specs.declared.parts.PlanRecord.{PlanRecord}
 use Rattle.catalogue.specs.Catalogues.{Catalogue, Found}
 use Rattle.configurator.specs.declared.fault.PlanFault.{PlanFault}
 use Rattle.configurator.specs.Fault.{number_of}
-use Rattle.configurator.specs.Planned.{IsRefused, Judged}
+use Rattle.configurator.specs.Planned.{IsRefused, Handled}
 use Rattle.c_layout.specs.declared.plugged.Module.{Module}
 use Rattle.c_layout.specs.declared.plugged.Parameter.{Parameter}
 use Rattle.c_layout.specs.declared.plugged.Submodule.{Submodule}
@@ -123,5 +123,5 @@ pub record IsFilled (parts : Parts) (station_type : List ℕ) (written : Written
 pub record IsWritten (text : List ℕ) (written : WrittenPlan) : Type 0 where
   pub found : Catalogue
   pub reading : Found text found
-  pub judged : Judged found (Ok (parts_of written))
+  pub handled : Handled found (Ok (parts_of written))
   pub filled : IsFilled (parts_of written) found.access_point.station_type written

@@ -2,7 +2,7 @@
 ghost use Rattle.std.specs.Prelude.{◌≡◌, ◌≢◌, ◌≤◌, Bool, length, not, if◌then◌else◌};
 ghost use Rattle.configurator.specs.declared.fault.PlanFault.TheVariants.{OutOfMemory};
 ghost use Rattle.configurator.specs.Planned.{IsRefusedAt};
-ghost use Rattle.plan_abi.specs.Places.{IsTold, ended, is_memory, spelled};
+ghost use Rattle.plan_abi.specs.Places.{IsReported, ended, is_memory, spelled};
 
 use crate::spelled::spelled;
 use catalogue::Step;
@@ -14,7 +14,7 @@ use std::alloc::Global;
 pub fn show(alloc: Global, text: &[u8], room: &mut [u8]) -> u32
     ensures length { length room.new ≡ length room.old }
     ensures kept { result ≡ 0 → room.new ≡ room.old }
-    ensures told { result ≢ 0 → IsTold text.now room.old room.new }
+    ensures reported { result ≢ 0 → IsReported text.now room.old room.new }
     ensures one { result ≤ 1 }
 {
     match plan_or_place(alloc, text) {
@@ -38,7 +38,7 @@ fn tell(alloc: Global, refusal: &Refusal, room: &mut [u8]) -> u32
     ensures length { length room.new ≡ length room.old }
     ensures kept { result ≡ 0 → room.new ≡ room.old }
     ensures known { result ≢ 0 → refusal.now.fault ≢ OutOfMemory }
-    ensures told { result ≢ 0 → room.new ≡ ended (spelled refusal.now.place.items) room.old }
+    ensures reported { result ≢ 0 → room.new ≡ ended (spelled refusal.now.place.items) room.old }
     ensures one { result ≤ 1 }
 {
     if is_memory(refusal.fault) {
@@ -51,7 +51,7 @@ fn tell(alloc: Global, refusal: &Refusal, room: &mut [u8]) -> u32
 fn tell_place(alloc: Global, place: &[Step], room: &mut [u8]) -> u32
     ensures length { length room.new ≡ length room.old }
     ensures kept { result ≡ 0 → room.new ≡ room.old }
-    ensures told { result ≢ 0 → room.new ≡ ended (spelled place.now) room.old }
+    ensures reported { result ≢ 0 → room.new ≡ ended (spelled place.now) room.old }
     ensures one { result ≤ 1 }
 {
     if room.is_empty() {

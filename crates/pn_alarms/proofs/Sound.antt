@@ -6,7 +6,7 @@ use Rattle.wire.specs.Formats.{big_bytes, number, ◌⨾◌}
 use Rattle.wire.specs.Whole.{everything}
 use Rattle.wire.proofs.Fields.{number_sound, number_onward}
 use Rattle.wire.proofs.Joined.{then_by_sound, then_by_onward, seen_sound, seen_onward, unchecked_sound, unchecked_onward, framed_sound, framed_onward}
-use Rattle.wire.proofs.Judged.{checked_sound, checked_onward, named_sound, named_onward}
+use Rattle.wire.proofs.Handled.{checked_sound, checked_onward, named_sound, named_onward}
 use Rattle.wire.proofs.Wholes.{everything_sound, loose_sound, loose_behind}
 use Rattle.pn_alarms.specs.declared.fault.AlarmFault.{AlarmFault}
 use Rattle.pn_alarms.specs.declared.fault.AlarmFault.TheVariants as fault

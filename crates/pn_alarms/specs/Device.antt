@@ -15,12 +15,12 @@ use Rattle.pn_alarms.specs.declared.sender.Reply.TheVariants as reply
 use Rattle.pn_alarms.specs.Numbers.{is_last, send_number, ack_number}
 use Rattle.pn_alarms.specs.Alarming.{Alarming}
 use Rattle.pn_alarms.specs.Ends.{DeviceEnd}
-use Rattle.pn_alarms.specs.Sender.{quiet, standing_with, raised, answered, later}
+use Rattle.pn_alarms.specs.Sender.{inactive, standing_with, raised, answered, later}
 use Rattle.pn_alarms.specs.Receiver.{taken_as, last_behind}
 
 -- Nothing was raised and nothing was accepted.
 abbrev pub idle : ℕ → ℕ → DeviceEnd
-idle factor retries = record { sender = quiet factor retries; seen = None }
+idle factor retries = record { sender = inactive factor retries; seen = None }
 
 -- What happens to a PDU: data is accepted or refused; an ACK counts if it acknowledges the last alarm that was sent; a
 -- NACK does not count; an ERR ends the relation.

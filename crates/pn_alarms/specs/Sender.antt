@@ -29,8 +29,8 @@ notified specifier alarm =
     notice_of specifier alarm.slot_number alarm.subslot_number alarm.module_ident_number alarm.submodule_ident_number alarm.alarm_data.now
 
 -- No alarm was raised yet.
-abbrev pub quiet : ℕ → ℕ → Alarming
-quiet factor retries = record { sending = silent factor retries; specifier = 0; standing = None }
+abbrev pub inactive : ℕ → ℕ → Alarming
+inactive factor retries = record { sending = silent factor retries; specifier = 0; standing = None }
 
 -- The alarm is active, and is sent under the next number. AlarmSpecifier counts modulo 2,048.
 abbrev pub standing_with : AlarmNotification → Alarming → Alarming

@@ -2,7 +2,7 @@
 ghost use Rattle.std.specs.Prelude.{◌≡◌, ◌<◌, ◌≤◌, [], length, is_ok, is_none, IfSome, OnOk, OnErr};
 ghost use Rattle.pn_alarms.specs.Numbers.{send_number};
 ghost use Rattle.pn_alarms.specs.Sending.{due};
-ghost use Rattle.pn_alarms.specs.Sender.{notice_of, quiet, raised, is_of, ended_by, counts, answered, later};
+ghost use Rattle.pn_alarms.specs.Sender.{notice_of, inactive, raised, is_of, ended_by, counts, answered, later};
 ghost use Rattle.pn_alarms.specs.Standing.{kept_as};
 
 use crate::repeats::{Due, Repeats};
@@ -142,7 +142,7 @@ impl Sender {
     pub fn new(timeout_factor: u16, retries: u16) -> Sender
         requires factor { 0 < timeout_factor }
         requires few { retries ≤ 15 }
-        ensures { result ≡ quiet timeout_factor retries }
+        ensures { result ≡ inactive timeout_factor retries }
     {
         Sender {
             repeats: Repeats::new(timeout_factor, retries),

@@ -1,3 +1,3 @@
-pub mod Judged
+pub mod Handled
 pub mod Single
 pub mod Naming

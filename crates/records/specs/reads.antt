@@ -1,5 +1,5 @@
 pub mod Parameters
 pub mod Answer
-pub mod Judged
+pub mod Handled
 pub mod Implicit
 pub mod Within

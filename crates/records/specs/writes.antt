@@ -1,3 +1,3 @@
 pub mod Answer
 pub mod Taken
-pub mod Judged
+pub mod Handled

@@ -15,14 +15,14 @@ use Rattle.relations.specs.exchange.Units.{ending_of as exchange_ending}
 use Rattle.relations.specs.declared.phase.Phase.TheVariants.{Exchanging}
 use Rattle.relations.specs.declared.farewell.Farewell.{Farewell}
 use Rattle.relations.specs.declared.phase.Phase.{Phase}
-use Rattle.relations.specs.Link.{Link, phase_of}
+use Rattle.relations.specs.RelationState.{RelationState, phase_of}
 use Rattle.relations.specs.Farewells.{farewell_of}
 use Rattle.relations.specs.Timers.{ending_of, unit_later, due_of}
 use Rattle.relations.specs.Runs.{unit_over, units_over, EndsBehind, IsPatientFor, IsHeldFor, IsGivenUp}
-use Rattle.relations.proofs.Kept.{moved_on, moved_off, due_off, same_farewell}
+use Rattle.relations.proofs.Kept.{updated_on, updated_off, due_off, same_farewell}
 
 -- A relation that exchanges data and heard nothing for this many units: it is the same except for its timers.
-record IsOn (link : Link) (units : ℕ) (later : Link) : Type 0 where
+record IsOn (link : RelationState) (units : ℕ) (later : RelationState) : Type 0 where
   phase : later.phase ≡ Exchanging
   request : later.request ≡ link.request
   begun : later.flow.cyclic.begun ≡ true
@@ -33,8 +33,8 @@ record IsOn (link : Link) (units : ℕ) (later : Link) : Type 0 where
   last : later.flow.alarms.sender.sending.last ≡ link.flow.alarms.sender.sending.last
   seen : later.flow.alarms.seen ≡ link.flow.alarms.seen
 
-record StandsOn (link : Link) (units : ℕ) : Type 0 where
-  later : Link
+record StandsOn (link : RelationState) (units : ℕ) : Type 0 where
+  later : RelationState
   is : units_over units (Some link) ≡ Some later
   same : IsOn link units later
 
@@ -45,7 +45,7 @@ tick_ending cyclic alarm (Some reason) = refl
 tick_ending cyclic alarm None = refl
 
 -- Only the exchange ends it.
-ending_there : (link : Link) → link.phase ≡ Exchanging → ending_of link ≡ exchange_ending link.flow
+ending_there : (link : RelationState) → link.phase ≡ Exchanging → ending_of link ≡ exchange_ending link.flow
 ending_there link at = rw at (tick_ending link.flow.cyclic (alarm_due link.flow) (exchange_ending link.flow))
 
 min_below : (limit held : ℕ) → held + 1 < limit → (min limit (held + 1) == limit) ≡ false
@@ -97,13 +97,13 @@ since : (waiting : Option ℕ) (units later : ℕ) → option_map (λ waited. wa
 since (Some waited) units later e = (waited, (refl, cc))
 since None units later e = absurd cc
 
-patient_there : (link later : Link) (units : ℕ) → IsPatientFor (suc units) link.flow.alarms.sender.sending → IsOn link units later
+patient_there : (link later : RelationState) (units : ℕ) → IsPatientFor (suc units) link.flow.alarms.sender.sending → IsOn link units later
     → IsPatient later.flow.alarms.sender.sending later.flow.alarms.sender.sending.waiting
 patient_there link later units patient same waited is =
     let before = since link.flow.alarms.sender.sending.waiting units waited (sym same.waiting ∙ is) in
     omega (arith, same.patience, before.1.1, patient before.0 before.1.0)
 
-on_next : (link later : Link) (units : ℕ) → link.flow.cyclic.hearing.held + suc units < link.flow.cyclic.hearing.limit → IsPatientFor (suc units) link.flow.alarms.sender.sending
+on_next : (link later : RelationState) (units : ℕ) → link.flow.cyclic.hearing.held + suc units < link.flow.cyclic.hearing.limit → IsPatientFor (suc units) link.flow.alarms.sender.sending
     → IsOn link units later → IsOn link (suc units) (unit_later later)
 on_next link later units below patient same = rw same.begun (record {
   phase = same.phase;
@@ -118,14 +118,14 @@ on_next link later units below patient same = rw same.begun (record {
   seen = same.seen;
 })
 
-no_ending : (link later : Link) (units : ℕ) → link.flow.cyclic.hearing.held + suc units < link.flow.cyclic.hearing.limit → IsPatientFor (suc units) link.flow.alarms.sender.sending
+no_ending : (link later : RelationState) (units : ℕ) → link.flow.cyclic.hearing.held + suc units < link.flow.cyclic.hearing.limit → IsPatientFor (suc units) link.flow.alarms.sender.sending
     → IsOn link units later → ending_of later ≡ None
 no_ending link later units below patient same =
     ending_there later same.phase
     ∙ (heard_still later.flow same.begun (omega (arith, same.held, same.limit, below))
     ∙ unspent later.flow.alarms.sender.sending later.flow.alarms.sender.sending.waiting (patient_there link later units patient same))
 
-stands_on : (link : Link) (units : ℕ) → link.phase ≡ Exchanging → link.flow.cyclic.begun ≡ true → link.flow.cyclic.hearing.held + units < link.flow.cyclic.hearing.limit
+stands_on : (link : RelationState) (units : ℕ) → link.phase ≡ Exchanging → link.flow.cyclic.begun ≡ true → link.flow.cyclic.hearing.held + units < link.flow.cyclic.hearing.limit
     → IsPatientFor units link.flow.alarms.sender.sending → StandsOn link units
 stands_on link zero at begun below patient = record {
   later = link;
@@ -146,17 +146,17 @@ stands_on link (suc units) at begun below patient =
     let before = stands_on link units at begun (omega (arith, below)) (λ waited is. omega (arith, patient waited is)) in
     record {
       later = unit_later before.later;
-      is = ap unit_over before.is ∙ moved_on (ending_of before.later) before.later (no_ending link before.later units below patient before.same);
+      is = ap unit_over before.is ∙ updated_on (ending_of before.later) before.later (no_ending link before.later units below patient before.same);
       same = on_next link before.later units below patient before.same;
     }
 
 -- If something ends it with the next unit, it ends with the ERR for that reason.
-ends_behind : (link : Link) (units : ℕ) (reason : Abort) → link.phase ≡ Exchanging → (so : StandsOn link units) → ending_of so.later ≡ Some reason → EndsBehind units reason link
+ends_behind : (link : RelationState) (units : ℕ) (reason : Abort) → link.phase ≡ Exchanging → (so : StandsOn link units) → ending_of so.later ≡ Some reason → EndsBehind units reason link
 ends_behind link units reason at so over = (
   ap phase_of so.is ∙ ap (λ (p : Phase). let o : Option Phase = Some p in o) (so.same.phase ∙ sym at),
   (
-    ap unit_over so.is ∙ moved_off (ending_of so.later) reason so.later over,
-    ap (λ (l : Option Link). (due_of l).farewell) so.is
+    ap unit_over so.is ∙ updated_off (ending_of so.later) reason so.later over,
+    ap (λ (l : Option RelationState). (due_of l).farewell) so.is
         ∙ (due_off (ending_of so.later) reason so.later over
         ∙ ap (λ (f : Farewell). let o : Option Farewell = Some f in o) (same_farewell reason link so.later so.same.request so.same.last so.same.seen)),
   ),

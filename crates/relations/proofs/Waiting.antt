@@ -1,18 +1,18 @@
 -- For any events while a relation waits for the answer to ApplicationReady.
 use Rattle.std.proofs.Common.{◌≡◌, ◌+◌, ◌%◌, ◌==◌, ℕ, true, List, [], ◌∷◌, Some, ap, arith, subst, ◌∙◌}
-use Rattle.relations.specs.Link.{Link, is_awaiting}
-use Rattle.relations.specs.Phases.{Judged, Made, Parameterized, Confirmed, Named, Took, Exchanged, Passed, Ended, Unmoved, restarted, with_flow, with_taken}
+use Rattle.relations.specs.RelationState.{RelationState, is_awaiting}
+use Rattle.relations.specs.Phases.{Handled, Made, Parameterized, Confirmed, Named, Took, Exchanged, Passed, Ended, Unmoved, restarted, with_flow, with_taken}
 use Rattle.relations.specs.Timers.{unit_later}
-use Rattle.relations.specs.Runs.{AreWaiting, IsDueWhateverComes, all_moved, units_of}
+use Rattle.relations.specs.Runs.{AreWaiting, IsDueWhateverComes, all_updated, units_of}
 use Rattle.relations.proofs.Kept.{again_with, waited_next}
 
 -- The relation still waits, and has waited for the units among the events.
-waits_on : (events : List Judged) (link now : Link) (units : ℕ) → is_awaiting link.phase ≡ true → link.waited ≡ units % 32000 → AreWaiting events
-    → all_moved events (Some link) ≡ Some now → (is_awaiting now.phase ≡ true) × (now.waited ≡ (units_of events + units) % 32000)
+waits_on : (events : List Handled) (link now : RelationState) (units : ℕ) → is_awaiting link.phase ≡ true → link.waited ≡ units % 32000 → AreWaiting events
+    → all_updated events (Some link) ≡ Some now → (is_awaiting now.phase ≡ true) × (now.waited ≡ (units_of events + units) % 32000)
 waits_on [] link now units waits so still e =
     let same : link ≡ now = cc in
     let count : units ≡ units_of [] + units = omega arith in
-    subst (λ (l : Link). (is_awaiting l.phase ≡ true) × (l.waited ≡ (units_of [] + units) % 32000)) same
+    subst (λ (l : RelationState). (is_awaiting l.phase ≡ true) × (l.waited ≡ (units_of [] + units) % 32000)) same
     (waits, so ∙ ap (λ (n : ℕ). n % 32000) count)
 waits_on (Made request partner rows ∷ more) link now units waits so still e = absurd (let no = still.0 in cc)
 waits_on (Parameterized ∷ more) link now units waits so still e = absurd (let no = still.0 in cc)

@@ -10,9 +10,9 @@ use Rattle.block_codec.specs.Block.{block_bytes}
 use Rattle.connect_blocks.specs.declared.control.ControlBlock.{ControlBlock}
 use Rattle.records.specs.declared.status.call_fault.CallFault.{CallFault}
 use Rattle.records.specs.declared.status.call_fault.CallFault.TheVariants as fault
-use Rattle.records.specs.calls.Judged.{judged}
+use Rattle.records.specs.calls.Handled.{handled}
 use Rattle.records.specs.calls.Single.{single_of}
-use Rattle.relations.specs.Link.{Link, is_named, is_session, is_started, phase_of}
+use Rattle.relations.specs.RelationState.{RelationState, is_named, is_session, is_started, phase_of}
 
 -- The one block of a call of this type.
 abbrev pub in_control : Block → Option ControlBlock
@@ -24,8 +24,8 @@ abbrev pub control_block : BlockType → List ℕ → Result ControlBlock CallFa
 control_block type blocks = single_of type blocks >>= λ x. or_fault fault.BlockForm (in_control x.0)
 
 -- A block must name the relation and its session, and have the command of its kind. They are checked in this order.
-abbrev pub named_of : Option Link → ControlBlock → ℕ → Result (Unit {0}) CallFault
-named_of link block command = judged
+abbrev pub named_of : Option RelationState → ControlBlock → ℕ → Result (Unit {0}) CallFault
+named_of link block command = handled
     ((not (is_named block.ar_uuid link), fault.UnknownRelation)
     ∷ (not (is_session block.session_key link), fault.UnknownSession)
     ∷ (not (block.control_command == command), fault.ControlCommand)
@@ -33,23 +33,23 @@ named_of link block command = judged
     (Ok tt)
 
 -- PrmEnd, command 1, of a relation that waits for it.
-abbrev pub in_started : Option Link → Result (Unit {0}) CallFault
-in_started link = judged ((not (is_started (phase_of link)), fault.Phase) ∷ []) (Ok tt)
+abbrev pub in_started : Option RelationState → Result (Unit {0}) CallFault
+in_started link = handled ((not (is_started (phase_of link)), fault.Phase) ∷ []) (Ok tt)
 
-unfoldable pub prm_end_of : Option Link → List ℕ → Result ControlBlock CallFault
+unfoldable pub prm_end_of : Option RelationState → List ℕ → Result ControlBlock CallFault
 prm_end_of link blocks =
     control_block kind.PrmEnd blocks >>= λ block. named_of link block 1 >>= λ _. in_started link >>= λ _. Ok block
 
 -- Release, command 4, in any phase.
-unfoldable pub release_of : Option Link → List ℕ → Result ControlBlock CallFault
+unfoldable pub release_of : Option RelationState → List ℕ → Result ControlBlock CallFault
 release_of link blocks = control_block kind.Release blocks >>= λ block. named_of link block 4 >>= λ _. Ok block
 
 -- The answer repeats the block, with command 8, Done.
 abbrev pub done_of : ControlBlock → ControlBlock
 done_of block = record block { control_command = 8 }
 
-abbrev pub prm_end_answer : Option Link → List ℕ → Result (List ℕ) CallFault
+abbrev pub prm_end_answer : Option RelationState → List ℕ → Result (List ℕ) CallFault
 prm_end_answer link blocks = prm_end_of link blocks >>= λ block. Ok (block_bytes (is.PrmEndRes (done_of block)))
 
-abbrev pub release_answer : Option Link → List ℕ → Result (List ℕ) CallFault
+abbrev pub release_answer : Option RelationState → List ℕ → Result (List ℕ) CallFault
 release_answer link blocks = release_of link blocks >>= λ block. Ok (block_bytes (is.ReleaseRes (done_of block)))

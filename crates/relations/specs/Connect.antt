@@ -12,10 +12,10 @@ use Rattle.block_codec.specs.Block.{block_bytes}
 use Rattle.records.specs.declared.status.call_fault.CallFault.{CallFault}
 use Rattle.connect_requests.specs.declared.parts.Iocr.{Iocr}
 use Rattle.connect_requests.specs.Request.{Request}
-use Rattle.connect_requests.specs.Judged.{request_of}
+use Rattle.connect_requests.specs.Handled.{request_of}
 use Rattle.relations.specs.declared.phase.Partner.{Partner}
-use Rattle.relations.specs.Link.{Link, uuid_of}
-use Rattle.relations.specs.Phases.{Judged, Made, Unmoved, differing_octets}
+use Rattle.relations.specs.RelationState.{RelationState, uuid_of}
+use Rattle.relations.specs.Phases.{Handled, Made, Unmoved, differing_octets}
 
 -- What differs, and its ModuleDiffBlock, if there is one.
 abbrev pub rows_of : Request → Real → Listed DiffModule DiffSubmodule
@@ -53,13 +53,13 @@ connect_blocks identity request differing =
 -- ---- the call
 
 -- What is asked for, or why it is refused.
-abbrev pub connect_of : Option Link → List ℕ → Result Request CallFault
+abbrev pub connect_of : Option RelationState → List ℕ → Result Request CallFault
 connect_of link blocks = request_of (uuid_of link) blocks
 
-abbrev pub connect_answer : Identity → Real → Option Link → List ℕ → Result (List ℕ) CallFault
+abbrev pub connect_answer : Identity → Real → Option RelationState → List ℕ → Result (List ℕ) CallFault
 connect_answer identity real link blocks = connect_of link blocks >>= λ request. Ok (connect_blocks identity request (differing_of request real))
 
 -- The outcome of the Connect.
-abbrev pub making : Real → Partner → Result Request CallFault → Judged
+abbrev pub making : Real → Partner → Result Request CallFault → Handled
 making real partner (Ok request) = Made request partner (rows_of request real)
 making real partner (Err fault) = Unmoved

@@ -12,55 +12,55 @@ use Rattle.relations.specs.exchange.Flow.{Flow}
 use Rattle.relations.specs.exchange.Received.{behind_frame, received_as}
 use Rattle.relations.specs.exchange.Process.{given_at, output_at}
 use Rattle.relations.specs.exchange.Notices.{behind_message, raised_at}
-use Rattle.relations.specs.Link.{Link}
-use Rattle.relations.specs.Phases.{Judged, Ended, Exchanged, Unmoved}
+use Rattle.relations.specs.RelationState.{RelationState}
+use Rattle.relations.specs.Phases.{Handled, Ended, Exchanged, Unmoved}
 
 -- What happens to a cyclic frame, and to the relation.
-abbrev pub received_by : Mac → ℕ → List ℕ → Option Link → Received
+abbrev pub received_by : Mac → ℕ → List ℕ → Option RelationState → Received
 received_by source frame_id body None = Foreign
 received_by source frame_id body (Some link) = received_as link.flow source frame_id body
 
-abbrev pub receiving_as : Received → Flow → Judged
+abbrev pub receiving_as : Received → Flow → Handled
 receiving_as Foreign flow = Unmoved
 receiving_as Short flow = Unmoved
 receiving_as Stale flow = Unmoved
 receiving_as Taken flow = Exchanged flow
 
-abbrev pub receiving : Mac → ℕ → List ℕ → Option Link → Judged
+abbrev pub receiving : Mac → ℕ → List ℕ → Option RelationState → Handled
 receiving source frame_id body None = Unmoved
 receiving source frame_id body (Some link) =
     receiving_as (received_as link.flow source frame_id body) (behind_frame link.flow source frame_id body)
 
 -- The exchange became this, or is unchanged.
-abbrev pub becoming : Option Flow → Judged
+abbrev pub becoming : Option Flow → Handled
 becoming (Some flow) = Exchanged flow
 becoming None = Unmoved
 
 -- The exchange after an input is given, and after an alarm is raised, if it may be.
-abbrev pub given_to : ℕ → ℕ → List ℕ → Option Link → Option Flow
+abbrev pub given_to : ℕ → ℕ → List ℕ → Option RelationState → Option Flow
 given_to slot subslot value None = None
 given_to slot subslot value (Some link) = given_at link.flow slot subslot value
 
-abbrev pub raised_to : List RealModule → ℕ → ℕ → List ℕ → Option Link → Option Flow
+abbrev pub raised_to : List RealModule → ℕ → ℕ → List ℕ → Option RelationState → Option Flow
 raised_to real slot subslot octets None = None
 raised_to real slot subslot octets (Some link) = raised_at link.flow real slot subslot octets
 
 -- The output of a submodule, if it has a place.
-abbrev pub output_in : ℕ → ℕ → Option Link → Option (List ℕ)
+abbrev pub output_in : ℕ → ℕ → Option RelationState → Option (List ℕ)
 output_in slot subslot None = None
 output_in slot subslot (Some link) = output_at link.flow slot subslot
 
 -- What happens to a PDU of the partner, and to the relation, which ERR ends.
-abbrev pub heard_by : ToDevice → Option Link → PduFate
+abbrev pub heard_by : ToDevice → Option RelationState → PduFate
 heard_by message None = Ignored
 heard_by message (Some link) = heard_as link.flow.alarms message
 
-abbrev pub hearing_as : PduFate → Flow → Judged
+abbrev pub hearing_as : PduFate → Flow → Handled
 hearing_as (Data taken) flow = Exchanged flow
 hearing_as Done flow = Exchanged flow
 hearing_as Ignored flow = Unmoved
 hearing_as Aborted flow = Ended
 
-abbrev pub hearing : ToDevice → Option Link → Judged
+abbrev pub hearing : ToDevice → Option RelationState → Handled
 hearing message None = Unmoved
 hearing message (Some link) = hearing_as (heard_as link.flow.alarms message) (behind_message link.flow message)

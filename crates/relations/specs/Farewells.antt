@@ -7,7 +7,7 @@ use Rattle.pn_alarms.specs.declared.pdu.PduType.TheVariants.{Error}
 use Rattle.connect_requests.specs.Request.{Request}
 use Rattle.relations.specs.exchange.Notices.{header_of}
 use Rattle.relations.specs.declared.farewell.Farewell.{Farewell}
-use Rattle.relations.specs.Link.{Link}
+use Rattle.relations.specs.RelationState.{RelationState}
 
 -- It goes to CMInitiatorMacAdd, to the LocalAlarmReference there, with the tag of low priority, and with the numbers of
 -- the last data that was sent and of the last data that was accepted.
@@ -21,7 +21,7 @@ farewell_by reason request header = record {
   reason = reason;
 }
 
-abbrev pub farewell_of : Abort → Link → Farewell
+abbrev pub farewell_of : Abort → RelationState → Farewell
 farewell_of reason link = farewell_by reason link.request (header_of link.flow Error)
 
 -- Its PDU, from endpoint 1 of the device.

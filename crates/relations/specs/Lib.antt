@@ -1,4 +1,4 @@
-pub mod Link
+pub mod RelationState
 pub mod Farewells
 pub mod Timers
 pub mod Phases

@@ -15,35 +15,35 @@ use Rattle.relations.specs.exchange.Flow.{Flow}
 use Rattle.relations.specs.exchange.Opening.{begun_of, opened}
 use Rattle.relations.specs.declared.phase.Phase.TheVariants.{Started, Awaiting, Exchanging}
 use Rattle.relations.specs.declared.phase.Partner.{Partner}
-use Rattle.relations.specs.Link.{Link}
+use Rattle.relations.specs.RelationState.{RelationState}
 use Rattle.relations.specs.Timers.{ending_of, unit_later}
 
 -- The outcome of an event. A Connect is accepted; PrmEnd is accepted; ApplicationReady was confirmed; another call that
 -- names the relation is answered positively; one more parameter record is accepted, after which the records are these;
 -- the exchange became this; a unit of time is over and ends nothing; the relation ended, by Release, a timeout, a
 -- reset, the ERR of the controller, or because ApplicationReady was refused; or none of these.
-pub data Judged : Type 0 where
-  Made : (request : Request) → (partner : Partner) → (rows : Listed DiffModule DiffSubmodule) → Judged
-  Parameterized : Judged
-  Confirmed : Judged
-  Named : Judged
-  Took : (taken : List TakenRecord) → Judged
-  Exchanged : (flow : Flow) → Judged
-  Passed : Judged
-  Ended : Judged
-  Unmoved : Judged
+pub data Handled : Type 0 where
+  Made : (request : Request) → (partner : Partner) → (rows : Listed DiffModule DiffSubmodule) → Handled
+  Parameterized : Handled
+  Confirmed : Handled
+  Named : Handled
+  Took : (taken : List TakenRecord) → Handled
+  Exchanged : (flow : Flow) → Handled
+  Passed : Handled
+  Ended : Handled
+  Unmoved : Handled
 
 -- The ModuleDiffBlock with these rows, which exists exactly if there is a row.
 abbrev pub differing_octets : Listed DiffModule DiffSubmodule → List ℕ
 differing_octets rows = if length rows.modules == 0 then [] else block_bytes (is.ModuleDiffBlock (record { api = 0; modules = rows }))
 
 -- A relation that is established now, if these modules differ.
-abbrev pub made_of : Request → Partner → Listed DiffModule DiffSubmodule → Link
+abbrev pub made_of : Request → Partner → Listed DiffModule DiffSubmodule → RelationState
 made_of request partner rows = record {
   phase = Started;
   request = request;
   partner = partner;
-  quiet = 0;
+  inactive = 0;
   waited = 0;
   taken = [];
   differing = differing_octets rows;
@@ -51,56 +51,56 @@ made_of request partner rows = record {
 }
 
 -- All its parameters are written, and ApplicationReady is sent.
-abbrev pub awaiting_from : Link → Link
-awaiting_from link = record link { phase = Awaiting; quiet = 0; waited = 0 }
+abbrev pub awaiting_from : RelationState → RelationState
+awaiting_from link = record link { phase = Awaiting; inactive = 0; waited = 0 }
 
 -- Data is exchanged.
-abbrev pub exchanging_from : Link → Link
+abbrev pub exchanging_from : RelationState → RelationState
 exchanging_from link = record link { phase = Exchanging; flow = begun_of link.flow }
 
 -- The activity timer restarts.
-abbrev pub restarted : Link → Link
-restarted link = record link { quiet = 0 }
+abbrev pub restarted : RelationState → RelationState
+restarted link = record link { inactive = 0 }
 
 -- It has accepted these parameter records.
-abbrev pub with_taken : List TakenRecord → Link → Link
+abbrev pub with_taken : List TakenRecord → RelationState → RelationState
 with_taken taken link = record link { taken = taken }
 
 -- Its exchange became this.
-abbrev pub with_flow : Flow → Link → Link
+abbrev pub with_flow : Flow → RelationState → RelationState
 with_flow flow link = record link { flow = flow }
 
 -- The outcome moves the relation.
-abbrev pub moved : Judged → Option Link → Option Link
-moved (Made request partner rows) link = Some (made_of request partner rows)
-moved Parameterized link = option_map awaiting_from link
-moved Confirmed link = option_map exchanging_from link
-moved Named link = option_map restarted link
-moved (Took taken) link = option_map (with_taken taken) link
-moved (Exchanged flow) link = option_map (with_flow flow) link
-moved Passed link = option_map unit_later link
-moved Ended link = None
-moved Unmoved link = link
+abbrev pub updated : Handled → Option RelationState → Option RelationState
+updated (Made request partner rows) link = Some (made_of request partner rows)
+updated Parameterized link = option_map awaiting_from link
+updated Confirmed link = option_map exchanging_from link
+updated Named link = option_map restarted link
+updated (Took taken) link = option_map (with_taken taken) link
+updated (Exchanged flow) link = option_map (with_flow flow) link
+updated Passed link = option_map unit_later link
+updated Ended link = None
+updated Unmoved link = link
 
 -- ---- the outcome of a unit of time, of a call that is answered positively or not, and of a parameter record that is
 -- written
 
-abbrev pub passing_by : Option Abort → Judged
+abbrev pub passing_by : Option Abort → Handled
 passing_by (Some reason) = Ended
 passing_by None = Passed
 
-abbrev pub passing : Option Link → Judged
+abbrev pub passing : Option RelationState → Handled
 passing None = Unmoved
 passing (Some link) = passing_by (ending_of link)
 
-abbrev pub answered : {A : Type 0} → Judged → Result A CallFault → Judged
-answered judged (Ok answer) = judged
-answered judged (Err fault) = Unmoved
+abbrev pub answered : {A : Type 0} → Handled → Result A CallFault → Handled
+answered handled (Ok answer) = handled
+answered handled (Err fault) = Unmoved
 
-abbrev pub keeping : TakenRecord → Option Link → Result (List TakenRecord) CallFault
+abbrev pub keeping : TakenRecord → Option RelationState → Result (List TakenRecord) CallFault
 keeping parameter None = Err fault.UnknownRelation
 keeping parameter (Some link) = keep_of parameter link.taken
 
-abbrev pub taking : Result (List TakenRecord) CallFault → Judged
+abbrev pub taking : Result (List TakenRecord) CallFault → Handled
 taking (Ok taken) = Took taken
 taking (Err fault) = Unmoved

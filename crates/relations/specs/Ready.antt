@@ -13,13 +13,13 @@ use Rattle.pn_alarms.specs.declared.abort.Abort.TheVariants.{Other}
 use Rattle.relations.specs.declared.hearing.ReadyAnswer.{ReadyAnswer}
 use Rattle.relations.specs.declared.hearing.ReadyAnswer.TheVariants as heard
 use Rattle.relations.specs.declared.ready.Ready.{Ready}
-use Rattle.relations.specs.Link.{Link, is_awaiting}
+use Rattle.relations.specs.RelationState.{RelationState, is_awaiting}
 use Rattle.relations.specs.Farewells.{farewell_of}
-use Rattle.relations.specs.Phases.{Judged, Confirmed, Ended, Unmoved}
+use Rattle.relations.specs.Phases.{Handled, Confirmed, Ended, Unmoved}
 
 -- The call: the ARUUID as activity, sequence 0, operation 4, Control. It goes to the object and the station that asked
 -- for the relation.
-abbrev pub ready_of : Link → Ready
+abbrev pub ready_of : RelationState → Ready
 ready_of link = record {
   partner = link.partner;
   header = record {
@@ -44,7 +44,7 @@ abbrev pub is_answer_to : List ℕ → CallHeader → Bool
 is_answer_to uuid header = pointwise nat_eq header.activity uuid && (header.sequence == 0 && header.operation == 4)
 
 -- The relation waits for it.
-abbrev pub is_wanted : Answered → Link → Bool
+abbrev pub is_wanted : Answered → RelationState → Bool
 is_wanted response link = is_awaiting link.phase && is_answer_to link.request.ar.uuid response.header
 
 -- Its block: the first one, if it is the answer to ApplicationReady and its ControlCommand is Done.
@@ -57,20 +57,20 @@ abbrev pub confirmed_by : List ℕ → Option ControlBlock → ReadyAnswer
 confirmed_by uuid None = heard.Garbled
 confirmed_by uuid (Some block) = if pointwise nat_eq block.ar_uuid uuid then heard.Confirmed else heard.NotWanted
 
-abbrev pub answer_in : Answered → Link → ReadyAnswer
+abbrev pub answer_in : Answered → RelationState → ReadyAnswer
 answer_in response link =
     if is_wanted response link
     then (if is_done response.status then confirmed_by link.request.ar.uuid (confirmed_block (block_of response.blocks)) else heard.Refused (farewell_of Other link))
     else heard.NotWanted
 
 -- What an answer means to a device.
-unfoldable pub answer_of : Answered → Option Link → ReadyAnswer
+unfoldable pub answer_of : Answered → Option RelationState → ReadyAnswer
 answer_of response None = heard.NotWanted
 answer_of response (Some link) = answer_in response link
 
 -- What it does to the relation.
-abbrev pub judged_by : ReadyAnswer → Judged
-judged_by heard.NotWanted = Unmoved
-judged_by heard.Garbled = Unmoved
-judged_by heard.Confirmed = Confirmed
-judged_by (heard.Refused farewell) = Ended
+abbrev pub handled_by : ReadyAnswer → Handled
+handled_by heard.NotWanted = Unmoved
+handled_by heard.Garbled = Unmoved
+handled_by heard.Confirmed = Confirmed
+handled_by (heard.Refused farewell) = Ended

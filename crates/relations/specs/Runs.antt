@@ -4,40 +4,40 @@ use Rattle.pn_alarms.specs.declared.abort.Abort.{Abort}
 use Rattle.pn_alarms.specs.declared.abort.Abort.TheVariants.{Activity, DataHold, Other}
 use Rattle.pn_alarms.specs.Sending.{Sending}
 use Rattle.relations.specs.declared.phase.Phase.TheVariants.{Started, Awaiting, Exchanging}
-use Rattle.relations.specs.Link.{Link, phase_of, is_awaiting}
+use Rattle.relations.specs.RelationState.{RelationState, phase_of, is_awaiting}
 use Rattle.relations.specs.Farewells.{farewell_of}
 use Rattle.relations.specs.Timers.{due_of, is_again, is_timed, limit_of}
-use Rattle.relations.specs.Phases.{Judged, Made, Parameterized, Confirmed, Named, Took, Exchanged, Passed, Ended, Unmoved, moved, passing}
+use Rattle.relations.specs.Phases.{Handled, Made, Parameterized, Confirmed, Named, Took, Exchanged, Passed, Ended, Unmoved, updated, passing}
 
 -- The relation one unit later, and several units later, without other events.
-abbrev pub unit_over : Option Link → Option Link
-unit_over link = moved (passing link) link
+abbrev pub unit_over : Option RelationState → Option RelationState
+unit_over link = updated (passing link) link
 
-abbrev pub units_over : ℕ → Option Link → Option Link
+abbrev pub units_over : ℕ → Option RelationState → Option RelationState
 units_over zero link = link
 units_over (suc units) link = unit_over (units_over units link)
 
 -- A relation whose activity timer starts now exists for one unit less than the timer has, in its current phase.
 abbrev pub StandsUntil : Type 0
-StandsUntil = (link : Link) (units : ℕ) → is_timed link.phase ≡ true → link.quiet ≡ 0 → units < limit_of link
+StandsUntil = (link : RelationState) (units : ℕ) → is_timed link.phase ≡ true → link.inactive ≡ 0 → units < limit_of link
     → phase_of (units_over units (Some link)) ≡ Some link.phase
 
 -- The last unit of the activity timer ends it with ERR.
 abbrev pub EndsAt : Type 0
-EndsAt = (link : Link) (units : ℕ) → is_timed link.phase ≡ true → link.quiet ≡ 0 → units + 1 ≡ limit_of link
+EndsAt = (link : RelationState) (units : ℕ) → is_timed link.phase ≡ true → link.inactive ≡ 0 → units + 1 ≡ limit_of link
     → (units_over (suc units) (Some link) ≡ None) × ((due_of (units_over units (Some link))).farewell ≡ Some (farewell_of Activity link))
 
 -- While a relation waits for the answer to ApplicationReady, the call is due again with each 32,000th unit, and with no
 -- other unit, as long as the activity timer is not over.
 abbrev pub IsDueEachSecond : Type 0
-IsDueEachSecond = (link : Link) (units : ℕ) → is_awaiting link.phase ≡ true → link.quiet ≡ 0 → link.waited ≡ 0 → units + 1 < limit_of link
+IsDueEachSecond = (link : RelationState) (units : ℕ) → is_awaiting link.phase ≡ true → link.inactive ≡ 0 → link.waited ≡ 0 → units + 1 < limit_of link
     → (due_of (units_over units (Some link))).is_ready ≡ ((units + 1) % 32000 == 0)
 
 -- ---- any events while it waits
 
 -- The events that leave a relation in its phase: a unit that ends nothing, a call that is answered or refused, a record
 -- that is written, a frame.
-abbrev pub leaves_waiting : Judged → Bool
+abbrev pub leaves_waiting : Handled → Bool
 leaves_waiting (Made request partner rows) = false
 leaves_waiting Parameterized = false
 leaves_waiting Confirmed = false
@@ -49,33 +49,33 @@ leaves_waiting Ended = false
 leaves_waiting Unmoved = true
 
 -- Each of the events leaves it in its phase.
-abbrev pub AreWaiting : List Judged → Type 0
+abbrev pub AreWaiting : List Handled → Type 0
 AreWaiting [] = Unit {0}
-AreWaiting (judged ∷ more) = (leaves_waiting judged ≡ true) × AreWaiting more
+AreWaiting (handled ∷ more) = (leaves_waiting handled ≡ true) × AreWaiting more
 
 -- The relation after the events in order, and how many of them are units.
-abbrev pub all_moved : List Judged → Option Link → Option Link
-all_moved [] link = link
-all_moved (judged ∷ more) link = all_moved more (moved judged link)
+abbrev pub all_updated : List Handled → Option RelationState → Option RelationState
+all_updated [] link = link
+all_updated (handled ∷ more) link = all_updated more (updated handled link)
 
-abbrev pub units_in : Judged → ℕ
+abbrev pub units_in : Handled → ℕ
 units_in Passed = 1
-units_in judged = 0
+units_in handled = 0
 
-abbrev pub units_of : List Judged → ℕ
+abbrev pub units_of : List Handled → ℕ
 units_of [] = 0
-units_of (judged ∷ more) = units_in judged + units_of more
+units_of (handled ∷ more) = units_in handled + units_of more
 
 -- While a relation waits for the answer to ApplicationReady, the call is due again with each 32,000th unit since it was
 -- sent, and with no other unit, for any calls and frames between.
 abbrev pub IsDueWhateverComes : Type 0
-IsDueWhateverComes = (link now : Link) (events : List Judged) → is_awaiting link.phase ≡ true → link.waited ≡ 0 → AreWaiting events
-    → all_moved events (Some link) ≡ Some now → is_again now ≡ ((units_of events + 1) % 32000 == 0)
+IsDueWhateverComes = (link now : RelationState) (events : List Handled) → is_awaiting link.phase ≡ true → link.waited ≡ 0 → AreWaiting events
+    → all_updated events (Some link) ≡ Some now → is_again now ≡ ((units_of events + 1) % 32000 == 0)
 
 -- ---- while data is exchanged
 
 -- A relation exists for this many units, in its current phase, and the next unit ends it with the ERR for this reason.
-abbrev pub EndsBehind : ℕ → Abort → Link → Type 0
+abbrev pub EndsBehind : ℕ → Abort → RelationState → Type 0
 EndsBehind units reason link =
     (phase_of (units_over units (Some link)) ≡ Some link.phase)
     × ((units_over (suc units) (Some link) ≡ None) × ((due_of (units_over units (Some link))).farewell ≡ Some (farewell_of reason link)))
@@ -87,20 +87,20 @@ IsPatientFor units sending = (waited : ℕ) → sending.waiting ≡ Some waited 
 -- If data is exchanged and nothing is received, a relation ends with the last unit of its data hold time, unless an
 -- alarm is given up before. It also does if an alarm would be given up with that same unit.
 abbrev pub IsHeldFor : Type 0
-IsHeldFor = (link : Link) (units : ℕ) → link.phase ≡ Exchanging → link.flow.cyclic.begun ≡ true → link.flow.cyclic.hearing.held + (units + 1) ≡ link.flow.cyclic.hearing.limit
+IsHeldFor = (link : RelationState) (units : ℕ) → link.phase ≡ Exchanging → link.flow.cyclic.begun ≡ true → link.flow.cyclic.hearing.held + (units + 1) ≡ link.flow.cyclic.hearing.limit
     → IsPatientFor units link.flow.alarms.sender.sending → EndsBehind units DataHold link
 
 -- It ends with the unit with which a waiting alarm is given up, unless the data hold time is over by then.
 abbrev pub IsGivenUp : Type 0
-IsGivenUp = (link : Link) (units waited : ℕ) → link.phase ≡ Exchanging → link.flow.cyclic.begun ≡ true → link.flow.cyclic.hearing.held + (units + 1) < link.flow.cyclic.hearing.limit
+IsGivenUp = (link : RelationState) (units waited : ℕ) → link.phase ≡ Exchanging → link.flow.cyclic.begun ≡ true → link.flow.cyclic.hearing.held + (units + 1) < link.flow.cyclic.hearing.limit
     → link.flow.alarms.sender.sending.waiting ≡ Some waited → waited + (units + 1) ≡ link.flow.alarms.sender.sending.limit → EndsBehind units Other link
 
 -- ---- from phase to phase
 
 -- Only an accepted PrmEnd moves a relation from Started to Awaiting.
 abbrev pub IsByPrmEnd : Type 0
-IsByPrmEnd = (judged : Judged) (link : Option Link) → phase_of link ≡ Some Started → phase_of (moved judged link) ≡ Some Awaiting → judged ≡ Parameterized
+IsByPrmEnd = (handled : Handled) (link : Option RelationState) → phase_of link ≡ Some Started → phase_of (updated handled link) ≡ Some Awaiting → handled ≡ Parameterized
 
 -- Only the answer that confirms ApplicationReady moves a relation from Awaiting to Exchanging.
 abbrev pub IsByReady : Type 0
-IsByReady = (judged : Judged) (link : Option Link) → phase_of link ≡ Some Awaiting → phase_of (moved judged link) ≡ Some Exchanging → judged ≡ Confirmed
+IsByReady = (handled : Handled) (link : Option RelationState) → phase_of link ≡ Some Awaiting → phase_of (updated handled link) ≡ Some Exchanging → handled ≡ Confirmed

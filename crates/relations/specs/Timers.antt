@@ -8,7 +8,7 @@ use Rattle.pn_alarms.specs.declared.abort.Abort.TheVariants.{Activity, DataHold,
 use Rattle.cyclic_data.specs.Timing.{held_on}
 use Rattle.relations.specs.declared.farewell.Farewell.{Farewell}
 use Rattle.relations.specs.declared.time.Elapsed.{Elapsed}
-use Rattle.relations.specs.Link.{Link, is_awaiting}
+use Rattle.relations.specs.RelationState.{RelationState, is_awaiting}
 use Rattle.relations.specs.Farewells.{farewell_of}
 
 -- The activity timer runs until data is exchanged.
@@ -18,16 +18,16 @@ is_timed Awaiting = true
 is_timed Exchanging = false
 
 -- The activity timer has CMInitiatorActivityTimeoutFactor times 100 ms, which are 3,200 units each.
-abbrev pub limit_of : Link → ℕ
+abbrev pub limit_of : RelationState → ℕ
 limit_of link = link.request.ar.timeout_factor * 3200
 
 -- Whether the activity timer is over with the next unit.
-abbrev pub is_over : Link → Bool
-is_over link = nat_le (limit_of link) (link.quiet + 1)
+abbrev pub is_over : RelationState → Bool
+is_over link = nat_le (limit_of link) (link.inactive + 1)
 
 -- Why the relation ends with the next unit, if it does: the activity timer is over, or, once data is exchanged, the
 -- exchange ends it.
-abbrev pub ending_of : Link → Option Abort
+abbrev pub ending_of : RelationState → Option Abort
 ending_of link = if is_timed link.phase then (if is_over link then Some Activity else None) else (tick_of link.flow).ending
 
 -- The phase in which a timeout ends a relation: the activity timer only before data is exchanged, data hold and an
@@ -38,22 +38,22 @@ EndsIn DataHold phase = phase ≡ Some Exchanging
 EndsIn Other phase = phase ≡ Some Exchanging
 
 -- Whether the data hold time is over with the next unit, if data is exchanged.
-abbrev pub is_unheard : Link → Bool
+abbrev pub is_unheard : RelationState → Bool
 is_unheard link = (held_on link.flow.cyclic.hearing).held == link.flow.cyclic.hearing.limit
 
 -- ApplicationReady is sent again each second, 32,000 units, until it is answered.
-abbrev pub is_again : Link → Bool
+abbrev pub is_again : RelationState → Bool
 is_again link = is_awaiting link.phase && (link.waited + 1 == 32000)
 
 -- The state after a unit of time.
-abbrev pub quiet_later : Link → ℕ
-quiet_later link = if is_timed link.phase then link.quiet + 1 else link.quiet
+abbrev pub inactive_later : RelationState → ℕ
+inactive_later link = if is_timed link.phase then link.inactive + 1 else link.inactive
 
-abbrev pub waited_later : Link → ℕ
+abbrev pub waited_later : RelationState → ℕ
 waited_later link = if is_again link then 0 else (if is_awaiting link.phase then link.waited + 1 else link.waited)
 
-abbrev pub unit_later : Link → Link
-unit_later link = record link { quiet = quiet_later link; waited = waited_later link; flow = flow_later link.flow }
+abbrev pub unit_later : RelationState → RelationState
+unit_later link = record link { inactive = inactive_later link; waited = waited_later link; flow = flow_later link.flow }
 
 -- What is due with a unit.
 pub record Due : Type 0 where
@@ -64,28 +64,28 @@ pub record Due : Type 0 where
 
 -- What a unit brings: if a timeout ends the relation, nothing more is done. Otherwise the active alarm may be due
 -- again, then ApplicationReady, and then a frame of inputs.
-abbrev pub due_by : Link → Option Abort → Due
+abbrev pub due_by : RelationState → Option Abort → Due
 due_by link (Some reason) = record { farewell = Some (farewell_of reason link); is_alarm = false; is_ready = false; is_cyclic = false }
 due_by link None =
     record { farewell = None; is_alarm = (tick_of link.flow).is_alarm; is_ready = is_again link; is_cyclic = (tick_of link.flow).is_cyclic }
 
-abbrev pub due_in : Link → Due
+abbrev pub due_in : RelationState → Due
 due_in link = due_by link (ending_of link)
 
 abbrev pub nothing : Due
 nothing = record { farewell = None; is_alarm = false; is_ready = false; is_cyclic = false }
 
-abbrev pub due_of : Option Link → Due
+abbrev pub due_of : Option RelationState → Due
 due_of None = nothing
 due_of (Some link) = due_in link
 
 -- The ERR of a relation that must end for this reason, if it must.
-abbrev pub farewell_for : Option Abort → Option Link → Option Farewell
+abbrev pub farewell_for : Option Abort → Option RelationState → Option Farewell
 farewell_for (Some reason) link = option_map (farewell_of reason) link
 farewell_for None link = None
 
 -- What is due after a unit that brought this, for the relation that exists then.
-abbrev pub due_behind : Elapsed → Option Link → Due
+abbrev pub due_behind : Elapsed → Option RelationState → Due
 due_behind elapsed link = record {
   farewell = farewell_for elapsed.tick.ending link;
   is_alarm = elapsed.tick.is_alarm;
@@ -102,6 +102,6 @@ abbrev pub brings_inputs : Elapsed → Bool
 brings_inputs elapsed = is_none elapsed.tick.ending && (not elapsed.tick.is_alarm && (not elapsed.is_ready && elapsed.tick.is_cyclic))
 
 -- The relation after it has ended for this reason, if it must end.
-abbrev pub left_behind : Option Abort → Option Link → Option Link
+abbrev pub left_behind : Option Abort → Option RelationState → Option RelationState
 left_behind (Some reason) link = None
 left_behind None link = link

@@ -3,8 +3,8 @@ ghost use Rattle.std.specs.Prelude.{◌≡◌, ◌≤◌, [], IfErr, IfOk, OnOk,
 ghost use Rattle.wire.specs.Codec.{Gives};
 ghost use Rattle.relations.specs.declared.phase.Phase.TheVariants.{Started, Awaiting};
 ghost use Rattle.relations.specs.Calls.{control_block, done_of, named_of, prm_end_of, release_of, prm_end_answer, release_answer};
-ghost use Rattle.relations.specs.Phases.{Parameterized, Ended, answered, moved};
-ghost use Rattle.relations.specs.Link.{phase_of};
+ghost use Rattle.relations.specs.Phases.{Parameterized, Ended, answered, updated};
+ghost use Rattle.relations.specs.RelationState.{phase_of};
 
 use crate::{Phase, Relation};
 use arrayvec::ArrayVec;
@@ -71,7 +71,7 @@ impl Relation {
         requires room { 32 ≤ N }
         ensures done { IfOk result (λ _. prm_end_answer self.old blocks.now ≡ Ok answer.new.items) }
         ensures refused { IfErr result (λ fault. (prm_end_answer self.old blocks.now ≡ Err fault) × (answer.new.items ≡ [])) }
-        ensures state { self.new ≡ moved (answered Parameterized (prm_end_of self.old blocks.now)) self.old }
+        ensures state { self.new ≡ updated (answered Parameterized (prm_end_of self.old blocks.now)) self.old }
         // It succeeds only in Started, and the relation is in Awaiting afterwards.
         ensures phase { OnOk result ((phase_of self.old ≡ Some Started) × (phase_of self.new ≡ Some Awaiting)) }
     {
@@ -86,7 +86,7 @@ impl Relation {
         let _size = control_len(&done);
         write_block(answer, &Block::PrmEndRes(done));
         self.phase = Some(Phase::Awaiting);
-        self.quiet = 0;
+        self.inactive = 0;
         self.waited = 0;
         Ok(())
     }
@@ -103,7 +103,7 @@ impl Relation {
         requires room { 32 ≤ N }
         ensures done { IfOk result (λ _. release_answer self.old blocks.now ≡ Ok answer.new.items) }
         ensures refused { IfErr result (λ fault. (release_answer self.old blocks.now ≡ Err fault) × (answer.new.items ≡ [])) }
-        ensures state { self.new ≡ moved (answered Ended (release_of self.old blocks.now)) self.old }
+        ensures state { self.new ≡ updated (answered Ended (release_of self.old blocks.now)) self.old }
     {
         let block = control_block(blocks, BlockType::Release)?;
         self.check_control(&block, RELEASE)?;

@@ -2,7 +2,7 @@
 ghost use Rattle.std.specs.Prelude.{◌≡◌, ◌+◌, ◌≤◌, ◌++◌, [], length, IfErr, IfOk, Err, Ok};
 ghost use Rattle.arrayvec.specs.ArrayVec.{array_vec_len};
 ghost use Rattle.relations.specs.Connect.{connect_answer, connect_blocks, connect_of, iocr_answer, iocrs_answer, making};
-ghost use Rattle.relations.specs.Phases.{differing_octets, moved};
+ghost use Rattle.relations.specs.Phases.{differing_octets, updated};
 
 use crate::{Partner, Phase, Relation};
 use arrayvec::ArrayVec;
@@ -111,7 +111,7 @@ impl Relation {
         ensures done { IfOk result (λ _. connect_answer identity.now real.now self.old blocks.now ≡ Ok answer.new.items) }
         ensures refused { IfErr result (λ fault. (connect_answer identity.now real.now self.old blocks.now ≡ Err fault)
             × (answer.new.items ≡ [])) }
-        ensures state { self.new ≡ moved (making real.now partner (connect_of self.old blocks.now)) self.old }
+        ensures state { self.new ≡ updated (making real.now partner (connect_of self.old blocks.now)) self.old }
     {
         // Only one relation, and the controller that has it keeps it: a second controller must not take a running
         // station from the first.
@@ -125,7 +125,7 @@ impl Relation {
         // Parameters of an earlier relation do not belong to this one.
         self.taken.clear();
         self.partner = partner;
-        self.quiet = 0;
+        self.inactive = 0;
         self.waited = 0;
         self.phase = Some(Phase::Started);
         put_answer(answer, identity, &self.request, self.differing.as_slice());

@@ -2,8 +2,8 @@
 ghost use Rattle.std.specs.Prelude.{◌≡◌, ◌≤◌, IfSome, Some, is_some, length, option_map, true};
 ghost use Rattle.relations.specs.declared.phase.Phase.TheVariants.{Exchanging};
 ghost use Rattle.relations.specs.Exchanged.{becoming, given_to, heard_by, hearing, output_in, raised_to, received_by, receiving};
-ghost use Rattle.relations.specs.Link.{flow_of, phase_of};
-ghost use Rattle.relations.specs.Phases.{moved};
+ghost use Rattle.relations.specs.RelationState.{flow_of, phase_of};
+ghost use Rattle.relations.specs.Phases.{updated};
 
 use crate::Relation;
 use crate::exchange::{DataExchange, Received};
@@ -25,7 +25,7 @@ impl Relation {
     /// changes.
     pub fn receive(&mut self, source: Mac, frame_id: u16, body: &[u8]) -> Received
         ensures received { result ≡ received_by source frame_id body.now self.old }
-        ensures state { self.new ≡ moved (receiving source frame_id body.now self.old) self.old }
+        ensures state { self.new ≡ updated (receiving source frame_id body.now self.old) self.old }
     {
         match self.phase {
             Some(_) => self.exchange.receive(source, frame_id, body),
@@ -37,7 +37,7 @@ impl Relation {
     /// length; if not, nothing changes.
     pub fn give(&mut self, slot: u16, subslot: u16, value: &[u8]) -> bool
         ensures done { result ≡ is_some (given_to slot subslot value.now self.old) }
-        ensures state { self.new ≡ moved (becoming (given_to slot subslot value.now self.old)) self.old }
+        ensures state { self.new ≡ updated (becoming (given_to slot subslot value.now self.old)) self.old }
     {
         match self.phase {
             Some(_) => self.exchange.give(slot, subslot, value),
@@ -60,7 +60,7 @@ impl Relation {
     /// nothing changes.
     pub fn raise(&mut self, real: &Real, slot: u16, subslot: u16, octets: &[u8]) -> bool
         ensures done { result ≡ is_some (raised_to real.now.modules.items slot subslot octets.now self.old) }
-        ensures state { self.new ≡ moved (becoming (raised_to real.now.modules.items slot subslot octets.now self.old)) self.old }
+        ensures state { self.new ≡ updated (becoming (raised_to real.now.modules.items slot subslot octets.now self.old)) self.old }
         // An alarm is raised only while data is exchanged.
         ensures phase { result ≡ true → phase_of self.old ≡ Some Exchanging }
     {
@@ -73,7 +73,7 @@ impl Relation {
     /// Receives a PDU of the partner. Returns what happens to it: data must be answered; an ERR has ended the relation.
     pub fn hear(&mut self, message: &Message) -> PduFate
         ensures heard { result ≡ heard_by message.now self.old }
-        ensures state { self.new ≡ moved (hearing message.now self.old) self.old }
+        ensures state { self.new ≡ updated (hearing message.now self.old) self.old }
     {
         let Some(_) = self.phase else {
             return PduFate::Ignored;

@@ -2,10 +2,10 @@
 ghost use Rattle.std.specs.Prelude.{◌≡◌, ◌⊎◌, Some};
 ghost use Rattle.rpc_core.specs.Response.{answered};
 ghost use Rattle.relations.specs.declared.phase.Phase.TheVariants.{Awaiting, Exchanging};
-ghost use Rattle.relations.specs.Link.{phase_of};
-ghost use Rattle.relations.specs.Phases.{moved};
+ghost use Rattle.relations.specs.RelationState.{phase_of};
+ghost use Rattle.relations.specs.Phases.{updated};
 ghost use Rattle.block_codec.specs.Block.{block_of};
-ghost use Rattle.relations.specs.Ready.{answer_of, confirmed_block, confirmed_by, is_answer_to, judged_by};
+ghost use Rattle.relations.specs.Ready.{answer_of, confirmed_block, confirmed_by, is_answer_to, handled_by};
 
 use crate::ready::CONTROL;
 use crate::{Farewell, Phase, Relation};
@@ -34,7 +34,7 @@ impl Relation {
     #[tactic(auto, unfolding(crate::specs::Ready::answer_of))]
     pub fn hear_ready(&mut self, response: &Response<'_>) -> ReadyAnswer
         ensures heard { result ≡ answer_of (answered response.now) self.old }
-        ensures state { self.new ≡ moved (judged_by result) self.old }
+        ensures state { self.new ≡ updated (handled_by result) self.old }
         // Data is exchanged afterwards only if it was before, or if the relation waited for this answer and the answer
         // confirms it.
         ensures phase { phase_of self.new ≡ Some Exchanging →

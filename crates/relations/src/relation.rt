@@ -1,8 +1,8 @@
 //! The relation.
 ghost use Rattle.std.specs.Prelude.{◌≡◌, ◌≤◌, Err, IfErr, IsOk, None, OnOk, if◌then◌else◌, length, option_map};
-ghost use Rattle.relations.specs.Phases.{Ended, Named, Unmoved, answered, keeping, moved, taking};
+ghost use Rattle.relations.specs.Phases.{Ended, Named, Unmoved, answered, keeping, updated, taking};
 ghost use Rattle.relations.specs.Farewells.{farewell_of};
-ghost use Rattle.relations.specs.Link.{IsInStep, differing_in, is_alarm_of, is_named, phase_of, taken_of, uuid_of};
+ghost use Rattle.relations.specs.RelationState.{IsInStep, differing_in, is_alarm_of, is_named, phase_of, taken_of, uuid_of};
 
 use crate::exchange::{DataExchange, OWN_REFERENCE};
 use crate::{Farewell, Partner, Phase};
@@ -22,7 +22,7 @@ pub struct Relation {
     pub(crate) request: ConnectRequest,
     pub(crate) partner: Partner,
     /// Units since the activity timer was started.
-    pub(crate) quiet: u32,
+    pub(crate) inactive: u32,
     /// Units since ApplicationReady was sent.
     pub(crate) waited: u32,
     pub(crate) taken: TakenRecords,
@@ -35,25 +35,25 @@ pub struct Relation {
 // Its model: the state of the relation, if there is one.
 impl Model for Relation {
     ghost use Rattle.std.specs.Prelude.{Option};
-    ghost use Rattle.relations.specs.Link.{Link};
+    ghost use Rattle.relations.specs.RelationState.{RelationState};
 
-    ghost Value = { Option Link };
+    ghost Value = { Option RelationState };
 
     ghost use Rattle.std.specs.Prelude.{◌≤◌, ◌<◌};
-    ghost use Rattle.relations.specs.Link.{HasBegunIn, link_in};
+    ghost use Rattle.relations.specs.RelationState.{HasBegunIn, link_in};
 
     ghost view = { λ relation. link_in relation.phase (λ phase. record {
       phase = phase;
       request = relation.request;
       partner = relation.partner;
-      quiet = relation.quiet;
+      inactive = relation.inactive;
       waited = relation.waited;
       taken = relation.taken;
       differing = relation.differing.items;
       flow = relation.exchange;
     }) };
 
-    ghost invariant = { λ relation. (relation.quiet ≤ 209712000) × (relation.waited < 32000)
+    ghost invariant = { λ relation. (relation.inactive ≤ 209712000) × (relation.waited < 32000)
         × HasBegunIn relation.phase relation.exchange };
 }
 
@@ -69,7 +69,7 @@ impl Relation {
                 mac: Mac { octets: [0; 6] },
                 address: [0; 4],
             },
-            quiet: 0,
+            inactive: 0,
             waited: 0,
             taken: TakenRecords::new(),
             differing: ArrayVec::new(),
@@ -122,7 +122,7 @@ impl Relation {
     pub fn keep(&mut self, parameter: TakenRecord) -> Result<(), CallFault>
         ensures kept { OnOk result (IsOk (keeping parameter self.old)) }
         ensures refused { IfErr result (λ fault. keeping parameter self.old ≡ Err fault) }
-        ensures state { self.new ≡ moved (taking (keeping parameter self.old)) self.old }
+        ensures state { self.new ≡ updated (taking (keeping parameter self.old)) self.old }
     {
         if self.phase.is_none() {
             return Err(CallFault::UnknownRelation);
@@ -152,18 +152,18 @@ impl Relation {
     /// Records that a call was answered. If it names the relation and the answer is positive, the controller is alive:
     /// the activity timer restarts.
     pub fn hear_controller(&mut self, is_named: bool, came: Result<(), CallFault>)
-        ensures { self.new ≡ moved (answered (if is_named then Named else Unmoved) came) self.old }
+        ensures { self.new ≡ updated (answered (if is_named then Named else Unmoved) came) self.old }
     {
         // A refused call shows that somebody is there, but not that it is the controller at work.
         if is_named && came.is_ok() {
-            self.quiet = 0;
+            self.inactive = 0;
         }
     }
 
     /// Ends the relation for this reason, as at a reset. Returns the ERR to send, if there was a relation.
     pub fn end(&mut self, reason: Abort) -> Option<Farewell>
         ensures farewell { result ≡ option_map (farewell_of reason) self.old }
-        ensures state { self.new ≡ moved Ended self.old }
+        ensures state { self.new ≡ updated Ended self.old }
     {
         let farewell = match self.phase {
             Some(_) => {

@@ -6,10 +6,10 @@ ghost use Rattle.std.specs.Prelude.{◌≡◌, ◌==◌, ◌+◌, ◌<◌, IfSom
 ghost use Rattle.pn_alarms.specs.declared.abort.Abort.TheVariants.{Activity, DataHold};
 ghost use Rattle.relations.specs.declared.phase.Phase.TheVariants.{Exchanging};
 ghost use Rattle.relations.specs.Farewells.{farewell_of};
-ghost use Rattle.relations.specs.Link.{Link, is_awaiting, phase_of, taken_of};
+ghost use Rattle.relations.specs.RelationState.{RelationState, is_awaiting, phase_of, taken_of};
 ghost use Rattle.relations.specs.Timers.{EndsIn, brings_inputs, brings_nothing, due_behind, due_of, farewell_for, is_timed, is_unheard};
 ghost use Rattle.relations.specs.Timers.{left_behind, nothing};
-ghost use Rattle.relations.specs.Phases.{moved, passing};
+ghost use Rattle.relations.specs.Phases.{updated, passing};
 ghost use Rattle.relations.specs.Ready.{ready_of};
 
 use crate::exchange::Tick;
@@ -37,8 +37,8 @@ impl Elapsed {
     #[inline(always)]
     pub fn is_nothing(&self) -> bool
         ensures value { result ≡ brings_nothing self.now }
-        ensures nothing { (link : Option Link) → result ≡ true → due_behind self.now link ≡ nothing }
-        ensures left { (link : Option Link) → result ≡ true → left_behind self.now.tick.ending link ≡ link }
+        ensures nothing { (link : Option RelationState) → result ≡ true → due_behind self.now link ≡ nothing }
+        ensures left { (link : Option RelationState) → result ≡ true → left_behind self.now.tick.ending link ≡ link }
     {
         // While data is exchanged ApplicationReady is never due, so this is checked first.
         !self.is_ready && self.tick.is_nothing()
@@ -48,8 +48,8 @@ impl Elapsed {
     #[inline(always)]
     pub fn is_inputs(&self) -> bool
         ensures value { result ≡ brings_inputs self.now }
-        ensures due { (link : Option Link) → result ≡ true → due_behind self.now link ≡ record nothing { is_cyclic = true } }
-        ensures left { (link : Option Link) → result ≡ true → left_behind self.now.tick.ending link ≡ link }
+        ensures due { (link : Option RelationState) → result ≡ true → due_behind self.now link ≡ record nothing { is_cyclic = true } }
+        ensures left { (link : Option RelationState) → result ≡ true → left_behind self.now.tick.ending link ≡ link }
     {
         !self.is_ready && self.tick.is_cyclic_alone()
     }
@@ -96,7 +96,7 @@ impl Relation {
     #[inline(always)]
     pub fn elapse(&mut self) -> Elapsed
         ensures due { due_of self.old ≡ due_behind result self.new }
-        ensures state { moved (passing self.old) self.old ≡ left_behind result.tick.ending self.new }
+        ensures state { updated (passing self.old) self.old ≡ left_behind result.tick.ending self.new }
         // The activity timer ends a relation only before data is exchanged; data hold and an alarm without an ACK end
         // it only while data is exchanged.
         ensures reason { IfSome result.tick.ending (λ reason. EndsIn reason (phase_of self.old)) }
@@ -104,10 +104,10 @@ impl Relation {
         ensures stands { phase_of self.new ≡ phase_of self.old }
         ensures records { taken_of self.new ≡ taken_of self.old }
         // Once data is exchanged, the relation always ends when the data hold time is over.
-        ensures hold { (old : Link) → self.old ≡ Some old → old.phase ≡ Exchanging → is_unheard old ≡ true →
+        ensures hold { (old : RelationState) → self.old ≡ Some old → old.phase ≡ Exchanging → is_unheard old ≡ true →
             farewell_for result.tick.ending self.new ≡ Some (farewell_of DataHold old) }
         // ApplicationReady is repeated unchanged.
-        ensures same { (old new : Link) → self.old ≡ Some old → self.new ≡ Some new → ready_of new ≡ ready_of old }
+        ensures same { (old new : RelationState) → self.old ≡ Some old → self.new ≡ Some new → ready_of new ≡ ready_of old }
     {
         let Some(phase) = self.phase else {
             return Elapsed::of(Tick::nothing());
@@ -118,7 +118,7 @@ impl Relation {
             return Elapsed::of(tick);
         }
         let limit = u32::from(self.request.ar().timeout_factor) * TENTH_OF_A_SECOND;
-        if let Some(reason) = unit_quiet(&mut self.quiet, limit) {
+        if let Some(reason) = unit_inactive(&mut self.inactive, limit) {
             return Elapsed::of(Tick::ends(reason));
         }
         Elapsed {
@@ -130,15 +130,15 @@ impl Relation {
 
 /// Counts a unit of the activity timer, which has `limit` units. Returns the reason to end the relation if the timer is
 /// over.
-fn unit_quiet(quiet: &mut u32, limit: u32) -> Option<Abort>
-    requires few { quiet.old + 1 < 4294967296 }
-    ensures ending { result ≡ (if nat_le limit (quiet.old + 1) then Some Activity else None) }
-    ensures quiet { quiet.new ≡ (if nat_le limit (quiet.old + 1) then quiet.old else quiet.old + 1) }
+fn unit_inactive(inactive: &mut u32, limit: u32) -> Option<Abort>
+    requires few { inactive.old + 1 < 4294967296 }
+    ensures ending { result ≡ (if nat_le limit (inactive.old + 1) then Some Activity else None) }
+    ensures inactive { inactive.new ≡ (if nat_le limit (inactive.old + 1) then inactive.old else inactive.old + 1) }
 {
-    if limit <= *quiet + 1 {
+    if limit <= *inactive + 1 {
         return Some(Abort::Activity);
     }
-    *quiet += 1;
+    *inactive += 1;
     None
 }
 

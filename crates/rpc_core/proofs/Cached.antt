@@ -25,11 +25,11 @@ wider bound more [] le tidy = tt
 wider bound more (place ∷ places) le tidy = (omega (arith, tidy.0), tidy.1, wider bound more places le tidy.2)
 
 -- what is removed is free, and the rest has no duplicates
-pub moved : (bound : ℕ) (order : List ℕ) (p : ℕ) → p < length order → IsTidy bound order → IsTidy bound (get_or order p 0 ∷ remove order p)
-moved bound [] p below tidy = absurd (omega (arith, below))
-moved bound (place ∷ places) zero below tidy = tidy
-moved bound (place ∷ places) (suc p) below tidy =
-    let rest = moved bound places p (omega (arith, below)) tidy.2 in
+pub updated : (bound : ℕ) (order : List ℕ) (p : ℕ) → p < length order → IsTidy bound order → IsTidy bound (get_or order p 0 ∷ remove order p)
+updated bound [] p below tidy = absurd (omega (arith, below))
+updated bound (place ∷ places) zero below tidy = tidy
+updated bound (place ∷ places) (suc p) below tidy =
+    let rest = updated bound places p (omega (arith, below)) tidy.2 in
     (rest.0, (apart place places p (omega (arith, below)) tidy.1, rest.1), (tidy.0, free_removed place places p tidy.1, rest.2))
 
 -- an index at the bound is free
@@ -104,7 +104,7 @@ written slots place slot order kept stays below is free same =
 pub taken : (bound : ℕ) (order after : List ℕ) (p place : ℕ) → p < length order → IsTidy bound order → after ≡ remove order p → place ≡ get_or order p 0
     → length after + 1 ≡ bound → IsTidy (length after + 1) (place ∷ after)
 taken bound order after p place below tidy rest is long =
-    let all : IsTidy bound (place ∷ after) = rw (rest, is) (moved bound order p below tidy) in
+    let all : IsTidy bound (place ∷ after) = rw (rest, is) (updated bound order p below tidy) in
     subst (λ (b : ℕ). IsTidy b (place ∷ after)) (sym long) all
 
 -- each index in the order is that of a slot

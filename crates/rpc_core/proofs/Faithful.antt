@@ -3,7 +3,7 @@ use Rattle.std.proofs.Common.{◌≡◌, ◌≢◌, ℕ, zero, suc, ◌-◌, ◌
 use Rattle.std.specs.Prelude.{IsSome, nat_eq}
 use Rattle.std.specs.Cmp.Lexicographic.{pointwise, same_text, other_text}
 use Rattle.std.proofs.lemmas.Bool.{false≢true, eqb-true, eq-eqb, lt-ltb, ltb-true, ltb-false}
-use Rattle.rpc_core.specs.Cache.{Kept, Told, new, again, old, is_of, kept_of, told_by, looked, without, kept_more, behind_told, behind_call, answer_of, behind_calls, HoldsThrough, IsFaithful}
+use Rattle.rpc_core.specs.Cache.{Kept, Reported, new, again, old, is_of, kept_of, reported_by, looked, without, kept_more, behind_reported, behind_call, answer_of, behind_calls, HoldsThrough, IsFaithful}
 
 -- an activity equals itself
 is_itself : (activity : List ℕ) (b : Bool) → b ≡ pointwise nat_eq activity activity → b ≡ true
@@ -64,11 +64,11 @@ record Holds (activity : List ℕ) (sequence : ℕ) (frame : List ℕ) (cache : 
   follows : Follows sequence frame kept
 
 -- what a response says of a call of its activity
-pub told_again : (kept : Kept) (sequence : ℕ) → sequence ≡ kept.sequence → told_by sequence (Some kept) ≡ again kept.frame
-told_again kept sequence e = rw (eq-eqb sequence kept.sequence e) refl
+pub reported_again : (kept : Kept) (sequence : ℕ) → sequence ≡ kept.sequence → reported_by sequence (Some kept) ≡ again kept.frame
+reported_again kept sequence e = rw (eq-eqb sequence kept.sequence e) refl
 
-pub told_old : (kept : Kept) (sequence : ℕ) → sequence < kept.sequence → told_by sequence (Some kept) ≡ old
-told_old kept sequence less = step (eqb sequence kept.sequence) refl
+pub reported_old : (kept : Kept) (sequence : ℕ) → sequence < kept.sequence → reported_by sequence (Some kept) ≡ old
+reported_old kept sequence less = step (eqb sequence kept.sequence) refl
   where
     step : (b : Bool) → b ≡ eqb sequence kept.sequence → cond b (again kept.frame) (cond (ltb sequence kept.sequence) old new) ≡ old
     step true e = absurd (omega (arith, less, eqb-true sequence kept.sequence (sym e)))
@@ -76,9 +76,9 @@ told_old kept sequence less = step (eqb sequence kept.sequence) refl
 
 -- the cases by which of the two numbers is greater
 data Case (kept : Kept) (sequence : ℕ) : Type 0 where
-  later : told_by sequence (Some kept) ≡ new → kept.sequence < sequence → Case kept sequence
-  same : told_by sequence (Some kept) ≡ again kept.frame → sequence ≡ kept.sequence → Case kept sequence
-  earlier : told_by sequence (Some kept) ≡ old → Case kept sequence
+  later : reported_by sequence (Some kept) ≡ new → kept.sequence < sequence → Case kept sequence
+  same : reported_by sequence (Some kept) ≡ again kept.frame → sequence ≡ kept.sequence → Case kept sequence
+  earlier : reported_by sequence (Some kept) ≡ old → Case kept sequence
 
 different : (b : Bool) → b ≡ false → b ≡ true → ⊥
 different b e p = absurd cc
@@ -87,7 +87,7 @@ beyond : (a b : ℕ) → b ≤ a → a ≢ b → b < a
 beyond a b le ne = omega (arith, le, ne)
 
 case_by : (kept : Kept) (sequence : ℕ) (b l : Bool) → eqb sequence kept.sequence ≡ b → ltb sequence kept.sequence ≡ l → Case kept sequence
-case_by kept sequence true l e f = same (told_again kept sequence (eqb-true sequence kept.sequence e)) (eqb-true sequence kept.sequence e)
+case_by kept sequence true l e f = same (reported_again kept sequence (eqb-true sequence kept.sequence e)) (eqb-true sequence kept.sequence e)
 case_by kept sequence false true e f = earlier (rw (e, f) refl)
 case_by kept sequence false false e f =
     later (rw (e, f) refl) (beyond sequence kept.sequence (ltb-false sequence kept.sequence f) (λ p. different (eqb sequence kept.sequence) e (eq-eqb sequence kept.sequence p)))
@@ -100,25 +100,25 @@ module _ (most : ℕ) (activity : List ℕ) (sequence : ℕ) (frame : List ℕ) 
   own_call : (call : Kept) (cache : List Kept) → activity ≡ call.activity → Holds activity sequence frame cache → Holds activity sequence frame (behind_call most call cache)
   own_call call cache same_as holds = by (case_of holds.kept call.sequence)
     where
-      found : looked call.activity call.sequence cache ≡ told_by call.sequence (Some holds.kept)
-      found = ap (λ (o : Option Kept). told_by call.sequence o) (subst (λ (a : List ℕ). kept_of a cache ≡ Some holds.kept) same_as holds.is)
+      found : looked call.activity call.sequence cache ≡ reported_by call.sequence (Some holds.kept)
+      found = ap (λ (o : Option Kept). reported_by call.sequence o) (subst (λ (a : List ℕ). kept_of a cache ≡ Some holds.kept) same_as holds.is)
 
       later_than : holds.kept.sequence < call.sequence → Follows sequence frame holds.kept → sequence < call.sequence
       later_than less (inl is) = omega (arith, less, is.0)
       later_than less (inr more) = omega (arith, less, more)
 
       by : Case holds.kept call.sequence → Holds activity sequence frame (behind_call most call cache)
-      by (later told less) = rw (found, told) (record {
+      by (later reported less) = rw (found, reported) (record {
         kept = call;
         is = kept_first call (take (most - 1) (without call.activity cache)) activity same_as;
         follows = inr (later_than less holds.follows);
       })
-      by (same told e) = rw (found, told) holds
-      by (earlier told) = rw (found, told) holds
+      by (same reported e) = rw (found, reported) holds
+      by (earlier reported) = rw (found, reported) holds
 
   -- what is held of the activity after a call of another one
-  other_call : (call : Kept) (cache : List Kept) → call.activity ≢ activity → (told : Told) → IsSome (kept_of activity (behind_told most call cache told))
-      → Holds activity sequence frame cache → Holds activity sequence frame (behind_told most call cache told)
+  other_call : (call : Kept) (cache : List Kept) → call.activity ≢ activity → (reported : Reported) → IsSome (kept_of activity (behind_reported most call cache reported))
+      → Holds activity sequence frame cache → Holds activity sequence frame (behind_reported most call cache reported)
   other_call call cache differs new held holds = record {
     kept = holds.kept;
     is = kept_apart most activity call cache differs held ∙ holds.is;
@@ -145,12 +145,12 @@ module _ (most : ℕ) (activity : List ℕ) (sequence : ℕ) (frame : List ℕ) 
       all_calls calls (behind_call most call cache) held.1 (one_call call cache (now_held calls (behind_call most call cache) held.1) holds)
 
   -- the response is the same, or there is none
-  told_at_last : (cache : List Kept) → Holds activity sequence frame cache → IsFaithful frame (looked activity sequence cache)
-  told_at_last cache holds = by holds.follows
+  reported_at_last : (cache : List Kept) → Holds activity sequence frame cache → IsFaithful frame (looked activity sequence cache)
+  reported_at_last cache holds = by holds.follows
     where
       by : Follows sequence frame holds.kept → IsFaithful frame (looked activity sequence cache)
-      by (inl is) = rw (holds.is, told_again holds.kept sequence (sym is.0)) is.1
-      by (inr less) = rw (holds.is, told_old holds.kept sequence less) tt
+      by (inl is) = rw (holds.is, reported_again holds.kept sequence (sym is.0)) is.1
+      by (inr less) = rw (holds.is, reported_old holds.kept sequence less) tt
 
 -- equal optional frames are equal frames
 some_is : (x y : List ℕ) → Some x ≡ Some y → x ≡ y
@@ -159,20 +159,20 @@ some_is x y e = cc
 first_held : (most : ℕ) (call : Kept) (cache : List Kept) (frame : List ℕ) → answer_of call cache ≡ Some frame → Holds call.activity call.sequence frame (behind_call most call cache)
 first_held most call cache frame answered = by (kept_of call.activity cache) refl
   where
-    fresh : told_by call.sequence (kept_of call.activity cache) ≡ new → Holds call.activity call.sequence frame (behind_call most call cache)
-    fresh told = rw told (record {
+    fresh : reported_by call.sequence (kept_of call.activity cache) ≡ new → Holds call.activity call.sequence frame (behind_call most call cache)
+    fresh reported = rw reported (record {
       kept = call;
       is = kept_first call (take (most - 1) (without call.activity cache)) call.activity refl;
-      follows = inl (refl, some_is call.frame frame (rw told at answered));
+      follows = inl (refl, some_is call.frame frame (rw reported at answered));
     })
 
     known : (kept : Kept) → kept_of call.activity cache ≡ Some kept → Case kept call.sequence → Holds call.activity call.sequence frame (behind_call most call cache)
-    known kept is (later told less) = fresh (rw is told)
-    known kept is (same told e) =
-        let said : looked call.activity call.sequence cache ≡ again kept.frame = rw is told in
+    known kept is (later reported less) = fresh (rw is reported)
+    known kept is (same reported e) =
+        let said : looked call.activity call.sequence cache ≡ again kept.frame = rw is reported in
         rw said (record { kept = kept; is = is; follows = inl (sym e, some_is kept.frame frame (rw said at answered)) })
-    known kept is (earlier told) =
-        let said : looked call.activity call.sequence cache ≡ old = rw is told in
+    known kept is (earlier reported) =
+        let said : looked call.activity call.sequence cache ≡ old = rw is reported in
         let none : None ≡ Some frame = rw said at answered in absurd cc
 
     by : (o : Option Kept) → kept_of call.activity cache ≡ o → Holds call.activity call.sequence frame (behind_call most call cache)
@@ -184,24 +184,24 @@ pub faithful : (most : ℕ) (cache calls : List Kept) (call : Kept) (frame : Lis
     → HoldsThrough most call.activity calls (behind_call most call cache)
     → IsFaithful frame (looked call.activity call.sequence (behind_calls most calls (behind_call most call cache)))
 faithful most cache calls call frame answered held =
-    told_at_last most call.activity call.sequence frame (behind_calls most calls (behind_call most call cache))
+    reported_at_last most call.activity call.sequence frame (behind_calls most calls (behind_call most call cache))
     (all_calls most call.activity call.sequence frame calls (behind_call most call cache) held (first_held most call cache frame answered))
 
 -- the same for a call that is looked up
-pub faithful_told : (most : ℕ) (activity : List ℕ) (sequence : ℕ) (now_is : List Kept) (told : Told) → looked activity sequence now_is ≡ told
+pub faithful_reported : (most : ℕ) (activity : List ℕ) (sequence : ℕ) (now_is : List Kept) (reported : Reported) → looked activity sequence now_is ≡ reported
     → (cache calls : List Kept) (call : Kept) (frame : List ℕ) → call.activity ≡ activity → call.sequence ≡ sequence → answer_of call cache ≡ Some frame
-    → HoldsThrough most call.activity calls (behind_call most call cache) → now_is ≡ behind_calls most calls (behind_call most call cache) → IsFaithful frame told
-faithful_told most activity sequence now_is told t cache calls call frame ea es answered held is =
+    → HoldsThrough most call.activity calls (behind_call most call cache) → now_is ≡ behind_calls most calls (behind_call most call cache) → IsFaithful frame reported
+faithful_reported most activity sequence now_is reported t cache calls call frame ea es answered held is =
     let behind = behind_calls most calls (behind_call most call cache) in
-    let same_told : looked call.activity call.sequence behind ≡ told = ap (λ (a : List ℕ). looked a call.sequence behind) ea
+    let same_reported : looked call.activity call.sequence behind ≡ reported = ap (λ (a : List ℕ). looked a call.sequence behind) ea
     ∙ ap (λ (s : ℕ). looked activity s behind) es ∙ ap (λ (ks : List Kept). looked activity sequence ks) (sym is) ∙ t in
-    subst (λ (x : Told). IsFaithful frame x) same_told (faithful most cache calls call frame answered held)
+    subst (λ (x : Reported). IsFaithful frame x) same_reported (faithful most cache calls call frame answered held)
 
 -- a call with a greater number than the answered one is new
-new_by : (kept : Kept) (sequence : ℕ) (b l : Bool) → eqb sequence kept.sequence ≡ b → ltb sequence kept.sequence ≡ l → kept.sequence < sequence → told_by sequence (Some kept) ≡ new
+new_by : (kept : Kept) (sequence : ℕ) (b l : Bool) → eqb sequence kept.sequence ≡ b → ltb sequence kept.sequence ≡ l → kept.sequence < sequence → reported_by sequence (Some kept) ≡ new
 new_by kept sequence true l e f less = absurd (omega (arith, less, eqb-true sequence kept.sequence e))
 new_by kept sequence false true e f less = absurd (omega (arith, less, ltb-true sequence kept.sequence f))
 new_by kept sequence false false e f less = rw (e, f) refl
 
-pub told_new : (kept : Kept) (sequence : ℕ) → kept.sequence < sequence → told_by sequence (Some kept) ≡ new
-told_new kept sequence less = new_by kept sequence (eqb sequence kept.sequence) (ltb sequence kept.sequence) refl refl less
+pub reported_new : (kept : Kept) (sequence : ℕ) → kept.sequence < sequence → reported_by sequence (Some kept) ≡ new
+reported_new kept sequence less = new_by kept sequence (eqb sequence kept.sequence) (ltb sequence kept.sequence) refl refl less

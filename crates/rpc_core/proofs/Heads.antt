@@ -7,7 +7,7 @@ use Rattle.wire.specs.Codec.{Codec, IsSound}
 use Rattle.wire.specs.Formats.{raw}
 use Rattle.wire.proofs.Fields.{ok_is, raw_sound}
 use Rattle.wire.proofs.Joined.{then_by_sound}
-use Rattle.wire.proofs.Judged.{checked_sound}
+use Rattle.wire.proofs.Handled.{checked_sound}
 use Rattle.rpc_core.specs.declared.fault.RpcFault.{RpcFault}
 use Rattle.rpc_core.specs.declared.fault.RpcFault.TheVariants as fault
 use Rattle.rpc_core.specs.declared.interface.Interface.{Interface}

@@ -8,7 +8,7 @@ use Rattle.wire.specs.Codec.{Codec, Whole, IsSound, IsSoundWhole, IsOnward, ◌>
 use Rattle.wire.specs.Formats.{raw, ◌⨾◌}
 use Rattle.wire.proofs.Fields.{bind_ok, ok_is, raw_sound, raw_onward, number_sound, number_onward}
 use Rattle.wire.proofs.Joined.{then_by_sound, then_by_onward, seen_sound, seen_onward}
-use Rattle.wire.proofs.Judged.{checked_sound, checked_onward, named_sound, named_onward}
+use Rattle.wire.proofs.Handled.{checked_sound, checked_onward, named_sound, named_onward}
 use Rattle.wire.proofs.Kept.{within_sound, within_onward}
 use Rattle.wire.proofs.Wholes.{everything_sound, ends_by_sound, seen_whole_sound, loose_sound, loose_behind}
 use Rattle.rpc_core.specs.declared.fault.RpcFault.{RpcFault}

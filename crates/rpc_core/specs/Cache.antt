@@ -9,10 +9,10 @@ pub record Kept : Type 0 where
   pub frame : List ℕ
 
 -- what the cache says of a call: it is new, it was answered by this frame, or a later call of its activity was answered
-pub data Told : Type 0 where
-  new : Told
-  again : List ℕ → Told
-  old : Told
+pub data Reported : Type 0 where
+  new : Reported
+  again : List ℕ → Reported
+  old : Reported
 
 -- whether a response is one of this activity
 abbrev pub is_of : List ℕ → Kept → Bool
@@ -24,13 +24,13 @@ kept_of activity [] = None
 kept_of activity (kept ∷ others) = if is_of activity kept then Some kept else kept_of activity others
 
 -- what a response says of a call of its activity
-abbrev pub told_by : ℕ → Option Kept → Told
-told_by sequence None = new
-told_by sequence (Some kept) = if sequence == kept.sequence then again kept.frame else (if nat_lt sequence kept.sequence then old else new)
+abbrev pub reported_by : ℕ → Option Kept → Reported
+reported_by sequence None = new
+reported_by sequence (Some kept) = if sequence == kept.sequence then again kept.frame else (if nat_lt sequence kept.sequence then old else new)
 
 -- what a cache says of a call
-abbrev pub looked : List ℕ → ℕ → List Kept → Told
-looked activity sequence cache = told_by sequence (kept_of activity cache)
+abbrev pub looked : List ℕ → ℕ → List Kept → Reported
+looked activity sequence cache = reported_by sequence (kept_of activity cache)
 
 -- a cache without the response of an activity
 abbrev pub without : List ℕ → List Kept → List Kept
@@ -45,22 +45,22 @@ kept_more most kept cache = kept ∷ take (most - 1) (without kept.activity cach
 -- ---- calls one after another
 
 -- the cache after a call, given its response: only a new call changes the cache
-abbrev pub behind_told : ℕ → Kept → List Kept → Told → List Kept
-behind_told most call cache new = kept_more most call cache
-behind_told most call cache (again frame) = cache
-behind_told most call cache old = cache
+abbrev pub behind_reported : ℕ → Kept → List Kept → Reported → List Kept
+behind_reported most call cache new = kept_more most call cache
+behind_reported most call cache (again frame) = cache
+behind_reported most call cache old = cache
 
 abbrev pub behind_call : ℕ → Kept → List Kept → List Kept
-behind_call most call cache = behind_told most call cache (looked call.activity call.sequence cache)
+behind_call most call cache = behind_reported most call cache (looked call.activity call.sequence cache)
 
 -- the frame that answers a call, if it is answered
-abbrev pub told_frame : Kept → Told → Option (List ℕ)
-told_frame call new = Some call.frame
-told_frame call (again frame) = Some frame
-told_frame call old = None
+abbrev pub reported_frame : Kept → Reported → Option (List ℕ)
+reported_frame call new = Some call.frame
+reported_frame call (again frame) = Some frame
+reported_frame call old = None
 
 abbrev pub answer_of : Kept → List Kept → Option (List ℕ)
-answer_of call cache = told_frame call (looked call.activity call.sequence cache)
+answer_of call cache = reported_frame call (looked call.activity call.sequence cache)
 
 -- the cache after calls
 abbrev pub behind_calls : ℕ → List Kept → List Kept → List Kept
@@ -73,7 +73,7 @@ HoldsThrough most activity [] cache = IsSome (kept_of activity cache)
 HoldsThrough most activity (call ∷ calls) cache = IsSome (kept_of activity cache) × HoldsThrough most activity calls (behind_call most call cache)
 
 -- a call that was answered by this frame and comes again is answered by the same frame or not at all
-abbrev pub IsFaithful : List ℕ → Told → Type 0
+abbrev pub IsFaithful : List ℕ → Reported → Type 0
 IsFaithful frame new = ⊥
 IsFaithful frame (again same) = same ≡ frame
 IsFaithful frame old = Unit {0}

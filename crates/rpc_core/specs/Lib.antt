@@ -8,5 +8,5 @@ pub mod Call
 pub mod Response
 pub mod Cache
 pub mod Slots
-pub mod Told
+pub mod Reported
 pub mod Sendable

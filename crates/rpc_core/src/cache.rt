@@ -4,7 +4,7 @@ ghost use Rattle.std.specs.Prelude.{IfNone};
 ghost use Rattle.std.specs.List.{remove};
 ghost use Rattle.arrayvec.specs.ArrayVec.{array_vec_len};
 ghost use Rattle.rpc_core.specs.Cache.{Kept, is_of, looked, kept_more, behind_call, behind_calls, answer_of, HoldsThrough, IsFaithful};
-ghost use Rattle.rpc_core.specs.Told.{told};
+ghost use Rattle.rpc_core.specs.Reported.{reported};
 ghost use Rattle.rpc_core.specs.Slots.{kept_in, kept_at, IsTidy};
 
 use arrayvec::ArrayVec;
@@ -124,13 +124,13 @@ impl<const N: usize> CallCache<N> {
     /// What the cache knows of the call with this number within an activity.
     pub fn look(&self, activity: &Uuid, sequence: u32) -> Looked<'_>
         // The result is what the stored responses say of the call.
-        ensures told { looked activity.now sequence self.now ≡ told result }
+        ensures reported { looked activity.now sequence self.now ≡ reported result }
         // If an answered call comes again, after any calls during which its activity is held, the result is the same
         // frame or, if a later call of its activity was answered, no answer.
         ensures faithful { (cache calls : List Kept) (call : Kept) (frame : List ℕ) → call.activity ≡ activity.now →
             call.sequence ≡ sequence →
             answer_of call cache ≡ Some frame → HoldsThrough N call.activity calls (behind_call N call cache) →
-            self.now ≡ behind_calls N calls (behind_call N call cache) → IsFaithful frame (told result) }
+            self.now ≡ behind_calls N calls (behind_call N call cache) → IsFaithful frame (reported result) }
     {
         let place = place_of(&self.slots, self.order.as_slice(), &activity.into_bytes());
         let Some(place) = place else {

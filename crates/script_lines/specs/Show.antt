@@ -8,7 +8,7 @@ use Rattle.pn_values.specs.declared.real.RealModule.{RealModule}
 use Rattle.pn_values.specs.declared.real.RealSubmodule.{RealSubmodule}
 use Rattle.relations.specs.Outputs.{output_of}
 use Rattle.relations.specs.Exchanged.{output_in}
-use Rattle.relations.specs.Link.{Link}
+use Rattle.relations.specs.RelationState.{RelationState}
 use Rattle.relations.specs.declared.phase.Phase.{Phase}
 use Rattle.relations.specs.declared.phase.Phase.TheVariants.{Started, Awaiting, Exchanging}
 use Rattle.controller_core.specs.declared.state.State.{State}
@@ -58,15 +58,15 @@ unfoldable pub output_line : ℕ → ℕ → List ℕ → List ℕ
 output_line slot subslot value = printed (codes "output " ++ decimal slot ++ codes " " ++ decimal subslot ++ codes " " ++ encode_lower value)
 
 -- The output of a submodule that has one, in hex.
-abbrev pub part_shown : Real → Option Link → ℕ → RealSubmodule → List ℕ
+abbrev pub part_shown : Real → Option RelationState → ℕ → RealSubmodule → List ℕ
 part_shown real link slot part =
     if part.output == 0 then [] else output_line slot part.subslot (shown_or (output_of real slot part.subslot (output_in slot part.subslot link)))
 
-abbrev pub module_shown : Real → Option Link → RealModule → List ℕ
+abbrev pub module_shown : Real → Option RelationState → RealModule → List ℕ
 module_shown real link entry = flat_map (part_shown real link entry.slot) entry.submodules.items
 
 -- The outputs of all plugged submodules, in their order.
-abbrev pub outputs_shown : Real → Option Link → List ℕ
+abbrev pub outputs_shown : Real → Option RelationState → List ℕ
 outputs_shown real link = flat_map (module_shown real link) real.modules.items
 
 -- The running settings, the stored name and suite, the relation and the lamp.

@@ -16,8 +16,8 @@ use Rattle.script_runner.specs.declared.fault.RunFault.{RunFault}
 use Rattle.script_runner.specs.declared.fault.RunFault.TheVariants.{Write, OutOfMemory, Config}
 use Rattle.script_runner.specs.Fault.{fault_of}
 use Rattle.script_runner.specs.Output.{AppendsFront, AppendsLess, Grows}
-use Rattle.script_runner.specs.Script.{AllRight, Refused, Unplanned, then_told, told, then_ended, ended, has_order, before_order, output_of, end_of}
-use Rattle.script_runner.specs.Told.{PlaysOn, IsPlayed, IsPlayFault}
+use Rattle.script_runner.specs.Script.{AllRight, Refused, Unplanned, then_reported, reported, then_ended, ended, has_order, before_order, output_of, end_of}
+use Rattle.script_runner.specs.Reported.{PlaysOn, IsPlayed, IsPlayFault}
 use Rattle.script_runner.proofs.Known.{IsSoFar, so_far_on, so_far_all, so_far_front, so_far_lacking, lacking_longer, none_front, appends_on}
 
 -- Between two lines, none of which was an order to the flash: both ends are as the network says, and a prefix of the
@@ -26,7 +26,7 @@ use Rattle.script_runner.proofs.Known.{IsSoFar, so_far_on, so_far_all, so_far_fr
 pub record IsPlaying (plans : List ℕ → Option Parts) (network : Network) (old new : Option (List ℕ)) (held : Held) (number : ℕ) (rest input : List ℕ) : Type 0 where
   pub right : AllRight plans (before_order (lines rest))
   pub ends : Are network held
-  pub so_far : IsSoFar old new (told plans network (before_order (lines rest))) (output_of plans input)
+  pub so_far : IsSoFar old new (reported plans network (before_order (lines rest))) (output_of plans input)
   pub ended : end_of plans input ≡ ended plans (number + 1) network (before_order (lines rest))
   pub ordered : has_order (lines input) ≡ has_order (lines rest)
 
@@ -51,9 +51,9 @@ left_plain : (rest line later : List ℕ) → lines rest ≡ line ∷ lines late
 left_plain rest line later e plain = ap before_order e ∙ before_plain line (lines later) plain
 
 -- The rest of the output and the end, at a line with this outcome.
-told_at : (plans : List ℕ → Option Parts) (network : Network) (rest line later : List ℕ) (outcome : Outcome) → lines rest ≡ line ∷ lines later → is_order (meaning_of line) ≡ false → outcome_of plans network (meaning_of line) ≡ outcome → told plans network (before_order (lines rest)) ≡ then_told outcome (λ next. told plans next (before_order (lines later)))
-told_at plans network rest line later outcome e plain is =
-    ap (told plans network) (left_plain rest line later e plain) ∙ ap (λ came. then_told came (λ next. told plans next (before_order (lines later)))) is
+reported_at : (plans : List ℕ → Option Parts) (network : Network) (rest line later : List ℕ) (outcome : Outcome) → lines rest ≡ line ∷ lines later → is_order (meaning_of line) ≡ false → outcome_of plans network (meaning_of line) ≡ outcome → reported plans network (before_order (lines rest)) ≡ then_reported outcome (λ next. reported plans next (before_order (lines later)))
+reported_at plans network rest line later outcome e plain is =
+    ap (reported plans network) (left_plain rest line later e plain) ∙ ap (λ came. then_reported came (λ next. reported plans next (before_order (lines later)))) is
 
 ended_at : (plans : List ℕ → Option Parts) (network : Network) (n : ℕ) (rest line later : List ℕ) (outcome : Outcome) → lines rest ≡ line ∷ lines later → is_order (meaning_of line) ≡ false → outcome_of plans network (meaning_of line) ≡ outcome → ended plans n network (before_order (lines rest)) ≡ then_ended outcome n (λ next. ended plans (n + 1) next (before_order (lines later)))
 ended_at plans network n rest line later outcome e plain is =
@@ -93,7 +93,7 @@ playing_on plans network old mid new before after number rest line later input c
       record {
         right = (right_at plans rest line later playing.right e plain).1;
         ends = (came.2.runs, came.2.waits);
-        so_far = so_far_on old mid new _ _ _ answer.text playing.so_far (told_at plans network rest line later (Answers answer) e plain came.1) (subst (Appends mid new) (same ∙ came.2.text) written);
+        so_far = so_far_on old mid new _ _ _ answer.text playing.so_far (reported_at plans network rest line later (Answers answer) e plain came.1) (subst (Appends mid new) (same ∙ came.2.text) written);
         ended = playing.ended ∙ ended_at plans network (number + 1) rest line later (Answers answer) e plain came.1;
         ordered = playing.ordered ∙ ap has_order e ∙ has_plain line (lines later) plain;
       },
@@ -103,15 +103,15 @@ playing_on plans network old mid new before after number rest line later input c
 pub playing_broken : (plans : List ℕ → Option Parts) (network : Network) (old mid new : Option (List ℕ)) (before after : Held) (number : ℕ) (rest line later input cleared text shown : List ℕ) (is : Bool) → IsPlaying plans network old mid before number rest input → lines rest ≡ line ∷ lines later → is_order (meaning_of line) ≡ false → cleared ≡ [] → is ≡ true → Comes (outcome_of plans network (meaning_of line)) after cleared text is → shown ≡ text → AppendsLess mid new shown → AppendsLess old new (output_of plans input)
 playing_broken plans network old mid new before after number rest line later input cleared text shown is playing e plain none may comes same written =
     let came = came_answered (outcome_of plans network (meaning_of line)) after cleared text is none may comes in
-    so_far_lacking old mid new (told plans network (before_order (lines rest))) (output_of plans input) playing.so_far
-    (subst (AppendsLess mid new) (sym (told_at plans network rest line later (Answers came.0) e plain came.1))
-    (lacking_longer mid new came.0.text (told plans came.0.network (before_order (lines later))) (subst (AppendsLess mid new) (same ∙ came.2.text) written)))
+    so_far_lacking old mid new (reported plans network (before_order (lines rest))) (output_of plans input) playing.so_far
+    (subst (AppendsLess mid new) (sym (reported_at plans network rest line later (Answers came.0) e plain came.1))
+    (lacking_longer mid new came.0.text (reported plans came.0.network (before_order (lines later))) (subst (AppendsLess mid new) (same ∙ came.2.text) written)))
 
 -- At a line that is refused, all that the lines before it print is written.
 pub played_refused : (plans : List ℕ → Option Parts) (network : Network) (old new : Option (List ℕ)) (before after : Held) (number : ℕ) (rest line later input cleared text : List ℕ) (is : Bool) → IsPlaying plans network old new before number rest input → lines rest ≡ line ∷ lines later → is_order (meaning_of line) ≡ false → is ≡ false → Comes (outcome_of plans network (meaning_of line)) after cleared text is → Appends old new (output_of plans input) × (end_of plans input ≡ Refused (number + 1))
 played_refused plans network old new before after number rest line later input cleared text is playing e plain may_not comes =
     let none = came_refused (outcome_of plans network (meaning_of line)) after cleared text is may_not comes in (
-      so_far_all old new (told plans network (before_order (lines rest))) (output_of plans input) playing.so_far (told_at plans network rest line later Refuses e plain none),
+      so_far_all old new (reported plans network (before_order (lines rest))) (output_of plans input) playing.so_far (reported_at plans network rest line later Refuses e plain none),
       playing.ended ∙ ended_at plans network (number + 1) rest line later Refuses e plain none,
     )
 
@@ -123,7 +123,7 @@ playing_order plans network old new held number rest line later input playing e 
       ordered = playing.ordered ∙ ap has_order e ∙ has_at_order line (lines later) ordered;
       unended = playing.ended ∙ ap (ended plans (number + 1) network) left;
       more = [];
-      appended = subst (Appends old new) (sym (append-nil (output_of plans input))) (so_far_all old new _ _ playing.so_far (ap (told plans network) left));
+      appended = subst (Appends old new) (sym (append-nil (output_of plans input))) (so_far_all old new _ _ playing.so_far (ap (reported plans network) left));
     }
 
 -- At a line: both ends are as the network says and the line is not an order to the flash, or there was an order before.
@@ -153,7 +153,7 @@ pub played_all : (plans : List ℕ → Option Parts) (old new : Option (List ℕ
 played_all plans old new held number rest input (inl playing) e =
     let none : lines rest ≡ [] = ap lines e in
     inl (
-      so_far_all old new _ _ playing.1.so_far (ap (λ left. told plans playing.0 (before_order left)) none),
+      so_far_all old new _ _ playing.1.so_far (ap (λ left. reported plans playing.0 (before_order left)) none),
       playing.1.ended ∙ ap (λ left. ended plans (number + 1) playing.0 (before_order left)) none,
       playing.1.ordered ∙ ap has_order none,
     )
@@ -196,7 +196,7 @@ fault_plays fault = elim (fault_cases fault) [
 pub played_without : (plans : List ℕ → Option Parts) (network : Network) (old new : Option (List ℕ)) (held : Held) (number : ℕ) (rest input : List ℕ) (fault : RunFault) → IsPlaying plans network old new held number rest input → fault ≡ OutOfMemory → IsPlayed plans old new input (Err fault)
 played_without plans network old new held number rest input fault playing memory =
     subst (λ fault. IsPlayed plans old new input (Err fault)) (sym memory)
-    (inl (so_far_front old new new (told plans network (before_order (lines rest))) (output_of plans input) playing.so_far (none_front new (told plans network (before_order (lines rest))))))
+    (inl (so_far_front old new new (reported plans network (before_order (lines rest))) (output_of plans input) playing.so_far (none_front new (reported plans network (before_order (lines rest))))))
 
 -- If a catalogue has no plan, all that the lines before it print is written.
 played_config : (plans : List ℕ → Option Parts) (old new : Option (List ℕ)) (input catalogue : List ℕ) (n : ℕ) (fault : PlanFault) → Appends old new (output_of plans input) → end_of plans input ≡ Unplanned catalogue → IsRefused catalogue fault → fault_of fault ≡ Config n → IsPlayed plans old new input (Err (fault_of fault))
@@ -210,7 +210,7 @@ played_failed plans network old new before number rest line later input fault pl
     played_without plans network old new before number rest input (fault_of fault) playing (ap fault_of memory)
 played_failed plans network old new before number rest line later input fault playing e plain (inr without) =
     let none = without_plan (outcome_of plans network (meaning_of line)) fault without in
-    let written = so_far_all old new (told plans network (before_order (lines rest))) (output_of plans input) playing.so_far (told_at plans network rest line later (HasNoPlan none.0) e plain none.1) in
+    let written = so_far_all old new (reported plans network (before_order (lines rest))) (output_of plans input) playing.so_far (reported_at plans network rest line later (HasNoPlan none.0) e plain none.1) in
     let end = playing.ended ∙ ended_at plans network (number + 1) rest line later (HasNoPlan none.0) e plain none.1 in
     elim (fault_cases fault) [
       | inl memory ↦ played_without plans network old new before number rest input (fault_of fault) playing memory

@@ -65,14 +65,14 @@ if_there_obeys outcome held before now is (Err fault) comes given = inl given.0
 -- A line that is valid at any time reports a loss of power.
 pub always_tells : {E : Type 0} (A : Type 0) (done : Result (Unit {0}) E) (result : Result Bool PlanFault) → OnOk done A
     → MatchResult result (λ is. (is ≡ true) × (done ≡ Ok tt)) (λ fault. (fault ≡ OutOfMemory) × IsErr done) → OnOk result A
-always_tells A done (Ok is) told given = subst (λ d. OnOk d A) given.1 told
-always_tells A done (Err fault) told given = tt
+always_tells A done (Ok is) reported given = subst (λ d. OnOk d A) given.1 reported
+always_tells A done (Err fault) reported given = tt
 
 -- A line that is valid only if there is a plan or a controller reports a loss of power.
 pub if_there_tells : {E : Type 0} (A : Type 0) (is : Result Bool E) (result : Result Bool PlanFault) → OnOk is A
     → MatchResult result (λ there. is ≡ Ok there) (λ fault. (fault ≡ OutOfMemory) × IsErr is) → OnOk result A
-if_there_tells A is (Ok there) told given = subst (λ i. OnOk i A) given told
-if_there_tells A is (Err fault) told given = tt
+if_there_tells A is (Ok there) reported given = subst (λ i. OnOk i A) given reported
+if_there_tells A is (Err fault) reported given = tt
 
 -- ---- orders to the flash
 

@@ -19,7 +19,7 @@ use Rattle.configurator.specs.Addresses.{AreAddresses}
 use Rattle.configurator.specs.Allowed.{are_allowed}
 use Rattle.configurator.specs.Few.{are_few}
 use Rattle.configurator.specs.Fault.{of_catalogue}
-use Rattle.configurator.specs.Planned.{ArePartsOf, IsPlanOf, IsRefused, Judged, parts_of}
+use Rattle.configurator.specs.Planned.{ArePartsOf, IsPlanOf, IsRefused, Handled, parts_of}
 use Rattle.script_runner.specs.session.Ends.{KnowsThePlan, KnowsTheRefusal}
 
 some_same : {A : Type 0} (a b : A) (found : Option A) → found ≡ Some a → found ≡ Some b → a ≡ b
@@ -84,24 +84,24 @@ too_long found parts other fault are plan have long =
     ok_not parts fault (plan_of parts) plan (subst (λ p. plan_of p ≡ Err fault) same long)
 
 -- A catalogue whose parts are a plan is refused as a whole only if there is no memory.
-judged_for_memory : (found : Catalogue) (parts : Parts) (fault : PlanFault) → ArePartsOf found parts → plan_of parts ≡ Ok parts → Judged found (Err fault) → fault ≡ OutOfMemory
-judged_for_memory found parts Name are plan judged = absurd (judged are.addressed.named)
-judged_for_memory found parts Address are plan judged = absurd (judged.1 are.addressed.addresses are.addressed.addressed)
-judged_for_memory found parts NotAllowedInSlot are plan judged = absurd (true_not (are_allowed found) are.allowed judged.1)
-judged_for_memory found parts TooManySlots are plan judged = absurd (true_not (are_few found) are.few judged.2)
-judged_for_memory found parts FrameTooLong are plan judged = absurd (too_long found parts judged.0 long.Frame are plan judged.1 judged.2)
-judged_for_memory found parts ConnectTooLong are plan judged = absurd (too_long found parts judged.0 long.Connect are plan judged.1 judged.2)
-judged_for_memory found parts Json are plan judged = absurd judged
-judged_for_memory found parts MissingKey are plan judged = absurd judged
-judged_for_memory found parts WrongKind are plan judged = absurd judged
-judged_for_memory found parts Number are plan judged = absurd judged
-judged_for_memory found parts OutOfMemory are plan judged = refl
+handled_for_memory : (found : Catalogue) (parts : Parts) (fault : PlanFault) → ArePartsOf found parts → plan_of parts ≡ Ok parts → Handled found (Err fault) → fault ≡ OutOfMemory
+handled_for_memory found parts Name are plan handled = absurd (handled are.addressed.named)
+handled_for_memory found parts Address are plan handled = absurd (handled.1 are.addressed.addresses are.addressed.addressed)
+handled_for_memory found parts NotAllowedInSlot are plan handled = absurd (true_not (are_allowed found) are.allowed handled.1)
+handled_for_memory found parts TooManySlots are plan handled = absurd (true_not (are_few found) are.few handled.2)
+handled_for_memory found parts FrameTooLong are plan handled = absurd (too_long found parts handled.0 long.Frame are plan handled.1 handled.2)
+handled_for_memory found parts ConnectTooLong are plan handled = absurd (too_long found parts handled.0 long.Connect are plan handled.1 handled.2)
+handled_for_memory found parts Json are plan handled = absurd handled
+handled_for_memory found parts MissingKey are plan handled = absurd handled
+handled_for_memory found parts WrongKind are plan handled = absurd handled
+handled_for_memory found parts Number are plan handled = absurd handled
+handled_for_memory found parts OutOfMemory are plan handled = refl
 
 pub memory_alone : (text : List ℕ) (parts : Parts) (fault : PlanFault) → IsPlanOf text parts → IsRefused text fault → fault ≡ OutOfMemory
 memory_alone text parts fault plan (inl read) = read.2 ∙ ap of_catalogue (read_refused text plan.0 read.0 plan.1 read.1)
-memory_alone text parts fault plan (inr judged) =
-    let found = found_same text judged.0 plan.0 judged.1 plan.1 in
-    judged_for_memory plan.0 parts fault plan.2.0 plan.2.1 (subst (λ f. Judged f (Err fault)) found judged.2)
+memory_alone text parts fault plan (inr handled) =
+    let found = found_same text handled.0 plan.0 handled.1 plan.1 in
+    handled_for_memory plan.0 parts fault plan.2.0 plan.2.1 (subst (λ f. Handled f (Err fault)) found handled.2)
 
 -- ---- tables of plans
 

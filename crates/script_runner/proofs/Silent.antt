@@ -3,7 +3,7 @@ use Rattle.std.proofs.Common.{ℕ, List, Option, Result, Ok, Err, IfErr, subst, 
 use Rattle.script_runner.specs.declared.fault.RunFault.{RunFault}
 use Rattle.script_runner.specs.declared.fault.RunFault.TheVariants.{Read, Write, Line, OutOfMemory, Config, EndlessInput}
 use Rattle.script_runner.specs.Output.{Puts}
-use Rattle.script_runner.specs.Told.{IsPlayFault, IsSilent}
+use Rattle.script_runner.specs.Reported.{IsPlayFault, IsSilent}
 use Rattle.script_runner.proofs.Known.{same_keeps}
 
 -- Nothing was written.

@@ -1,6 +1,6 @@
 pub mod Fault
 pub mod Output
 pub mod Script
-pub mod Told
+pub mod Reported
 pub mod Planned
 pub mod session

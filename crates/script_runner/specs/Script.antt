@@ -10,15 +10,15 @@ use Rattle.script_runner.specs.session.Said.{Outcome, Answers, Refuses, HasNoPla
 use Rattle.script_runner.specs.session.Session.{AreRightFor}
 
 -- The text of a line, and then of the lines after it.
-abbrev pub then_told : Outcome → (Network → List ℕ) → List ℕ
-then_told (Answers answer) later = answer.text ++ later answer.network
-then_told Refuses later = []
-then_told (HasNoPlan catalogue) later = []
+abbrev pub then_reported : Outcome → (Network → List ℕ) → List ℕ
+then_reported (Answers answer) later = answer.text ++ later answer.network
+then_reported Refuses later = []
+then_reported (HasNoPlan catalogue) later = []
 
 -- The text of lines, up to the first line that is refused.
-abbrev pub told : (List ℕ → Option Parts) → Network → List (List ℕ) → List ℕ
-told plans network [] = []
-told plans network (line ∷ lines) = then_told (outcome_of plans network (meaning_of line)) (λ next. told plans next lines)
+abbrev pub reported : (List ℕ → Option Parts) → Network → List (List ℕ) → List ℕ
+reported plans network [] = []
+reported plans network (line ∷ lines) = then_reported (outcome_of plans network (meaning_of line)) (λ next. reported plans next lines)
 
 -- How lines end: all of them were answered, this line is not valid there, or this catalogue has no plan.
 pub data End : Type 0 where
@@ -49,7 +49,7 @@ before_order (line ∷ lines) = if is_order (meaning_of line) then [] else line 
 -- The text of a script, up to the first line that orders a failure of the flash; the effect of that failure on later
 -- lines is not covered.
 unfoldable pub output_of : (List ℕ → Option Parts) → List ℕ → List ℕ
-output_of plans input = boot_line None ++ told plans alone (before_order (lines input))
+output_of plans input = boot_line None ++ reported plans alone (before_order (lines input))
 
 -- How a script ends, if it ends before the first line that orders a failure of the flash.
 unfoldable pub end_of : (List ℕ → Option Parts) → List ℕ → End

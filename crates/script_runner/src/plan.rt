@@ -1,7 +1,7 @@
 // The plan of a catalogue, as text.
 ghost use Rattle.std.specs.Prelude.{◌≡◌, ◌++◌, OnOk, IfOk, IfErr, IfSome, flat_map};
 ghost use Rattle.cyclic_data.specs.Layout.{Table};
-ghost use Rattle.script_runner.specs.Told.{IsSilent, IsWhole};
+ghost use Rattle.script_runner.specs.Reported.{IsSilent, IsWhole};
 ghost use Rattle.script_runner.specs.Planned.{HasText, HasNoText, IsPlanned, kind_word, layout_lines, place_line, plan_lines, size_shown};
 
 use crate::RunFault;

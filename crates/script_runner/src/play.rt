@@ -2,7 +2,7 @@
 ghost use Rattle.std.specs.Prelude.{◌≤◌, ℕ, List, Option, length, IfErr};
 ghost use Rattle.plans.specs.declared.parts.Parts.{Parts};
 ghost use Rattle.script_runner.specs.Script.{ArePlansOf};
-ghost use Rattle.script_runner.specs.Told.{IsPlayed, IsPlayFault};
+ghost use Rattle.script_runner.specs.Reported.{IsPlayed, IsPlayFault};
 
 use crate::RunFault;
 use crate::output::put;

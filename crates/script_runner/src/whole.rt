@@ -1,6 +1,6 @@
 // A script from a reader to a writer.
 ghost use Rattle.std.specs.Prelude.{IfSome};
-ghost use Rattle.script_runner.specs.Told.{IsSilent, IsToldByPlans, IsWhole};
+ghost use Rattle.script_runner.specs.Reported.{IsSilent, IsReportedByPlans, IsWhole};
 
 use crate::RunFault;
 use crate::input::read_all;
@@ -17,7 +17,7 @@ pub fn run<R: Read, W: Write>(alloc: Global, reader: &mut R, writer: &mut W) -> 
     // If the bytes of the reader are known: up to the first line that orders a failure of the flash, the output is a
     // function of these bytes and of the plans of the catalogues in them. Only a prefix of it is written if a write fails
     // or memory is refused, and nothing is written after EndlessInput or a failed read.
-    ensures told { IfSome (R.remaining reader.old) (λ input. IsToldByPlans (W.contents writer.old) (W.contents writer.new) input result) }
+    ensures reported { IfSome (R.remaining reader.old) (λ input. IsReportedByPlans (W.contents writer.old) (W.contents writer.new) input result) }
     // For any reader, also one that never ends: nothing is written after EndlessInput or a failed read.
     ensures silent { IsSilent (W.contents writer.old) (W.contents writer.new) result }
 {

@@ -13,7 +13,7 @@ use Rattle.pn_values.specs.declared.settings.Settings.{Settings}
 use Rattle.settings_journal.specs.declared.head.Version.{Version}
 use Rattle.settings_journal.specs.declared.head.Version.TheVariants.{Two}
 use Rattle.settings_journal.proofs.Parts.{range_at, suite_same}
-use Rattle.settings_journal.specs.Slot.{command_in, command_of, entry, sized, suite_in, IsCommand, IsEntryOf, IsJudged}
+use Rattle.settings_journal.specs.Slot.{command_in, command_of, entry, sized, suite_in, IsCommand, IsEntryOf, IsHandled}
 
 same_true : (a b : ℕ) → a ≡ b → (a == b) ≡ true
 same_true a b e = grind (arith, e)
@@ -25,11 +25,11 @@ few_true n h = grind arith
 command_is : (version : Version) (slot : List ℕ) → get_or slot 1 0 ≤ 240 → command_in version slot ≡ command_of version (get_or slot 0 0) (take (get_or slot 1 0) (drop 2 slot))
 command_is version slot short = cond-true (nat_le (get_or slot 1 0) 240) (command_of version (get_or slot 0 0) (take (get_or slot 1 0) (drop 2 slot))) None (few_true (get_or slot 1 0) short)
 
-pub judged_in : (version : Version) (slot : List ℕ) (size : ℕ) (found : Option Command) → size ≡ get_or slot 1 0 → size ≤ 240
-    → IsJudged (command_of version (get_or slot 0 0) (slice_range slot 2 (2 + size))) found → IsJudged (command_in version slot) found
-judged_in version slot size found is short judged =
+pub handled_in : (version : Version) (slot : List ℕ) (size : ℕ) (found : Option Command) → size ≡ get_or slot 1 0 → size ≤ 240
+    → IsHandled (command_of version (get_or slot 0 0) (slice_range slot 2 (2 + size))) found → IsHandled (command_in version slot) found
+handled_in version slot size found is short handled =
     let e : slice_range slot 2 (2 + size) ≡ take (get_or slot 1 0) (drop 2 slot) = range_at slot 2 (2 + size) (get_or slot 1 0) (omega (arith, is)) in
-    subst (λ m. IsJudged m found) (sym (command_is version slot (omega (arith, is, short)))) (subst (λ p. IsJudged (command_of version (get_or slot 0 0) p) found) e judged)
+    subst (λ m. IsHandled m found) (sym (command_is version slot (omega (arith, is, short)))) (subst (λ p. IsHandled (command_of version (get_or slot 0 0) p) found) e handled)
 
 entry_read : (slot : List ℕ) (kind : ℕ) (payload : List ℕ) → length payload ≤ 240 → take (length (entry kind payload)) slot ≡ entry kind payload → command_in Two slot ≡ command_of Two kind payload
 entry_read slot kind payload short e =

@@ -97,9 +97,9 @@ IsCommand ResetCommunication = Unit {0}
 IsCommand ResetAll = Unit {0}
 
 -- the given command if it is valid; none if no command is given or it is not valid
-abbrev pub IsJudged : Option Command → Option Command → Type 0
-IsJudged meant (Some command) = (meant ≡ Some command) × IsCommand command
-IsJudged meant None = (command : Command) → meant ≡ Some command → ¬ IsCommand command
+abbrev pub IsHandled : Option Command → Option Command → Type 0
+IsHandled meant (Some command) = (meant ≡ Some command) × IsCommand command
+IsHandled meant None = (command : Command) → meant ≡ Some command → ¬ IsCommand command
 
 -- the open slot holds this command
 pub record Keeps (version : Version) (slot : List ℕ) (command : Command) : Type 0 where

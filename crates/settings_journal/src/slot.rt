@@ -5,7 +5,7 @@ ghost use Rattle.pn_values.specs.IpSuite.{IsSuite};
 ghost use Rattle.pn_values.specs.declared.command.Command.TheVariants.{SetName, SetIp, SetIm};
 ghost use Rattle.pn_values.specs.declared.settings.Settings.{Settings};
 ghost use Rattle.settings_journal.specs.Slot.{command_in, command_of, entry as entry_with, entry_of, im4_in, left_by, next_behind, sized};
-ghost use Rattle.settings_journal.specs.Slot.{suite_in, Follows, IsEntryOf, IsJudged};
+ghost use Rattle.settings_journal.specs.Slot.{suite_in, Follows, IsEntryOf, IsHandled};
 
 use crate::head::{OPEN, Version};
 use arrayvec::ArrayVec;
@@ -131,7 +131,7 @@ pub(crate) fn left_of(version: Version, slots: usize, next: usize) -> usize
 
 // The command that an open slot holds.
 fn decode_command(version: Version, slot: &[u8; SLOT]) -> Option<Command>
-    ensures { IsJudged (command_in version slot.now) result }
+    ensures { IsHandled (command_in version slot.now) result }
 {
     let length = usize::from(slot[1]);
     if length > MOST {
@@ -142,7 +142,7 @@ fn decode_command(version: Version, slot: &[u8; SLOT]) -> Option<Command>
 
 // The command of a kind and its payload.
 fn command_at(version: Version, kind: u8, payload: &[u8]) -> Option<Command>
-    ensures { IsJudged (command_of version kind payload.now) result }
+    ensures { IsHandled (command_of version kind payload.now) result }
 {
     match kind {
         1 => name_at(payload),
@@ -174,7 +174,7 @@ fn command_at(version: Version, kind: u8, payload: &[u8]) -> Option<Command>
 
 // The command that sets a permanent name, if the payload is one or is empty.
 fn name_at(payload: &[u8]) -> Option<Command>
-    ensures { IsJudged (Some (SetName true payload.now)) result }
+    ensures { IsHandled (Some (SetName true payload.now)) result }
 {
     if payload.is_empty() {
         return Some(Command::SetName {
@@ -193,7 +193,7 @@ fn name_at(payload: &[u8]) -> Option<Command>
 
 // The command that sets a permanent IP suite, if the payload is one.
 fn suite_at(payload: &[u8]) -> Option<Command>
-    ensures { IsJudged (sized 12 payload.now (SetIp true (suite_in payload.now))) result }
+    ensures { IsHandled (sized 12 payload.now (SetIp true (suite_in payload.now))) result }
 {
     let (address, rest) = payload.split_first_chunk::<4>()?;
     let (mask, rest) = rest.split_first_chunk::<4>()?;
@@ -221,7 +221,7 @@ fn bare(payload: &[u8], command: Command) -> Option<Command>
 
 // The command that sets I&M4; version 1 has none.
 fn im4_at(version: Version, payload: &[u8]) -> Option<Command>
-    ensures { IsJudged (im4_in version payload.now) result }
+    ensures { IsHandled (im4_in version payload.now) result }
 {
     match version {
         Version::One => None,

@@ -13,7 +13,7 @@ use Rattle.settings_store.specs.Machine.{Accepted, followed_by, carried}
 use Rattle.settings_store.specs.Legal.{made_of, LegalEnd, CrashSafe}
 use Rattle.settings_store.specs.Carries.{IsCaused, Stretch, Continues, Carries}
 use Rattle.settings_store.proofs.Placed.{placed_then, both_empty}
-use Rattle.settings_store.proofs.Machine.{made_append, joined, joined_quiet, joined_then}
+use Rattle.settings_store.proofs.Machine.{made_append, joined, joined_inactive, joined_then}
 use Rattle.settings_store.proofs.Faults.{goes_as}
 
 -- a legal end of the later commands is a legal end of all
@@ -46,14 +46,14 @@ safe_then before between first middle front back old mid new stays none made one
   untouched = λ failed. two.untouched (stays failed) ∙ one.untouched failed;
 }
 
-fault_quiet : (a b c : ℕ) → HasRisen a b → c ≡ b → HasRisen a c
-fault_quiet a b c one same = rw same one
+fault_inactive : (a b c : ℕ) → HasRisen a b → c ≡ b → HasRisen a c
+fault_inactive a b c one same = rw same one
 
 -- in two stretches no call failed, or one failed with its commit
 caused_then : (before mid now : ℕ) (old between new : Values) → IsCaused before mid old between → IsCaused mid now between new → IsCaused before now old new
 caused_then before mid now old between new (inl one) (inl two) = inl (two.0 ∙ one.0, two.1 ∙ one.1)
 caused_then before mid now old between new (inl one) (inr two) = inr (subst (λ n. HasRisen n now) one.0 two.0, sym one.1 ∙ two.1, two.2)
-caused_then before mid now old between new (inr one) (inl two) = inr (fault_quiet before mid now one.0 two.0, one.1, two.1 ∙ one.2)
+caused_then before mid now old between new (inr one) (inl two) = inr (fault_inactive before mid now one.0 two.0, one.1, two.1 ∙ one.2)
 caused_then before mid now old between new (inr one) (inr two) = cc
 
 still_fine : (before now : Bool) → (before ≡ true → now ≡ true) → now ≡ false → before ≡ false
@@ -113,9 +113,9 @@ carries_then as_flash old mid new items more front back one two =
       outcomes = all_outcomes;
       values = values;
       answers_are = answers_are;
-      quiet = λ same.
+      inactive = λ same.
           let neither = none_in_both _ _ _ (λ failed. (one.stretch.stays_failed failed).0) (λ failed. (two.stretch.stays_failed failed).0) same in
-          joined_quiet one.outcomes two.outcomes items (one.quiet neither.0) (two.quiet neither.1);
+          joined_inactive one.outcomes two.outcomes items (one.inactive neither.0) (two.inactive neither.1);
       placed = placed_then as_flash one.outcomes two.outcomes old mid new items more one.placed two.placed;
       stretch = stretch;
       continues = stretch_continues as_flash old new _ stretch;

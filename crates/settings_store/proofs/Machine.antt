@@ -124,10 +124,10 @@ unfolding after padded
 after_padded outcomes back [] = refl
 after_padded outcomes back (item ∷ items) = after_padded (rest_of outcomes) back items
 
-after_quiet : (items : List SetItem) → after [] items ≡ []
+after_inactive : (items : List SetItem) → after [] items ≡ []
 unfolding after
-after_quiet [] = refl
-after_quiet (item ∷ items) = after_quiet items
+after_inactive [] = refl
+after_inactive (item ∷ items) = after_inactive items
 
 -- the outcomes for some items and then more; empty if both are
 unfoldable pub joined : List Outcome → List Outcome → List SetItem → List Outcome
@@ -135,11 +135,11 @@ joined [] [] items = []
 joined [] (outcome ∷ outcomes) items = padded [] items ++ outcome ∷ outcomes
 joined (outcome ∷ outcomes) back items = padded (outcome ∷ outcomes) items ++ back
 
-pub joined_quiet : (front back : List Outcome) (items : List SetItem) → front ≡ [] → back ≡ [] → joined front back items ≡ []
+pub joined_inactive : (front back : List Outcome) (items : List SetItem) → front ≡ [] → back ≡ [] → joined front back items ≡ []
 unfolding joined
-joined_quiet [] [] items _ _ = refl
-joined_quiet [] (outcome ∷ outcomes) items _ none = cc
-joined_quiet (outcome ∷ outcomes) back items none _ = cc
+joined_inactive [] [] items _ _ = refl
+joined_inactive [] (outcome ∷ outcomes) items _ none = cc
+joined_inactive (outcome ∷ outcomes) back items none _ = cc
 
 padded_then : (front back : List Outcome) (values : Values) (items more : List SetItem) →
     carried (padded front items ++ back) values (items ++ more) ≡ followed_by (carried front values items) (carried back (carried front values items).values more)
@@ -149,6 +149,6 @@ padded_then front back values items more =
 pub joined_then : (front back : List Outcome) (values : Values) (items more : List SetItem) →
     carried (joined front back items) values (items ++ more) ≡ followed_by (carried front values items) (carried back (carried front values items).values more)
 unfolding joined
-joined_then [] [] values items more = carried_append [] values items more ∙ simp after_quiet
+joined_then [] [] values items more = carried_append [] values items more ∙ simp after_inactive
 joined_then [] (outcome ∷ outcomes) values items more = padded_then [] (outcome ∷ outcomes) values items more
 joined_then (outcome ∷ outcomes) back values items more = padded_then (outcome ∷ outcomes) back values items more

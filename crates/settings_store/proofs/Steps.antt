@@ -95,13 +95,13 @@ pub passed : {F : Type 0} {S : ℕ} (as_flash : Flash F S) (old new : journal.St
     → (new.has_failed ≡ false → StartsWith (as_flash.image new.flash) new.settings new.room)
     → (calls : List Call) → as_flash.asked old.flash calls new.flash → CommitCalls (as_flash.image old.flash) old.settings old.room command calls → (as_flash.is_lost old.flash ≡ true → as_flash.is_lost new.flash ≡ true)
     → CarriesItem as_flash (seen as_flash.is_lost old before) (Ask command) Done (seen as_flash.is_lost new now)
-passed as_flash old new before now command fine still settings room shown power quiet left stored calls were commit lost =
+passed as_flash old new before now command fine still settings room shown power inactive left stored calls were commit lost =
     let some : (old.room == 0) ≡ false = no_room old.room (λ none. absurd (omega arith)) in
     let taken : new.room ≡ old.room - 1 = omega arith in
     let made : Values = (accepted Pass (seen as_flash.is_lost old before).values command).values in
     let values : (seen as_flash.is_lost new now).values ≡ made = cc in
     of_one as_flash (seen as_flash.is_lost old before) (seen as_flash.is_lost new now) (Ask command) Done Pass (accepted Pass (seen as_flash.is_lost old before).values command)
-    (committed_taken Pass (seen as_flash.is_lost old before).values command fine some) values refl (quiet, still ∙ sym fine)
+    (committed_taken Pass (seen as_flash.is_lost old before).values command fine some) values refl (inactive, still ∙ sym fine)
     (record {
       left = left;
       legal = λ _ _. inl (new.room, subst (λ s. StartsWith (as_flash.image new.flash) s new.room) settings (stored still));
@@ -182,7 +182,7 @@ nothing as_flash state holds =
       outcomes = [];
       values = refl;
       answers_are = refl;
-      quiet = λ _. refl;
+      inactive = λ _. refl;
       placed = refl;
       stretch = stretch;
       continues = stretch_continues as_flash state state [] stretch;
@@ -195,7 +195,7 @@ listed : {F : Type 0} {S : ℕ} (as_flash : Flash F S) (old new : State F) (item
     → IsCaused (as_flash.failures old.flash) (as_flash.failures new.flash) old.values new.values → CarriesOne as_flash (first_of outcomes) old item new
     → (carried_one (first_of outcomes) old.values item).answers ≡ answer ∷ [] → (old.values.is_lost ≡ true → new.values.is_lost ≡ true)
     → Carries as_flash old (item ∷ []) (answer ∷ []) new
-listed as_flash old new item answer outcomes quiet caused one answers lost =
+listed as_flash old new item answer outcomes inactive caused one answers lost =
     let values : new.values ≡ (carried outcomes old.values (item ∷ [])).values = one.values in
     let answers_are : answer ∷ [] ≡ (carried outcomes old.values (item ∷ [])).answers = sym (append-nil _ ∙ answers) in
     let failed : new.values.has_failed ≡ (carried outcomes old.values (item ∷ [])).values.has_failed = ap (λ v. v.has_failed) values in
@@ -213,7 +213,7 @@ listed as_flash old new item answer outcomes quiet caused one answers lost =
       outcomes = outcomes;
       values = values;
       answers_are = answers_are;
-      quiet = quiet;
+      inactive = inactive;
       placed = (new, one, refl);
       stretch = stretch;
       continues = stretch_continues as_flash old new _ stretch;

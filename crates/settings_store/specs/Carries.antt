@@ -92,7 +92,7 @@ pub record Carries {F : Type 0} {S : ℕ} (as_flash : Flash F S) (old : State F)
   pub outcomes : List Outcome
   pub values : new.values ≡ (carried outcomes old.values items).values
   pub answers_are : answers ≡ (carried outcomes old.values items).answers
-  pub quiet : new.values.has_failed ≡ old.values.has_failed → outcomes ≡ []
+  pub inactive : new.values.has_failed ≡ old.values.has_failed → outcomes ≡ []
   pub placed : OneByOne as_flash outcomes old items new
   pub stretch : Stretch as_flash old (carried outcomes old.values items).accepted new
   pub continues : Continues as_flash old (carried outcomes old.values items).accepted new

@@ -36,11 +36,11 @@ use Rattle.controller_core.specs.declared.event.Event.{Event}
 use Rattle.controller_core.specs.Machine.{first, step_of, turn_of}
 use Rattle.controller_core.specs.State.{Controlling, Live as ControllerLive}
 use Rattle.codec_laws.specs.frames.Sendable.{IsHolder, IsMac, IsTag, carrying}
-use Rattle.message_laws.specs.hearing.Hearing.{IsUncalled, IsUntold, all_hears, comes, mine_told, own_told}
+use Rattle.message_laws.specs.hearing.Hearing.{IsUncalled, IsUnreported, all_hears, comes, mine_reported, own_reported}
 use Rattle.message_laws.specs.hearing.Stations.{IsAddress, IsCalled, IsCaller, IsDevice, IsNumbered, IsSetup, ready_call}
 use Rattle.message_laws.specs.sending.Addressed.{IsAimed, IsAimedAt, IsEventFrom}
 use Rattle.end_laws.specs.both.Small as small
-use Rattle.end_laws.specs.both.Small.{Exchanges, Exchanging, Link, Move, Rules, World}
+use Rattle.end_laws.specs.both.Small.{Exchanges, Exchanging, RelationState, Move, Rules, World}
 use Rattle.end_laws.specs.both.StartUp.{Begins, IsRun, last_of}
 use Rattle.end_laws.specs.both.Steps.{DeviceSteps}
 use Rattle.end_laws.specs.controller.Small.{GoesOn, IsInStep, said_in, small_of as small_controller}
@@ -50,8 +50,8 @@ use Rattle.end_laws.specs.device.Small.{IsHeardAs, IsPlanned, heard_as, small_of
 -- the laws of frames, and of what is heard of them
 pub record HeardSo : Type 0 where
   pub sound : IsSoundWhole layers
-  pub untold : (identity : Identity) (destination source : Mac) (tag : Option ℕ) (frame_id : ℕ) (body : List ℕ) → IsMac destination → IsMac source → IsTag tag
-      → IsUntold (device_hears identity (comes (frame_bytes (carrying destination source tag (RealTime frame_id body)))))
+  pub unreported : (identity : Identity) (destination source : Mac) (tag : Option ℕ) (frame_id : ℕ) (body : List ℕ) → IsMac destination → IsMac source → IsTag tag
+      → IsUnreported (device_hears identity (comes (frame_bytes (carrying destination source tag (RealTime frame_id body)))))
   pub uncalled : (mine : Controller) (destination source : Mac) (tag : Option ℕ) (frame_id : ℕ) (body : List ℕ) → IsMac destination → IsMac source → IsTag tag
       → IsUncalled (controller_hears mine (frame_bytes (carrying destination source tag (RealTime frame_id body))))
   pub packet_at_controller : (mine : Controller) (identity : Identity) (asker : Mac) (address : List ℕ) (target : Holder)
@@ -66,15 +66,15 @@ pub record HeardSo : Type 0 where
       → CanBeCalled controllers (ready_call ready)
   pub call_at_device : (identity : Identity) (setup : Setup) (to : Mac) (call : Call) → IsSetup setup → IsMac to → CanBeCalled devices call
       → device_hears identity (comes (call_frame setup to call))
-      ≡ own_told identity setup.plan.controller.mac to (calls_at setup.plan.controller.address) (calls_at setup.plan.station.suite.address) (Calls call)
+      ≡ own_reported identity setup.plan.controller.mac to (calls_at setup.plan.controller.address) (calls_at setup.plan.station.suite.address) (Calls call)
   pub call_at_controller : (mine : Controller) (setup : Setup) (to : Mac) (call : Call) → IsSetup setup → IsMac to → CanBeCalled devices call
       → controller_hears mine (call_frame setup to call) ≡ Nothing
   pub response_at_controller : (mine : Controller) (identity : Identity) (caller : Caller) (address : List ℕ) (answer : Response)
       → IsDevice identity → IsCaller caller → IsAddress address → CanBeAnswered answer
-      → controller_hears mine (response_frame identity caller address answer) ≡ mine_told mine caller.mac caller.endpoint (Responded answer)
+      → controller_hears mine (response_frame identity caller address answer) ≡ mine_reported mine caller.mac caller.endpoint (Responded answer)
   pub response_at_device : (other identity : Identity) (caller : Caller) (address : List ℕ) (answer : Response)
       → IsDevice identity → IsCaller caller → IsAddress address → CanBeAnswered answer
-      → device_hears other (comes (response_frame identity caller address answer)) ≡ own_told other identity.mac caller.mac (calls_at address) caller.endpoint (Responds answer)
+      → device_hears other (comes (response_frame identity caller address answer)) ≡ own_reported other identity.mac caller.mac (calls_at address) caller.endpoint (Responds answer)
   pub long_at_controller : (mine : Controller) (identity : Identity) (caller : Caller) (address : List ℕ) (answer : Response)
       → IsDevice identity → IsCaller caller → IsAddress address → IsHeader answer.header → 1372 < length answer.blocks
       → controller_hears mine (response_frame identity caller address answer) ≡ Nothing
@@ -84,16 +84,16 @@ pub record HeardSo : Type 0 where
   pub ready_at_controller : (mine : Controller) (identity : Identity) (address : List ℕ) (ready : Ready)
       → IsDevice identity → IsMac ready.partner.mac → IsAddress ready.partner.address → IsAddress address → CanBeCalled controllers (ready_call ready)
       → controller_hears mine (ready_frame identity address ready)
-      ≡ mine_told mine ready.partner.mac (calls_at ready.partner.address) (Called (record { mac = identity.mac; endpoint = calls_at address }) (ready_call ready))
+      ≡ mine_reported mine ready.partner.mac (calls_at ready.partner.address) (Called (record { mac = identity.mac; endpoint = calls_at address }) (ready_call ready))
   pub ready_at_device : (other identity : Identity) (address : List ℕ) (ready : Ready)
       → IsDevice identity → IsMac ready.partner.mac → IsAddress ready.partner.address → IsAddress address → CanBeCalled controllers (ready_call ready)
       → device_hears other (comes (ready_frame identity address ready))
-      ≡ own_told other identity.mac ready.partner.mac (calls_at address) (calls_at ready.partner.address) Garbled
+      ≡ own_reported other identity.mac ready.partner.mac (calls_at address) (calls_at ready.partner.address) Garbled
   pub agreed_at_device : (identity : Identity) (setup : Setup) (caller : Caller) (answer : Response) → IsSetup setup → IsCaller caller → CanBeAnswered answer
       → device_hears identity (comes (answer_frame setup caller answer))
-      ≡ own_told identity setup.plan.controller.mac caller.mac (calls_at setup.plan.controller.address) caller.endpoint (Responds answer)
+      ≡ own_reported identity setup.plan.controller.mac caller.mac (calls_at setup.plan.controller.address) caller.endpoint (Responds answer)
   pub agreed_at_controller : (mine : Controller) (setup : Setup) (caller : Caller) (answer : Response) → IsSetup setup → IsCaller caller → CanBeAnswered answer
-      → controller_hears mine (answer_frame setup caller answer) ≡ mine_told mine caller.mac caller.endpoint (Responded answer)
+      → controller_hears mine (answer_frame setup caller answer) ≡ mine_reported mine caller.mac caller.endpoint (Responded answer)
   pub block_read : (block : Block) (rest : List ℕ) → CanBeWritten block → block_of (block_bytes block ++ rest) ≡ front block rest
 
 -- the laws of the machines of both ends
@@ -113,4 +113,4 @@ pub record GoesSo : Type 0 where
       → IsPlanned rules activity station.real heard
       → AllByRecursion (IsOwed heard live) (heard_step outcomes station live heard).sent
   pub relation : (rules : Rules TakenRecord Request) (from : World TakenRecord Request) (run : List (Move × World TakenRecord Request)) → Begins rules from → IsRun rules from run
-      → (link : Link TakenRecord Request) → (last_of from run).device.link ≡ Some link → link.request ≡ rules.request
+      → (link : RelationState TakenRecord Request) → (last_of from run).device.link ≡ Some link → link.request ≡ rules.request

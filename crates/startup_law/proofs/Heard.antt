@@ -31,13 +31,13 @@ use Rattle.connect_requests.specs.Request.{Request as Asked_for}
 use Rattle.records.specs.status.Operation.{operation_of}
 use Rattle.pn_alarms.specs.declared.fault.AlarmFault.{AlarmFault}
 use Rattle.pn_alarms.specs.declared.pdu.Header.{Header}
-use Rattle.pn_alarms.specs.Message.{ToController as AlarmTold, alarm_of}
+use Rattle.pn_alarms.specs.Message.{ToController as AlarmReported, alarm_of}
 use Rattle.plans.specs.declared.parts.Controller.{Controller}
 use Rattle.plans.specs.declared.parts.Parts.{Parts}
 use Rattle.plans.specs.Connect.{alarm_block}
 use Rattle.connect_laws.specs.request.Request.{request_for}
 use Rattle.relations.specs.declared.ready.Ready.{Ready}
-use Rattle.relations.specs.Link.{Link}
+use Rattle.relations.specs.RelationState.{RelationState}
 use Rattle.relations.specs.Ready.{ready_of}
 use Rattle.device_frames.specs.Heard as device
 use Rattle.device_frames.specs.Heard.{Heard, is_own}
@@ -55,7 +55,7 @@ use Rattle.controller_frames.specs.Sent.{answer_frame, call_frame, calls_at, ide
 use Rattle.controller_core.specs.Answers.{is_ready}
 use Rattle.controller_core.specs.Machine.{ready_in}
 use Rattle.codec_laws.specs.frames.Sendable.{IsHolder, IsMac, IsTag, carrying}
-use Rattle.message_laws.specs.hearing.Hearing.{IsUncalled, IsUntold, all_hears, comes, mine_told, own_told}
+use Rattle.message_laws.specs.hearing.Hearing.{IsUncalled, IsUnreported, all_hears, comes, mine_reported, own_reported}
 use Rattle.message_laws.specs.hearing.Stations.{IsAddress, IsCalled, IsCaller, IsDevice, IsNumbered, IsSetup, ready_call}
 use Rattle.message_laws.specs.sending.Addressed.{IsAimedAt, IsHeardFrom}
 use Rattle.end_laws.specs.both.Small as small
@@ -121,7 +121,7 @@ six_answer : (source : Mac) (read : Result Answered DcpFault) → IsMac source �
 six_answer source (Ok answer) six = six
 six_answer source (Err fault) six = tt
 
-six_alarm : (source : Mac) (read : Result (Header × AlarmTold) AlarmFault) → IsSix (heard_alarm source read)
+six_alarm : (source : Mac) (read : Result (Header × AlarmReported) AlarmFault) → IsSix (heard_alarm source read)
 six_alarm source (Ok x) = tt
 six_alarm source (Err fault) = tt
 
@@ -181,10 +181,10 @@ pub record IsOwnCall (setup : Setup) (caller : Caller) (call : Call) : Type 0 wh
 
 abbrev pub IsKnownSaid : Setup → Caller → device.Said → Type 0
 IsKnownSaid setup caller (device.Calls call) = IsOwnCall setup caller call
-IsKnownSaid setup caller told = Unit {0}
+IsKnownSaid setup caller reported = Unit {0}
 
 abbrev pub IsKnownHeard : Setup → Heard → Type 0
-IsKnownHeard setup (device.Told caller address told) = IsKnownSaid setup caller told
+IsKnownHeard setup (device.Reported caller address reported) = IsKnownSaid setup caller reported
 IsKnownHeard setup heard = Unit {0}
 
 -- the same for the calls and responses that the controller hears
@@ -194,13 +194,13 @@ pub record IsKnown (setup : Setup) (identity : Identity) (frame : List ℕ) : Ty
 
 -- ---- frames that say nothing of a start-up
 
-untold_known : (setup : Setup) (heard : Heard) → IsUntold heard → IsKnownHeard setup heard
-untold_known setup (device.Told caller address told) un = absurd un
-untold_known setup heard un = tt
+unreported_known : (setup : Setup) (heard : Heard) → IsUnreported heard → IsKnownHeard setup heard
+unreported_known setup (device.Reported caller address reported) un = absurd un
+unreported_known setup heard un = tt
 
-untold_idle : (heard : Heard) → IsUntold heard → heard_as heard ≡ small.Idle
-untold_idle (device.Told caller address told) un = absurd un
-untold_idle heard un = refl
+unreported_idle : (heard : Heard) → IsUnreported heard → heard_as heard ≡ small.Idle
+unreported_idle (device.Reported caller address reported) un = absurd un
+unreported_idle heard un = refl
 
 uncalled_from : (own : Mac) (heard : controller.Heard) → IsSix heard → IsUncalled heard → IsHeardFrom own heard
 uncalled_from own (controller.Answers source answer) six un = six
@@ -234,10 +234,10 @@ module _ (so : HeardSo) (setup : Setup) (station : Station) (good : IsSetup setu
     pub says_at_most : (said_to setup (at_controller frame) ≡ small.Nothing) ⊎ (said_to setup (at_controller frame) ≡ says)
 
   -- the same, from what both ends hear
-  met_by : (frame : List ℕ) (says : ToController) (heard : Heard) (told : controller.Heard) → at_device frame ≡ heard → at_controller frame ≡ told
-      → IsKnownHeard setup heard → heard_as heard ≡ small.Idle → IsHeardFrom identity.mac told → (said_to setup told ≡ small.Nothing) ⊎ (said_to setup told ≡ says)
+  met_by : (frame : List ℕ) (says : ToController) (heard : Heard) (reported : controller.Heard) → at_device frame ≡ heard → at_controller frame ≡ reported
+      → IsKnownHeard setup heard → heard_as heard ≡ small.Idle → IsHeardFrom identity.mac reported → (said_to setup reported ≡ small.Nothing) ⊎ (said_to setup reported ≡ says)
       → IsMet frame says
-  met_by frame says heard told e f known idle from at_most = record {
+  met_by frame says heard reported e f known idle from at_most = record {
     known = record {
       at_device = subst (λ (h : Heard). IsKnownHeard setup h) (sym e) known;
       at_controller = subst (λ (h : controller.Heard). IsHeardFrom identity.mac h) (sym f) from;
@@ -252,14 +252,14 @@ module _ (so : HeardSo) (setup : Setup) (station : Station) (good : IsSetup setu
   data_known destination source tag frame_id body one other tagged =
       let frame = frame_bytes (carrying destination source tag (RealTime frame_id body)) in
       record {
-        at_device = untold_known setup (at_device frame) (so.untold identity destination source tag frame_id body one other tagged);
+        at_device = unreported_known setup (at_device frame) (so.unreported identity destination source tag frame_id body one other tagged);
         at_controller = uncalled_from identity.mac (at_controller frame) (six_heard so.sound mine frame) (so.uncalled mine destination source tag frame_id body one other tagged);
       }
 
   data_idle : (destination source : Mac) (tag : Option ℕ) (frame_id : ℕ) (body : List ℕ) → IsMac destination → IsMac source → IsTag tag
       → heard_as (at_device (frame_bytes (carrying destination source tag (RealTime frame_id body)))) ≡ small.Idle
   data_idle destination source tag frame_id body one other tagged =
-      untold_idle (at_device (frame_bytes (carrying destination source tag (RealTime frame_id body)))) (so.untold identity destination source tag frame_id body one other tagged)
+      unreported_idle (at_device (frame_bytes (carrying destination source tag (RealTime frame_id body)))) (so.unreported identity destination source tag frame_id body one other tagged)
 
   data_nothing : (destination source : Mac) (tag : Option ℕ) (frame_id : ℕ) (body : List ℕ) → IsMac destination → IsMac source → IsTag tag
       → said_to setup (at_controller (frame_bytes (carrying destination source tag (RealTime frame_id body)))) ≡ small.Nothing
@@ -286,21 +286,21 @@ module _ (so : HeardSo) (setup : Setup) (station : Station) (good : IsSetup setu
   -- ---- responses
 
   -- what a controller hears of a datagram, if it is for the controller
-  mine_holds : (P : controller.Heard → Type 0) (destination : Mac) (to : Endpoint) (heard : controller.Heard) → P heard → P controller.Nothing → P (mine_told mine destination to heard)
+  mine_holds : (P : controller.Heard → Type 0) (destination : Mac) (to : Endpoint) (heard : controller.Heard) → P heard → P controller.Nothing → P (mine_reported mine destination to heard)
   mine_holds P destination to heard one other =
       holds_if P (pointwise nat_eq destination.octets mine.mac.octets) (cond (is_to mine.address to) heard controller.Nothing) controller.Nothing
       (holds_if P (is_to mine.address to) heard controller.Nothing one other) other
 
-  own_holds : (P : Heard → Type 0) (source destination : Mac) (from to : Endpoint) (told : device.Said)
-      → P (device.Told (record { mac = source; endpoint = from }) to.address told) → P device.Elsewhere → P (own_told identity source destination from to told)
-  own_holds P source destination from to told one other =
-      holds_if P (is_own identity destination && to.port == 34964) (device.Told (record { mac = source; endpoint = from }) to.address told) device.Elsewhere one other
+  own_holds : (P : Heard → Type 0) (source destination : Mac) (from to : Endpoint) (reported : device.Said)
+      → P (device.Reported (record { mac = source; endpoint = from }) to.address reported) → P device.Elsewhere → P (own_reported identity source destination from to reported)
+  own_holds P source destination from to reported one other =
+      holds_if P (is_own identity destination && to.port == 34964) (device.Reported (record { mac = source; endpoint = from }) to.address reported) device.Elsewhere one other
 
   -- a datagram to the controller is not for the device
-  elsewhere : (source destination : Mac) (from to : Endpoint) (told : device.Said) → destination ≡ mine.mac → own_told identity source destination from to told ≡ device.Elsewhere
-  elsewhere source destination from to told is =
+  elsewhere : (source destination : Mac) (from to : Endpoint) (reported : device.Said) → destination ≡ mine.mac → own_reported identity source destination from to reported ≡ device.Elsewhere
+  elsewhere source destination from to reported is =
       let none : is_own identity destination ≡ false = other_mac destination identity.mac (λ same. apart (sym same ∙ is)) in
-      ap (λ (b : Bool). cond (b && to.port == 34964) (device.Told (record { mac = source; endpoint = from }) to.address told) device.Elsewhere) none
+      ap (λ (b : Bool). cond (b && to.port == 34964) (device.Reported (record { mac = source; endpoint = from }) to.address reported) device.Elsewhere) none
 
   answer_says : (answer : Response) → (said_to setup (controller.Responds answer) ≡ small.Nothing) ⊎ (said_to setup (controller.Responds answer) ≡ small.Answers answer.header.sequence (is_done answer.status))
   answer_says answer = by_activity (pointwise nat_eq answer.header.activity setup.activity)
@@ -324,7 +324,7 @@ module _ (so : HeardSo) (setup : Setup) (station : Station) (good : IsSetup setu
       by_length true e =
           let can : CanBeAnswered answer = record { header = header; status = status; maximum = maximum; few = leb-true (length answer.blocks) 1372 e } in
           met_by (bytes_of identity (CallAnswer caller address answer)) (small.Answers answer.header.sequence (is_done answer.status)) device.Elsewhere
-          (mine_told mine caller.mac caller.endpoint (controller.Responds answer))
+          (mine_reported mine caller.mac caller.endpoint (controller.Responds answer))
           (so.response_at_device identity identity caller address answer real calls four can
           ∙ elsewhere identity.mac caller.mac (calls_at address) caller.endpoint (device.Responds answer) (ap (λ (c : Caller). c.mac) caller_is))
           (so.response_at_controller mine identity caller address answer real calls four can) tt refl
@@ -352,8 +352,8 @@ module _ (so : HeardSo) (setup : Setup) (station : Station) (good : IsSetup setu
       let caller : Caller = record { mac = identity.mac; endpoint = calls_at address } in
       let from = calls_at address in
       let to = calls_at ready.partner.address in
-      met_by (bytes_of identity (ReadyCall address ready)) small.Readies (own_told identity identity.mac ready.partner.mac from to device.Garbled)
-      (mine_told mine ready.partner.mac to (controller.Calls caller (ready_call ready)))
+      met_by (bytes_of identity (ReadyCall address ready)) small.Readies (own_reported identity identity.mac ready.partner.mac from to device.Garbled)
+      (mine_reported mine ready.partner.mac to (controller.Calls caller (ready_call ready)))
       (so.ready_at_device identity identity address ready real one four own can) (so.ready_at_controller mine identity address ready real one four own can)
       (own_holds (λ (h : Heard). IsKnownHeard setup h) identity.mac ready.partner.mac from to device.Garbled tt tt)
       (own_holds (λ (h : Heard). heard_as h ≡ small.Idle) identity.mac ready.partner.mac from to device.Garbled refl refl)
@@ -362,7 +362,7 @@ module _ (so : HeardSo) (setup : Setup) (station : Station) (good : IsSetup setu
       (mine_holds (AtMost small.Readies) ready.partner.mac to (controller.Calls caller (ready_call ready)) (ready_says (ready_in (ready_call ready))) (inl refl))
 
   -- ApplicationReady of the relation of the plan can be sent as a call
-  ready_can_be : (link_is : Link) (ready : Ready) → link_is.request ≡ request_for setup.plan setup.ar → ready.header ≡ (ready_of link_is).header → ready.block ≡ (ready_of link_is).block
+  ready_can_be : (link_is : RelationState) (ready : Ready) → link_is.request ≡ request_for setup.plan setup.ar → ready.header ≡ (ready_of link_is).header → ready.block ≡ (ready_of link_is).block
       → CanBeCalled controllers (ready_call ready)
   ready_can_be link_is ready made header block =
       let object : IsUuid ready.header.object = ap (λ (h : CallHeader). length h.object) header ∙ ap (λ (r : Asked_for). length r.ar.object) made in
@@ -381,7 +381,7 @@ module _ (so : HeardSo) (setup : Setup) (station : Station) (good : IsSetup setu
   -- ---- a message of the device
 
   -- a call that was heard is one of the controller
-  own_call : (heard : Heard) (caller : Caller) (address : List ℕ) (call : Call) → heard ≡ device.Told caller address (device.Calls call) → IsKnownHeard setup heard → IsOwnCall setup caller call
+  own_call : (heard : Heard) (caller : Caller) (address : List ℕ) (call : Call) → heard ≡ device.Reported caller address (device.Calls call) → IsKnownHeard setup heard → IsOwnCall setup caller call
   own_call heard caller address call is known = subst (λ (h : Heard). IsKnownHeard setup h) is known
 
   answering_met : (heard : Heard) (caller : Caller) (address : List ℕ) (answer : Response) → IsKnownHeard setup heard → IsAnswering heard caller answer → IsAddress address
@@ -393,8 +393,8 @@ module _ (so : HeardSo) (setup : Setup) (station : Station) (good : IsSetup setu
       (subst (λ (n : ℕ). n < 4294967296) (sym owed.maximum) can.maximum)
 
   -- the relation of the device is the plan's
-  abbrev pub IsPlans : Option Link → Type 0
-  IsPlans relation = (l : Link) → relation ≡ Some l → l.request ≡ request_for setup.plan setup.ar
+  abbrev pub IsPlans : Option RelationState → Type 0
+  IsPlans relation = (l : RelationState) → relation ≡ Some l → l.request ≡ request_for setup.plan setup.ar
 
   -- what the controller may hear of a message
   abbrev pub says_of : Sent → ToController
@@ -434,15 +434,15 @@ module _ (so : HeardSo) (setup : Setup) (station : Station) (good : IsSetup setu
 
   -- ---- a message of the controller
 
-  pub record IsTold (frame : List ℕ) (says : ToDevice) : Type 0 where
+  pub record IsReported (frame : List ℕ) (says : ToDevice) : Type 0 where
     pub known : IsKnown setup identity frame
     pub nothing : said_to setup (at_controller frame) ≡ small.Nothing
     pub says_or_idle : (heard_as (at_device frame) ≡ says) ⊎ (heard_as (at_device frame) ≡ small.Idle)
 
-  told_by : (frame : List ℕ) (says : ToDevice) (heard : Heard) (told : controller.Heard) → at_device frame ≡ heard → at_controller frame ≡ told
-      → IsKnownHeard setup heard → (heard_as heard ≡ says) ⊎ (heard_as heard ≡ small.Idle) → IsHeardFrom identity.mac told → said_to setup told ≡ small.Nothing
-      → IsTold frame says
-  told_by frame says heard told e f known or_idle from nothing = record {
+  reported_by : (frame : List ℕ) (says : ToDevice) (heard : Heard) (reported : controller.Heard) → at_device frame ≡ heard → at_controller frame ≡ reported
+      → IsKnownHeard setup heard → (heard_as heard ≡ says) ⊎ (heard_as heard ≡ small.Idle) → IsHeardFrom identity.mac reported → said_to setup reported ≡ small.Nothing
+      → IsReported frame says
+  reported_by frame says heard reported e f known or_idle from nothing = record {
     known = record {
       at_device = subst (λ (h : Heard). IsKnownHeard setup h) (sym e) known;
       at_controller = subst (λ (h : controller.Heard). IsHeardFrom identity.mac h) (sym f) from;
@@ -451,9 +451,9 @@ module _ (so : HeardSo) (setup : Setup) (station : Station) (good : IsSetup setu
     says_or_idle = subst (λ (h : Heard). (heard_as h ≡ says) ⊎ (heard_as h ≡ small.Idle)) (sym e) or_idle;
   }
 
-  data_told : (destination : Mac) (tag : Option ℕ) (frame_id : ℕ) (body : List ℕ) (says : ToDevice) → IsMac destination → IsTag tag
-      → IsTold (frame_bytes (carrying destination mine.mac tag (RealTime frame_id body))) says
-  data_told destination tag frame_id body says one tagged = record {
+  data_reported : (destination : Mac) (tag : Option ℕ) (frame_id : ℕ) (body : List ℕ) (says : ToDevice) → IsMac destination → IsTag tag
+      → IsReported (frame_bytes (carrying destination mine.mac tag (RealTime frame_id body))) says
+  data_reported destination tag frame_id body says one tagged = record {
     known = data_known destination mine.mac tag frame_id body one good.mac tagged;
     nothing = data_nothing destination mine.mac tag frame_id body one good.mac tagged;
     says_or_idle = inr (data_idle destination mine.mac tag frame_id body one good.mac tagged);
@@ -470,15 +470,15 @@ module _ (so : HeardSo) (setup : Setup) (station : Station) (good : IsSetup setu
   asked_is asks.PrmEnd called = refl
   asked_is (asks.Release sequence) called = refl
 
-  call_told : (to : Mac) (request : Request) → IsMac to → IsCalled request → IsNumbered request → IsListed setup.plan request
-      → IsTold (call_frame setup to (call_for setup request)) (asked_by setup.plan request)
-  call_told to request six called numbered listed =
+  call_reported : (to : Mac) (request : Request) → IsMac to → IsCalled request → IsNumbered request → IsListed setup.plan request
+      → IsReported (call_frame setup to (call_for setup request)) (asked_by setup.plan request)
+  call_reported to request six called numbered listed =
       let call = call_for setup request in
       let can = so.call_can setup request good called numbered in
       let from = calls_at mine.address in
       let to_end = calls_at setup.plan.station.suite.address in
       let own : IsOwnCall setup (record { mac = mine.mac; endpoint = from }) call = record { request = request; called = called; numbered = numbered; listed = listed; is = refl; caller_is = refl } in
-      told_by (call_frame setup to call) (asked_by setup.plan request) (own_told identity mine.mac to from to_end (device.Calls call)) controller.Nothing
+      reported_by (call_frame setup to call) (asked_by setup.plan request) (own_reported identity mine.mac to from to_end (device.Calls call)) controller.Nothing
       (so.call_at_device identity setup to call good six can) (so.call_at_controller mine setup to call good six can)
       (own_holds (λ (h : Heard). IsKnownHeard setup h) mine.mac to from to_end (device.Calls call) own tt)
       (own_holds (λ (h : Heard). (heard_as h ≡ asked_by setup.plan request) ⊎ (heard_as h ≡ small.Idle)) mine.mac to from to_end (device.Calls call) (inl (asked_is request called)) (inr refl))
@@ -488,11 +488,11 @@ module _ (so : HeardSo) (setup : Setup) (station : Station) (good : IsSetup setu
   confirms_or_not answer true = inl refl
   confirms_or_not answer false = inr refl
 
-  agrees_told : (caller : Caller) (answer : Response) → caller.mac ≡ identity.mac → IsCaller caller → CanBeAnswered answer → IsTold (answer_frame setup caller answer) small.Confirms
-  agrees_told caller answer caller_is is can =
+  agrees_reported : (caller : Caller) (answer : Response) → caller.mac ≡ identity.mac → IsCaller caller → CanBeAnswered answer → IsReported (answer_frame setup caller answer) small.Confirms
+  agrees_reported caller answer caller_is is can =
       let from = calls_at mine.address in
       let none : pointwise nat_eq caller.mac.octets mine.mac.octets ≡ false = other_mac caller.mac mine.mac (λ same. apart (sym caller_is ∙ same)) in
-      told_by (answer_frame setup caller answer) small.Confirms (own_told identity mine.mac caller.mac from caller.endpoint (device.Responds answer)) controller.Nothing
+      reported_by (answer_frame setup caller answer) small.Confirms (own_reported identity mine.mac caller.mac from caller.endpoint (device.Responds answer)) controller.Nothing
       (so.agreed_at_device identity setup caller answer good is can)
       (so.agreed_at_controller mine setup caller answer good is can
       ∙ ap (λ (b : Bool). cond b (cond (is_to mine.address caller.endpoint) (controller.Responds answer) controller.Nothing) controller.Nothing) none)
@@ -510,31 +510,31 @@ module _ (so : HeardSo) (setup : Setup) (station : Station) (good : IsSetup setu
   is_listed now number (inl releases) = absurd cc
   is_listed now number (inr asked) = asked.1.0
 
-  message_told : (now : small.Controller) (message : said.Sent) → IsAimedAt identity.mac message → SaysToDevice (length setup.plan.records.items) now (said_by setup.plan message)
-      → IsTold (said.bytes_of setup message) (said_by setup.plan message)
-  message_told now (said.Requests to asks.Identify) aimed says = data_told identify_multicast None _ _ small.Idle multicast_six tt
-  message_told now (said.Requests to asks.Address) aimed says = data_told to None _ _ small.Idle aimed.0 tt
-  message_told now (said.Requests to asks.Connect) aimed says = call_told to asks.Connect aimed.0 tt tt tt
-  message_told now (said.Requests to (asks.Write number)) aimed says = call_told to (asks.Write number) aimed.0 tt aimed.1 (is_listed now number says)
-  message_told now (said.Requests to asks.PrmEnd) aimed says = call_told to asks.PrmEnd aimed.0 tt tt tt
-  message_told now (said.Requests to (asks.Release sequence)) aimed says = call_told to (asks.Release sequence) aimed.0 tt aimed.1 tt
-  message_told now (said.Agrees caller answer) aimed says = agrees_told caller answer aimed.0 aimed.1 aimed.2
-  message_told now (said.Cycles route shown counter) aimed says = data_told route.partner (Some route.sent_tag) _ _ small.Idle aimed.partner aimed.sent_tag
-  message_told now (said.Confirms route header ack) aimed says = data_told route.partner (Some route.alarm_tag) _ _ small.Idle aimed.partner aimed.alarm_tag
-  message_told now (said.Replies route header) aimed says = data_told route.partner (Some route.alarm_tag) _ _ small.Idle aimed.partner aimed.alarm_tag
-  message_told now (said.Ends route header reason) aimed says = data_told route.partner (Some alarm_block.tag_header_low) _ _ small.Idle aimed.partner (omega arith)
+  message_reported : (now : small.Controller) (message : said.Sent) → IsAimedAt identity.mac message → SaysToDevice (length setup.plan.records.items) now (said_by setup.plan message)
+      → IsReported (said.bytes_of setup message) (said_by setup.plan message)
+  message_reported now (said.Requests to asks.Identify) aimed says = data_reported identify_multicast None _ _ small.Idle multicast_six tt
+  message_reported now (said.Requests to asks.Address) aimed says = data_reported to None _ _ small.Idle aimed.0 tt
+  message_reported now (said.Requests to asks.Connect) aimed says = call_reported to asks.Connect aimed.0 tt tt tt
+  message_reported now (said.Requests to (asks.Write number)) aimed says = call_reported to (asks.Write number) aimed.0 tt aimed.1 (is_listed now number says)
+  message_reported now (said.Requests to asks.PrmEnd) aimed says = call_reported to asks.PrmEnd aimed.0 tt tt tt
+  message_reported now (said.Requests to (asks.Release sequence)) aimed says = call_reported to (asks.Release sequence) aimed.0 tt aimed.1 tt
+  message_reported now (said.Agrees caller answer) aimed says = agrees_reported caller answer aimed.0 aimed.1 aimed.2
+  message_reported now (said.Cycles route shown counter) aimed says = data_reported route.partner (Some route.sent_tag) _ _ small.Idle aimed.partner aimed.sent_tag
+  message_reported now (said.Confirms route header ack) aimed says = data_reported route.partner (Some route.alarm_tag) _ _ small.Idle aimed.partner aimed.alarm_tag
+  message_reported now (said.Replies route header) aimed says = data_reported route.partner (Some route.alarm_tag) _ _ small.Idle aimed.partner aimed.alarm_tag
+  message_reported now (said.Ends route header reason) aimed says = data_reported route.partner (Some alarm_block.tag_header_low) _ _ small.Idle aimed.partner (omega arith)
 
-  pub all_told : (now : small.Controller) (messages : List said.Sent) → AllByRecursion (IsAimedAt identity.mac) messages
+  pub all_reported : (now : small.Controller) (messages : List said.Sent) → AllByRecursion (IsAimedAt identity.mac) messages
       → AllByRecursion (λ message. SaysToDevice (length setup.plan.records.items) now (said_by setup.plan message)) messages
-      → AllByRecursion (λ message. IsTold (said.bytes_of setup message) (said_by setup.plan message)) messages
-  all_told now [] aimed says = tt
-  all_told now (message ∷ messages) aimed says = (message_told now message aimed.0 says.0, all_told now messages aimed.1 says.1)
+      → AllByRecursion (λ message. IsReported (said.bytes_of setup message) (said_by setup.plan message)) messages
+  all_reported now [] aimed says = tt
+  all_reported now (message ∷ messages) aimed says = (message_reported now message aimed.0 says.0, all_reported now messages aimed.1 says.1)
 
-  pub all_said : (messages : List said.Sent) → AllByRecursion (λ message. IsTold (said.bytes_of setup message) (said_by setup.plan message)) messages
+  pub all_said : (messages : List said.Sent) → AllByRecursion (λ message. IsReported (said.bytes_of setup message) (said_by setup.plan message)) messages
       → AllByRecursion (IsSaidAs setup station) messages
-  all_said [] told = tt
-  all_said (message ∷ messages) told = ((told.0.nothing, told.0.says_or_idle), all_said messages told.1)
+  all_said [] reported = tt
+  all_said (message ∷ messages) reported = ((reported.0.nothing, reported.0.says_or_idle), all_said messages reported.1)
 
   -- the opening frame
-  pub opening_told : (to : Mac) → IsTold (said.bytes_of setup (said.Requests to asks.Identify)) small.Idle
-  opening_told to = data_told identify_multicast None _ _ small.Idle multicast_six tt
+  pub opening_reported : (to : Mac) → IsReported (said.bytes_of setup (said.Requests to asks.Identify)) small.Idle
+  opening_reported to = data_reported identify_multicast None _ _ small.Idle multicast_six tt

@@ -9,16 +9,16 @@ use Rattle.pn_values.specs.declared.identity.Identity.{Identity}
 use Rattle.rpc_core.specs.Cache.{Kept as Answer, kept_of}
 use Rattle.rpc_core.specs.Call.{Asked as Called}
 use Rattle.connect_requests.specs.Request.{Request}
-use Rattle.connect_requests.specs.Judged.{request_of}
+use Rattle.connect_requests.specs.Handled.{request_of}
 use Rattle.plans.specs.Connect.{connect_of}
 use Rattle.records.specs.declared.writes.taken.TakenRecord.{TakenRecord}
-use Rattle.relations.specs.Link.{Link}
+use Rattle.relations.specs.RelationState.{RelationState}
 use Rattle.connect_laws.specs.request.Request.{request_for}
 use Rattle.device_frames.specs.declared.event.Event.TheVariants.{Frame}
 use Rattle.device_frames.specs.Heard.{Heard, Ticks, Given, Raised, heard_of}
 use Rattle.device_frames.specs.Sent.{Sent, Again, bytes_of}
 use Rattle.device_core.specs.State.{Station, Live}
-use Rattle.device_core.specs.Machine.{heard_step, judged_step}
+use Rattle.device_core.specs.Machine.{heard_step, handled_step}
 use Rattle.controller_frames.specs.declared.request.Request.TheVariants as asks
 use Rattle.controller_frames.specs.declared.setup.Setup.{Setup}
 use Rattle.controller_frames.specs.Sent as said
@@ -44,7 +44,7 @@ use Rattle.startup_law.specs.View.{IsMeant, IsMeantAtController, IsMeantAtDevice
 use Rattle.startup_law.specs.Played.{AreMade, AreMeant, ArePlaced, Begins, CanMeet, last_world, viewed}
 use Rattle.startup_law.proofs.Each.{each_at, each_behind, some_is}
 use Rattle.startup_law.proofs.Given.{GoesSo, HeardSo}
-use Rattle.startup_law.proofs.Heard.{IsKnown, IsKnownHeard, IsMetAs, IsOwnCall, IsPlans, IsTold, all_heard, all_met, all_said, all_told, opening_told}
+use Rattle.startup_law.proofs.Heard.{IsKnown, IsKnownHeard, IsMetAs, IsOwnCall, IsPlans, IsReported, all_heard, all_met, all_said, all_reported, opening_reported}
 use Rattle.startup_law.proofs.Planned.{IsGood, heard_planned}
 use Rattle.startup_law.proofs.Runs.{InStep, controller_is, delivered, happens_steps, last_viewed, rules_at}
 
@@ -132,7 +132,7 @@ module _ (so : HeardSo) (goes : GoesSo) where
 
       step_frames : (outcomes : List Outcome) → AllByRecursion (IsMetAs so setup station can.setup_is can.device_is can.apart) (heard_step outcomes station before.device.live heard).sent
           → AllByRecursion (IsKnown setup station.identity) (heard_step outcomes station before.device.live heard).frames
-      unfolding heard_step judged_step
+      unfolding heard_step handled_step
       step_frames outcomes met = messages_known (heard_step outcomes station before.device.live heard).sent (all_owed outcomes) met
 
       pub holds_behind_device : {S : ℕ} (as_flash : Flash F S) (after : World F) → AtDevice as_flash before heard after → HoldsAt after
@@ -158,22 +158,22 @@ module _ (so : HeardSo) (goes : GoesSo) where
     -- ---- the controller
 
     module _ (event : Event) (from : IsEventFrom station.identity.mac setup event) where
-      told : AllByRecursion (λ message. IsTold so setup station can.setup_is can.device_is can.apart (said.bytes_of setup message) (said_by setup.plan message))
+      reported : AllByRecursion (λ message. IsReported so setup station can.setup_is can.device_is can.apart (said.bytes_of setup message) (said_by setup.plan message))
           (turn_of setup before.controller.live event).sent
-      told =
+      reported =
           let turn = turn_of setup before.controller.live event in
-          all_told so setup station can.setup_is can.device_is can.apart (small_of setup.plan turn.live) turn.sent
+          all_reported so setup station can.setup_is can.device_is can.apart (small_of setup.plan turn.live) turn.sent
           (goes.aimed station.identity.mac setup before.controller.live event can.setup_is holds.aimed from).1
           (goes.controller_on setup before.controller.live event in_step).says
 
       pub meant_at_controller : IsMeantAtController before event
-      meant_at_controller = all_said so setup station can.setup_is can.device_is can.apart (turn_of setup before.controller.live event).sent told
+      meant_at_controller = all_said so setup station can.setup_is can.device_is can.apart (turn_of setup before.controller.live event).sent reported
 
-      told_known : (messages : List said.Sent)
-          → AllByRecursion (λ message. IsTold so setup station can.setup_is can.device_is can.apart (said.bytes_of setup message) (said_by setup.plan message)) messages
+      reported_known : (messages : List said.Sent)
+          → AllByRecursion (λ message. IsReported so setup station can.setup_is can.device_is can.apart (said.bytes_of setup message) (said_by setup.plan message)) messages
           → AllByRecursion (IsKnown setup station.identity) (map (said.bytes_of setup) messages)
-      told_known [] all = tt
-      told_known (message ∷ messages) all = (all.0.known, told_known messages all.1)
+      reported_known [] all = tt
+      reported_known (message ∷ messages) all = (all.0.known, reported_known messages all.1)
 
       pub holds_behind_controller : (after : World F) → after ≡ at_controller before event → HoldsAt after
       holds_behind_controller after is =
@@ -183,7 +183,7 @@ module _ (so : HeardSo) (goes : GoesSo) where
           is ∙ (ap (λ (c : Controlling). record { device = before.device; controller = c; sent = before.sent ++ (step_of before.controller event).frames }) (controller_is before.controller event)
           ∙ ap (λ (frames : List (List ℕ)). record { device = before.device; controller = with_live before.controller turn.live; sent = before.sent ++ frames }) (goes.frames_are before.controller event)) in
           let all : HoldsAt now = record {
-            known = each_behind (IsKnown setup station.identity) before.sent (map (said.bytes_of setup) turn.sent) holds.known (told_known turn.sent told);
+            known = each_behind (IsKnown setup station.identity) before.sent (map (said.bytes_of setup) turn.sent) holds.known (reported_known turn.sent reported);
             again = holds.again;
             aimed = (goes.aimed station.identity.mac setup before.controller.live event can.setup_is holds.aimed from).0;
           } in
@@ -241,10 +241,10 @@ module _ (so : HeardSo) (goes : GoesSo) where
 
     -- the relation of a world of the run is the plan's
     plans_at : (run : List (Move × World F)) (now : World F) → last_world first run ≡ now → rules_at now ≡ rules → IsRun rules (view_of first) (viewed run)
-        → (link : Link) → now.device.live.rest.link ≡ Some link → link.request ≡ request_for now.controller.setup.plan now.controller.setup.ar
+        → (link : RelationState) → now.device.live.rest.link ≡ Some link → link.request ≡ request_for now.controller.setup.plan now.controller.setup.ar
     plans_at run now last same steps link is =
         goes.relation rules (view_of first) (viewed run) begins steps (link_of link)
-        (ap (λ (w : small.World TakenRecord Request). w.device.link) (last_viewed first run ∙ ap (λ (w : World F). view_of w) last) ∙ ap (λ (l : Option Link). option_map link_of l) is)
+        (ap (λ (w : small.World TakenRecord Request). w.device.link) (last_viewed first run ∙ ap (λ (w : World F). view_of w) last) ∙ ap (λ (l : Option RelationState). option_map link_of l) is)
         ∙ sym (ap (λ (r : Rules TakenRecord Request). r.request) same)
 
     pub on : (run : List (Move × World F)) (now : World F) → last_world first run ≡ now → rules_at now ≡ rules → IsRun rules (view_of first) (viewed run)
@@ -276,9 +276,9 @@ module _ (so : HeardSo) (goes : GoesSo) where
     unfolding opening_of
     opening_is controlling = refl
 
-    opens : IsTold so first.controller.setup first.device.station can.setup_is can.device_is can.apart (opening_of first.controller) small.Idle
-    opens = subst (λ (frame : List ℕ). IsTold so first.controller.setup first.device.station can.setup_is can.device_is can.apart frame small.Idle) (sym (opening_is first.controller))
-        (opening_told so first.controller.setup first.device.station can.setup_is can.device_is can.apart first.controller.live.device)
+    opens : IsReported so first.controller.setup first.device.station can.setup_is can.device_is can.apart (opening_of first.controller) small.Idle
+    opens = subst (λ (frame : List ℕ). IsReported so first.controller.setup first.device.station can.setup_is can.device_is can.apart frame small.Idle) (sym (opening_is first.controller))
+        (opening_reported so first.controller.setup first.device.station can.setup_is can.device_is can.apart first.controller.live.device)
 
     is_idle : (heard : ToDevice) → (heard ≡ small.Idle) ⊎ (heard ≡ small.Idle) → heard ≡ small.Idle
     is_idle heard (inl idle) = idle
@@ -287,7 +287,7 @@ module _ (so : HeardSo) (goes : GoesSo) where
     pub begins_small : BeginsSmall (rules_at first) (view_of first)
     begins_small = record {
       uncalled = ap (λ (calls : List Answer). option_map kept_in (kept_of first.controller.setup.activity calls)) begins.uncalled;
-      unrelated = ap (λ (l : Option Link). option_map link_of l) begins.unrelated;
+      unrelated = ap (λ (l : Option RelationState). option_map link_of l) begins.unrelated;
       seeking = ap (λ (l : ControllerLive). small_of first.controller.setup.plan l) begins.made;
       dull = subst (λ (frames : List (List ℕ)). AllByRecursion (IsDull (rules_at first)) frames) (sym begins.opened)
           ((is_idle ((rules_at first).to_device (opening_of first.controller)) opens.says_or_idle, opens.nothing), tt);

@@ -20,10 +20,10 @@ use Rattle.block_codec.specs.Block.{block_bytes, block_of, front, in_iod_write_r
 use Rattle.records.specs.declared.status.call_fault.CallFault.{CallFault}
 use Rattle.records.specs.declared.status.call_fault.CallFault.TheVariants as fault
 use Rattle.records.specs.status.Operation.{operation_of}
-use Rattle.records.specs.calls.Judged.{judged as in_order}
+use Rattle.records.specs.calls.Handled.{handled as in_order}
 use Rattle.records.specs.calls.Single.{formed, single_of}
 use Rattle.connect_requests.specs.Request.{Request as Asked_for}
-use Rattle.connect_requests.specs.Judged.{request_of}
+use Rattle.connect_requests.specs.Handled.{request_of}
 use Rattle.record_blocks.specs.declared.write_record.IodWriteReq.{IodWriteReq}
 use Rattle.im_records.specs.declared.record.Record.{Record}
 use Rattle.im_records.specs.Indices.{is_read_only, is_text, record_with}
@@ -34,7 +34,7 @@ use Rattle.records.specs.declared.writes.taken.TakenRecord.{TakenRecord}
 use Rattle.records.specs.declared.writes.write.Effect.{Effect}
 use Rattle.records.specs.declared.writes.write.Effect.TheVariants.{Keeps}
 use Rattle.records.specs.declared.writes.write.Write.{Write}
-use Rattle.records.specs.writes.Judged.{effect_of, is_known, is_length, judged_request, kept, stored, targeted, write_of, written}
+use Rattle.records.specs.writes.Handled.{effect_of, is_known, is_length, handled_request, kept, stored, targeted, write_of, written}
 use Rattle.plans.specs.declared.parts.PlanRecord.{PlanRecord}
 use Rattle.plans.specs.Connect.{connect_of}
 use Rattle.plans.specs.Plan.{AreShort}
@@ -57,9 +57,9 @@ use Rattle.startup_law.proofs.Each.{each_at, some_is}
 use Rattle.startup_law.proofs.Heard.{IsKnownHeard, IsKnownSaid, IsListed, IsOwnCall}
 
 -- if no earlier judgement fails, the rest decides
-judged_ok : {A : Type 0} (judgements : List (Bool × CallFault)) (otherwise : Result A CallFault) (value : A) → in_order judgements otherwise ≡ Ok value → otherwise ≡ Ok value
-judged_ok [] otherwise value e = e
-judged_ok {A} (judgement ∷ others) otherwise value e = by_test judgement.0 (λ f. judged_ok others otherwise value f) e
+handled_ok : {A : Type 0} (judgements : List (Bool × CallFault)) (otherwise : Result A CallFault) (value : A) → in_order judgements otherwise ≡ Ok value → otherwise ≡ Ok value
+handled_ok [] otherwise value e = e
+handled_ok {A} (judgement ∷ others) otherwise value e = by_test judgement.0 (λ f. handled_ok others otherwise value f) e
   where
     by_test : (b : Bool) → (in_order others otherwise ≡ Ok value → otherwise ≡ Ok value) → cond b (Err judgement.1) (in_order others otherwise) ≡ Ok value → otherwise ≡ Ok value
     by_test true rest f = absurd cc
@@ -77,7 +77,7 @@ formed_ok (Err why) x e = absurd cc
 
 single_is : (type : BlockType) (blocks : List ℕ) (x : Block × List ℕ) → single_of type blocks ≡ Ok x → block_of blocks ≡ Ok x
 unfolding single_of
-single_is type blocks x e = formed_ok (block_of blocks) x (judged_ok
+single_is type blocks x e = formed_ok (block_of blocks) x (handled_ok
     ((length blocks == 0, fault.BlockMissing)
     ∷ (nat_lt (length blocks) 4, fault.BlockHeader)
     ∷ (not (big_number 2 blocks == number_of type), fault.BlockType)
@@ -127,7 +127,7 @@ module _ (setup : Setup) (real : Real) (number : ℕ) (entry : PlanRecord) (belo
   unfolding written
   written_is effect e =
       let all = take (length entry.data.items) entry.data.items in
-      let there = fault_ok fault.WriteLength (effect_of real asked all) effect (judged_ok
+      let there = fault_ok fault.WriteLength (effect_of real asked all) effect (handled_ok
       ((not (is_known real asked), fault.Index)
       ∷ (is_read_only (record_with entry.index), fault.Access)
       ∷ (nat_lt (length entry.data.items) (length entry.data.items), fault.WriteLength)
@@ -135,8 +135,8 @@ module _ (setup : Setup) (real : Real) (number : ℕ) (entry : PlanRecord) (belo
       (or_fault fault.WriteLength (effect_of real asked all)) effect e) in
       effect_is effect (ap (λ (octets : List ℕ). effect_of real asked octets) (sym (all_octets entry.data.items)) ∙ there)
 
-  request_is : (standing : Option (List ℕ)) (write : Write) → judged_request standing real asked entry.data.items ≡ Ok write → write.effect ≡ Keeps (taken_for entry)
-  unfolding judged_request
+  request_is : (standing : Option (List ℕ)) (write : Write) → handled_request standing real asked entry.data.items ≡ Ok write → write.effect ≡ Keeps (taken_for entry)
+  unfolding handled_request
   request_is standing write e =
       let one = bind_ok (targeted standing real asked) (λ _. written real asked entry.data.items >>= λ effect. Ok (record { request = asked; effect = effect })) write e in
       let two = bind_ok (written real asked entry.data.items) (λ effect. Ok (record { request = asked; effect = effect })) write one.2 in
@@ -148,11 +148,11 @@ module _ (setup : Setup) (real : Real) (number : ℕ) (entry : PlanRecord) (belo
   unfolding write_of
   write_is read standing write e =
       let blocks = block_bytes (variant.IodWriteReq asked) ++ entry.data.items in
-      let one = bind_ok (single_of kind.IodWriteReq blocks) (λ x. or_fault fault.BlockForm (in_iod_write_req x.0) >>= λ request. judged_request standing real request x.1) write e in
+      let one = bind_ok (single_of kind.IodWriteReq blocks) (λ x. or_fault fault.BlockForm (in_iod_write_req x.0) >>= λ request. handled_request standing real request x.1) write e in
       let same : one.0 ≡ (variant.IodWriteReq asked, entry.data.items) =
       ok_is one.0 (variant.IodWriteReq asked, entry.data.items) (sym (single_is kind.IodWriteReq blocks one.0 one.1) ∙ read entry.data.items) in
       request_is standing write
-      (subst (λ (x : Block × List ℕ). (or_fault fault.BlockForm (in_iod_write_req x.0) >>= λ request. judged_request standing real request x.1) ≡ Ok write) same one.2)
+      (subst (λ (x : Block × List ℕ). (or_fault fault.BlockForm (in_iod_write_req x.0) >>= λ request. handled_request standing real request x.1) ≡ Ok write) same one.2)
 
 -- ---- the plan's records
 
@@ -221,10 +221,10 @@ module _ (read : (block : Block) (rest : List ℕ) → CanBeWritten block → bl
     asks = asked_planned own.request own.called own.listed;
   })
 
-  said_planned : (caller : Caller) (told : device.Said) → IsKnownSaid setup caller told → IsPlannedIn rules setup.activity station.real told
+  said_planned : (caller : Caller) (reported : device.Said) → IsKnownSaid setup caller reported → IsPlannedIn rules setup.activity station.real reported
   said_planned caller (device.Calls call) known = call_planned caller call known
-  said_planned caller told known = tt
+  said_planned caller reported known = tt
 
   pub heard_planned : (heard : Heard) → IsKnownHeard setup heard → IsPlanned rules setup.activity station.real heard
-  heard_planned (device.Told caller address told) known = said_planned caller told known
+  heard_planned (device.Reported caller address reported) known = said_planned caller reported known
   heard_planned heard known = tt

@@ -7,7 +7,7 @@ use Rattle.flash_model.specs.declared.flash.Flash.{Ghosts as Flash}
 use Rattle.settings_store.specs.Machine.{Outcome}
 use Rattle.connect_requests.specs.Request.{Request}
 use Rattle.records.specs.declared.writes.taken.TakenRecord.{TakenRecord}
-use Rattle.relations.specs.Link.{Link}
+use Rattle.relations.specs.RelationState.{RelationState}
 use Rattle.device_frames.specs.Heard.{Heard, Ticks, Given, Raised}
 use Rattle.device_core.specs.State.{Station, Live}
 use Rattle.device_core.specs.Machine.{heard_step}
@@ -225,7 +225,7 @@ module _ {F : Type 0} where
       ap (λ (w : small.World TakenRecord Request). w.controller) (last_viewed first run)
       ∙ ap (λ (p : Phase). state_of last.controller.setup.plan p last.controller.live.asked) exchanges
 
-  pub related_small : (first : World F) (run : List (Move × World F)) (link : Link) → (last_world first run).device.live.rest.link ≡ Some link
+  pub related_small : (first : World F) (run : List (Move × World F)) (link : RelationState) → (last_world first run).device.live.rest.link ≡ Some link
       → (last_of (view_of first) (viewed run)).device.link ≡ Some (link_of link)
   related_small first run link is =
-      ap (λ (w : small.World TakenRecord Request). w.device.link) (last_viewed first run) ∙ ap (λ (l : Option Link). option_map link_of l) is
+      ap (λ (w : small.World TakenRecord Request). w.device.link) (last_viewed first run) ∙ ap (λ (l : Option RelationState). option_map link_of l) is

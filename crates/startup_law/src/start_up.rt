@@ -1,7 +1,7 @@
 //! The law of a start-up, for the worlds that moves lead to.
 ghost use Rattle.std.specs.Prelude.{◌≡◌, ◌<◌, List, Some};
 ghost use Rattle.connect_laws.specs.request.Request.{request_for};
-ghost use Rattle.relations.specs.Link.{Link};
+ghost use Rattle.relations.specs.RelationState.{RelationState};
 ghost use Rattle.relations.specs.declared.phase.Phase.TheVariants.{Exchanging as in_exchange};
 ghost use Rattle.controller_core.specs.declared.state.State.TheVariants.{Exchanging};
 ghost use Rattle.network_world.specs.declared.moves.Move.{Move};
@@ -71,13 +71,13 @@ pub fn worlds_start_up<F: Flash<S>, const S: usize>(setup: &Setup, identity: &Id
     ensures device { CanMeet setup.now identity.now →
         (first : World F) (run : List (Move × World F)) → Begins setup.now identity.now first
         → AreMade F.Flash first run
-        → (link : Link) → (last_world first run).device.live.rest.link ≡ Some link → link.phase ≡ in_exchange
+        → (link : RelationState) → (last_world first run).device.live.rest.link ≡ Some link → link.phase ≡ in_exchange
         → WasExchanging (viewed run) }
     // A relation of the device is the plan's.
     ensures relation { CanMeet setup.now identity.now →
         (first : World F) (run : List (Move × World F)) → Begins setup.now identity.now first
         → AreMade F.Flash first run
-        → (link : Link) → (last_world first run).device.live.rest.link ≡ Some link
+        → (link : RelationState) → (last_world first run).device.live.rest.link ≡ Some link
         → link.request ≡ request_for setup.now.plan setup.now.ar }
 {
     connect_is_taken(&setup.plan, &setup.ar);

@@ -6,7 +6,7 @@ use Rattle.wire.specs.Codec.{Codec, IsSound, IsOnward, ◌>>=◌}
 use Rattle.wire.specs.Counted.{SpellEach, write_each, size_each, FitsEach, read_each, listed, counted, bounded}
 use Rattle.wire.proofs.Fields.{bind_ok, ok_is}
 use Rattle.wire.proofs.Joined.{then_by_sound, then_by_onward, seen_sound, seen_onward}
-use Rattle.wire.proofs.Judged.{checked_sound, checked_onward}
+use Rattle.wire.proofs.Handled.{checked_sound, checked_onward}
 
 module _ {F A : Type 0} (item : List A → Codec F A) (sound : (before : List A) → IsSound (item before)) where
   pub each_takes : (count : ℕ) (before : List A) (bytes : List ℕ) (values : List A) (rest : List ℕ)

@@ -3,7 +3,7 @@ pub mod Joined
 pub mod Wholes
 pub mod Lists
 pub mod Given
-pub mod Judged
+pub mod Handled
 pub mod Counts
 pub mod Nesting
 pub mod Kept

@@ -31,6 +31,7 @@ pub fn at_most(bytes: &[u8], most: usize) -> &[u8]
         bytes
     }
 }
+
 pub fn front<'a>(bytes: &'a [u8], rest: &[u8]) -> &'a [u8]
     ensures { result.now ≡ front_of bytes.now rest.now }
 {

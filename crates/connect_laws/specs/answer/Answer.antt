@@ -8,7 +8,7 @@ use Rattle.connect_laws.specs.request.Request.{request_for}
 use Rattle.relations.specs.Connect.{connect_answer, connect_blocks}
 use Rattle.device_frames.specs.Sent.{Sent, bytes_of}
 use Rattle.device_core.specs.State.{Live, Rest}
-use Rattle.device_core.specs.Judged.{Moves, answer_from, judged_new}
+use Rattle.device_core.specs.Handled.{Moves, answer_from, handled_new}
 use Rattle.controller_frames.specs.declared.setup.Setup.{Setup}
 use Rattle.controller_frames.specs.declared.request.Request.TheVariants as asks
 use Rattle.controller_frames.specs.Requests.{blocks_of, call_for}
@@ -33,7 +33,7 @@ answer_frame setup identity address = bytes_of identity (answer_message setup id
 -- and sends this message, from its running address, and no other.
 abbrev pub AnswersSo : Setup → Identity → Type 0
 AnswersSo setup identity = (device : Live) → device.rest.link ≡ None → (rest : Rest)
-    × (judged_new (record { identity = identity; real = setup.plan.real }) device (caller_of setup.plan.controller) (call_for setup asks.Connect) (blocks_of setup asks.Connect) Connect
+    × (handled_new (record { identity = identity; real = setup.plan.real }) device (caller_of setup.plan.controller) (call_for setup asks.Connect) (blocks_of setup asks.Connect) Connect
     ≡ Moves rest (answer_message setup identity device.values.running.suite.address ∷ []))
 
 -- the blocks of the response if the device accepts the plan's request: no module differs

@@ -3,7 +3,7 @@ ghost use Rattle.std.specs.Prelude.{◌≡◌, true, List, ℕ, None, Ok};
 ghost use Rattle.std.specs.List.{AllByRecursion};
 ghost use Rattle.connect_blocks.specs.ArBlock.{is_some_uuid};
 ghost use Rattle.module_diff.specs.Diff.{diff_of};
-ghost use Rattle.connect_requests.specs.Judged.{request_of};
+ghost use Rattle.connect_requests.specs.Handled.{request_of};
 ghost use Rattle.plans.specs.declared.parts.Parts.{Parts};
 ghost use Rattle.plans.specs.Connect.{IsRead, blocks_of, connect_of};
 ghost use Rattle.plans.specs.Plan.{IsPlan};

@@ -1,4 +1,4 @@
--- The result of an operation of a host. `asked` is the operation as the host wrote it, `told` as the host finds it
+-- The result of an operation of a host. `asked` is the operation as the host wrote it, `reported` as the host finds it
 -- afterwards: an equation of the whole operation says which fields are written, and with what. All other fields are
 -- unchanged, and so are the octets after those that are written. A refused operation changes nothing, neither in the
 -- port nor in the operation.
@@ -11,7 +11,7 @@ use Rattle.records.specs.declared.writes.taken.TakenRecord.{TakenRecord}
 use Rattle.relations.specs.declared.phase.Phase.{Phase}
 use Rattle.relations.specs.declared.phase.Phase.TheVariants.{Started, Awaiting, Exchanging}
 use Rattle.relations.specs.Exchanged.{output_in}
-use Rattle.relations.specs.Link.{phase_of, taken_of}
+use Rattle.relations.specs.RelationState.{phase_of, taken_of}
 use Rattle.relations.specs.Outputs.{output_of}
 use Rattle.device_frames.specs.declared.event.Event.{Event}
 use Rattle.device_frames.specs.declared.event.Event.TheVariants.{Frame, Input, Alarm}
@@ -19,7 +19,7 @@ use Rattle.device_frames.specs.declared.note.Note.{Note}
 use Rattle.device_frames.specs.Notes.{note_number}
 use Rattle.device_abi.specs.recorded.Entry.{call_of}
 use Rattle.c_layout.specs.Places.{place_in}
-use Rattle.c_layout.specs.Told.{with_octets}
+use Rattle.c_layout.specs.Reported.{with_octets}
 use Rattle.c_layout.specs.declared.op.Op.{Op}
 use Rattle.device_abi.specs.declared.port.device.Work.{Work}
 use Rattle.device_abi.specs.declared.port.device.Work.TheVariants.{Nothing, Carry, Send}
@@ -62,19 +62,19 @@ noted (Err refusal) asked = asked
 
 -- An event was handled, and its outcome is reported, or it was refused and nothing changed.
 abbrev pub IsEvent : State → Event → Op → ℕ → State → Op → Type 0
-IsEvent old event asked answer new told =
-    (result : Result Note Refusal) × Answers old event result new × (answer ≡ answer_of result) × (told ≡ noted result asked)
+IsEvent old event asked answer new reported =
+    (result : Result Note Refusal) × Answers old event result new × (answer ≡ answer_of result) × (reported ≡ noted result asked)
 
 -- 9 if the slot or the subslot is not a number of 16 bits: nothing is plugged there.
 abbrev pub IsInput : Option (ℕ × ℕ) → State → List ℕ → Op → ℕ → State → Op → Type 0
-IsInput (Some place) old given asked answer new told =
-    IsEvent old (Input place.0 place.1 (record { items = take 1519 given })) asked answer new told
-IsInput None old given asked answer new told = (answer ≡ 9) × (new ≡ old) × (told ≡ asked)
+IsInput (Some place) old given asked answer new reported =
+    IsEvent old (Input place.0 place.1 (record { items = take 1519 given })) asked answer new reported
+IsInput None old given asked answer new reported = (answer ≡ 9) × (new ≡ old) × (reported ≡ asked)
 
 abbrev pub IsAlarm : Option (ℕ × ℕ) → State → List ℕ → Op → ℕ → State → Op → Type 0
-IsAlarm (Some place) old given asked answer new told =
-    IsEvent old (Alarm place.0 place.1 (record { items = take 1519 given })) asked answer new told
-IsAlarm None old given asked answer new told = (answer ≡ 9) × (new ≡ old) × (told ≡ asked)
+IsAlarm (Some place) old given asked answer new reported =
+    IsEvent old (Alarm place.0 place.1 (record { items = take 1519 given })) asked answer new reported
+IsAlarm None old given asked answer new reported = (answer ≡ 9) × (new ≡ old) × (reported ≡ asked)
 
 -- The number of units that remain. The note is 0, done.
 abbrev pub passed : Result ℕ Refusal → Op → Op
@@ -84,8 +84,8 @@ passed (Err refusal) asked = asked
 -- The units of time that are asked for passed, and the number that remains is reported, or none passed and nothing
 -- changed.
 abbrev pub IsTick : State → Op → ℕ → State → Op → Type 0
-IsTick old asked answer new told =
-    (result : Result ℕ Refusal) × PassesOrNot old asked.units result new × (answer ≡ answer_of result) × (told ≡ passed result asked)
+IsTick old asked answer new reported =
+    (result : Result ℕ Refusal) × PassesOrNot old asked.units result new × (answer ≡ answer_of result) × (reported ≡ passed result asked)
 
 -- ---- a start
 
@@ -108,10 +108,10 @@ IsBoot old answer new = (result : Result (Unit {0}) Refusal) × StartsOrNot old 
 
 -- A flash call as it is reported: 1 is a program call, 2 an erase.
 abbrev pub IsCall : Call → Op → Op → Type 0
-IsCall (Programs sector place bytes) asked told =
-    told ≡ with_octets bytes (record asked { work = 1; sector = sector_number sector; place = place })
-IsCall (Erases sector) asked told = told ≡ record asked { work = 2; sector = sector_number sector; length = 0 }
-IsCall (Arms order) asked told = ⊥
+IsCall (Programs sector place bytes) asked reported =
+    reported ≡ with_octets bytes (record asked { work = 1; sector = sector_number sector; place = place })
+IsCall (Erases sector) asked reported = reported ≡ record asked { work = 2; sector = sector_number sector; length = 0 }
+IsCall (Arms order) asked reported = ⊥
 
 -- A frame, 3.
 abbrev pub with_frame : List ℕ → Op → Op
@@ -123,20 +123,20 @@ with_nothing asked = record asked { work = 0; length = 0 }
 
 -- What is handed out next: a call if one remains, a frame only if no call does, and 0 if no work remains.
 abbrev pub IsHanded : List Call → List (List ℕ) → Op → Op → Type 0
-IsHanded [] [] asked told = told ≡ with_nothing asked
-IsHanded [] (frame ∷ frames) asked told = told ≡ with_frame frame asked
-IsHanded (call ∷ calls) frames asked told = IsCall call asked told
+IsHanded [] [] asked reported = reported ≡ with_nothing asked
+IsHanded [] (frame ∷ frames) asked reported = reported ≡ with_frame frame asked
+IsHanded (call ∷ calls) frames asked reported = IsCall call asked reported
 
 -- A piece of work as it is reported.
 abbrev pub IsPiece : Work → Op → Op → Type 0
-IsPiece Nothing asked told = told ≡ with_nothing asked
-IsPiece (Carry call) asked told = IsCall (call_of call.now) asked told
-IsPiece (Send frame) asked told = told ≡ with_frame frame.now.items asked
+IsPiece Nothing asked reported = reported ≡ with_nothing asked
+IsPiece (Carry call) asked reported = IsCall (call_of call.now) asked reported
+IsPiece (Send frame) asked reported = reported ≡ with_frame frame.now.items asked
 
 -- The next piece of work is reported and marked as fetched, if the port is open.
 abbrev pub IsNextOf : Option Refusal → State → Op → ℕ → State → Op → Type 0
-IsNextOf (Some refusal) old asked answer new told = (answer ≡ refusal_number refusal) × (new ≡ old) × (told ≡ asked)
-IsNextOf None old asked answer new told = (answer ≡ 0) × IsHanded old.calls old.frames asked told × (new ≡ advanced old)
+IsNextOf (Some refusal) old asked answer new reported = (answer ≡ refusal_number refusal) × (new ≡ old) × (reported ≡ asked)
+IsNextOf None old asked answer new reported = (answer ≡ 0) × IsHanded old.calls old.frames asked reported × (new ≡ advanced old)
 
 -- Power is lost.
 abbrev pub IsLoss : State → ℕ → State → Type 0
@@ -152,13 +152,13 @@ settings_octets settings =
     ((((((settings.suite.address ++ settings.suite.mask) ++ settings.suite.gateway) ++ settings.im1) ++ settings.im2) ++ settings.im3) ++ settings.im4) ++ settings.name
 
 abbrev pub IsSettings : Option Refusal → Settings → Op → ℕ → Op → Type 0
-IsSettings (Some refusal) settings asked answer told = (answer ≡ refusal_number refusal) × (told ≡ asked)
-IsSettings None settings asked answer told = (answer ≡ 0) × (told ≡ with_octets (settings_octets settings) asked)
+IsSettings (Some refusal) settings asked answer reported = (answer ≡ refusal_number refusal) × (reported ≡ asked)
+IsSettings None settings asked answer reported = (answer ≡ 0) × (reported ≡ with_octets (settings_octets settings) asked)
 
 -- The number of commits that the flash still accepts.
 abbrev pub IsLeft : Option Refusal → ℕ → Op → ℕ → Op → Type 0
-IsLeft (Some refusal) left asked answer told = (answer ≡ refusal_number refusal) × (told ≡ asked)
-IsLeft None left asked answer told = (answer ≡ 0) × (told ≡ record asked { place = left })
+IsLeft (Some refusal) left asked answer reported = (answer ≡ refusal_number refusal) × (reported ≡ asked)
+IsLeft None left asked answer reported = (answer ≡ 0) × (reported ≡ record asked { place = left })
 
 abbrev pub phase_number : Option Phase → ℕ
 phase_number None = 0
@@ -168,25 +168,25 @@ phase_number (Some Exchanging) = 3
 
 -- The phase, and the number of units for which the lamp still flashes.
 abbrev pub IsState : Option Refusal → State → Op → ℕ → Op → Type 0
-IsState (Some refusal) port asked answer told = (answer ≡ refusal_number refusal) × (told ≡ asked)
-IsState None port asked answer told =
-    (answer ≡ 0) × (told ≡ record asked { phase = phase_number (phase_of port.device.live.rest.link); units = port.device.live.rest.lamp })
+IsState (Some refusal) port asked answer reported = (answer ≡ refusal_number refusal) × (reported ≡ asked)
+IsState None port asked answer reported =
+    (answer ≡ 0) × (reported ≡ record asked { phase = phase_number (phase_of port.device.live.rest.link); units = port.device.live.rest.lamp })
 
 -- The output of a submodule; 9 if no submodule with an output is plugged there.
 abbrev pub IsValue : Option (List ℕ) → Op → ℕ → Op → Type 0
-IsValue (Some value) asked answer told = (answer ≡ 0) × (told ≡ with_octets value asked)
-IsValue None asked answer told = (answer ≡ 9) × (told ≡ asked)
+IsValue (Some value) asked answer reported = (answer ≡ 0) × (reported ≡ with_octets value asked)
+IsValue None asked answer reported = (answer ≡ 9) × (reported ≡ asked)
 
 abbrev pub value_of : State → ℕ → ℕ → Option (List ℕ)
 value_of port slot subslot = output_of port.device.station.real slot subslot (output_in slot subslot port.device.live.rest.link)
 
 abbrev pub IsValueOf : Option Refusal → Option (List ℕ) → Op → ℕ → Op → Type 0
-IsValueOf (Some refusal) value asked answer told = (answer ≡ refusal_number refusal) × (told ≡ asked)
-IsValueOf None value asked answer told = IsValue value asked answer told
+IsValueOf (Some refusal) value asked answer reported = (answer ≡ refusal_number refusal) × (reported ≡ asked)
+IsValueOf None value asked answer reported = IsValue value asked answer reported
 
 abbrev pub IsOutput : Option (ℕ × ℕ) → State → Op → ℕ → Op → Type 0
-IsOutput (Some place) port asked answer told = IsValueOf (closed port.stage) (value_of port place.0 place.1) asked answer told
-IsOutput None port asked answer told = (answer ≡ 9) × (told ≡ asked)
+IsOutput (Some place) port asked answer reported = IsValueOf (closed port.stage) (value_of port place.0 place.1) asked answer reported
+IsOutput None port asked answer reported = (answer ≡ 9) × (reported ≡ asked)
 
 -- A parameter record that the relation accepted: its submodule, its index and its octets; 15 if no record has this
 -- number.
@@ -195,35 +195,35 @@ with_record taken asked =
     with_octets taken.value.items (record asked { slot = taken.slot; subslot = taken.subslot; place = taken.index })
 
 abbrev pub IsRecordAt : Option TakenRecord → Op → ℕ → Op → Type 0
-IsRecordAt (Some taken) asked answer told = (answer ≡ 0) × (told ≡ with_record taken asked)
-IsRecordAt None asked answer told = (answer ≡ 15) × (told ≡ asked)
+IsRecordAt (Some taken) asked answer reported = (answer ≡ 0) × (reported ≡ with_record taken asked)
+IsRecordAt None asked answer reported = (answer ≡ 15) × (reported ≡ asked)
 
 abbrev pub IsRecordOf : Option Refusal → Option TakenRecord → Op → ℕ → Op → Type 0
-IsRecordOf (Some refusal) taken asked answer told = (answer ≡ refusal_number refusal) × (told ≡ asked)
-IsRecordOf None taken asked answer told = IsRecordAt taken asked answer told
+IsRecordOf (Some refusal) taken asked answer reported = (answer ≡ refusal_number refusal) × (reported ≡ asked)
+IsRecordOf None taken asked answer reported = IsRecordAt taken asked answer reported
 
 -- ---- all of them
 
 -- The result of an operation: 10 if there is no such operation.
 abbrev pub Serves : Option Operation → State → Op → List ℕ → ℕ → State → Op → Type 0
-Serves (Some operation.Sector) old asked given answer new told = (told ≡ asked) × IsSector (sector_of asked.sector) old given answer new
-Serves (Some operation.Boot) old asked given answer new told = (told ≡ asked) × IsBoot old answer new
-Serves (Some operation.Frame) old asked given answer new told =
-    IsEvent old (Frame (record { items = take 1519 given })) asked answer new told
-Serves (Some operation.Tick) old asked given answer new told = IsTick old asked answer new told
-Serves (Some operation.Input) old asked given answer new told = IsInput (place_in asked.slot asked.subslot) old given asked answer new told
-Serves (Some operation.Alarm) old asked given answer new told = IsAlarm (place_in asked.slot asked.subslot) old given asked answer new told
-Serves (Some operation.Next) old asked given answer new told = IsNextOf (closed old.stage) old asked answer new told
-Serves (Some operation.Output) old asked given answer new told =
-    (new ≡ old) × IsOutput (place_in asked.slot asked.subslot) old asked answer told
-Serves (Some operation.State) old asked given answer new told = (new ≡ old) × IsState (closed old.stage) old asked answer told
-Serves (Some operation.Running) old asked given answer new told =
-    (new ≡ old) × IsSettings (closed old.stage) old.device.live.values.running asked answer told
-Serves (Some operation.Stored) old asked given answer new told =
-    (new ≡ old) × IsSettings (closed old.stage) old.device.live.values.stored asked answer told
-Serves (Some operation.Lose) old asked given answer new told = (told ≡ asked) × IsLoss old answer new
-Serves (Some operation.Record) old asked given answer new told =
-    (new ≡ old) × IsRecordOf (closed old.stage) (slice_get (taken_of old.device.live.rest.link) asked.place) asked answer told
-Serves (Some operation.Left) old asked given answer new told =
-    (new ≡ old) × IsLeft (closed old.stage) old.device.live.values.room asked answer told
-Serves None old asked given answer new told = (answer ≡ 10) × (new ≡ old) × (told ≡ asked)
+Serves (Some operation.Sector) old asked given answer new reported = (reported ≡ asked) × IsSector (sector_of asked.sector) old given answer new
+Serves (Some operation.Boot) old asked given answer new reported = (reported ≡ asked) × IsBoot old answer new
+Serves (Some operation.Frame) old asked given answer new reported =
+    IsEvent old (Frame (record { items = take 1519 given })) asked answer new reported
+Serves (Some operation.Tick) old asked given answer new reported = IsTick old asked answer new reported
+Serves (Some operation.Input) old asked given answer new reported = IsInput (place_in asked.slot asked.subslot) old given asked answer new reported
+Serves (Some operation.Alarm) old asked given answer new reported = IsAlarm (place_in asked.slot asked.subslot) old given asked answer new reported
+Serves (Some operation.Next) old asked given answer new reported = IsNextOf (closed old.stage) old asked answer new reported
+Serves (Some operation.Output) old asked given answer new reported =
+    (new ≡ old) × IsOutput (place_in asked.slot asked.subslot) old asked answer reported
+Serves (Some operation.State) old asked given answer new reported = (new ≡ old) × IsState (closed old.stage) old asked answer reported
+Serves (Some operation.Running) old asked given answer new reported =
+    (new ≡ old) × IsSettings (closed old.stage) old.device.live.values.running asked answer reported
+Serves (Some operation.Stored) old asked given answer new reported =
+    (new ≡ old) × IsSettings (closed old.stage) old.device.live.values.stored asked answer reported
+Serves (Some operation.Lose) old asked given answer new reported = (reported ≡ asked) × IsLoss old answer new
+Serves (Some operation.Record) old asked given answer new reported =
+    (new ≡ old) × IsRecordOf (closed old.stage) (slice_get (taken_of old.device.live.rest.link) asked.place) asked answer reported
+Serves (Some operation.Left) old asked given answer new reported =
+    (new ≡ old) × IsLeft (closed old.stage) old.device.live.values.room asked answer reported
+Serves None old asked given answer new reported = (answer ≡ 10) × (new ≡ old) × (reported ≡ asked)

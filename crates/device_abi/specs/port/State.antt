@@ -74,6 +74,6 @@ abbrev pub lost : State → State
 lost port = record port { stage = Lost; calls = []; frames = [] }
 
 -- Why no output is reported: the port is closed, or no submodule with an output is plugged there.
-abbrev pub IsUntold : Option Refusal → Option (List ℕ) → Refusal → Type 0
-IsUntold (Some why) value refused = refused ≡ why
-IsUntold None value refused = (value ≡ None) × (refused ≡ refusal.NoSlot)
+abbrev pub IsUnreported : Option Refusal → Option (List ℕ) → Refusal → Type 0
+IsUnreported (Some why) value refused = refused ≡ why
+IsUnreported None value refused = (value ≡ None) × (refused ≡ refusal.NoSlot)

@@ -2,10 +2,10 @@
 ghost use Rattle.std.specs.Prelude.{◌≡◌, ◌≤◌, Some, slice_get, take};
 ghost use Rattle.device_frames.specs.declared.event.Event.TheVariants.{Frame as Framed};
 ghost use Rattle.device_abi.specs.recorded.Entry.{call_of};
-ghost use Rattle.relations.specs.Link.{phase_of, taken_of};
+ghost use Rattle.relations.specs.RelationState.{phase_of, taken_of};
 ghost use Rattle.device_abi.specs.port.State.{closed};
 ghost use Rattle.c_layout.specs.Places.{place_in};
-ghost use Rattle.c_layout.specs.Told.{with_octets};
+ghost use Rattle.c_layout.specs.Reported.{with_octets};
 ghost use Rattle.device_abi.specs.operations.Serves.{IsAlarm, IsBoot, IsCall, IsEvent, IsInput, IsLeft, IsLoss, IsNextOf, IsOutput, IsPiece};
 ghost use Rattle.device_abi.specs.operations.Serves.{IsRecordAt, IsRecordOf, IsSector, IsSettings, IsState, IsTick, IsValueOf, Serves, answer_of};
 ghost use Rattle.device_abi.specs.operations.Serves.{noted as is_noted, operation_of as operation_in, passed as is_passed, phase_number};
@@ -134,7 +134,7 @@ fn alarm(port: &mut Port, op: &mut Op, given: &[u8]) -> u32
 // The outcome of an event, or why it was refused.
 fn noted(outcome: Result<Note, Refusal>, op: &mut Op) -> u32
     ensures answer { result ≡ answer_of outcome }
-    ensures told { op.new ≡ is_noted outcome op.old }
+    ensures reported { op.new ≡ is_noted outcome op.old }
 {
     match outcome {
         Ok(note) => {
@@ -155,7 +155,7 @@ fn tick(port: &mut Port, op: &mut Op) -> u32
 // The number of units that remain, or why none passed.
 fn passed(outcome: Result<u32, Refusal>, op: &mut Op) -> u32
     ensures answer { result ≡ answer_of outcome }
-    ensures told { op.new ≡ is_passed outcome op.old }
+    ensures reported { op.new ≡ is_passed outcome op.old }
 {
     match outcome {
         Ok(left) => {

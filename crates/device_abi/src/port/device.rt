@@ -4,9 +4,9 @@ ghost use Rattle.flash_model.specs.Image.{erased};
 ghost use Rattle.device_abi.specs.recorded.Record.{image_of, record_of};
 ghost use Rattle.device_frames.specs.declared.event.Event.TheVariants.{Alarm, Frame as Framed, Input};
 ghost use Rattle.relations.specs.Exchanged.{output_in};
-ghost use Rattle.relations.specs.Link.{phase_of, taken_of};
+ghost use Rattle.relations.specs.RelationState.{phase_of, taken_of};
 ghost use Rattle.relations.specs.Outputs.{output_of};
-ghost use Rattle.device_abi.specs.port.State.{IsIdle, IsNext, IsUntold, advanced, barred, closed, has_work as is_left, lost};
+ghost use Rattle.device_abi.specs.port.State.{IsIdle, IsNext, IsUnreported, advanced, barred, closed, has_work as is_left, lost};
 ghost use Rattle.device_abi.specs.port.State.{past_start as too_late};
 ghost use Rattle.device_abi.specs.port.Steps.{Answers, KnowsOrNot, Passes, PassesOrNot, StartsOrNot, Takes};
 ghost use Rattle.frame_codec.specs.Outbox.{boxed};
@@ -328,8 +328,8 @@ impl Port {
     pub fn output(&self, slot: u16, subslot: u16) -> Result<&[u8], Refusal>
         ensures value { let value = output_of self.now.device.station.real slot subslot
             (output_in slot subslot self.now.device.live.rest.link) in
-            MatchResult result (λ told. (closed self.now.stage ≡ None)
-            × (value ≡ Some told.now)) (λ refusal. IsUntold (closed self.now.stage) value refusal) }
+            MatchResult result (λ reported. (closed self.now.stage ≡ None)
+            × (value ≡ Some reported.now)) (λ refusal. IsUnreported (closed self.now.stage) value refusal) }
         ensures short { IfOk result (λ value. length value.now ≤ 1440) }
     {
         if let Some(refusal) = why_closed(self.stage) {

@@ -38,7 +38,7 @@ pub data Phase : Type 0 where
   Exchanging : Phase
 
 -- a relation: the request of its Connect, and the records that it accepted
-pub record Link (T Q : Type 0) : Type 0 where
+pub record RelationState (T Q : Type 0) : Type 0 where
   pub phase : Phase
   pub request : Q
   pub taken : List T
@@ -51,7 +51,7 @@ pub record Kept : Type 0 where
 -- a device: its last response, and its relation, if there is one
 pub record Device (T Q : Type 0) : Type 0 where
   pub kept : Option Kept
-  pub link : Option (Link T Q)
+  pub link : Option (RelationState T Q)
 
 -- A controller: it has not asked for the relation yet; it makes the call with this sequence number, which is 0 for
 -- Connect, and one more for each record and for PrmEnd; it waits for ApplicationReady; it exchanges data; or its

@@ -1,7 +1,7 @@
 -- The law of a start-up, over any list of moves.
 use Rattle.std.specs.Prelude.{◌≡◌, ℕ, List, ◌∷◌, ◌++◌, slice_get, Some, None}
 use Rattle.std.specs.List.{AllByRecursion}
-use Rattle.end_laws.specs.both.Small.{Readies, Rules, Awaiting, Link, Seeking, Exchanges, World, Move, ComesToController, ComesToDevice, IsByController, IsByDevice}
+use Rattle.end_laws.specs.both.Small.{Readies, Rules, Awaiting, RelationState, Seeking, Exchanges, World, Move, ComesToController, ComesToDevice, IsByController, IsByDevice}
 use Rattle.end_laws.specs.both.Runs.{AreSteps, end_of}
 use Rattle.end_laws.specs.both.Steps.{IsDull, Steps}
 
@@ -38,7 +38,7 @@ module _ {T Q : Type 0} where
     pub sent : slice_get frames number ≡ Some frame
     pub still : point.controller ≡ (last_of first before).controller
     -- this is the relation of the device
-    pub link : Link T Q
+    pub link : RelationState T Q
     pub has : point.device.link ≡ Some link
     pub awaits : link.phase ≡ Awaiting
     pub accepted : link.request ≡ rules.request

@@ -2,7 +2,7 @@
 -- decides.
 use Rattle.std.specs.Prelude.{◌≡◌, ◌⊎◌, ◌+◌, ◌<◌, ◌≤◌, ℕ, Bool, true, false, List, [], ◌∷◌, ◌++◌, length, slice_get, Option, Some, None}
 use Rattle.std.specs.List.{AllByRecursion}
-use Rattle.end_laws.specs.both.Small.{Ask, Connects, Writes, Parameterized, Releases, ToDevice, Call, Confirms, Idle, ToController, Answers, Readies, Nothing, Rules, Started, Awaiting, Exchanging, Link, Kept, Device, Controller, Asking, Waiting, Exchanges, Ended, World, Move, ComesToDevice, ComesToController, AtDevice, AtController}
+use Rattle.end_laws.specs.both.Small.{Ask, Connects, Writes, Parameterized, Releases, ToDevice, Call, Confirms, Idle, ToController, Answers, Readies, Nothing, Rules, Started, Awaiting, Exchanging, RelationState, Kept, Device, Controller, Asking, Waiting, Exchanges, Ended, World, Move, ComesToDevice, ComesToController, AtDevice, AtController}
 
 -- ---- the device
 
@@ -46,33 +46,33 @@ Moves count heard before after =
 
 module _ {T Q : Type 0} where
   -- a new relation
-  abbrev pub made : Rules T Q → Link T Q
+  abbrev pub made : Rules T Q → RelationState T Q
   made rules = record { phase = Started; request = rules.request; taken = [] }
 
   -- a relation accepts one more record
-  pub record TakesRecord (rules : Rules T Q) (number : ℕ) (before after : Option (Link T Q)) : Type 0 where
-    pub link : Link T Q
+  pub record TakesRecord (rules : Rules T Q) (number : ℕ) (before after : Option (RelationState T Q)) : Type 0 where
+    pub link : RelationState T Q
     pub value : T
     pub was : before ≡ Some link
     pub is : slice_get rules.records number ≡ Some value
     pub becomes : after ≡ Some (record link { taken = link.taken ++ value ∷ [] })
 
   -- the parameters of a relation are complete
-  pub record IsParameterized (before after : Option (Link T Q)) : Type 0 where
-    pub link : Link T Q
+  pub record IsParameterized (before after : Option (RelationState T Q)) : Type 0 where
+    pub link : RelationState T Q
     pub was : before ≡ Some link
     pub started : link.phase ≡ Started
     pub becomes : after ≡ Some (record link { phase = Awaiting })
 
   -- the effect of a call that is answered positively; for a Connect this is stated only if there is no relation yet
-  abbrev pub Carries : Rules T Q → Ask → Option (Link T Q) → Option (Link T Q) → Type 0
+  abbrev pub Carries : Rules T Q → Ask → Option (RelationState T Q) → Option (RelationState T Q) → Type 0
   Carries rules Connects before after = before ≡ None → after ≡ Some (made rules)
   Carries rules (Writes number) before after = TakesRecord rules number before after
   Carries rules Parameterized before after = IsParameterized before after
   Carries rules Releases before after = after ≡ None
 
   -- a call that is not answered positively changes nothing
-  abbrev pub Comes : Rules T Q → Bool → Ask → Option (Link T Q) → Option (Link T Q) → Type 0
+  abbrev pub Comes : Rules T Q → Bool → Ask → Option (RelationState T Q) → Option (RelationState T Q) → Type 0
   Comes rules true ask before after = Carries rules ask before after
   Comes rules false ask before after = after ≡ before
 
@@ -84,7 +84,7 @@ module _ {T Q : Type 0} where
   pub record IsReady (rules : Rules T Q) (after : Device T Q) (frame : List ℕ) : Type 0 where
     pub to_device : rules.to_device frame ≡ Idle
     pub to_controller : SaysAtMost rules Readies frame
-    pub link : Link T Q
+    pub link : RelationState T Q
     pub has : after.link ≡ Some link
     pub awaits : link.phase ≡ Awaiting
 
@@ -119,7 +119,7 @@ module _ {T Q : Type 0} where
 
   -- the response that confirms ApplicationReady, while the relation waits for it
   pub record IsConfirmed (before after : Device T Q) (frames : List (List ℕ)) : Type 0 where
-    pub link : Link T Q
+    pub link : RelationState T Q
     pub was : before.link ≡ Some link
     pub awaits : link.phase ≡ Awaiting
     pub becomes : after ≡ record before { link = Some (record link { phase = Exchanging }) }

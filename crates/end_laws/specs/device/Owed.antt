@@ -6,9 +6,9 @@ use Rattle.rpc_core.specs.Call.{Asked as Call}
 use Rattle.rpc_core.specs.Response.{Answered as Response}
 use Rattle.rpc_core.specs.Sendable.{IsStatus}
 use Rattle.relations.specs.declared.ready.Ready.{Ready}
-use Rattle.relations.specs.Link.{Link}
+use Rattle.relations.specs.RelationState.{RelationState}
 use Rattle.relations.specs.Ready.{ready_of}
-use Rattle.device_frames.specs.Heard.{Heard, Told, Calls}
+use Rattle.device_frames.specs.Heard.{Heard, Reported, Calls}
 use Rattle.device_frames.specs.Sent.{Sent, IdentifyAnswer, GetAnswer, SetAnswer, ArpReply, CallAnswer, Again, ReadyCall, Ends, Exchanges}
 use Rattle.device_core.specs.State.{Live}
 
@@ -16,7 +16,7 @@ use Rattle.device_core.specs.State.{Live}
 pub record IsAnswering (heard : Heard) (caller : Caller) (answer : Response) : Type 0 where
   pub address : List ℕ
   pub call : Call
-  pub is : heard ≡ Told caller address (Calls call)
+  pub is : heard ≡ Reported caller address (Calls call)
   pub header : answer.header ≡ call.header
   pub maximum : answer.maximum_count ≡ call.args_maximum
   pub status : IsStatus answer.status
@@ -26,14 +26,14 @@ pub record IsOfKept (heard : Heard) (live : Live) (frame : List ℕ) : Type 0 wh
   pub caller : Caller
   pub address : List ℕ
   pub call : Call
-  pub is : heard ≡ Told caller address (Calls call)
+  pub is : heard ≡ Reported caller address (Calls call)
   pub kept : Kept
   pub there : kept_of call.header.activity live.rest.calls ≡ Some kept
   pub same : kept.frame ≡ frame
 
 -- ApplicationReady of this relation, to any station
-pub record IsOfRelation (relation : Option Link) (ready : Ready) : Type 0 where
-  pub link : Link
+pub record IsOfRelation (relation : Option RelationState) (ready : Ready) : Type 0 where
+  pub link : RelationState
   pub is : relation ≡ Some link
   pub header : ready.header ≡ (ready_of link).header
   pub block : ready.block ≡ (ready_of link).block

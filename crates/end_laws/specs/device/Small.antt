@@ -12,16 +12,16 @@ use Rattle.records.specs.declared.status.operation.Operation.{Operation}
 use Rattle.records.specs.declared.status.operation.Operation.TheVariants as operation
 use Rattle.records.specs.status.Operation.{operation_of}
 use Rattle.connect_requests.specs.Request.{Request}
-use Rattle.connect_requests.specs.Judged.{request_of}
+use Rattle.connect_requests.specs.Handled.{request_of}
 use Rattle.records.specs.declared.writes.taken.TakenRecord.{TakenRecord}
 use Rattle.records.specs.declared.writes.write.Effect.TheVariants.{Keeps}
 use Rattle.records.specs.declared.writes.write.Write.{Write}
-use Rattle.records.specs.writes.Judged.{write_of}
+use Rattle.records.specs.writes.Handled.{write_of}
 use Rattle.relations.specs.declared.phase.Phase.{Phase}
 use Rattle.relations.specs.declared.phase.Phase.TheVariants.{Started, Awaiting, Exchanging}
-use Rattle.relations.specs.Link.{Link}
+use Rattle.relations.specs.RelationState.{RelationState}
 use Rattle.relations.specs.Ready.{confirmed_block}
-use Rattle.device_frames.specs.Heard.{Heard, Ticks, Unreadable, Elsewhere, Asks, Resolves, Told, Cyclic, Alarms, Given, Raised, Said, Calls, Responds, Garbled}
+use Rattle.device_frames.specs.Heard.{Heard, Ticks, Unreadable, Elsewhere, Asks, Resolves, Reported, Cyclic, Alarms, Given, Raised, Said, Calls, Responds, Garbled}
 use Rattle.device_frames.specs.Sent.{Sent, IdentifyAnswer, GetAnswer, SetAnswer, ArpReply, CallAnswer, Again, ReadyCall, Ends, Exchanges, bytes_of}
 use Rattle.device_core.specs.State.{Live}
 use Rattle.end_laws.specs.both.Small as small
@@ -35,7 +35,7 @@ phase_in Started = small.Started
 phase_in Awaiting = small.Awaiting
 phase_in Exchanging = small.Exchanging
 
-abbrev pub link_of : Link → small.Link TakenRecord Request
+abbrev pub link_of : RelationState → small.RelationState TakenRecord Request
 link_of link = record { phase = phase_in link.phase; request = link.request; taken = link.taken }
 
 abbrev pub kept_in : Answer → small.Kept
@@ -75,7 +75,7 @@ said_to Garbled = small.Idle
 
 -- calls and responses; everything else says nothing of a start-up
 abbrev pub heard_as : Heard → ToDevice
-heard_as (Told caller address said) = said_to said
+heard_as (Reported caller address said) = said_to said
 heard_as Ticks = small.Idle
 heard_as Unreadable = small.Idle
 heard_as Elsewhere = small.Idle
@@ -120,7 +120,7 @@ IsPlannedIn rules activity real (Responds response) = Unit {0}
 IsPlannedIn rules activity real Garbled = Unit {0}
 
 abbrev pub IsPlanned : Rules TakenRecord Request → List ℕ → Real → Heard → Type 0
-IsPlanned rules activity real (Told caller address said) = IsPlannedIn rules activity real said
+IsPlanned rules activity real (Reported caller address said) = IsPlannedIn rules activity real said
 IsPlanned rules activity real Ticks = Unit {0}
 IsPlanned rules activity real Unreadable = Unit {0}
 IsPlanned rules activity real Elsewhere = Unit {0}

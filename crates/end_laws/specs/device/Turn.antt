@@ -33,14 +33,14 @@ use Rattle.relations.specs.declared.phase.Partner.{Partner}
 use Rattle.relations.specs.Connect.{connect_of}
 use Rattle.relations.specs.Exchanged.{raised_to}
 use Rattle.relations.specs.Farewells.{farewell_of}
-use Rattle.relations.specs.Link.{Link}
+use Rattle.relations.specs.RelationState.{RelationState}
 use Rattle.relations.specs.Phases.{made_of, with_flow}
 use Rattle.relations.specs.Timers.{unit_later}
-use Rattle.device_frames.specs.Heard.{Heard, Alarms, Calls, Cyclic, Raised, Ticks, Told}
+use Rattle.device_frames.specs.Heard.{Heard, Alarms, Calls, Cyclic, Raised, Ticks, Reported}
 use Rattle.device_frames.specs.Relation.{alarms_of, replies_of, where_due}
 use Rattle.device_frames.specs.Sent.{Sent, IdentifyAnswer, GetAnswer, SetAnswer, ArpReply, CallAnswer, Again, ReadyCall, Ends, Exchanges}
 use Rattle.device_core.specs.State.{Live, Rest, Station}
-use Rattle.device_core.specs.Judged.{kept_for}
+use Rattle.device_core.specs.Handled.{kept_for}
 use Rattle.end_laws.specs.device.Owed.{IsOwed}
 
 -- ---- what stays the same of a relation
@@ -54,7 +54,7 @@ pub record Standing : Type 0 where
   pub last : Option ℕ
   pub outputs : Image
 
-abbrev pub standing_of : Link → Standing
+abbrev pub standing_of : RelationState → Standing
 standing_of link = record {
   request = link.request;
   alarms = link.flow.alarms;
@@ -64,17 +64,17 @@ standing_of link = record {
 }
 
 -- these stay the same, or the relation has ended
-abbrev pub IsSameOr : Option Link → Option Link → Type 0
+abbrev pub IsSameOr : Option RelationState → Option RelationState → Type 0
 IsSameOr before after = (option_map standing_of after ≡ option_map standing_of before) ⊎ (after ≡ None)
 
 -- ---- messages
 
 -- a message without alarm data and without a reply to it: inputs and the ERR belong to the relation that existed
-abbrev pub IsCalm : Option Link → Sent → Type 0
-IsCalm before (Exchanges route (Inputs inputs counter)) = (link : Link) × (before ≡ Some link) × (route ≡ link.flow.cyclic.route)
+abbrev pub IsCalm : Option RelationState → Sent → Type 0
+IsCalm before (Exchanges route (Inputs inputs counter)) = (link : RelationState) × (before ≡ Some link) × (route ≡ link.flow.cyclic.route)
 IsCalm before (Exchanges route (Notifies header alarm)) = ⊥
 IsCalm before (Exchanges route (Replies header)) = ⊥
-IsCalm before (Ends farewell) = (reason : Abort) × (link : Link) × (before ≡ Some link) × (farewell ≡ farewell_of reason link)
+IsCalm before (Ends farewell) = (reason : Abort) × (link : RelationState) × (before ≡ Some link) × (farewell ≡ farewell_of reason link)
 IsCalm before (IdentifyAnswer asker running xid) = Unit {0}
 IsCalm before (GetAnswer asker running request) = Unit {0}
 IsCalm before (SetAnswer asker request answers) = Unit {0}
@@ -83,22 +83,22 @@ IsCalm before (CallAnswer caller address answer) = Unit {0}
 IsCalm before (Again frame) = Unit {0}
 IsCalm before (ReadyCall address ready) = Unit {0}
 
-abbrev pub AreCalm : Option Link → List Sent → Type 0
+abbrev pub AreCalm : Option RelationState → List Sent → Type 0
 AreCalm before sent = AllByRecursion (IsCalm before) sent
 
 -- ---- the kinds of turns
 
-pub record Stays (before after : Option Link) (sent : List Sent) : Type 0 where
+pub record Stays (before after : Option RelationState) (sent : List Sent) : Type 0 where
   pub link : IsSameOr before after
   pub calm : AreCalm before sent
 
 -- a new Connect is accepted
-pub record Makes (calls : List Kept) (before : Option Link) (heard : Heard) (after : Option Link) (sent : List Sent) : Type 0 where
+pub record Makes (calls : List Kept) (before : Option RelationState) (heard : Heard) (after : Option RelationState) (sent : List Sent) : Type 0 where
   pub caller : Caller
   pub address : List ℕ
   pub call : Call
   pub blocks : List ℕ
-  pub is : heard ≡ Told caller address (Calls call)
+  pub is : heard ≡ Reported caller address (Calls call)
   pub connects : operation_of call.header.operation ≡ Some operation.Connect
   pub counted : call.blocks ≡ Some blocks
   pub fresh : looked call.header.activity call.header.sequence calls ≡ new
@@ -110,12 +110,12 @@ pub record Makes (calls : List Kept) (before : Option Link) (heard : Heard) (aft
   pub calm : AreCalm before sent
 
 -- an alarm is raised
-pub record Raises (real : List RealModule) (before : Option Link) (heard : Heard) (after : Option Link) (sent : List Sent) : Type 0 where
+pub record Raises (real : List RealModule) (before : Option RelationState) (heard : Heard) (after : Option RelationState) (sent : List Sent) : Type 0 where
   pub slot : ℕ
   pub subslot : ℕ
   pub octets : List ℕ
   pub is : heard ≡ Raised slot subslot octets
-  pub link : Link
+  pub link : RelationState
   pub was : before ≡ Some link
   pub flow : Flow
   pub raised : raised_at link.flow real slot subslot octets ≡ Some flow
@@ -123,41 +123,41 @@ pub record Raises (real : List RealModule) (before : Option Link) (heard : Heard
   pub sends : sent ≡ alarms_of (Some flow)
 
 -- an alarm is refused
-pub record Refused (real : List RealModule) (before : Option Link) (slot subslot : ℕ) (octets : List ℕ) (after : Option Link) (sent : List Sent) : Type 0 where
+pub record Refused (real : List RealModule) (before : Option RelationState) (slot subslot : ℕ) (octets : List ℕ) (after : Option RelationState) (sent : List Sent) : Type 0 where
   pub unraised : raised_to real slot subslot octets before ≡ None
   pub same : after ≡ before
   pub silent : sent ≡ []
 
-abbrev pub IsRaise : List RealModule → Option Link → ℕ → ℕ → List ℕ → Option Link → List Sent → Type 0
+abbrev pub IsRaise : List RealModule → Option RelationState → ℕ → ℕ → List ℕ → Option RelationState → List Sent → Type 0
 IsRaise real before slot subslot octets after sent =
     Raises real before (Raised slot subslot octets) after sent ⊎ Refused real before slot subslot octets after sent
 
 -- an ACK or an AlarmAck arrives
-pub record HearsAck (before : Option Link) (heard : Heard) (after : Option Link) (sent : List Sent) : Type 0 where
+pub record HearsAck (before : Option RelationState) (heard : Heard) (after : Option RelationState) (sent : List Sent) : Type 0 where
   pub source : Mac
   pub header : Header
   pub number : ℕ
   pub is : heard ≡ Alarms source header (notice.Ack number)
-  pub link : Link
+  pub link : RelationState
   pub was : before ≡ Some link
   pub becomes : after ≡ Some (with_flow (behind_message link.flow (notice.Ack number)) link)
   pub silent : sent ≡ []
 
-pub record HearsData (before : Option Link) (heard : Heard) (after : Option Link) (sent : List Sent) : Type 0 where
+pub record HearsData (before : Option RelationState) (heard : Heard) (after : Option RelationState) (sent : List Sent) : Type 0 where
   pub source : Mac
   pub header : Header
   pub number : ℕ
   pub ack : AlarmAck
   pub is : heard ≡ Alarms source header (notice.Data number ack)
-  pub link : Link
+  pub link : RelationState
   pub was : before ≡ Some link
   pub becomes : after ≡ Some (with_flow (behind_message link.flow (notice.Data number ack)) link)
   pub sends : sent ≡ replies_of (taken_as link.flow.alarms.seen number) (Some (behind_message link.flow (notice.Data number ack)))
 
 -- a unit passes, and the relation stays
-pub record Passes (before : Option Link) (heard : Heard) (after : Option Link) (sent : List Sent) : Type 0 where
+pub record Passes (before : Option RelationState) (heard : Heard) (after : Option RelationState) (sent : List Sent) : Type 0 where
   pub is : heard ≡ Ticks
-  pub link : Link
+  pub link : RelationState
   pub was : before ≡ Some link
   pub becomes : after ≡ Some (unit_later link)
   pub others : List Sent
@@ -165,18 +165,18 @@ pub record Passes (before : Option Link) (heard : Heard) (after : Option Link) (
   pub calm : AreCalm before others
 
 -- a cyclic frame is accepted
-pub record Takes (before : Option Link) (heard : Heard) (after : Option Link) (sent : List Sent) : Type 0 where
+pub record Takes (before : Option RelationState) (heard : Heard) (after : Option RelationState) (sent : List Sent) : Type 0 where
   pub source : Mac
   pub frame_id : ℕ
   pub body : List ℕ
   pub is : heard ≡ Cyclic source frame_id body
-  pub link : Link
+  pub link : RelationState
   pub was : before ≡ Some link
   pub taken : received_as link.flow source frame_id body ≡ received.Taken
   pub becomes : after ≡ Some (with_flow (behind_frame link.flow source frame_id body) link)
   pub silent : sent ≡ []
 
-abbrev pub IsTurn : List RealModule → List Kept → Option Link → Heard → Option Link → List Sent → Type 0
+abbrev pub IsTurn : List RealModule → List Kept → Option RelationState → Heard → Option RelationState → List Sent → Type 0
 IsTurn real calls before heard after sent =
     Stays before after sent ⊎ (Makes calls before heard after sent ⊎ (Raises real before heard after sent
     ⊎ (HearsAck before heard after sent ⊎ (HearsData before heard after sent ⊎ (Passes before heard after sent ⊎ Takes before heard after sent)))))

@@ -1,6 +1,6 @@
 //! The law of a start-up.
 ghost use Rattle.std.specs.Prelude.{◌≡◌, List, Some};
-ghost use Rattle.end_laws.specs.both.Small.{Rules, World, Move, Link, Exchanges, Exchanging};
+ghost use Rattle.end_laws.specs.both.Small.{Rules, World, Move, RelationState, Exchanges, Exchanging};
 ghost use Rattle.end_laws.specs.both.StartUp.{Begins, IsRun, last_of, WasExchanging, WasHanded};
 
 /// The law of a start-up over any list of moves, for any type of records and of Connect requests.
@@ -14,8 +14,8 @@ pub fn start_up_is_kept<T, Q>()
     // If the device exchanges data, its controller did so before: after one of its own moves, and since then a frame
     // was delivered to the device.
     ensures device { (rules : Rules T Q) (first : World T Q) (run : List (Move × World T Q)) → Begins rules first → IsRun rules first run
-        → (link : Link T Q) → (last_of first run).device.link ≡ Some link → link.phase ≡ Exchanging → WasExchanging run }
+        → (link : RelationState T Q) → (last_of first run).device.link ≡ Some link → link.phase ≡ Exchanging → WasExchanging run }
     // A relation of the device is the one that the Connect asks for.
     ensures relation { (rules : Rules T Q) (first : World T Q) (run : List (Move × World T Q)) → Begins rules first → IsRun rules first run
-        → (link : Link T Q) → (last_of first run).device.link ≡ Some link → link.request ≡ rules.request }
+        → (link : RelationState T Q) → (last_of first run).device.link ≡ Some link → link.request ≡ rules.request }
 {}

@@ -31,14 +31,14 @@ all_hears identity destination heard =
     if is_own identity destination || pointwise nat_eq destination.octets device.broadcast then heard else device.Elsewhere
 
 -- the same for a datagram, which must also go to the port of calls
-abbrev pub own_told : Identity → Mac → Mac → Endpoint → Endpoint → Said → Heard
-own_told identity source destination from to said =
-    if is_own identity destination && to.port == 34964 then device.Told (record { mac = source; endpoint = from }) to.address said else device.Elsewhere
+abbrev pub own_reported : Identity → Mac → Mac → Endpoint → Endpoint → Said → Heard
+own_reported identity source destination from to said =
+    if is_own identity destination && to.port == 34964 then device.Reported (record { mac = source; endpoint = from }) to.address said else device.Elsewhere
 
 -- no call and no response was heard
-abbrev pub IsUntold : Heard → Type 0
-IsUntold (device.Told caller address said) = ⊥
-IsUntold heard = ⊤
+abbrev pub IsUnreported : Heard → Type 0
+IsUnreported (device.Reported caller address said) = ⊥
+IsUnreported heard = ⊤
 
 -- ---- a controller
 
@@ -47,8 +47,8 @@ abbrev pub mine_hears : Controller → Mac → controller.Heard → controller.H
 mine_hears mine destination heard = if pointwise nat_eq destination.octets mine.mac.octets then heard else controller.Nothing
 
 -- the same for a datagram, which must also go to its IP address and the port of calls
-abbrev pub mine_told : Controller → Mac → Endpoint → controller.Heard → controller.Heard
-mine_told mine destination to heard = mine_hears mine destination (if controller.is_to mine.address to then heard else controller.Nothing)
+abbrev pub mine_reported : Controller → Mac → Endpoint → controller.Heard → controller.Heard
+mine_reported mine destination to heard = mine_hears mine destination (if controller.is_to mine.address to then heard else controller.Nothing)
 
 -- no call and no response was heard
 abbrev pub IsUncalled : controller.Heard → Type 0

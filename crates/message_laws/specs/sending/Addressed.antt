@@ -32,7 +32,7 @@ IsHeardFrom mac (Calls caller call) = (caller.mac ≡ mac) × IsCaller caller ×
 IsHeardFrom mac Nothing = ⊤
 IsHeardFrom mac (Responds response) = ⊤
 IsHeardFrom mac (Cyclic source frame_id body) = ⊤
-IsHeardFrom mac (Alarms source header told) = ⊤
+IsHeardFrom mac (Alarms source header reported) = ⊤
 
 abbrev pub IsEventFrom : Mac → Setup → Event → Type 0
 IsEventFrom mac setup (Frame bytes) = IsHeardFrom mac (heard_of setup.plan.controller bytes.items)

@@ -89,7 +89,7 @@ IsSized (Answers source answer) = IsMac source
 IsSized (Responds response) = IsChosen response.blocks
 IsSized (Calls caller call) = IsCaller caller × IsHeader call.header × (call.args_maximum < 4294967296)
 IsSized (Cyclic source frame_id body) = ⊤
-IsSized (Alarms source header told) = IsNotice told
+IsSized (Alarms source header reported) = IsNotice reported
 
 abbrev pub IsSizedEvent : Setup → Event → Type 0
 IsSizedEvent setup (Frame bytes) = IsSized (heard_of setup.plan.controller bytes.items)

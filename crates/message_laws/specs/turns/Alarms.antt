@@ -31,7 +31,7 @@ pub record Relation : Type 0 where
   pub live : Live
   pub alarms : Line AlarmNotification
   pub acks : List ℕ
-  pub told : List Sent
+  pub reported : List Sent
 
 -- What may happen: the device raises an alarm; a unit passes at its end; the message at this position, of all that the
 -- controller ever sent, arrives at it; the data, or the ACK, at this position, of all that it ever sent, arrives at the
@@ -89,7 +89,7 @@ comes_to_device r None = r
 
 -- It makes a turn.
 abbrev pub turns : Relation → Turn → Relation
-turns r turn = record r { live = turn.live; told = r.told ++ turn.sent }
+turns r turn = record r { live = turn.live; reported = r.reported ++ turn.sent }
 
 -- Whether it handles an alarm frame of this station with these endpoints: while its relation is established, if the
 -- frame belongs to that.
@@ -119,7 +119,7 @@ hears setup r heard = turns r (turned setup r.live heard)
 abbrev pub behind_one : Setup → Relation → Move → Relation
 behind_one setup r (Raises alarm) = raised_by r alarm r.device.sender.standing
 behind_one setup r PassesAtDevice = passed_at_device r
-behind_one setup r (ComesToDevice place) = comes_to_device r (slice_get r.told place)
+behind_one setup r (ComesToDevice place) = comes_to_device r (slice_get r.reported place)
 behind_one setup r (AlarmComes source header place) = alarm_comes r source header (slice_get r.alarms.pdus place)
 behind_one setup r (AckComes source header place) = ack_comes r source header (slice_get r.acks place)
 behind_one setup r (Hears heard) = hears setup r heard
@@ -134,7 +134,7 @@ behind setup (move ∷ moves) r = behind setup moves (behind_one setup r move)
 -- A new controller, and a device's end with the RTATimeoutFactor and RTARetries of its Connect: nothing has happened
 -- yet.
 abbrev pub start : Setup → Relation
-start setup = record { device = idle 1 3; live = first setup.plan; alarms = empty; acks = []; told = [] }
+start setup = record { device = idle 1 3; live = first setup.plan; alarms = empty; acks = []; reported = [] }
 
 -- The last of the alarms that were accepted, as a controller stores it.
 abbrev pub last_of : List AlarmNotification → Option AlarmNotification

@@ -54,16 +54,16 @@ turn_for setup live Halts = stopped setup live live.phase
 -- ---- a complete end
 
 -- The request after a controller ended for this cause: none, or the Release, if the device may be informed by one.
-abbrev pub IsTold : Cause → Option Request → Type 0
-IsTold cause None = Unit {0}
-IsTold cause (Some (asks.Release sequence)) = may_release cause ≡ true
-IsTold cause (Some _) = ⊥
+abbrev pub IsReported : Cause → Option Request → Type 0
+IsReported cause None = Unit {0}
+IsReported cause (Some (asks.Release sequence)) = may_release cause ≡ true
+IsReported cause (Some _) = ⊥
 
 -- It ended, its relation is over, and no request is active except its Release.
 pub record IsEnd (cause : Cause) (live : Live) : Type 0 where
   pub phase : live.phase ≡ Ended cause
   pub down : live.stands ≡ false
-  pub asked : IsTold cause live.asked
+  pub asked : IsReported cause live.asked
 
 -- It did not reach such an end.
 abbrev pub IsGoing : Live → Type 0

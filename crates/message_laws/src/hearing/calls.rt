@@ -21,7 +21,7 @@ ghost use Rattle.controller_frames.specs.Requests.{call_for};
 ghost use Rattle.controller_frames.specs.Sent.{answer_frame, call_frame, calls_at, ready_answer};
 ghost use Rattle.codec_laws.specs.frames.Sendable.{IsMac, IsTag, carrying};
 ghost use Rattle.rpc_core.specs.Sendable.{CanBeAnswered, CanBeCalled, IsHeader, IsUuid};
-ghost use Rattle.message_laws.specs.hearing.Hearing.{IsUncalled, IsUntold, comes, mine_told, own_told};
+ghost use Rattle.message_laws.specs.hearing.Hearing.{IsUncalled, IsUnreported, comes, mine_reported, own_reported};
 ghost use Rattle.message_laws.specs.hearing.Stations.{IsAddress, IsCalled, IsCaller, IsDevice, IsNumbered, IsSetup, ready_call};
 
 use codec_laws::{blocks_are_read, frames_are_read};
@@ -50,7 +50,7 @@ pub fn calls_are_heard()
     // If a call can be sent, the device that it goes to hears it: from the controller, to the IP address of the plan.
     ensures device { (identity : Identity) (setup : Setup) (to : Mac) (call : Call) → IsSetup setup → IsMac to → CanBeCalled devices call
         → device_hears identity (comes (call_frame setup to call))
-        ≡ own_told identity setup.plan.controller.mac to (calls_at setup.plan.controller.address)
+        ≡ own_reported identity setup.plan.controller.mac to (calls_at setup.plan.controller.address)
         (calls_at setup.plan.station.suite.address) (Calls call) }
     // A controller hears nothing of a call to a device that can be sent.
     ensures controller { (mine : Controller) (setup : Setup) (to : Mac) (call : Call) → IsSetup setup → IsMac to → CanBeCalled devices call
@@ -68,12 +68,12 @@ pub fn responses_are_heard()
     ensures controller { (mine : Controller) (identity : Identity) (caller : Caller) (address : List ℕ) (answer : Answered)
         → IsDevice identity → IsCaller caller → IsAddress address → CanBeAnswered answer
         → controller_hears mine (response_frame identity caller address answer)
-        ≡ mine_told mine caller.mac caller.endpoint (Responded answer) }
+        ≡ mine_reported mine caller.mac caller.endpoint (Responded answer) }
     // If a response can be sent, a device that it goes to hears a response and not a call.
     ensures device { (other identity : Identity) (caller : Caller) (address : List ℕ) (answer : Answered)
         → IsDevice identity → IsCaller caller → IsAddress address → CanBeAnswered answer
         → device_hears other (comes (response_frame identity caller address answer))
-        ≡ own_told other identity.mac caller.mac (calls_at address) caller.endpoint (Responds answer) }
+        ≡ own_reported other identity.mac caller.mac (calls_at address) caller.endpoint (Responds answer) }
     // If its blocks have more than 1,372 octets, a response does not fit a frame, and a controller hears nothing of it.
     ensures long { (mine : Controller) (identity : Identity) (caller : Caller) (address : List ℕ) (answer : Answered)
         → IsDevice identity → IsCaller caller → IsAddress address → IsHeader answer.header → 1372 < length answer.blocks
@@ -95,14 +95,14 @@ pub fn ready_calls_are_heard()
         → IsDevice identity → IsMac ready.partner.mac → IsAddress ready.partner.address → IsAddress address →
         CanBeCalled controllers (ready_call ready)
         → controller_hears mine (ready_frame identity address ready)
-        ≡ mine_told mine ready.partner.mac (calls_at ready.partner.address)
+        ≡ mine_reported mine ready.partner.mac (calls_at ready.partner.address)
         (Called (record { mac = identity.mac; endpoint = calls_at address }) (ready_call ready)) }
     // A device hears neither a call nor a response in it.
     ensures device { (other identity : Identity) (address : List ℕ) (ready : Ready)
         → IsDevice identity → IsMac ready.partner.mac → IsAddress ready.partner.address → IsAddress address →
         CanBeCalled controllers (ready_call ready)
         → device_hears other (comes (ready_frame identity address ready))
-        ≡ own_told other identity.mac ready.partner.mac (calls_at address) (calls_at ready.partner.address) Garbled }
+        ≡ own_reported other identity.mac ready.partner.mac (calls_at address) (calls_at ready.partner.address) Garbled }
 {
     frames_are_read();
     calls_are_read();
@@ -116,12 +116,12 @@ pub fn ready_answers_are_heard()
     ensures device { (identity : Identity) (setup : Setup) (caller : Caller) (answer : Answered) → IsSetup setup → IsCaller caller →
         CanBeAnswered answer
         → device_hears identity (comes (answer_frame setup caller answer))
-        ≡ own_told identity setup.plan.controller.mac caller.mac (calls_at setup.plan.controller.address) caller.endpoint
+        ≡ own_reported identity setup.plan.controller.mac caller.mac (calls_at setup.plan.controller.address) caller.endpoint
         (Responds answer) }
     // If the response can be sent, a controller that it goes to hears it.
     ensures controller { (mine : Controller) (setup : Setup) (caller : Caller) (answer : Answered) → IsSetup setup → IsCaller caller →
         CanBeAnswered answer
-        → controller_hears mine (answer_frame setup caller answer) ≡ mine_told mine caller.mac caller.endpoint (Responded answer) }
+        → controller_hears mine (answer_frame setup caller answer) ≡ mine_reported mine caller.mac caller.endpoint (Responded answer) }
 {
     frames_are_read();
     responses_are_read();
@@ -133,7 +133,7 @@ pub fn datagrams_alone_are_calls()
     // In real-time data of any length and FrameID a device hears neither a call nor a response.
     ensures device { (identity : Identity) (destination source : Mac) (tag : Option ℕ) (frame_id : ℕ) (body : List ℕ) → IsMac destination →
         IsMac source → IsTag tag
-        → IsUntold (device_hears identity (comes (frame_bytes (carrying destination source tag (RealTime frame_id body))))) }
+        → IsUnreported (device_hears identity (comes (frame_bytes (carrying destination source tag (RealTime frame_id body))))) }
     // In real-time data of any length and FrameID a controller hears neither a call nor a response.
     ensures controller { (mine : Controller) (destination source : Mac) (tag : Option ℕ) (frame_id : ℕ) (body : List ℕ) →
         IsMac destination → IsMac source → IsTag tag

@@ -10,7 +10,7 @@ ghost use Rattle.dcp_core.specs.Get.{get_bytes};
 ghost use Rattle.dcp_core.specs.Identify.{identify_bytes};
 ghost use Rattle.dcp_core.specs.Request.{Asked};
 ghost use Rattle.dcp_core.specs.Set.{set_bytes};
-ghost use Rattle.dcp_core.specs.Told.{get_said, identify_said, set_said};
+ghost use Rattle.dcp_core.specs.Reported.{get_said, identify_said, set_said};
 ghost use Rattle.plans.specs.declared.parts.Controller.{Controller};
 ghost use Rattle.device_frames.specs.Heard.{Asks, Resolves, heard_of as device_hears};
 ghost use Rattle.device_frames.specs.Sent.{ArpReply, GetAnswer, IdentifyAnswer, SetAnswer, bytes_of as device_bytes};

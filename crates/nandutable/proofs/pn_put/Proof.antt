@@ -52,9 +52,9 @@ pn_put_spec 𝓤 𝓛 𝓜 𝓡 wired =
     let y : Ptr → W.Ghost = λ p. ((κs, qs, bounds, (p, a.1), vals p), tt) in
     let Params = RawPtr ∷ ShrRef (named 0) κ S ∷ [] in
     let Tokens = ‵ (flft κ qs.0) ⊛ ‵ ftrue in
-    let Told = λ (b o : ℕ) (port : State). sep 𝓤 (types.Logic.sem 𝓛 (lies_at R full_share (block_ptr b o) port)) (fact 𝓤 (IsMade station.now port)) in
-    let told : (b o : ℕ) (port : State) → IsMade station.now port → ent 𝓤 (types.Logic.sem 𝓛 (lies_at R full_share (block_ptr b o) port)) (ex 𝓤 (Told b o)) = λ b o port made.
-    qed 𝓛 (‵ (lies_at R full_share (block_ptr b o) port) ∷ []) ∵ show ! (Told b o) port $ says ! made $ done ! in
+    let Reported = λ (b o : ℕ) (port : State). sep 𝓤 (types.Logic.sem 𝓛 (lies_at R full_share (block_ptr b o) port)) (fact 𝓤 (IsMade station.now port)) in
+    let reported : (b o : ℕ) (port : State) → IsMade station.now port → ent 𝓤 (types.Logic.sem 𝓛 (lies_at R full_share (block_ptr b o) port)) (ex 𝓤 (Reported b o)) = λ b o port made.
+    qed 𝓛 (‵ (lies_at R full_share (block_ptr b o) port) ∷ []) ∵ show ! (Reported b o) port $ says ! made $ done ! in
     qed 𝓛 ((Tokens ⊛ ‵ (owns Params a (vals a.0))) ∷ (‵ (room_at R a.0) ⊛ raw (fact 𝓤 (is_station station.now ≡ true))) ∷ []) ∵
     split ! $ move ! (1 ∷ []) $ fsplit ! $ drop ! $ fsplit ! $ move ! (1 ∷ []) $ drop ! $ move ! (2 ∷ []) $ split ! $ move ! (1 ∷ []) $ heard ! _ (λ fits.
     -- [the memory; the station; the tokens]
@@ -81,7 +81,7 @@ pn_put_spec 𝓤 𝓛 𝓜 𝓡 wired =
     sets ! (of_opd ! (unit_lit !)) refl (tt, tt) $
     returns ! (look_at ! 0 refl) $ free_all ! refl $
     move ! (2 ∷ 0 ∷ []) $ use2 𝓛 (‵ (part_at R full_share port b o)) (part_in 𝓛 R refl full_share port b o v) $
-    use1 𝓛 (raw (ex 𝓤 (Told b o))) (told b o port made) $
+    use1 𝓛 (raw (ex 𝓤 (Reported b o))) (reported b o port made) $
     -- [the facts of the memory; the tokens]
     suffices ! _ (ends_at 𝓛 f.ended stayed c (y (block_ptr b o)) vunit tt (tt, (tt, tt)) (tt, (tt, tt))) $
     feq_i ! _ (vunit ∷ []) _ refl $ nothing ! $ nothing ! $ join ! $ nothing ! $ join ! $ move ! (3 ∷ 0 ∷ 1 ∷ 2 ∷ []) $ group ! 3 $ done !)))))))))

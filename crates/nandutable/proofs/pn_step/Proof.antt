@@ -56,9 +56,9 @@ pn_step_spec 𝓤 𝓛 𝓜 𝓡 wired =
     let Params = RawPtr ∷ MutRef (named 0) κ O ∷ ShrSlice (named 1) η u8 ∷ [] in
     let Tokens = ‵ (flft κ qs.0) ⊛ (‵ (flft η qs.1.0) ⊛ ‵ ftrue) in
     let IsServed : ℕ → State → O.Denot → Type 0 = λ r new last. Serves (operation_of op.now.what) s op.now given.now r new last in
-    let Told = λ (b o r : ℕ) (last : O.Denot) (new : State). sep 𝓤 (types.Logic.sem 𝓛 (lies_at R full_share (block_ptr b o) new)) (fact 𝓤 (IsServed r new last)) in
-    let told : (b o r : ℕ) (last : O.Denot) (new : State) → IsServed r new last → ent 𝓤 (types.Logic.sem 𝓛 (lies_at R full_share (block_ptr b o) new)) (ex 𝓤 (Told b o r last)) = λ b o r last new served.
-    qed 𝓛 (‵ (lies_at R full_share (block_ptr b o) new) ∷ []) ∵ show ! (Told b o r last) new $ says ! served $ done ! in
+    let Reported = λ (b o r : ℕ) (last : O.Denot) (new : State). sep 𝓤 (types.Logic.sem 𝓛 (lies_at R full_share (block_ptr b o) new)) (fact 𝓤 (IsServed r new last)) in
+    let reported : (b o r : ℕ) (last : O.Denot) (new : State) → IsServed r new last → ent 𝓤 (types.Logic.sem 𝓛 (lies_at R full_share (block_ptr b o) new)) (ex 𝓤 (Reported b o r last)) = λ b o r last new served.
+    qed 𝓛 (‵ (lies_at R full_share (block_ptr b o) new) ∷ []) ∵ show ! (Reported b o r last) new $ says ! served $ done ! in
     qed 𝓛 ((Tokens ⊛ ‵ (owns Params a (vals a.0))) ∷ ‵ (lies_at R full_share a.0 s) ∷ []) ∵
     split ! $ move ! (1 ∷ []) $ fsplit ! $ drop ! $ fsplit ! $ move ! (1 ∷ []) $ fsplit ! $ move ! (1 ∷ []) $ drop ! $ move ! (3 ∷ 2 ∷ 1 ∷ []) $
     -- [the port in the memory; the tokens; the operation; the given octets]
@@ -94,7 +94,7 @@ pn_step_spec 𝓤 𝓛 𝓜 𝓡 wired =
     move ! (4 ∷ 6 ∷ 0 ∷ []) $ use3 𝓛 (later (‵ (part_at R full_share ws.0 b o))) (ref_back 𝓛 R (α ∷ []) γ ws.0 b o) $ await ! tt $
     returns ! (look_at ! 0 refl) $ free_all ! refl $
     -- [the port in the memory; its borrow; the last value of the operation; the result; the tokens]
-    use1 𝓛 (raw (ex 𝓤 (Told b o r ws.1.0))) (told b o r ws.1.0 ws.0 served) $ move ! (1 ∷ []) $ drop ! $ move ! (1 ∷ []) $ fsplit ! $ move ! (1 ∷ []) $ drop ! $
+    use1 𝓛 (raw (ex 𝓤 (Reported b o r ws.1.0))) (reported b o r ws.1.0 ws.0 served) $ move ! (1 ∷ []) $ drop ! $ move ! (1 ∷ []) $ fsplit ! $ move ! (1 ∷ []) $ drop ! $
     -- [the last value of the operation; the facts of the memory; the result; the tokens]
     suffices ! _ (ends_at 𝓛 f.ended stayed c (y (block_ptr b o)) v r (tt, (ws.1.0, (tt, tt))) (tt, (tt, (tt, tt)))) $
     nothing ! $ nothing ! $ join ! $ move ! (1 ∷ 0 ∷ []) $ join ! $ nothing ! $ join ! $ move ! (3 ∷ 0 ∷ 2 ∷ 1 ∷ []) $ group ! 3 $ done !))))))))))

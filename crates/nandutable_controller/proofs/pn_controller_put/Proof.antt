@@ -65,9 +65,9 @@ pn_controller_put_spec 𝓤 𝓛 𝓜 𝓡 wired =
     let Params = RawPtr ∷ ShrRef (named 0) κ S ∷ ShrRef (named 1) η Number ∷ ShrRef (named 2) θ Number ∷ [] in
     let Tokens = ‵ (flft κ qs.0) ⊛ (‵ (flft η qs.1.0) ⊛ (‵ (flft θ qs.1.1.0) ⊛ ‵ ftrue)) in
     let IsMade : State → Type 0 = λ port. port ≡ opened (fresh (parts_of plan.now) ar.now activity.now) in
-    let Told = λ (b o : ℕ) (port : State). sep 𝓤 (types.Logic.sem 𝓛 (lies_at R full_share (block_ptr b o) port)) (fact 𝓤 (IsMade port)) in
-    let told : (b o : ℕ) (port : State) → IsMade port → ent 𝓤 (types.Logic.sem 𝓛 (lies_at R full_share (block_ptr b o) port)) (ex 𝓤 (Told b o)) = λ b o port made.
-    qed 𝓛 (‵ (lies_at R full_share (block_ptr b o) port) ∷ []) ∵ show ! (Told b o) port $ says ! made $ done ! in
+    let Reported = λ (b o : ℕ) (port : State). sep 𝓤 (types.Logic.sem 𝓛 (lies_at R full_share (block_ptr b o) port)) (fact 𝓤 (IsMade port)) in
+    let reported : (b o : ℕ) (port : State) → IsMade port → ent 𝓤 (types.Logic.sem 𝓛 (lies_at R full_share (block_ptr b o) port)) (ex 𝓤 (Reported b o)) = λ b o port made.
+    qed 𝓛 (‵ (lies_at R full_share (block_ptr b o) port) ∷ []) ∵ show ! (Reported b o) port $ says ! made $ done ! in
     qed 𝓛 ((Tokens ⊛ ‵ (owns Params a (vals a.0))) ∷ (‵ (room_at R a.0) ⊛ raw (fact 𝓤 (is_plan plan.now ≡ true))) ∷ []) ∵
     split ! $ move ! (1 ∷ []) $ fsplit ! $ drop ! $ fsplit ! $ move ! (1 ∷ []) $ fsplit ! $ move ! (1 ∷ []) $ fsplit ! $ move ! (1 ∷ []) $ drop !
     $ move ! (4 ∷ 2 ∷ 1 ∷ 0 ∷ []) $ split ! $ move ! (1 ∷ []) $ heard ! _ (λ fits.
@@ -95,7 +95,7 @@ pn_controller_put_spec 𝓤 𝓛 𝓜 𝓡 wired =
     sets ! (of_opd ! (unit_lit !)) refl (tt, tt) $
     returns ! (look_at ! 0 refl) $ free_all ! refl $
     move ! (2 ∷ 0 ∷ []) $ use2 𝓛 (‵ (part_at R full_share port b o)) (part_in 𝓛 R refl full_share port b o v) $
-    use1 𝓛 (raw (ex 𝓤 (Told b o))) (told b o port made) $
+    use1 𝓛 (raw (ex 𝓤 (Reported b o))) (reported b o port made) $
     -- [the facts of the memory; the tokens]
     suffices ! _ (ends_at 𝓛 f.ended stayed c (y (block_ptr b o)) vunit tt (tt, (tt, (tt, (tt, tt)))) (tt, (tt, (tt, (tt, tt))))) $
     feq_i ! _ (vunit ∷ []) _ refl $ nothing ! $ nothing ! $ join ! $ nothing ! $ join ! $ nothing ! $ join ! $ nothing ! $ join ! $ move ! (3 ∷ 0 ∷ 1 ∷ 2 ∷ []) $ group ! 3 $ done !)))))))))

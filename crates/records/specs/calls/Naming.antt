@@ -3,7 +3,7 @@ use Rattle.std.specs.Prelude.{ℕ, Bool, false, not, List, [], ◌∷◌, nat_eq
 use Rattle.std.specs.Cmp.Lexicographic.{pointwise}
 use Rattle.records.specs.declared.status.call_fault.CallFault.{CallFault}
 use Rattle.records.specs.declared.status.call_fault.CallFault.TheVariants as fault
-use Rattle.records.specs.calls.Judged.{judged}
+use Rattle.records.specs.calls.Handled.{handled}
 
 -- Whether this is the ARUUID of the active relation, if there is one.
 abbrev pub is_relation : Option (List ℕ) → List ℕ → Bool
@@ -12,4 +12,4 @@ is_relation None uuid = false
 
 -- The call must name the active relation.
 unfoldable pub in_relation : Option (List ℕ) → List ℕ → Result (Unit {0}) CallFault
-in_relation standing uuid = judged ((not (is_relation standing uuid), fault.UnknownRelation) ∷ []) (Ok tt)
+in_relation standing uuid = handled ((not (is_relation standing uuid), fault.UnknownRelation) ∷ []) (Ok tt)

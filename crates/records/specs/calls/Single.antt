@@ -8,7 +8,7 @@ use Rattle.block_codec.specs.Kinds.{number_of}
 use Rattle.block_codec.specs.Block.{block_of}
 use Rattle.records.specs.declared.status.call_fault.CallFault.{CallFault}
 use Rattle.records.specs.declared.status.call_fault.CallFault.TheVariants as fault
-use Rattle.records.specs.calls.Judged.{judged}
+use Rattle.records.specs.calls.Handled.{handled}
 
 -- What was read; any fault of the block becomes the fault BlockForm of the call.
 abbrev pub formed : {A : Type 0} → Result A BlockFault → Result A CallFault
@@ -18,7 +18,7 @@ formed (Err _) = Err fault.BlockForm
 -- The single block of a call, of this type, and the rest; the checks are, in order: there is a block, its header, its
 -- type, its form.
 unfoldable pub single_of : BlockType → List ℕ → Result (Block × List ℕ) CallFault
-single_of kind blocks = judged
+single_of kind blocks = handled
     ((length blocks == 0, fault.BlockMissing)
     ∷ (nat_lt (length blocks) 4, fault.BlockHeader)
     ∷ (not (big_number 2 blocks == number_of kind), fault.BlockType)

@@ -6,7 +6,7 @@ use Rattle.pn_values.specs.declared.settings.Settings.{Settings}
 use Rattle.wire.specs.Codec.{◌>>=◌}
 use Rattle.im_records.specs.Records.{record_of}
 use Rattle.records.specs.declared.status.call_fault.CallFault.{CallFault}
-use Rattle.records.specs.reads.Judged.{request_of, read_of}
+use Rattle.records.specs.reads.Handled.{request_of, read_of}
 
 -- The blocks of the response to a call, or why it is refused; ARUUID is ignored.
 unfoldable pub implicit_read : Identity → Real → Settings → List ℕ → Result (List ℕ) CallFault

@@ -9,7 +9,7 @@ use Rattle.im_records.specs.Indices.{is_module_diff, record_with}
 use Rattle.im_records.specs.Records.{record_of}
 use Rattle.records.specs.declared.status.call_fault.CallFault.{CallFault}
 use Rattle.records.specs.calls.Naming.{in_relation, is_relation}
-use Rattle.records.specs.reads.Judged.{request_of, read_of}
+use Rattle.records.specs.reads.Handled.{request_of, read_of}
 
 -- The record that a request names if the ModuleDiffBlock of the relation is `differing`: that block exists at each place,
 -- and the other records are those of a Read Implicit.

@@ -1,7 +1,7 @@
 //! The checks that calls of Read and Write share.
 ghost use Rattle.std.specs.Prelude.{◌≡◌};
 ghost use Rattle.wire.specs.Codec.{Gives};
-ghost use Rattle.records.specs.reads.Judged.{placed, request_of};
+ghost use Rattle.records.specs.reads.Handled.{placed, request_of};
 
 use crate::{CallFault, single_block};
 use block_codec::{Block, BlockType, IodReadReq};
@@ -9,7 +9,7 @@ use im_records::{is_anywhere, is_real};
 use pn_values::Real;
 
 /// Reads the IODReadReqHeader of a call. The octets after it are ignored.
-#[tactic(auto, unfolding(crate::specs::reads::Judged::request_of))]
+#[tactic(auto, unfolding(crate::specs::reads::Handled::request_of))]
 pub fn read_request(blocks: &[u8]) -> Result<IodReadReq, CallFault>
     ensures { Gives (λ x. x) result (request_of blocks.now) }
 {
@@ -22,7 +22,7 @@ pub fn read_request(blocks: &[u8]) -> Result<IodReadReq, CallFault>
 }
 
 /// Checks that a request names API 0 and, if its index needs one, a submodule that is plugged.
-#[tactic(auto, unfolding(crate::specs::reads::Judged::placed))]
+#[tactic(auto, unfolding(crate::specs::reads::Handled::placed))]
 pub fn check_place(
     real: &Real,
     api: u32,

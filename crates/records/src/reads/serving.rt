@@ -1,7 +1,7 @@
 //! The response to each Read, once the record is known.
 ghost use Rattle.std.specs.Prelude.{◌≡◌, [], IfErr, IfOk, Err, Ok};
 ghost use Rattle.im_records.specs.Records.{record_of};
-ghost use Rattle.records.specs.reads.Judged.{read_of};
+ghost use Rattle.records.specs.reads.Handled.{read_of};
 
 use crate::CallFault;
 use crate::reads::answering::put_read_answer;
@@ -16,7 +16,7 @@ use pn_values::{Identity, Real, Settings};
 pub type Blocks = ArrayVec<u8, 1372>;
 
 /// Puts the response to a request for a record of the device into an empty list, or returns why it is refused.
-#[tactic(auto, unfolding(crate::specs::reads::Judged::read_of))]
+#[tactic(auto, unfolding(crate::specs::reads::Handled::read_of))]
 pub(crate) fn serve(
     identity: &Identity,
     real: &Real,

@@ -1,7 +1,7 @@
 //! Read within a relation.
 ghost use Rattle.std.specs.Prelude.{◌≡◌, ◌≤◌, [], length, IfErr, IfOk, Err, Ok};
 ghost use Rattle.std.specs.Option.{option_map};
-ghost use Rattle.records.specs.reads.Judged.{read_of};
+ghost use Rattle.records.specs.reads.Handled.{read_of};
 ghost use Rattle.records.specs.reads.Within.{record_within, relation_read, request_within};
 
 use crate::reads::answering::put_read_answer;
@@ -53,7 +53,7 @@ fn request_within(standing: Option<&Uuid>, blocks: &[u8]) -> Result<IodReadReq, 
 
 /// Puts the response to a request within the relation into an empty list, or returns why it is refused. `differing` is
 /// the ModuleDiffBlock of the relation.
-#[tactic(auto, unfolding(crate::specs::reads::Judged::read_of))]
+#[tactic(auto, unfolding(crate::specs::reads::Handled::read_of))]
 fn serve_within(
     differing: &[u8],
     identity: &Identity,

@@ -1,7 +1,7 @@
 //! The checks of a Write.
 ghost use Rattle.std.specs.Prelude.{◌≡◌};
 ghost use Rattle.std.specs.Option.{option_map};
-ghost use Rattle.records.specs.writes.Judged.{effect_of, is_known, judged_request, kept, stored, targeted, write_of, written};
+ghost use Rattle.records.specs.writes.Handled.{effect_of, is_known, handled_request, kept, stored, targeted, write_of, written};
 
 use crate::writes::{Effect, TakenRecord, Write};
 use crate::{CallFault, check_place, check_relation, parameter_length, single_block};
@@ -13,7 +13,7 @@ use pn_values::{Command, Real};
 
 /// Returns what a Write asks for, or why it is refused. `standing` is the ARUUID of the active relation, if there is one.
 /// The first fault in the order of the checks is reported.
-#[tactic(auto, unfolding(crate::specs::writes::Judged::write_of))]
+#[tactic(auto, unfolding(crate::specs::writes::Handled::write_of))]
 pub fn judge_write(blocks: &[u8], standing: Option<&Uuid>, real: &Real) -> Result<Write, CallFault>
     ensures { result ≡ write_of (option_map (λ uuid. uuid.now) standing.entry) real.now blocks.now }
 {
@@ -25,14 +25,14 @@ pub fn judge_write(blocks: &[u8], standing: Option<&Uuid>, real: &Real) -> Resul
 }
 
 /// Returns what a request asks for. `behind` is the octets after its header.
-#[tactic(auto, unfolding(crate::specs::writes::Judged::judged_request))]
+#[tactic(auto, unfolding(crate::specs::writes::Handled::handled_request))]
 fn judge_request(
     standing: Option<&Uuid>,
     real: &Real,
     request: &IodWriteReq,
     behind: &[u8],
 ) -> Result<Write, CallFault>
-    ensures { result ≡ judged_request (option_map (λ uuid. uuid.now) standing.entry) real.now request.now behind.now }
+    ensures { result ≡ handled_request (option_map (λ uuid. uuid.now) standing.entry) real.now request.now behind.now }
 {
     // The relation is checked first: a caller without the relation learns nothing about records.
     check_target(standing, real, request)?;
@@ -46,7 +46,7 @@ fn judge_request(
 }
 
 /// Checks that a request names the active relation, API 0 and, if its index needs one, a submodule that is plugged.
-#[tactic(auto, unfolding(crate::specs::writes::Judged::targeted))]
+#[tactic(auto, unfolding(crate::specs::writes::Handled::targeted))]
 fn check_target(
     standing: Option<&Uuid>,
     real: &Real,
@@ -65,7 +65,7 @@ fn check_target(
 }
 
 /// Returns what a request with a valid place asks for. `behind` is the octets after its header.
-#[tactic(auto, unfolding(crate::specs::writes::Judged::written))]
+#[tactic(auto, unfolding(crate::specs::writes::Handled::written))]
 fn check_record(real: &Real, request: &IodWriteReq, behind: &[u8]) -> Result<Effect, CallFault>
     ensures { result ≡ written real.now request.now behind.now }
 {

@@ -9,5 +9,5 @@ use Rattle.catalogue.proofs.module.modules_of.Given as goal
 abbrev pub invariant-loop-tree : goal.invariant-loop-tree
 invariant-loop-tree l = record {
   read : each module_item [] (items_view l.trees) ≡ each module_item l.found.items (items_view (drop l.tree-index l.trees));
-  told : (id : List ℕ) → get_by_text l.places id ≡ place_of id l.found.items;
+  reported : (id : List ℕ) → get_by_text l.places id ≡ place_of id l.found.items;
 }

@@ -2,7 +2,7 @@
 use Rattle.std.proofs.Common.{sym, ◌∙◌, ap, Ok, Err}
 use Rattle.cyclic_data.specs.Layout.{Table}
 use Rattle.records.specs.declared.status.call_fault.CallFault.{CallFault}
-use Rattle.connect_requests.proofs.Judged.{layout_faulty, layout_good}
+use Rattle.connect_requests.proofs.Handled.{layout_faulty, layout_good}
 use Rattle.connect_requests.proofs.layouts.fill_layout.Goals as goal
 
 pub returns-in-Ok : goal.returns-in-Ok

@@ -4,7 +4,7 @@ use Rattle.wire.proofs.Given.{found, only}
 use Rattle.dcp_core.specs.Response.{Answered}
 use Rattle.dcp_core.specs.Answered.{answered}
 use Rattle.dcp_core.specs.Answer.{IsAnswer, answer_of}
-use Rattle.dcp_core.specs.Told.{identify_said, get_said, set_said}
+use Rattle.dcp_core.specs.Reported.{identify_said, get_said, set_said}
 use Rattle.dcp_core.specs.Identify.{identify_bytes}
 use Rattle.dcp_core.specs.Get.{get_bytes}
 use Rattle.dcp_core.specs.Set.{set_bytes}

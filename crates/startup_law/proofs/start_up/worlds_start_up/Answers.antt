@@ -14,7 +14,7 @@ use Rattle.startup_law.proofs.start_up.worlds_start_up.Goals as goal
 heard_so : (g : _) → goal.After-start_up_is_kept g → HeardSo
 heard_so g c = record {
   sound = c.formats_are_sound.ensures.layers;
-  untold = c.datagrams_alone_are_calls.ensures.device;
+  unreported = c.datagrams_alone_are_calls.ensures.device;
   uncalled = c.datagrams_alone_are_calls.ensures.controller;
   packet_at_controller = c.packets_are_heard.ensures.controller;
   packet_at_device = c.packets_are_heard.ensures.device;

@@ -2,7 +2,7 @@
 use Rattle.std.proofs.Common.{◌≡◌, ◌==◌, ◌-◌, ◌+◌, ℕ, suc, true, false, List, length, sym, ap, ◌∙◌, arith}
 use Rattle.std.proofs.lemmas.Result.{err_from_is_err_and}
 use Rattle.connect_requests.specs.Pieces.{pieces_in}
-use Rattle.connect_requests.specs.Judged.{with_pieces}
+use Rattle.connect_requests.specs.Handled.{with_pieces}
 use Rattle.connect_requests.specs.Drafts.{sofar_of}
 use Rattle.connect_requests.proofs.Read.{ends, out_of, goes_on, stops}
 use Rattle.connect_requests.proofs.draft.Draft.add_pieces.Goals as goal

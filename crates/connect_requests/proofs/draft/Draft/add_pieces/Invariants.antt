@@ -1,7 +1,7 @@
 -- The rest of the blocks, added to those so far, gives what all of them give.
 use Rattle.std.proofs.Common.{◌≡◌, ◌-◌}
 use Rattle.connect_requests.specs.Pieces.{pieces_in}
-use Rattle.connect_requests.specs.Judged.{with_pieces}
+use Rattle.connect_requests.specs.Handled.{with_pieces}
 use Rattle.connect_requests.specs.Drafts.{AreAccepted, sofar_of}
 use Rattle.connect_requests.proofs.draft.Draft.add_pieces.Given as goal
 

@@ -2,4 +2,4 @@
 use Rattle.device_abi.proofs.operations.serving.frame.Goals as goal
 
 pub returns : goal.returns
-returns c = (c.frame.result, c.frame.ensures, c.noted.ensures.answer, c.noted.ensures.told)
+returns c = (c.frame.result, c.frame.ensures, c.noted.ensures.answer, c.noted.ensures.reported)

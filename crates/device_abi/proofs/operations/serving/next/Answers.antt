@@ -1,6 +1,6 @@
 -- The next piece of work.
 use Rattle.std.proofs.Common.{refl}
-use Rattle.device_abi.proofs.OperationsTold.{handed}
+use Rattle.device_abi.proofs.OperationsReported.{handed}
 use Rattle.device_abi.proofs.operations.serving.next.Goals as goal
 
 pub returns-in-Ok : goal.returns-in-Ok

@@ -1,6 +1,6 @@
 -- Settings, or why they are not reported.
 use Rattle.std.proofs.Common.{refl, ap, ◌∙◌}
-use Rattle.c_layout.specs.Told.{with_octets}
+use Rattle.c_layout.specs.Reported.{with_octets}
 use Rattle.device_abi.specs.operations.Serves.{settings_octets}
 use Rattle.device_abi.proofs.operations.serving.stored.Goals as goal
 

@@ -1,6 +1,6 @@
 -- Phase and lamp, or why they are not reported.
 use Rattle.std.proofs.Common.{ℕ, ap, refl, ◌∙◌}
-use Rattle.relations.specs.Link.{phase_of}
+use Rattle.relations.specs.RelationState.{phase_of}
 use Rattle.device_abi.specs.operations.Serves.{phase_number}
 use Rattle.device_abi.proofs.operations.serving.tell_state.Goals as goal
 

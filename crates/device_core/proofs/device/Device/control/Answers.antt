@@ -5,14 +5,14 @@ use Rattle.records.specs.declared.status.call_fault.CallFault.{CallFault}
 use Rattle.records.specs.declared.status.operation.Operation.TheVariants as operation
 use Rattle.rpc_core.specs.Call.{asked}
 use Rattle.relations.specs.Calls.{prm_end_answer, prm_end_of}
-use Rattle.relations.specs.Link.{Link}
-use Rattle.relations.specs.Phases.{Parameterized, answered, moved}
+use Rattle.relations.specs.RelationState.{RelationState}
+use Rattle.relations.specs.Phases.{Parameterized, answered, updated}
 use Rattle.device_frames.specs.Relation.{ready_calls}
 use Rattle.device_frames.specs.Sendable.{AreSendable}
 use Rattle.device_frames.specs.Sent.{Sent, bytes_of}
 use Rattle.device_core.specs.Behind.{CanSend, called, frames_of}
 use Rattle.frame_codec.specs.Outbox.{boxed}
-use Rattle.device_core.specs.Judged.{answer_from, came_with, ready_behind}
+use Rattle.device_core.specs.Handled.{answer_from, came_with, ready_behind}
 use Rattle.device_core.proofs.device.Device.control.Goals as goal
 use Rattle.device_core.proofs.device.Device.control.Goals.{then-is_ok, else-is_ok}
 
@@ -23,13 +23,13 @@ answer_as (Ok it) answer blocks done refused = sym done
 answer_as (Err fault) answer blocks done refused = sym refused.0
 
 -- A call that is done has a block, and one that is refused has none.
-follows : (address : List ℕ) (now link : Option Link) (octets : List ℕ) (came : Result (Unit {0}) CallFault) (ended : Result ControlBlock CallFault) (blocks : List ℕ)
+follows : (address : List ℕ) (now link : Option RelationState) (octets : List ℕ) (came : Result (Unit {0}) CallFault) (ended : Result ControlBlock CallFault) (blocks : List ℕ)
     → prm_end_of link octets ≡ ended → IfOk came (λ _. prm_end_answer link octets ≡ Ok blocks) → is_ok came ≡ true → ready_behind address now ended ≡ ready_calls address now
 follows address now link octets (Ok it) (Ok block) blocks is done so = refl
 follows address now link octets (Ok it) (Err fault) blocks is done so = let e : ◌≡◌ {A = Result (List ℕ) CallFault} (Err fault) (Ok blocks) = rw is at done in cc
 follows address now link octets (Err fault) ended blocks is done so = cc
 
-alone : (address : List ℕ) (now link : Option Link) (octets : List ℕ) (came : Result (Unit {0}) CallFault) (ended : Result ControlBlock CallFault) (blocks : List ℕ)
+alone : (address : List ℕ) (now link : Option RelationState) (octets : List ℕ) (came : Result (Unit {0}) CallFault) (ended : Result ControlBlock CallFault) (blocks : List ℕ)
     → prm_end_of link octets ≡ ended → IfErr came (λ fault. (prm_end_answer link octets ≡ Err fault) × (blocks ≡ [])) → is_ok came ≡ false → ready_behind address now ended ≡ []
 alone address now link octets (Ok it) ended blocks is refused so = cc
 alone address now link octets (Err fault) (Err other) blocks is refused so = refl
@@ -46,7 +46,7 @@ returns-clause-frames g c =
     let address = c.self.inside.store.values.running.suite.address in
     let blocks = c.args.serving.now.blocks.now in
     let ended = prm_end_of link blocks in
-    let now = moved (answered Parameterized ended) link in
+    let now = updated (answered Parameterized ended) link in
     let f = bytes_of c.self.inside.identity in
     let answer = answer_from address c.args.serving.now.caller.now (asked c.args.serving.now.call.now) operation.Control (prm_end_answer link blocks) in
     let out = answer_as c.control-came.result (prm_end_answer link blocks) c.control-came.new.answer.items c.control-came.ensures.done c.control-came.ensures.refused in
@@ -68,7 +68,7 @@ returns-clause-sendable g c =
     let address = c.self.inside.store.values.running.suite.address in
     let blocks = c.args.serving.now.blocks.now in
     let ended = prm_end_of link blocks in
-    let now = moved (answered Parameterized ended) link in
+    let now = updated (answered Parameterized ended) link in
     let out = answer_as c.control-came.result (prm_end_answer link blocks) c.control-came.new.answer.items c.control-came.ensures.done c.control-came.ensures.refused in
     let first = rw (c.address-address.ensures.value, c.running.ensures, c.requires.operation, out) at c.give.ensures.sendable in
     subst (λ old. CanSend old (called old c.args.serving.now operation.Control)) c.self.view_is

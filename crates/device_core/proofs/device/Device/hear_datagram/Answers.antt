@@ -5,10 +5,10 @@ use Rattle.rpc_core.specs.Call.{asked}
 use Rattle.rpc_core.specs.Response.{answered}
 use Rattle.relations.specs.Ready.{answer_of}
 use Rattle.device_frames.specs.declared.note.Note.TheVariants.{Fault, NotMine}
-use Rattle.device_frames.specs.Heard.{Told, Calls, Responds, Garbled, said_by}
-use Rattle.device_core.specs.Judged.{is_running, judged_answer, judged_said}
-use Rattle.device_core.proofs.Judged.{answer_asks_nothing}
-use Rattle.device_core.proofs.Steps.{quiet_steps, refuses_steps}
+use Rattle.device_frames.specs.Heard.{Reported, Calls, Responds, Garbled, said_by}
+use Rattle.device_core.specs.Handled.{is_running, handled_answer, handled_said}
+use Rattle.device_core.proofs.Handled.{answer_asks_nothing}
+use Rattle.device_core.proofs.Steps.{inactive_steps, refuses_steps}
 use Rattle.device_core.proofs.device.Device.hear_datagram.Goals as goal
 
 pub returns-then-not-is_running-clause-steps : goal.returns-then-not-is_running-clause-steps
@@ -16,7 +16,7 @@ returns-then-not-is_running-clause-steps g c =
     let here = c.args.self.now in
     let elsewhere : is_running here.live.values.running c.args.address ≡ false =
     rw (← c.self.view_is) (rw c.running.ensures at (sym c.is_running.ensures ∙ c.if-not-is_running.true)) in
-    refuses_steps g.F.Flash here (Told c.args.caller.now c.args.address (said_by c.args.body.now)) NotMine _ _ c.requires.stored
+    refuses_steps g.F.Flash here (Reported c.args.caller.now c.args.address (said_by c.args.body.now)) NotMine _ _ c.requires.stored
     (cond-false _ _ _ elsewhere) (ap (map (λ frame. frame.items)) c.requires.empty) refl
 
 pub returns-in-Ok-clause-steps : goal.returns-in-Ok-clause-steps
@@ -26,8 +26,8 @@ returns-in-Ok-clause-steps g c =
     let runs : is_running here.live.values.running c.args.address ≡ true =
     rw (← c.self.view_is) (rw c.running.ensures at (sym c.is_running.ensures ∙ c.if-not-is_running.false)) in
     let said : said_by c.args.body.now ≡ Calls (asked c.in-Ok.call) = rw c.in-Ok.ensures.exact refl in
-    c.serve_call.ensures.steps (Told c.args.caller.now c.args.address (said_by c.args.body.now))
-    (cond-true _ _ _ runs ∙ ap (judged_said here.station here.live c.args.caller.now) said)
+    c.serve_call.ensures.steps (Reported c.args.caller.now c.args.address (said_by c.args.body.now))
+    (cond-true _ _ _ runs ∙ ap (handled_said here.station here.live c.args.caller.now) said)
 
 pub returns-in-Ok-read_response-clause-steps : goal.returns-in-Ok-read_response-clause-steps
 unfolding said_by
@@ -37,8 +37,8 @@ returns-in-Ok-read_response-clause-steps g c =
     rw (← c.self.view_is) (rw c.running.ensures at (sym c.is_running.ensures ∙ c.if-not-is_running.false)) in
     let said : said_by c.args.body.now ≡ Responds (answered c.in-Ok-read_response.response) = rw (c.in-Err.ensures.exact, c.in-Ok-read_response.ensures.exact) refl in
     let answer = answer_of (answered c.in-Ok-read_response.response) here.live.rest.link in
-    quiet_steps g.F.Flash here _ (Told c.args.caller.now c.args.address (said_by c.args.body.now)) (judged_answer here.live answer) _ _ c.requires.stored
-    (cond-true _ _ _ runs ∙ ap (judged_said here.station here.live c.args.caller.now) said)
+    inactive_steps g.F.Flash here _ (Reported c.args.caller.now c.args.address (said_by c.args.body.now)) (handled_answer here.live answer) _ _ c.requires.stored
+    (cond-true _ _ _ runs ∙ ap (handled_said here.station here.live c.args.caller.now) said)
     (answer_asks_nothing here.live answer) c.hear_response.ensures.state c.hear_response.ensures.frames c.hear_response.ensures.note c.hear_response.ensures.sendable
 
 pub returns-in-Err-read_response-clause-steps : goal.returns-in-Err-read_response-clause-steps
@@ -48,6 +48,6 @@ returns-in-Err-read_response-clause-steps g c =
     let runs : is_running here.live.values.running c.args.address ≡ true =
     rw (← c.self.view_is) (rw c.running.ensures at (sym c.is_running.ensures ∙ c.if-not-is_running.false)) in
     let said : said_by c.args.body.now ≡ Garbled = rw (c.in-Err.ensures.exact, c.in-Err-read_response.ensures.exact) refl in
-    refuses_steps g.F.Flash here (Told c.args.caller.now c.args.address (said_by c.args.body.now)) Fault _ _ c.requires.stored
-    (cond-true _ _ _ runs ∙ ap (judged_said here.station here.live c.args.caller.now) said)
+    refuses_steps g.F.Flash here (Reported c.args.caller.now c.args.address (said_by c.args.body.now)) Fault _ _ c.requires.stored
+    (cond-true _ _ _ runs ∙ ap (handled_said here.station here.live c.args.caller.now) said)
     (ap (map (λ frame. frame.items)) c.requires.empty) refl

@@ -5,11 +5,11 @@ use Rattle.frame_codec.specs.Meaning.{ArpPacket}
 use Rattle.device_frames.specs.declared.note.Note.TheVariants.{NotMine}
 use Rattle.device_core.specs.State.{with_rest}
 use Rattle.device_frames.specs.Heard.{Elsewhere, Resolves, broadcast, is_own}
-use Rattle.device_core.specs.Judged.{judged_arp}
+use Rattle.device_core.specs.Handled.{handled_arp}
 use Rattle.device_core.specs.Steps.{Steps}
-use Rattle.device_core.proofs.Judged.{arp_asks_nothing, arp_leaves}
+use Rattle.device_core.proofs.Handled.{arp_asks_nothing, arp_leaves}
 use Rattle.device_core.proofs.OfKind.{read_steps, unread_steps}
-use Rattle.device_core.proofs.Steps.{quiet_steps, refuses_steps}
+use Rattle.device_core.proofs.Steps.{inactive_steps, refuses_steps}
 use Rattle.device_core.proofs.device.Device.hear_packet.Goals as goal
 
 pub returns-in_default-clause-steps : goal.returns-in_default-clause-steps
@@ -31,5 +31,5 @@ returns-clause-steps g c =
     let said = sym (ap (λ s. is_own s.station.identity c.args.frame.now.destination || pointwise nat_eq c.args.frame.now.destination.octets broadcast) c.self.view_is) ∙ sym c.is_asked.ensures ∙ c.if-not-is_asked.false in
     read_steps g.F.Flash old _ c.args.frame.now.destination asker _ (ArpPacket packet) _ _ c.in-Ok.ensures
     (subst (λ is_asked. Steps g.F.Flash old (if is_asked then Resolves asker packet else Elsewhere) (map (λ frame. frame.items) c.resolve.new.outbox.items) c.resolve.result old) (sym said)
-    (quiet_steps g.F.Flash old _ (Resolves asker packet) (judged_arp old.live asker packet) _ _ c.requires.stored refl
+    (inactive_steps g.F.Flash old _ (Resolves asker packet) (handled_arp old.live asker packet) _ _ c.requires.stored refl
     (arp_asks_nothing old.live asker packet) (ap (with_rest old) (sym (arp_leaves old.station old.live asker packet))) c.resolve.ensures.frames c.resolve.ensures.note c.resolve.ensures.sendable))

@@ -4,11 +4,11 @@ use Rattle.device_frames.specs.declared.note.Note.TheVariants.{NotMine}
 use Rattle.device_frames.specs.Sent.{bytes_of}
 use Rattle.device_frames.specs.Heard.{Cyclic, Elsewhere as elsewhere}
 use Rattle.device_frames.specs.declared.hearing.RealTimeKind.TheVariants as kind
-use Rattle.device_core.specs.Judged.{judged_cyclic}
-use Rattle.device_core.proofs.Judged.{cyclic_asks_nothing, cyclic_sends_nothing}
+use Rattle.device_core.specs.Handled.{handled_cyclic}
+use Rattle.device_core.proofs.Handled.{cyclic_asks_nothing, cyclic_sends_nothing}
 use Rattle.device_core.proofs.OfKind.{kind_steps}
 use Rattle.device_core.proofs.Sendable.{none_sendable}
-use Rattle.device_core.proofs.Steps.{quiet_steps, refuses_steps}
+use Rattle.device_core.proofs.Steps.{inactive_steps, refuses_steps}
 use Rattle.device_core.proofs.device.Device.hear_real_time.Goals as goal
 
 pub returns-in-Cyclic-clause-steps : goal.returns-in-Cyclic-clause-steps
@@ -19,7 +19,7 @@ returns-in-Cyclic-clause-steps g c =
     let body = c.args.frame.now.body.now in
     kind_steps g.F.Flash old _ _ c.args.frame.now.destination source frame_id body _ kind.Cyclic _ _
     (ap (λ s. s.station.identity) c.self.view_is) (c.kind_of.ensures source body) c.in-Cyclic.is
-    (quiet_steps g.F.Flash old _ (Cyclic source frame_id body) (judged_cyclic old.live source frame_id body) _ _ c.requires.stored refl
+    (inactive_steps g.F.Flash old _ (Cyclic source frame_id body) (handled_cyclic old.live source frame_id body) _ _ c.requires.stored refl
     (cyclic_asks_nothing old.live source frame_id body) c.hear_cyclic.ensures.state
     (ap (map (λ frame. frame.items)) c.requires.empty ∙ sym (ap (map (bytes_of old.station.identity)) (cyclic_sends_nothing old.station old.live source frame_id body)))
     c.hear_cyclic.ensures.note (none_sendable old.station.identity _ (cyclic_sends_nothing old.station old.live source frame_id body)))

@@ -3,10 +3,10 @@ use Rattle.std.proofs.Common.{ap, map, refl, subst, sym, ◌∙◌}
 use Rattle.pn_alarms.specs.Message.{message_of}
 use Rattle.device_frames.specs.declared.note.Note.TheVariants.{Fault}
 use Rattle.device_frames.specs.Heard.{Alarms, Unreadable, heard_alarm}
-use Rattle.device_core.specs.Judged.{judged_alarm}
+use Rattle.device_core.specs.Handled.{handled_alarm}
 use Rattle.device_core.specs.Steps.{Steps}
-use Rattle.device_core.proofs.Judged.{alarm_asks_nothing}
-use Rattle.device_core.proofs.Steps.{quiet_steps, refuses_steps}
+use Rattle.device_core.proofs.Handled.{alarm_asks_nothing}
+use Rattle.device_core.proofs.Steps.{inactive_steps, refuses_steps}
 use Rattle.device_core.proofs.device.Device.read_alarm.Goals as goal
 
 pub returns-in-Ok-clause-steps : goal.returns-in-Ok-clause-steps
@@ -17,7 +17,7 @@ returns-in-Ok-clause-steps g c =
     let message = c.in-Ok.message in
     let said = ap (heard_alarm source) (sym c.read_message.ensures ∙ c.in-Ok.is) in
     subst (λ heard. Steps g.F.Flash c.args.self.now heard (map (λ frame. frame.items) c.hear_alarm.new.outbox.items) c.hear_alarm.result c.hear_alarm.new.self) (sym said)
-    (quiet_steps g.F.Flash old _ (Alarms source header message) (judged_alarm old.live source header message) _ _ c.requires.stored refl
+    (inactive_steps g.F.Flash old _ (Alarms source header message) (handled_alarm old.live source header message) _ _ c.requires.stored refl
     (alarm_asks_nothing old.live source header message) c.hear_alarm.ensures.state c.hear_alarm.ensures.frames c.hear_alarm.ensures.note c.hear_alarm.ensures.sendable)
 
 pub returns-in-Err-clause-steps : goal.returns-in-Err-clause-steps

@@ -4,10 +4,10 @@ use Rattle.device_frames.specs.Sent.{bytes_of}
 use Rattle.settings_store.specs.Carries.{Holds}
 use Rattle.relations.specs.Exchanged.{given_to, raised_to}
 use Rattle.device_frames.specs.Heard.{Ticks, Given, Raised, heard_of}
-use Rattle.device_core.specs.Judged.{judged_given, judged_raised}
-use Rattle.device_core.proofs.Judged.{input_asks_nothing, input_sends_nothing, notice_asks_nothing}
+use Rattle.device_core.specs.Handled.{handled_given, handled_raised}
+use Rattle.device_core.proofs.Handled.{input_asks_nothing, input_sends_nothing, notice_asks_nothing}
 use Rattle.device_core.proofs.Sendable.{none_sendable}
-use Rattle.device_core.proofs.Steps.{quiet_steps, moves_steps}
+use Rattle.device_core.proofs.Steps.{inactive_steps, moves_steps}
 use Rattle.device_core.proofs.device.Device.respond.Goals as goal
 
 pub hear-requires : goal.hear-requires
@@ -29,7 +29,7 @@ returns-in-Input-clause-steps g c =
     let value = c.as_slice.result.now in
     let flow = given_to slot subslot value old.live.rest.link in
     rw (c.in-Input.is, ← c.as_slice.ensures.value)
-    (quiet_steps g.F.Flash old _ (Given slot subslot value) (judged_given old.live slot subslot value) _ _ (subst (λ s. Holds (g.F.Flash.image s.flash) s.live.values) c.self.view_is c.self.invariant) refl
+    (inactive_steps g.F.Flash old _ (Given slot subslot value) (handled_given old.live slot subslot value) _ _ (subst (λ s. Holds (g.F.Flash.image s.flash) s.live.values) c.self.view_is c.self.invariant) refl
     (input_asks_nothing old.live flow) c.give.ensures.state
     (ap (map (λ frame. frame.items)) c.requires.empty ∙ sym (ap (map (bytes_of old.station.identity)) (input_sends_nothing old.station old.live flow)))
     c.give.ensures.note (none_sendable old.station.identity _ (input_sends_nothing old.station old.live flow)))
@@ -42,5 +42,5 @@ returns-in-Alarm-clause-steps g c =
     let subslot = c.in-Alarm.subslot in
     let octets = c.as_slice-in-Alarm.result.now in
     rw (c.in-Alarm.is, ← c.as_slice-in-Alarm.ensures.value)
-    (quiet_steps g.F.Flash old _ (Raised slot subslot octets) (judged_raised old.station old.live slot subslot octets) _ _ (subst (λ s. Holds (g.F.Flash.image s.flash) s.live.values) c.self.view_is c.self.invariant) refl
+    (inactive_steps g.F.Flash old _ (Raised slot subslot octets) (handled_raised old.station old.live slot subslot octets) _ _ (subst (λ s. Holds (g.F.Flash.image s.flash) s.live.values) c.self.view_is c.self.invariant) refl
     (notice_asks_nothing old.live (raised_to old.station.real.modules.items slot subslot octets old.live.rest.link)) c.raise.ensures.state c.raise.ensures.frames c.raise.ensures.note c.raise.ensures.sendable)

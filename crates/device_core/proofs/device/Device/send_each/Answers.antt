@@ -1,7 +1,7 @@
 -- What is due is sent, in order.
 use Rattle.std.proofs.Common.{◌≡◌, ℕ, List, ◌++◌, map, append_assoc, sym, ap, ◌∙◌}
 use Rattle.std.proofs.lemmas.List.{map-append}
-use Rattle.relations.specs.Link.{flow_of}
+use Rattle.relations.specs.RelationState.{flow_of}
 use Rattle.device_frames.specs.Sent.{Sent, bytes_of}
 use Rattle.device_frames.specs.Relation.{alarms_of, inputs_of, ready_calls, where_due}
 use Rattle.device_core.proofs.Sendable.{all_sendable}

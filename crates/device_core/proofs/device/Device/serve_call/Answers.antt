@@ -6,7 +6,7 @@ use Rattle.records.specs.status.Operation.{operation_of}
 use Rattle.records.specs.declared.status.call_fault.CallFault.TheVariants.{Arguments}
 use Rattle.device_frames.specs.declared.note.Note.TheVariants.{Fault, OldCall}
 use Rattle.device_frames.specs.Sent.{Again}
-use Rattle.device_core.specs.Judged.{answer_from, judged_blocks, judged_call, judged_looked}
+use Rattle.device_core.specs.Handled.{answer_from, handled_blocks, handled_call, handled_looked}
 use Rattle.device_core.proofs.Steps.{moves_steps, refuses_steps}
 use Rattle.device_core.proofs.device.Device.serve_call.Goals as goal
 
@@ -15,7 +15,7 @@ returns-in_default-clause-steps g c = λ heard is.
     let here = c.args.self.now in
     let none : operation_of c.args.call.now.header.operation ≡ None = sym c.of.ensures ∙ c.in_default.is in
     refuses_steps g.F.Flash here heard Fault _ _ c.requires.stored
-    (is ∙ ap (judged_call here.station here.live c.args.caller.now (asked c.args.call.now)) none) (ap (map (λ frame. frame.items)) c.requires.empty) refl
+    (is ∙ ap (handled_call here.station here.live c.args.caller.now (asked c.args.call.now)) none) (ap (map (λ frame. frame.items)) c.requires.empty) refl
 
 pub returns-in_default-blocks-clause-steps : goal.returns-in_default-blocks-clause-steps
 returns-in_default-blocks-clause-steps g c = λ heard is.
@@ -26,7 +26,7 @@ returns-in_default-blocks-clause-steps g c = λ heard is.
     let some : operation_of c.args.call.now.header.operation ≡ Some operation = sym c.of.ensures ∙ c.in-Some.is in
     let none : call.blocks ≡ None = rw c.in_default-blocks.is refl in
     moves_steps g.F.Flash here _ heard here.live.rest (answer_from here.live.values.running.suite.address caller call operation (Err Arguments) ∷ []) _ _ c.requires.stored
-    (is ∙ ap (judged_call here.station here.live caller call) some ∙ ap (judged_blocks here.station here.live caller call operation) none)
+    (is ∙ ap (handled_call here.station here.live caller call) some ∙ ap (handled_blocks here.station here.live caller call operation) none)
     refl c.refuse_arguments.ensures.frames c.refuse_arguments.ensures.note (c.refuse_arguments.ensures.sendable, tt)
 
 pub returns-in-Again-clause-steps : goal.returns-in-Again-clause-steps
@@ -38,11 +38,11 @@ returns-in-Again-clause-steps g c = λ heard is.
     let frame = c.in-Again.frame.now.items in
     let some : operation_of c.args.call.now.header.operation ≡ Some operation = sym c.of.ensures ∙ c.in-Some.is in
     let counted : call.blocks ≡ Some c.in-Some-blocks.blocks.now = rw c.in-Some-blocks.is refl in
-    let told : looked call.header.activity call.header.sequence here.live.rest.calls ≡ again frame =
-    rw (← c.self.view_is) (rw c.in-Again.is at c.look.ensures.told) in
+    let reported : looked call.header.activity call.header.sequence here.live.rest.calls ≡ again frame =
+    rw (← c.self.view_is) (rw c.in-Again.is at c.look.ensures.reported) in
     moves_steps g.F.Flash here _ heard here.live.rest (Again frame ∷ []) _ _ c.requires.stored
-    (is ∙ ap (judged_call here.station here.live caller call) some ∙ ap (judged_blocks here.station here.live caller call operation) counted
-    ∙ ap (judged_looked here.station here.live caller call c.in-Some-blocks.blocks.now operation) told)
+    (is ∙ ap (handled_call here.station here.live caller call) some ∙ ap (handled_blocks here.station here.live caller call operation) counted
+    ∙ ap (handled_looked here.station here.live caller call c.in-Some-blocks.blocks.now operation) reported)
     refl (rw (c.put_copy.ensures.items, c.requires.empty) refl) refl (tt, tt)
 
 pub returns-in-Old-clause-steps : goal.returns-in-Old-clause-steps
@@ -53,9 +53,9 @@ returns-in-Old-clause-steps g c = λ heard is.
     let operation = c.in-Some.operation in
     let some : operation_of c.args.call.now.header.operation ≡ Some operation = sym c.of.ensures ∙ c.in-Some.is in
     let counted : call.blocks ≡ Some c.in-Some-blocks.blocks.now = rw c.in-Some-blocks.is refl in
-    let told : looked call.header.activity call.header.sequence here.live.rest.calls ≡ old =
-    rw (← c.self.view_is) (rw c.in-Old.is at c.look.ensures.told) in
+    let reported : looked call.header.activity call.header.sequence here.live.rest.calls ≡ old =
+    rw (← c.self.view_is) (rw c.in-Old.is at c.look.ensures.reported) in
     refuses_steps g.F.Flash here heard OldCall _ _ c.requires.stored
-    (is ∙ ap (judged_call here.station here.live caller call) some ∙ ap (judged_blocks here.station here.live caller call operation) counted
-    ∙ ap (judged_looked here.station here.live caller call c.in-Some-blocks.blocks.now operation) told)
+    (is ∙ ap (handled_call here.station here.live caller call) some ∙ ap (handled_blocks here.station here.live caller call operation) counted
+    ∙ ap (handled_looked here.station here.live caller call c.in-Some-blocks.blocks.now operation) reported)
     (ap (map (λ frame. frame.items)) c.requires.empty) refl

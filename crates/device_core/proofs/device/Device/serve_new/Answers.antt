@@ -2,7 +2,7 @@
 use Rattle.std.proofs.Common.{refl, ap, ◌∙◌}
 use Rattle.rpc_core.specs.Call.{asked}
 use Rattle.records.specs.declared.status.operation.Operation.TheVariants as operation
-use Rattle.device_core.specs.Judged.{judged_new}
+use Rattle.device_core.specs.Handled.{handled_new}
 use Rattle.device_core.proofs.Served.{new_steps}
 use Rattle.device_core.proofs.device.Device.serve_new.Goals as goal
 
@@ -30,4 +30,4 @@ pub returns-in-Write-clause-steps : goal.returns-in-Write-clause-steps
 returns-in-Write-clause-steps g c = λ heard is.
     let old = c.args.self.now in
     let serving = c.args.serving.now in
-    c.write.ensures.steps heard (is ∙ ap (judged_new old.station old.live serving.caller.now (asked serving.call.now) serving.blocks.now) c.in-Write.is)
+    c.write.ensures.steps heard (is ∙ ap (handled_new old.station old.live serving.caller.now (asked serving.call.now) serving.blocks.now) c.in-Write.is)

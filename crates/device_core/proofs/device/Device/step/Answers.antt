@@ -34,6 +34,6 @@ returns-clause-identify g c = λ asker request is identify.
     is identify
 
 pub returns-clause-again : goal.returns-clause-again
-returns-clause-again g c = λ call frame served told.
+returns-clause-again g c = λ call frame served reported.
     again_step g.F.Flash c.args.self.now c.respond.new.self _ _ _ c.respond.ensures.steps call frame
-    served told
+    served reported

@@ -3,7 +3,7 @@ use Rattle.std.proofs.Common.{◌≡◌, [], ◌∷◌, refl, sym, ap, ◌∙◌
 use Rattle.rpc_core.specs.Call.{asked}
 use Rattle.records.specs.writes.Answer.{answer_of}
 use Rattle.relations.specs.Phases.{Named, answered}
-use Rattle.device_core.specs.Judged.{Writes}
+use Rattle.device_core.specs.Handled.{Writes}
 use Rattle.device_core.specs.Machine.{written_as}
 use Rattle.device_core.proofs.Served.{same_moving}
 use Rattle.device_core.proofs.Steps.{settled_steps}

@@ -1,11 +1,11 @@
 -- This follows from the laws of the crates below.
 use Rattle.message_laws.proofs.HearingController.{uncalled}
-use Rattle.message_laws.proofs.HearingDevice.{untold}
+use Rattle.message_laws.proofs.HearingDevice.{unreported}
 use Rattle.message_laws.proofs.hearing.calls.datagrams_alone_are_calls.Goals as goal
 
 pub returns-clause-device : goal.returns-clause-device
 returns-clause-device c =
-    untold c.frames_are_read.ensures.alone
+    unreported c.frames_are_read.ensures.alone
 
 pub returns-clause-controller : goal.returns-clause-controller
 returns-clause-controller c =

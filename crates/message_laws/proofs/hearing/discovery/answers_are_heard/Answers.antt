@@ -3,7 +3,7 @@ use Rattle.std.proofs.Common.{None, arith}
 use Rattle.dcp_core.specs.Get.{get_bytes}
 use Rattle.dcp_core.specs.Identify.{identify_bytes}
 use Rattle.dcp_core.specs.Set.{set_bytes}
-use Rattle.dcp_core.specs.Told.{get_said, identify_said, set_said}
+use Rattle.dcp_core.specs.Reported.{get_said, identify_said, set_said}
 use Rattle.message_laws.proofs.HearingController.{answer_heard, get_set_is, identify_is}
 use Rattle.message_laws.proofs.hearing.discovery.answers_are_heard.Goals as goal
 

@@ -10,7 +10,7 @@ use Rattle.controller_frames.specs.Sent.{calls_at}
 use Rattle.message_laws.specs.hearing.Stations.{IsDevice, ready_call}
 use Rattle.message_laws.specs.sending.Devices.{CanBeSentBy}
 use Rattle.message_laws.specs.sending.Sized.{IsSized}
-use Rattle.message_laws.proofs.SendingHeard.{mine_sized, noted, nothing_sized, told_sized}
+use Rattle.message_laws.proofs.SendingHeard.{mine_sized, noted, nothing_sized, reported_sized}
 use Rattle.message_laws.proofs.sending.law.messages_are_sized.Goals as goal
 
 sized : (c : goal.After-ends_are_heard) (mine : Controller) (identity : Identity) (message : Sent) → IsDevice identity → CanBeSentBy identity message → IsSized (heard_of mine (device_bytes identity message))
@@ -19,10 +19,10 @@ sized c mine identity (GetAnswer asker running request) is can = mine_sized mine
 sized c mine identity (SetAnswer asker request outcomes) is can = mine_sized mine asker _ _ (c.answers_are_heard.ensures.set mine identity asker request outcomes is can.0 can.1 can.2) is
 sized c mine identity (ArpReply asker address target) is can = nothing_sized _ (c.packets_are_heard.ensures.controller mine identity asker address target is can.0 can.1 can.2)
 sized c mine identity (CallAnswer caller address answer) is can =
-    told_sized mine caller.mac caller.endpoint _ _ (c.responses_are_heard.ensures.controller mine identity caller address answer is can.0 can.1 can.2) can.3
+    reported_sized mine caller.mac caller.endpoint _ _ (c.responses_are_heard.ensures.controller mine identity caller address answer is can.0 can.1 can.2) can.3
 sized c mine identity (Again frame) is can = absurd can
 sized c mine identity (ReadyCall address ready) is can =
-    told_sized mine ready.partner.mac (calls_at ready.partner.address) (Calls (record { mac = identity.mac; endpoint = calls_at address }) (ready_call ready)) _ (c.ready_calls_are_heard.ensures.controller mine identity address ready is can.1 can.2 can.0 can.3)
+    reported_sized mine ready.partner.mac (calls_at ready.partner.address) (Calls (record { mac = identity.mac; endpoint = calls_at address }) (ready_call ready)) _ (c.ready_calls_are_heard.ensures.controller mine identity address ready is can.1 can.2 can.0 can.3)
     ((record { mac = is; endpoint = (can.0, omega arith) }), can.3.header, can.3.maximum)
 sized c mine identity (Ends farewell) is can = mine_sized mine farewell.initiator _ _ (c.ends_are_heard.ensures.controller mine identity farewell is can.0 can.1 can.2) tt
 sized c mine identity (Exchanges route (Inputs inputs counter)) is can = mine_sized mine route.partner _ _ (c.inputs_are_heard.ensures.controller mine identity route inputs counter is can.0 can.1) tt

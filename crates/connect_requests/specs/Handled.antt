@@ -21,7 +21,7 @@ use Rattle.block_codec.specs.Block.{in_ar_block_req}
 use Rattle.module_diff.specs.declared.expected.Expected.{Expected}
 use Rattle.records.specs.declared.status.call_fault.CallFault.{CallFault}
 use Rattle.records.specs.declared.status.call_fault.CallFault.TheVariants as fault
-use Rattle.records.specs.calls.Judged.{judged}
+use Rattle.records.specs.calls.Handled.{handled}
 use Rattle.connect_requests.specs.declared.parts.Ar.{Ar}
 use Rattle.connect_requests.specs.declared.parts.AlarmCr.{AlarmCr}
 use Rattle.connect_requests.specs.Pieces.{Piece, pieces_of}
@@ -66,7 +66,7 @@ admitted (Some standing) ar = Err (conflict standing ar.uuid)
 
 -- An ARBlockReq.
 unfoldable pub ar_in : Piece → Result Ar CallFault
-ar_in piece = judged
+ar_in piece = handled
     ((nat_lt piece.left 4, fault.BlockHeader)
     ∷ (not (piece.number == number_of kind.ArBlockReq), fault.BlockType)
     ∷ [])
@@ -115,7 +115,7 @@ repeats_slot before modules = list_any (λ entry. list_any (λ other. other.slot
 -- What is expected with one more ExpectedSubmoduleBlockReq: each slot once, and at most 64 modules and 64 submodules in
 -- all.
 abbrev pub expected_with : Expected → Listed ExpectedModule ExpectedSubmodule → Result Expected CallFault
-expected_with before block = judged
+expected_with before block = handled
     ((repeats_slot before.modules.items block.modules, fault.ExpectedField 6)
     ∷ (nat_lt 64 (length before.modules.items + length block.modules), fault.TooManyModules)
     ∷ (nat_lt 64 (length before.submodules.items + length block.submodules), fault.TooManySubmodules)
@@ -128,7 +128,7 @@ expected_with before block = judged
 -- The state with one more block that was read without a fault. Each IOCRType may occur once.
 abbrev pub with_block : Sofar → Block → Result Sofar CallFault
 with_block sofar (is.IocrBlockReq block) =
-    judged ((has_iocr sofar block.iocr_type, fault.IocrField 4) ∷ []) (Ok (with_iocr sofar block block.iocr_type))
+    handled ((has_iocr sofar block.iocr_type, fault.IocrField 4) ∷ []) (Ok (with_iocr sofar block block.iocr_type))
 with_block sofar (is.AlarmCrBlockReq block) = Ok (record sofar { alarm = Some (alarm_of block) })
 with_block sofar (is.ExpectedSubmoduleBlockReq block) =
     expected_with sofar.expected block.modules >>= λ expected. Ok (record sofar { has_expected = true; expected = expected })
@@ -137,7 +137,7 @@ with_block sofar _ = Err fault.BlockType
 -- One more block. Its header is checked first, then its type, then whether it may occur there, its form, and last its
 -- content.
 unfoldable pub with_piece : Sofar → Piece → Result Sofar CallFault
-with_piece sofar piece = judged
+with_piece sofar piece = handled
     ((nat_lt piece.left 4, fault.BlockHeader)
     ∷ (not (is_further piece.number), fault.BlockType)
     ∷ (piece.number == number_of kind.AlarmCrBlockReq && is_some sofar.alarm, fault.AlarmCrRepeated)
@@ -154,7 +154,7 @@ with_pieces sofar (piece ∷ pieces) = with_piece sofar piece >>= λ next. with_
 -- Which blocks are missing, and the layouts, that of the first IOCRBlockReq before that of the second.
 unfoldable pub request_with : Ar → Sofar → Result Request CallFault
 request_with ar sofar =
-    judged ((not sofar.has_expected, fault.BlockMissing) ∷ []) (or_fault fault.IocrMissing sofar.input) >>= λ input.
+    handled ((not sofar.has_expected, fault.BlockMissing) ∷ []) (or_fault fault.IocrMissing sofar.input) >>= λ input.
     or_fault fault.IocrMissing sofar.output >>= λ output.
     or_fault fault.AlarmCrMissing sofar.alarm >>= λ alarm.
     in_order sofar.input_first (layout_of (data_of sofar.expected) input) (layout_of (data_of sofar.expected) output) >>= λ layouts.

@@ -7,6 +7,6 @@ abbrev pub Judgement : Type 0
 Judgement = Bool × CallFault
 
 -- The fault of the first check that fails, or the other result if none fails.
-abbrev pub judged : {A : Type 0} → List Judgement → Result A CallFault → Result A CallFault
-judged [] otherwise = otherwise
-judged (judgement ∷ others) otherwise = if judgement.0 then Err judgement.1 else judged others otherwise
+abbrev pub handled : {A : Type 0} → List Judgement → Result A CallFault → Result A CallFault
+handled [] otherwise = otherwise
+handled (judgement ∷ others) otherwise = if judgement.0 then Err judgement.1 else handled others otherwise

@@ -11,7 +11,7 @@ use Rattle.dcp_core.specs.declared.request.Service.TheVariants.{Get, Set, Identi
 use Rattle.dcp_core.specs.declared.response.Outcome.TheVariants.{Known}
 use Rattle.dcp_core.specs.Kinds.{kind_of, option_of, suboption_of, blame}
 use Rattle.dcp_core.specs.Request.{Asked, AskedBlock}
-use Rattle.dcp_core.specs.Response.{Answered, AnsweredBlock, told, came_out}
+use Rattle.dcp_core.specs.Response.{Answered, AnsweredBlock, reported, came_out}
 use Rattle.dcp_core.specs.Identify.{value_of, suite_bytes}
 use Rattle.dcp_core.specs.Get.{firsts_of}
 
@@ -25,15 +25,15 @@ info_number settings IpSuite = if list_all (λ octet. octet == 0) (suite_bytes s
 info_number settings kind = 0
 
 -- what a station reports of a kind: its value, or the error that says why there is none
-abbrev pub told_of : Identity → Settings → Kind → AnsweredBlock
-told_of identity settings kind = elim (value_of identity settings kind) [
-  | Some value ↦ told kind (info_number settings kind) value
+abbrev pub reported_of : Identity → Settings → Kind → AnsweredBlock
+reported_of identity settings kind = elim (value_of identity settings kind) [
+  | Some value ↦ reported kind (info_number settings kind) value
   | None ↦ came_out (named kind) (Known (blame kind))
 ]
 
 -- the outcome of a block of a Set
-abbrev pub outcome_told : AskedBlock × BlockError → AnsweredBlock
-outcome_told pair = came_out (named pair.0.kind) (Known pair.1)
+abbrev pub outcome_reported : AskedBlock × BlockError → AnsweredBlock
+outcome_reported pair = came_out (named pair.0.kind) (Known pair.1)
 
 -- a response of a supported service
 abbrev pub supported : Service → ℕ → List AnsweredBlock → Answered
@@ -45,16 +45,16 @@ identify_kinds = StationType ∷ NameOfStation ∷ DeviceId ∷ DeviceRole ∷ D
 
 -- the contents of the response to an Identify
 abbrev pub identify_said : Identity → Settings → ℕ → Answered
-identify_said identity settings xid = supported Identify xid (map (told_of identity settings) identify_kinds)
+identify_said identity settings xid = supported Identify xid (map (reported_of identity settings) identify_kinds)
 
 -- the contents of the response to a Get
 abbrev pub get_said : Identity → Settings → Asked → Answered
 get_said identity settings request =
-    supported Get request.xid (map (told_of identity settings) (firsts_of [] (map (λ block. block.kind) request.blocks)))
+    supported Get request.xid (map (reported_of identity settings) (firsts_of [] (map (λ block. block.kind) request.blocks)))
 
 -- the contents of the response to a Set
 abbrev pub set_said : Asked → List BlockError → Answered
-set_said request answers = supported Set request.xid (map outcome_told (zip request.blocks answers))
+set_said request answers = supported Set request.xid (map outcome_reported (zip request.blocks answers))
 
 -- these bytes begin with this response, which fits a frame, as all written ones do
 pub record IsSent (xid : ℕ) (answer bytes : List ℕ) : Type 0 where

@@ -61,14 +61,14 @@ IsWhole old new input (Err (Config n)) = length input ≤ limit
 IsWhole old new input (Err Write) = length input ≤ limit
 
 -- For a script that is the reader's bytes: what is written of its output.
-abbrev pub IsTold : (List ℕ → Option Parts) → Option (List ℕ) → Option (List ℕ) → List ℕ → Result (Unit {0}) RunFault → Type 0
-IsTold plans old new input (Err Read) = Keeps old new
-IsTold plans old new input (Err EndlessInput) = Keeps old new
-IsTold plans old new input (Err OutOfMemory) = IsPlayed plans old new input (Err OutOfMemory)
-IsTold plans old new input (Ok done) = IsPlayed plans old new input (Ok done)
-IsTold plans old new input (Err (Line n)) = IsPlayed plans old new input (Err (Line n))
-IsTold plans old new input (Err (Config n)) = IsPlayed plans old new input (Err (Config n))
-IsTold plans old new input (Err Write) = IsPlayed plans old new input (Err Write)
+abbrev pub IsReported : (List ℕ → Option Parts) → Option (List ℕ) → Option (List ℕ) → List ℕ → Result (Unit {0}) RunFault → Type 0
+IsReported plans old new input (Err Read) = Keeps old new
+IsReported plans old new input (Err EndlessInput) = Keeps old new
+IsReported plans old new input (Err OutOfMemory) = IsPlayed plans old new input (Err OutOfMemory)
+IsReported plans old new input (Ok done) = IsPlayed plans old new input (Ok done)
+IsReported plans old new input (Err (Line n)) = IsPlayed plans old new input (Err (Line n))
+IsReported plans old new input (Err (Config n)) = IsPlayed plans old new input (Err (Config n))
+IsReported plans old new input (Err Write) = IsPlayed plans old new input (Err Write)
 
 -- For any reader: after Read and EndlessInput nothing is written.
 abbrev pub IsSilent : Option (List ℕ) → Option (List ℕ) → Result (Unit {0}) RunFault → Type 0
@@ -82,8 +82,8 @@ IsSilent old new (Err Write) = Unit {0}
 
 -- What is written of the output of a script, with the plans of its catalogues: each has the plan that the configurator
 -- gives, and none if it is refused.
-abbrev pub IsToldByPlans : Option (List ℕ) → Option (List ℕ) → List ℕ → Result (Unit {0}) RunFault → Type 0
-IsToldByPlans old new input result = (plans : List ℕ → Option Parts) → ArePlansOf plans input → IsTold plans old new input result
+abbrev pub IsReportedByPlans : Option (List ℕ) → Option (List ℕ) → List ℕ → Result (Unit {0}) RunFault → Type 0
+IsReportedByPlans old new input result = (plans : List ℕ → Option Parts) → ArePlansOf plans input → IsReported plans old new input result
 
 -- A fault of a script that was read.
 abbrev pub IsPlayFault : RunFault → Type 0

@@ -6,10 +6,10 @@ use Rattle.controller_frames.specs.declared.hearing.Hearing.{Hearing}
 use Rattle.controller_frames.specs.declared.hearing.Hearing.TheVariants as found
 use Rattle.controller_frames.specs.Heard.{Heard, Nothing, Answers, Responds, Calls, Cyclic, Alarms}
 
-abbrev pub told : Hearing → Heard
-told found.Nothing = Nothing
-told (found.Answers source answer) = Answers source (answered_as answer)
-told (found.Responds response) = Responds (answered response)
-told (found.Calls caller call) = Calls caller (asked call)
-told (found.Cyclic source frame_id body) = Cyclic source frame_id body.now
-told (found.Alarms source header notice) = Alarms source header notice
+abbrev pub reported : Hearing → Heard
+reported found.Nothing = Nothing
+reported (found.Answers source answer) = Answers source (answered_as answer)
+reported (found.Responds response) = Responds (answered response)
+reported (found.Calls caller call) = Calls caller (asked call)
+reported (found.Cyclic source frame_id body) = Cyclic source frame_id body.now
+reported (found.Alarms source header notice) = Alarms source header notice

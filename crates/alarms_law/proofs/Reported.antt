@@ -34,17 +34,17 @@ use Rattle.alarms_law.specs.Sized.{IsChosenWell}
 -- ---- at the device
 
 -- what the device hears of alarms, if it hears an alarm frame
-abbrev pub told_at : device.Heard → Option (Notice AlarmAck)
-told_at (device.Alarms source header message) = Some message
-told_at device.Ticks = None
-told_at device.Unreadable = None
-told_at device.Elsewhere = None
-told_at (device.Asks source request) = None
-told_at (device.Resolves asker packet) = None
-told_at (device.Told caller address body) = None
-told_at (device.Cyclic source frame_id body) = None
-told_at (device.Given slot subslot value) = None
-told_at (device.Raised slot subslot octets) = None
+abbrev pub reported_at : device.Heard → Option (Notice AlarmAck)
+reported_at (device.Alarms source header message) = Some message
+reported_at device.Ticks = None
+reported_at device.Unreadable = None
+reported_at device.Elsewhere = None
+reported_at (device.Asks source request) = None
+reported_at (device.Resolves asker packet) = None
+reported_at (device.Reported caller address body) = None
+reported_at (device.Cyclic source frame_id body) = None
+reported_at (device.Given slot subslot value) = None
+reported_at (device.Raised slot subslot octets) = None
 
 -- what a reply to data says, by its type: an ACK of the number, or that it was refused
 abbrev pub reply_of : {B : Type 0} → ℕ → PduType → Option (Notice B)
@@ -82,13 +82,13 @@ noted_at (controller.Calls caller call) = None
 noted_at (controller.Cyclic source frame_id body) = None
 
 -- what the controller says of alarms: an AlarmAck with its number, the reply to an alarm, or the end of the relation
-abbrev pub told_in : said.Sent → Option (Notice AlarmAck)
-told_in (said.Confirms route header ack) = Some (notice.Data header.send_number ack)
-told_in (said.Replies route header) = reply_of header.ack_number header.kind
-told_in (said.Ends route header reason) = Some notice.Abort
-told_in (said.Requests to request) = None
-told_in (said.Agrees caller answer) = None
-told_in (said.Cycles route shown counter) = None
+abbrev pub reported_in : said.Sent → Option (Notice AlarmAck)
+reported_in (said.Confirms route header ack) = Some (notice.Data header.send_number ack)
+reported_in (said.Replies route header) = reply_of header.ack_number header.kind
+reported_in (said.Ends route header reason) = Some notice.Abort
+reported_in (said.Requests to request) = None
+reported_in (said.Agrees caller answer) = None
+reported_in (said.Cycles route shown counter) = None
 
 -- ---- what a controller hears of its device
 
@@ -96,7 +96,7 @@ told_in (said.Cycles route shown counter) = None
 abbrev pub IsGood : Mac → controller.Heard → Type 0
 IsGood mac (controller.Answers source answer) = (source ≡ mac) × IsMac source
 IsGood mac (controller.Calls caller call) = (caller.mac ≡ mac) × IsCaller caller × IsHeader call.header × (call.args_maximum < 4294967296)
-IsGood mac (controller.Alarms source header told) = IsNotice told
+IsGood mac (controller.Alarms source header reported) = IsNotice reported
 IsGood mac controller.Nothing = Unit {0}
 IsGood mac (controller.Responds response) = Unit {0}
 IsGood mac (controller.Cyclic source frame_id body) = Unit {0}
@@ -108,7 +108,7 @@ IsWell setup controller.Nothing = Unit {0}
 IsWell setup (controller.Answers source answer) = Unit {0}
 IsWell setup (controller.Calls caller call) = Unit {0}
 IsWell setup (controller.Cyclic source frame_id body) = Unit {0}
-IsWell setup (controller.Alarms source header told) = Unit {0}
+IsWell setup (controller.Alarms source header reported) = Unit {0}
 
 -- ---- what a device hears of its controller
 
@@ -118,13 +118,13 @@ pub record IsSizedCall (call : Call) : Type 0 where
 
 -- a call of a start-up has its sizes
 abbrev pub IsCallIn : device.Heard → Type 0
-IsCallIn heard = (caller : Caller) (address : List ℕ) (call : Call) → heard ≡ device.Told caller address (device.Calls call) → (heard_as heard ≡ small.Idle → ⊥) → IsSizedCall call
+IsCallIn heard = (caller : Caller) (address : List ℕ) (call : Call) → heard ≡ device.Reported caller address (device.Calls call) → (heard_as heard ≡ small.Idle → ⊥) → IsSizedCall call
 
 -- ---- what is heard as it is said
 
 -- what the device and the controller hear of octets
-abbrev pub told_of : Identity → List ℕ → Option (Notice AlarmAck)
-told_of identity octets = told_at (heard_of identity (comes_in (record { items = octets })))
+abbrev pub reported_of : Identity → List ℕ → Option (Notice AlarmAck)
+reported_of identity octets = reported_at (heard_of identity (comes_in (record { items = octets })))
 
 abbrev pub noted_of : Setup → List ℕ → Option (Notice AlarmNotification)
 noted_of setup octets = noted_at (heard_by setup.plan.controller octets)
@@ -132,7 +132,7 @@ noted_of setup octets = noted_at (heard_by setup.plan.controller octets)
 -- octets of the device: the controller hears this of alarms in them, or nothing, the device hears nothing, and
 -- everything has its size
 abbrev pub IsNotedBy : Setup → Identity → List ℕ → Option (Notice AlarmNotification) → Type 0
-IsNotedBy setup identity octets says = ((noted_of setup octets ≡ says) ⊎ (noted_of setup octets ≡ None)) × (told_of identity octets ≡ None) × IsGood identity.mac (heard_by setup.plan.controller octets)
+IsNotedBy setup identity octets says = ((noted_of setup octets ≡ says) ⊎ (noted_of setup octets ≡ None)) × (reported_of identity octets ≡ None) × IsGood identity.mac (heard_by setup.plan.controller octets)
 
 -- a message of the device; the frame of a repeated response was sent before
 abbrev pub IsNotedAs : Setup → Identity → sent.Sent → Type 0
@@ -148,12 +148,12 @@ IsNotedAs setup identity (sent.ReadyCall address ready) = IsNotedBy setup identi
 
 -- octets of the controller: the device hears this of alarms in them, or nothing, and the controller hears nothing at
 -- all
-abbrev pub IsToldBy : Setup → Identity → List ℕ → Option (Notice AlarmAck) → Type 0
-IsToldBy setup identity octets says = ((told_of identity octets ≡ says) ⊎ (told_of identity octets ≡ None)) × (heard_by setup.plan.controller octets ≡ controller.Nothing)
+abbrev pub IsReportedBy : Setup → Identity → List ℕ → Option (Notice AlarmAck) → Type 0
+IsReportedBy setup identity octets says = ((reported_of identity octets ≡ says) ⊎ (reported_of identity octets ≡ None)) × (heard_by setup.plan.controller octets ≡ controller.Nothing)
 
 -- a message of the controller
-abbrev pub IsToldAs : Setup → Identity → said.Sent → Type 0
-IsToldAs setup identity message = IsToldBy setup identity (said.bytes_of setup message) (told_in message)
+abbrev pub IsReportedAs : Setup → Identity → said.Sent → Type 0
+IsReportedAs setup identity message = IsReportedBy setup identity (said.bytes_of setup message) (reported_in message)
 
 -- a message of the device in which a controller hears no other positive response to its Connect
 abbrev pub IsWellBy : Setup → List ℕ → Type 0

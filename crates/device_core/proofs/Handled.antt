@@ -10,73 +10,73 @@ use Rattle.pn_alarms.specs.declared.device.PduFate.TheVariants as fate
 use Rattle.cyclic_exchange.specs.declared.received.Received.{Received}
 use Rattle.cyclic_exchange.specs.declared.received.Received.TheVariants as received
 use Rattle.relations.specs.exchange.Flow.{Flow}
-use Rattle.relations.specs.Link.{Link, is_alarm_of}
-use Rattle.relations.specs.Phases.{moved}
+use Rattle.relations.specs.RelationState.{RelationState, is_alarm_of}
+use Rattle.relations.specs.Phases.{updated}
 use Rattle.relations.specs.Exchanged.{heard_by, hearing, received_by, receiving}
 use Rattle.relations.specs.declared.hearing.ReadyAnswer.{ReadyAnswer}
 use Rattle.relations.specs.declared.hearing.ReadyAnswer.TheVariants as to_ready
 use Rattle.device_core.specs.State.{Station, Live}
-use Rattle.device_core.specs.Judged.{is_running, is_request, judged_arp, judged_answer, judged_alarm, judged_pdu, judged_received, judged_cyclic, judged_input, judged_notice}
+use Rattle.device_core.specs.Handled.{is_running, is_request, handled_arp, handled_answer, handled_alarm, handled_pdu, handled_received, handled_cyclic, handled_input, handled_notice}
 use Rattle.device_core.specs.Machine.{end_of}
 use Rattle.device_core.proofs.Machine.{is_asking}
 
 -- An ARP packet.
-pub arp_asks_nothing : (live : Live) (asker : Mac) (packet : Arp) → is_asking (judged_arp live asker packet) ≡ false
+pub arp_asks_nothing : (live : Live) (asker : Mac) (packet : Arp) → is_asking (handled_arp live asker packet) ≡ false
 arp_asks_nothing live asker packet =
     cond_both (is_request packet.operation && is_running live.values.running packet.target.address) _ _ (λ what. is_asking what ≡ false) (λ _. refl) (λ _. refl)
 
-pub arp_leaves : (station : Station) (live : Live) (asker : Mac) (packet : Arp) → (end_of station live (judged_arp live asker packet)).rest ≡ live.rest
+pub arp_leaves : (station : Station) (live : Live) (asker : Mac) (packet : Arp) → (end_of station live (handled_arp live asker packet)).rest ≡ live.rest
 arp_leaves station live asker packet =
     cond_both (is_request packet.operation && is_running live.values.running packet.target.address) _ _ (λ what. (end_of station live what).rest ≡ live.rest) (λ _. refl) (λ _. refl)
 
 -- A PDU of the partner, by what happens to it.
-pdu_asks_nothing : (live : Live) (heard : PduFate) (link : Option Link) → is_asking (judged_pdu live heard link) ≡ false
+pdu_asks_nothing : (live : Live) (heard : PduFate) (link : Option RelationState) → is_asking (handled_pdu live heard link) ≡ false
 pdu_asks_nothing live (fate.Data taken) link = refl
 pdu_asks_nothing live fate.Done link = refl
 pdu_asks_nothing live fate.Ignored link = refl
 pdu_asks_nothing live fate.Aborted link = refl
 
-pub alarm_asks_nothing : (live : Live) (source : Mac) (header : Header) (message : ToDevice) → is_asking (judged_alarm live source header message) ≡ false
+pub alarm_asks_nothing : (live : Live) (source : Mac) (header : Header) (message : ToDevice) → is_asking (handled_alarm live source header message) ≡ false
 alarm_asks_nothing live source header message =
     cond_both (is_alarm_of source header.destination header.source live.rest.link) _ _ (λ what. is_asking what ≡ false)
-    (λ _. pdu_asks_nothing live (heard_by message live.rest.link) (moved (hearing message live.rest.link) live.rest.link)) (λ _. refl)
+    (λ _. pdu_asks_nothing live (heard_by message live.rest.link) (updated (hearing message live.rest.link) live.rest.link)) (λ _. refl)
 
 -- A cyclic frame, by what happens to it; it is not answered.
-received_asks_nothing : (live : Live) (received : Received) (link : Option Link) → is_asking (judged_received live received link) ≡ false
+received_asks_nothing : (live : Live) (received : Received) (link : Option RelationState) → is_asking (handled_received live received link) ≡ false
 received_asks_nothing live received.Foreign link = refl
 received_asks_nothing live received.Short link = refl
 received_asks_nothing live received.Stale link = refl
 received_asks_nothing live received.Taken link = refl
 
-received_sends_nothing : (station : Station) (live : Live) (received : Received) (link : Option Link) → (end_of station live (judged_received live received link)).sent ≡ []
+received_sends_nothing : (station : Station) (live : Live) (received : Received) (link : Option RelationState) → (end_of station live (handled_received live received link)).sent ≡ []
 received_sends_nothing station live received.Foreign link = refl
 received_sends_nothing station live received.Short link = refl
 received_sends_nothing station live received.Stale link = refl
 received_sends_nothing station live received.Taken link = refl
 
-pub cyclic_asks_nothing : (live : Live) (source : Mac) (frame_id : ℕ) (body : List ℕ) → is_asking (judged_cyclic live source frame_id body) ≡ false
+pub cyclic_asks_nothing : (live : Live) (source : Mac) (frame_id : ℕ) (body : List ℕ) → is_asking (handled_cyclic live source frame_id body) ≡ false
 cyclic_asks_nothing live source frame_id body =
-    received_asks_nothing live (received_by source frame_id body live.rest.link) (moved (receiving source frame_id body live.rest.link) live.rest.link)
+    received_asks_nothing live (received_by source frame_id body live.rest.link) (updated (receiving source frame_id body live.rest.link) live.rest.link)
 
-pub cyclic_sends_nothing : (station : Station) (live : Live) (source : Mac) (frame_id : ℕ) (body : List ℕ) → (end_of station live (judged_cyclic live source frame_id body)).sent ≡ []
+pub cyclic_sends_nothing : (station : Station) (live : Live) (source : Mac) (frame_id : ℕ) (body : List ℕ) → (end_of station live (handled_cyclic live source frame_id body)).sent ≡ []
 cyclic_sends_nothing station live source frame_id body =
-    received_sends_nothing station live (received_by source frame_id body live.rest.link) (moved (receiving source frame_id body live.rest.link) live.rest.link)
+    received_sends_nothing station live (received_by source frame_id body live.rest.link) (updated (receiving source frame_id body live.rest.link) live.rest.link)
 
 -- An input that is given, and an alarm that is raised, or refused.
-pub input_asks_nothing : (live : Live) (flow : Option Flow) → is_asking (judged_input live flow) ≡ false
+pub input_asks_nothing : (live : Live) (flow : Option Flow) → is_asking (handled_input live flow) ≡ false
 input_asks_nothing live (Some flow) = refl
 input_asks_nothing live None = refl
 
-pub input_sends_nothing : (station : Station) (live : Live) (flow : Option Flow) → (end_of station live (judged_input live flow)).sent ≡ []
+pub input_sends_nothing : (station : Station) (live : Live) (flow : Option Flow) → (end_of station live (handled_input live flow)).sent ≡ []
 input_sends_nothing station live (Some flow) = refl
 input_sends_nothing station live None = refl
 
-pub notice_asks_nothing : (live : Live) (flow : Option Flow) → is_asking (judged_notice live flow) ≡ false
+pub notice_asks_nothing : (live : Live) (flow : Option Flow) → is_asking (handled_notice live flow) ≡ false
 notice_asks_nothing live (Some flow) = refl
 notice_asks_nothing live None = refl
 
 -- The answer to ApplicationReady.
-pub answer_asks_nothing : (live : Live) (answer : ReadyAnswer) → is_asking (judged_answer live answer) ≡ false
+pub answer_asks_nothing : (live : Live) (answer : ReadyAnswer) → is_asking (handled_answer live answer) ≡ false
 answer_asks_nothing live to_ready.NotWanted = refl
 answer_asks_nothing live to_ready.Garbled = refl
 answer_asks_nothing live to_ready.Confirmed = refl

@@ -90,15 +90,15 @@ submodule_short before bytes rest entry s =
 -- ---- lists
 
 -- The submodules of a slot that are read after some of them are accepted.
-own_judged : (second own : List ExpectedSubmodule) (bytes : List ℕ) (values : List ExpectedSubmodule) (rest : List ℕ)
+own_handled : (second own : List ExpectedSubmodule) (bytes : List ℕ) (values : List ExpectedSubmodule) (rest : List ℕ)
     → SpellEach (next_entry expected_submodule (length second)) (second ++ own) bytes values rest
     → DifferFrom (λ (entry : ExpectedSubmodule). entry.subslot_number) own values × AllByRecursion (λ (entry : ExpectedSubmodule). IsShort entry.io_data) values
 unfolding next_entry
-own_judged second own bytes [] rest s = (tt, tt)
-own_judged second own bytes (entry ∷ values) rest s =
+own_handled second own bytes [] rest s = (tt, tt)
+own_handled second own bytes (entry ∷ values) rest s =
     let one : (expected_submodule own).Spells bytes entry s.0 =
     subst (λ (before : List ExpectedSubmodule). (expected_submodule before).Spells bytes entry s.0) (drop_at second own (length second) refl) s.1.1 in
-    let more = own_judged second (own ++ entry ∷ []) s.0 values rest
+    let more = own_handled second (own ++ entry ∷ []) s.0 values rest
     (subst (λ (before : List ExpectedSubmodule). SpellEach (next_entry expected_submodule (length second)) before s.0 values rest) (append_assoc second own (entry ∷ [])) s.2) in
     ((submodule_new own bytes s.0 entry one, more.0), (submodule_short own bytes s.0 entry one, more.1))
 
@@ -108,27 +108,27 @@ all_joined P (suc n) [] front behind = tt
 all_joined P (suc n) (value ∷ values) front behind = (front.0, all_joined P n values front.1 behind)
 
 -- Modules that are read after some of them are accepted, with their submodules.
-all_judged : (first : List ExpectedModule) (second : List ExpectedSubmodule) (bytes : List ℕ) (modules : List ExpectedModule) (submodules : List ExpectedSubmodule) (rest : List ℕ)
+all_handled : (first : List ExpectedModule) (second : List ExpectedSubmodule) (bytes : List ℕ) (modules : List ExpectedModule) (submodules : List ExpectedSubmodule) (rest : List ℕ)
     → SpellOuter (next_entry expected_module 0) own_of (next_entry expected_submodule) first second bytes modules submodules rest
     → DifferFrom (λ (entry : ExpectedModule). entry.slot_number) first modules × SubslotsDiffer modules submodules × AllByRecursion (λ (entry : ExpectedSubmodule). IsShort entry.io_data) submodules
 unfolding next_entry
-all_judged first second bytes [] submodules rest s =
+all_handled first second bytes [] submodules rest s =
     (tt, tt, subst (λ (xs : List ExpectedSubmodule). AllByRecursion (λ (entry : ExpectedSubmodule). IsShort entry.io_data) xs) (sym s.0) tt)
-all_judged first second bytes (entry ∷ modules) submodules rest s =
+all_handled first second bytes (entry ∷ modules) submodules rest s =
     let n = own_of entry in
     let own = take n submodules in
-    let mine = own_judged second [] s.0 own s.1
+    let mine = own_handled second [] s.0 own s.1
     (subst (λ (before : List ExpectedSubmodule). SpellEach (next_entry expected_submodule (length second)) before s.0 own s.1) (sym (append-nil second)) s.4) in
-    let more = all_judged (first ++ entry ∷ []) (second ++ own) s.1 modules (drop n submodules) rest s.5 in (
+    let more = all_handled (first ++ entry ∷ []) (second ++ own) s.1 modules (drop n submodules) rest s.5 in (
       (module_new first bytes s.0 entry s.2.1, more.0),
       ((all_differ (λ (part : ExpectedSubmodule). part.subslot_number) [] own mine.0).1, more.1),
       all_joined (λ (part : ExpectedSubmodule). IsShort part.io_data) n submodules mine.1 more.2,
     )
 
-modules_judged : (bytes : List ℕ) (value : Listed ExpectedModule ExpectedSubmodule) (rest : List ℕ) → expected_modules.Spells bytes value rest → IsExpected value
+modules_handled : (bytes : List ℕ) (value : Listed ExpectedModule ExpectedSubmodule) (rest : List ℕ) → expected_modules.Spells bytes value rest → IsExpected value
 unfolding expected_modules listed_modules module_list
-modules_judged bytes value rest s =
-    let all = all_judged [] [] s.2.0 s.0.0 s.0.1 rest s.2.2 in
+modules_handled bytes value rest s =
+    let all = all_handled [] [] s.2.0 s.0.0 s.0.1 rest s.2.2 in
     subst (λ (x : Listed ExpectedModule ExpectedSubmodule). IsExpected x) s.1 (record {
       counted = listed_counted expected_module own_of expected_submodule bytes (record { modules = s.0.0; submodules = s.0.1 }) rest (s.0, refl, s.2);
       slots = (all_differ (λ (entry : ExpectedModule). entry.slot_number) [] s.0.0 all.0).1;
@@ -140,5 +140,5 @@ pub expected_accepted : (inside : List ℕ) (value : ExpectedSubmoduleBlockReq) 
 unfolding body expected
 expected_accepted inside value s =
     let fields = s.2.2 in
-    let all : IsExpectedSubmoduleBlockReq s.0.1 = subst (λ (block : ExpectedSubmoduleBlockReq). IsExpectedSubmoduleBlockReq block) fields.1 (modules_judged _ fields.0 _ fields.2) in
+    let all : IsExpectedSubmoduleBlockReq s.0.1 = subst (λ (block : ExpectedSubmoduleBlockReq). IsExpectedSubmoduleBlockReq block) fields.1 (modules_handled _ fields.0 _ fields.2) in
     subst (λ (block : ExpectedSubmoduleBlockReq). IsExpectedSubmoduleBlockReq block) s.1 all

@@ -32,13 +32,13 @@ IsThere pdus acks nacks message = Unit {0}
 
 -- ---- a turn
 
-pub record IsQuiet (live : Live) (turn : Turn) : Type 0 where
+pub record IsInactive (live : Live) (turn : Turn) : Type 0 where
   pub alarms : turn.live.alarms ≡ live.alarms
   pub alarm : turn.live.alarm ≡ live.alarm
   pub sent : (pdus : List (ℕ × AlarmAck)) (acks nacks : List ℕ) → AllByRecursion (IsThere pdus acks nacks) turn.sent
 
-pub quiet_stays : (live : Live) → IsQuiet live (stays live)
-quiet_stays live = record { alarms = refl; alarm = refl; sent = λ pdus acks nacks. tt }
+pub inactive_stays : (live : Live) → IsInactive live (stays live)
+inactive_stays live = record { alarms = refl; alarm = refl; sent = λ pdus acks nacks. tt }
 
 -- What does not concern the active alarms: neither an alarm, nor an ACK, nor a unit.
 abbrev pub IsPlain : Came → Type 0
@@ -52,36 +52,36 @@ module _ (setup : Setup) (live : Live) (came : Came) (plain : IsPlain came) wher
   not_so : (other : Came) → (IsPlain other → ⊥) → came ≡ other → ⊥
   not_so other never e = never (subst (λ (c : Came). IsPlain c) e plain)
 
-  quiet_by : (kind : Kind) → IsKind setup live came kind → IsQuiet live (turn_by setup live kind)
-  quiet_by Rests holds = quiet_stays live
-  quiet_by (Connects source) holds = record { alarms = refl; alarm = refl; sent = λ pdus acks nacks. (tt, tt) }
-  quiet_by (Addresses source) holds = record { alarms = refl; alarm = refl; sent = λ pdus acks nacks. (tt, tt) }
-  quiet_by (Ends cause) holds = record { alarms = refl; alarm = refl; sent = λ pdus acks nacks. tt }
-  quiet_by (Releases cause) holds = record { alarms = refl; alarm = refl; sent = λ pdus acks nacks. (tt, tt) }
-  quiet_by (Relates frame_id) holds = record { alarms = refl; alarm = refl; sent = λ pdus acks nacks. (tt, tt) }
-  quiet_by (Writes number) holds = record { alarms = refl; alarm = refl; sent = λ pdus acks nacks. (tt, tt) }
-  quiet_by Waits holds = record { alarms = refl; alarm = refl; sent = λ pdus acks nacks. tt }
-  quiet_by Forgets holds = record { alarms = refl; alarm = refl; sent = λ pdus acks nacks. tt }
-  quiet_by (Begins caller call block) holds = record { alarms = refl; alarm = refl; sent = λ pdus acks nacks. (tt, tt) }
-  quiet_by (Repeats caller call block) holds = record { alarms = refl; alarm = refl; sent = λ pdus acks nacks. (tt, tt) }
-  quiet_by (Follows source frame_id body) holds = record { alarms = refl; alarm = refl; sent = λ pdus acks nacks. tt }
-  quiet_by (Takes number alarm) holds = absurd (not_so (Hears (Alarms holds.1 holds.2 (notice.Data number alarm))) (λ none. none) holds.3)
-  quiet_by (IsAcked number) holds = absurd (not_so (Hears (Alarms holds.1 holds.2 (notice.Ack number))) (λ none. none) holds.3)
-  quiet_by (Gives slot subslot value) holds = record { alarms = refl; alarm = refl; sent = λ pdus acks nacks. tt }
-  quiet_by Flows holds = absurd (not_so Passes (λ none. none) holds.0)
-  quiet_by (Breaks reason) holds = absurd (not_so Passes (λ none. none) holds.0)
-  quiet_by Idles holds = absurd (not_so Passes (λ none. none) holds.0)
+  inactive_by : (kind : Kind) → IsKind setup live came kind → IsInactive live (turn_by setup live kind)
+  inactive_by Rests holds = inactive_stays live
+  inactive_by (Connects source) holds = record { alarms = refl; alarm = refl; sent = λ pdus acks nacks. (tt, tt) }
+  inactive_by (Addresses source) holds = record { alarms = refl; alarm = refl; sent = λ pdus acks nacks. (tt, tt) }
+  inactive_by (Ends cause) holds = record { alarms = refl; alarm = refl; sent = λ pdus acks nacks. tt }
+  inactive_by (Releases cause) holds = record { alarms = refl; alarm = refl; sent = λ pdus acks nacks. (tt, tt) }
+  inactive_by (Relates frame_id) holds = record { alarms = refl; alarm = refl; sent = λ pdus acks nacks. (tt, tt) }
+  inactive_by (Writes number) holds = record { alarms = refl; alarm = refl; sent = λ pdus acks nacks. (tt, tt) }
+  inactive_by Waits holds = record { alarms = refl; alarm = refl; sent = λ pdus acks nacks. tt }
+  inactive_by Forgets holds = record { alarms = refl; alarm = refl; sent = λ pdus acks nacks. tt }
+  inactive_by (Begins caller call block) holds = record { alarms = refl; alarm = refl; sent = λ pdus acks nacks. (tt, tt) }
+  inactive_by (Repeats caller call block) holds = record { alarms = refl; alarm = refl; sent = λ pdus acks nacks. (tt, tt) }
+  inactive_by (Follows source frame_id body) holds = record { alarms = refl; alarm = refl; sent = λ pdus acks nacks. tt }
+  inactive_by (Takes number alarm) holds = absurd (not_so (Hears (Alarms holds.1 holds.2 (notice.Data number alarm))) (λ none. none) holds.3)
+  inactive_by (IsAcked number) holds = absurd (not_so (Hears (Alarms holds.1 holds.2 (notice.Ack number))) (λ none. none) holds.3)
+  inactive_by (Gives slot subslot value) holds = record { alarms = refl; alarm = refl; sent = λ pdus acks nacks. tt }
+  inactive_by Flows holds = absurd (not_so Passes (λ none. none) holds.0)
+  inactive_by (Breaks reason) holds = absurd (not_so Passes (λ none. none) holds.0)
+  inactive_by Idles holds = absurd (not_so Passes (λ none. none) holds.0)
 
-  pub turn_quiet : IsQuiet live (turn_for setup live came)
-  turn_quiet =
+  pub turn_inactive : IsInactive live (turn_for setup live came)
+  turn_inactive =
       let turn = turn_is setup live came in
-      subst (λ (t : Turn). IsQuiet live t) (sym turn.is) (quiet_by turn.kind turn.holds)
+      subst (λ (t : Turn). IsInactive live t) (sym turn.is) (inactive_by turn.kind turn.holds)
 
 -- ---- units
 
-pub requests_quiet : (pdus : List (ℕ × AlarmAck)) (acks nacks : List ℕ) (device : Mac) (asked : Option Request) (is : Bool)
+pub requests_inactive : (pdus : List (ℕ × AlarmAck)) (acks nacks : List ℕ) (device : Mac) (asked : Option Request) (is : Bool)
     → AllByRecursion (IsThere pdus acks nacks) (where_due is (requests_of device asked))
-requests_quiet pdus acks nacks device None true = tt
-requests_quiet pdus acks nacks device None false = tt
-requests_quiet pdus acks nacks device (Some request) true = (tt, tt)
-requests_quiet pdus acks nacks device (Some request) false = tt
+requests_inactive pdus acks nacks device None true = tt
+requests_inactive pdus acks nacks device None false = tt
+requests_inactive pdus acks nacks device (Some request) true = (tt, tt)
+requests_inactive pdus acks nacks device (Some request) false = tt

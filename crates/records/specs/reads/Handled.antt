@@ -10,7 +10,7 @@ use Rattle.im_records.specs.Indices.{is_anywhere, record_with}
 use Rattle.im_records.specs.Records.{is_real}
 use Rattle.records.specs.declared.status.call_fault.CallFault.{CallFault}
 use Rattle.records.specs.declared.status.call_fault.CallFault.TheVariants as fault
-use Rattle.records.specs.calls.Judged.{judged}
+use Rattle.records.specs.calls.Handled.{handled}
 use Rattle.records.specs.calls.Single.{single_of}
 use Rattle.records.specs.reads.Answer.{answer_of}
 use Rattle.records.specs.reads.Parameters.{parameter_length}
@@ -21,7 +21,7 @@ request_of blocks = single_of kind.IodReadReq blocks >>= λ x. or_fault fault.Bl
 
 -- The checks of the place of a record: the API, and then the slot and subslot.
 unfoldable pub placed : Real → ℕ → ℕ → ℕ → ℕ → Result (Unit {0}) CallFault
-placed real api slot subslot index = judged
+placed real api slot subslot index = handled
     ((not (api == 0), fault.Api)
     ∷ (not (is_anywhere (record_with index) || is_real real slot subslot), fault.Place)
     ∷ [])
@@ -33,7 +33,7 @@ has_parameter real slot subslot index = is_some (parameter_length real.modules.i
 
 -- The checks of the record: there is one with this index at its place, and it is readable.
 abbrev pub found : Real → IodReadReq → Option (List ℕ) → Result (List ℕ) CallFault
-found real request readable = judged
+found real request readable = handled
     ((not (is_some readable || has_parameter real request.header.slot_number request.header.subslot_number request.header.index), fault.Index)
     ∷ [])
     (or_fault fault.Access readable)

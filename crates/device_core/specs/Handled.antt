@@ -16,7 +16,7 @@ use Rattle.dcp_core.specs.Identify.{matches}
 use Rattle.rpc_core.specs.declared.response.Status.{Status}
 use Rattle.rpc_core.specs.Call.{Asked as Call}
 use Rattle.rpc_core.specs.Response.{answer_to}
-use Rattle.rpc_core.specs.Cache.{Kept, Told as Looked, new, again, old, looked, kept_more}
+use Rattle.rpc_core.specs.Cache.{Kept, Reported as Looked, new, again, old, looked, kept_more}
 use Rattle.records.specs.declared.status.operation.Operation.{Operation}
 use Rattle.records.specs.declared.status.operation.Operation.TheVariants.{Connect, Release, Read, Write, Control, ReadImplicit}
 use Rattle.records.specs.declared.status.call_fault.CallFault.{CallFault}
@@ -32,7 +32,7 @@ use Rattle.records.specs.declared.writes.write.Effect.{Effect}
 use Rattle.records.specs.declared.writes.write.Effect.TheVariants.{Stores, Keeps}
 use Rattle.records.specs.declared.writes.write.Write.{Write as Asking}
 use Rattle.records.specs.writes.Answer.{answer_of}
-use Rattle.records.specs.writes.Judged.{write_of}
+use Rattle.records.specs.writes.Handled.{write_of}
 use Rattle.pn_alarms.specs.Message.{ToDevice}
 use Rattle.pn_alarms.specs.declared.device.PduFate.{PduFate}
 use Rattle.pn_alarms.specs.declared.device.PduFate.TheVariants as fate
@@ -44,44 +44,44 @@ use Rattle.relations.specs.Exchanged.{given_to, heard_by, hearing, raised_to, re
 use Rattle.relations.specs.declared.hearing.ReadyAnswer.{ReadyAnswer}
 use Rattle.relations.specs.declared.hearing.ReadyAnswer.TheVariants as to_ready
 use Rattle.relations.specs.declared.phase.Partner.{Partner}
-use Rattle.relations.specs.Link.{Link, uuid_of, differing_in, flow_of, is_alarm_of}
+use Rattle.relations.specs.RelationState.{RelationState, uuid_of, differing_in, flow_of, is_alarm_of}
 use Rattle.relations.specs.Calls.{prm_end_of, release_of, prm_end_answer, release_answer}
 use Rattle.relations.specs.Connect.{connect_of, connect_answer, making}
-use Rattle.relations.specs.Ready.{answer_of as ready_answer, judged_by}
+use Rattle.relations.specs.Ready.{answer_of as ready_answer, handled_by}
 use Rattle.relations.specs.Timers.{due_of}
-use Rattle.relations.specs.Phases.{Judged as Moving, Parameterized, Named, Ended, Exchanged, Unmoved, answered, keeping, moved, passing, taking}
+use Rattle.relations.specs.Phases.{Handled as Moving, Parameterized, Named, Ended, Exchanged, Unmoved, answered, keeping, updated, passing, taking}
 use Rattle.device_frames.specs.declared.note.Note.{Note}
 use Rattle.device_frames.specs.declared.note.Note.TheVariants as note
 use Rattle.frame_codec.specs.declared.udp.Caller.{Caller}
 use Rattle.device_core.specs.State.{Station, Rest, Live}
 use Rattle.device_frames.specs.Relation.{alarms_of, due_frames, ready_calls, replies_of}
 use Rattle.device_frames.specs.Sent.{Sent, IdentifyAnswer, GetAnswer, ArpReply, CallAnswer, Again, Ends, bytes_of}
-use Rattle.device_frames.specs.Heard.{Heard, Ticks, Unreadable, Elsewhere, Asks, Resolves, Told, Cyclic, Alarms, Given, Raised, Said, Calls, Responds, Garbled}
+use Rattle.device_frames.specs.Heard.{Heard, Ticks, Unreadable, Elsewhere, Asks, Resolves, Reported, Cyclic, Alarms, Given, Raised, Said, Calls, Responds, Garbled}
 
 -- The outcome of an event: it is refused, with the note that says why; a Set, whose blocks are asked of the settings; a
 -- Write of an I&M text, which is asked of the settings, with the caller, the address that was called, the call, its
 -- header and the text; or a move, after which the rest has changed and these messages are sent.
-pub data Judged : Type 0 where
-  Refuses : (note : Note) → Judged
-  Sets : (asker : Mac) → (request : Asked) → (in_operation : Bool) → Judged
-  Writes : (caller : Caller) → (address : List ℕ) → (call : Call) → (header : IodWriteReq) → (value : ImValue) → Judged
-  Moves : (rest : Rest) → (sent : List Sent) → Judged
+pub data Handled : Type 0 where
+  Refuses : (note : Note) → Handled
+  Sets : (asker : Mac) → (request : Asked) → (in_operation : Bool) → Handled
+  Writes : (caller : Caller) → (address : List ℕ) → (call : Call) → (header : IodWriteReq) → (value : ImValue) → Handled
+  Moves : (rest : Rest) → (sent : List Sent) → Handled
 
 -- ---- DCP
 
 -- An Identify request that matches is answered with the identity and the running settings; otherwise it is not
 -- answered.
-abbrev pub identified : Station → Live → Mac → Asked → Judged
+abbrev pub identified : Station → Live → Mac → Asked → Handled
 identified station live asker request =
     if matches station.identity live.values.running request
     then Moves live.rest (IdentifyAnswer asker live.values.running request.xid ∷ [])
     else Refuses note.Filter
 
 -- A request, by its service. Whether a relation exists is checked when the frame arrives, for all blocks of a Set.
-abbrev pub judged_request : Station → Live → Mac → Service → Asked → Judged
-judged_request station live asker service.Identify request = identified station live asker request
-judged_request station live asker service.Get request = Moves live.rest (GetAnswer asker live.values.running request ∷ [])
-judged_request station live asker service.Set request = Sets asker request (is_some live.rest.link)
+abbrev pub handled_request : Station → Live → Mac → Service → Asked → Handled
+handled_request station live asker service.Identify request = identified station live asker request
+handled_request station live asker service.Get request = Moves live.rest (GetAnswer asker live.values.running request ∷ [])
+handled_request station live asker service.Set request = Sets asker request (is_some live.rest.link)
 
 -- ---- ARP (RFC 826)
 
@@ -94,8 +94,8 @@ is_request arp.Request = true
 is_request arp.Reply = false
 
 -- A request for the running address is answered, and no other packet is.
-abbrev pub judged_arp : Live → Mac → Arp → Judged
-judged_arp live asker packet =
+abbrev pub handled_arp : Live → Mac → Arp → Handled
+handled_arp live asker packet =
     if is_request packet.operation && is_running live.values.running packet.target.address
     then Moves live.rest (ArpReply asker live.values.running.suite.address packet.sender ∷ [])
     else Refuses note.NotMine
@@ -124,18 +124,18 @@ kept_for identity call answer = record { activity = call.header.activity; sequen
 
 -- The state after a call that had this answer and left this relation. The last answer of each of the last four
 -- activities is kept.
-abbrev pub kept_behind : Identity → Rest → Call → Sent → Option Link → Rest
+abbrev pub kept_behind : Identity → Rest → Call → Sent → Option RelationState → Rest
 kept_behind identity rest call answer link =
     record rest { calls = kept_more 4 (kept_for identity call answer) rest.calls; link = link }
 
 -- A call with this outcome that leaves this relation: it is answered, and then this is sent.
-abbrev pub served : Station → Live → Caller → Call → Operation → Result (List ℕ) CallFault → Option Link → List Sent → Judged
+abbrev pub served : Station → Live → Caller → Call → Operation → Result (List ℕ) CallFault → Option RelationState → List Sent → Handled
 served station live caller call operation outcome link behind =
     let answer = answer_from live.values.running.suite.address caller call operation outcome in
     Moves (kept_behind station.identity live.rest call answer link) (answer ∷ behind)
 
 -- What follows an accepted PrmEnd.
-abbrev pub ready_behind : List ℕ → Option Link → Result ControlBlock CallFault → List Sent
+abbrev pub ready_behind : List ℕ → Option RelationState → Result ControlBlock CallFault → List Sent
 ready_behind address link (Ok block) = ready_calls address link
 ready_behind address link (Err fault) = []
 
@@ -143,7 +143,7 @@ abbrev pub partner_of : Caller → Partner
 partner_of caller = record { mac = caller.mac; address = caller.endpoint.address }
 
 -- What a Read Implicit does to the relation: it names the relation or not.
-abbrev pub implicitly : Option Link → List ℕ → Moving
+abbrev pub implicitly : Option RelationState → List ℕ → Moving
 implicitly link blocks = if names_relation (uuid_of link) blocks then Named else Unmoved
 
 -- A Write of a parameter record: it is kept if there is room, and shows that the controller is alive.
@@ -151,141 +151,141 @@ abbrev pub kept_answer : IodWriteReq → Result (List TakenRecord) CallFault →
 kept_answer header (Ok taken) = Ok (answer_of header)
 kept_answer header (Err fault) = Err fault
 
-abbrev pub judged_effect : Station → Live → Caller → Call → IodWriteReq → Effect → Judged
-judged_effect station live caller call header (Stores value) = Writes caller live.values.running.suite.address call header value
-judged_effect station live caller call header (Keeps parameter) =
+abbrev pub handled_effect : Station → Live → Caller → Call → IodWriteReq → Effect → Handled
+handled_effect station live caller call header (Stores value) = Writes caller live.values.running.suite.address call header value
+handled_effect station live caller call header (Keeps parameter) =
     let kept = keeping parameter live.rest.link in
-    served station live caller call Write (kept_answer header kept) (moved (answered Named kept) (moved (taking kept) live.rest.link)) []
+    served station live caller call Write (kept_answer header kept) (updated (answered Named kept) (updated (taking kept) live.rest.link)) []
 
-abbrev pub judged_write : Station → Live → Caller → Call → Result Asking CallFault → Judged
-judged_write station live caller call (Ok write) = judged_effect station live caller call write.request write.effect
-judged_write station live caller call (Err fault) = served station live caller call Write (Err fault) live.rest.link []
+abbrev pub handled_write : Station → Live → Caller → Call → Result Asking CallFault → Handled
+handled_write station live caller call (Ok write) = handled_effect station live caller call write.request write.effect
+handled_write station live caller call (Err fault) = served station live caller call Write (Err fault) live.rest.link []
 
 -- A new call, by its operation.
-abbrev pub judged_new : Station → Live → Caller → Call → List ℕ → Operation → Judged
-judged_new station live caller call blocks Connect =
+abbrev pub handled_new : Station → Live → Caller → Call → List ℕ → Operation → Handled
+handled_new station live caller call blocks Connect =
     served station live caller call Connect (connect_answer station.identity station.real live.rest.link blocks)
-    (moved (making station.real (partner_of caller) (connect_of live.rest.link blocks)) live.rest.link) []
-judged_new station live caller call blocks Release =
-    served station live caller call Release (release_answer live.rest.link blocks) (moved (answered Ended (release_of live.rest.link blocks)) live.rest.link) []
-judged_new station live caller call blocks Read =
+    (updated (making station.real (partner_of caller) (connect_of live.rest.link blocks)) live.rest.link) []
+handled_new station live caller call blocks Release =
+    served station live caller call Release (release_answer live.rest.link blocks) (updated (answered Ended (release_of live.rest.link blocks)) live.rest.link) []
+handled_new station live caller call blocks Read =
     let read = relation_read (uuid_of live.rest.link) (differing_in live.rest.link) station.identity station.real live.values.running blocks in
-    served station live caller call Read read (moved (answered Named read) live.rest.link) []
-judged_new station live caller call blocks Write = judged_write station live caller call (write_of (uuid_of live.rest.link) station.real blocks)
-judged_new station live caller call blocks Control =
+    served station live caller call Read read (updated (answered Named read) live.rest.link) []
+handled_new station live caller call blocks Write = handled_write station live caller call (write_of (uuid_of live.rest.link) station.real blocks)
+handled_new station live caller call blocks Control =
     let ended = prm_end_of live.rest.link blocks in
-    let link = moved (answered Parameterized ended) live.rest.link in
+    let link = updated (answered Parameterized ended) live.rest.link in
     served station live caller call Control (prm_end_answer live.rest.link blocks) link (ready_behind live.values.running.suite.address link ended)
-judged_new station live caller call blocks ReadImplicit =
+handled_new station live caller call blocks ReadImplicit =
     let read = implicit_read station.identity station.real live.values.running blocks in
-    served station live caller call ReadImplicit read (moved (answered (implicitly live.rest.link blocks) read) live.rest.link) []
+    served station live caller call ReadImplicit read (updated (answered (implicitly live.rest.link blocks) read) live.rest.link) []
 
 -- A call by the result of the cache: it is answered as new, or again with the same frame, or it is older than an
 -- answered call of its activity.
-abbrev pub judged_looked : Station → Live → Caller → Call → List ℕ → Operation → Looked → Judged
-judged_looked station live caller call blocks operation new = judged_new station live caller call blocks operation
-judged_looked station live caller call blocks operation (again frame) = Moves live.rest (Again frame ∷ [])
-judged_looked station live caller call blocks operation old = Refuses note.OldCall
+abbrev pub handled_looked : Station → Live → Caller → Call → List ℕ → Operation → Looked → Handled
+handled_looked station live caller call blocks operation new = handled_new station live caller call blocks operation
+handled_looked station live caller call blocks operation (again frame) = Moves live.rest (Again frame ∷ [])
+handled_looked station live caller call blocks operation old = Refuses note.OldCall
 
 -- If the lengths of the blocks are wrong, that is answered whatever the cache contains, and the answer is not stored.
-abbrev pub judged_blocks : Station → Live → Caller → Call → Operation → Option (List ℕ) → Judged
-judged_blocks station live caller call operation None =
+abbrev pub handled_blocks : Station → Live → Caller → Call → Operation → Option (List ℕ) → Handled
+handled_blocks station live caller call operation None =
     Moves live.rest (answer_from live.values.running.suite.address caller call operation (Err Arguments) ∷ [])
-judged_blocks station live caller call operation (Some blocks) =
-    judged_looked station live caller call blocks operation (looked call.header.activity call.header.sequence live.rest.calls)
+handled_blocks station live caller call operation (Some blocks) =
+    handled_looked station live caller call blocks operation (looked call.header.activity call.header.sequence live.rest.calls)
 
 -- A call with an unknown operation is dropped.
-abbrev pub judged_call : Station → Live → Caller → Call → Option Operation → Judged
-judged_call station live caller call None = Refuses note.Fault
-judged_call station live caller call (Some operation) = judged_blocks station live caller call operation call.blocks
+abbrev pub handled_call : Station → Live → Caller → Call → Option Operation → Handled
+handled_call station live caller call None = Refuses note.Fault
+handled_call station live caller call (Some operation) = handled_blocks station live caller call operation call.blocks
 
 -- The answer to ApplicationReady, by what it means to the relation.
-abbrev pub judged_answer : Live → ReadyAnswer → Judged
-judged_answer live to_ready.NotWanted = Refuses note.NoRelation
-judged_answer live to_ready.Garbled = Refuses note.Fault
-judged_answer live to_ready.Confirmed = Moves (record live.rest { link = moved (judged_by to_ready.Confirmed) live.rest.link }) []
-judged_answer live (to_ready.Refused farewell) =
-    Moves (record live.rest { link = moved (judged_by (to_ready.Refused farewell)) live.rest.link }) (Ends farewell ∷ [])
+abbrev pub handled_answer : Live → ReadyAnswer → Handled
+handled_answer live to_ready.NotWanted = Refuses note.NoRelation
+handled_answer live to_ready.Garbled = Refuses note.Fault
+handled_answer live to_ready.Confirmed = Moves (record live.rest { link = updated (handled_by to_ready.Confirmed) live.rest.link }) []
+handled_answer live (to_ready.Refused farewell) =
+    Moves (record live.rest { link = updated (handled_by (to_ready.Refused farewell)) live.rest.link }) (Ends farewell ∷ [])
 
-abbrev pub judged_said : Station → Live → Caller → Said → Judged
-judged_said station live caller (Calls call) = judged_call station live caller call (operation_of call.header.operation)
-judged_said station live caller (Responds response) = judged_answer live (ready_answer response live.rest.link)
-judged_said station live caller Garbled = Refuses note.Fault
+abbrev pub handled_said : Station → Live → Caller → Said → Handled
+handled_said station live caller (Calls call) = handled_call station live caller call (operation_of call.header.operation)
+handled_said station live caller (Responds response) = handled_answer live (ready_answer response live.rest.link)
+handled_said station live caller Garbled = Refuses note.Fault
 
 -- The address is checked first.
-abbrev pub judged_datagram : Station → Live → Caller → List ℕ → Said → Judged
-judged_datagram station live caller address said =
-    if is_running live.values.running address then judged_said station live caller said else Refuses note.NotMine
+abbrev pub handled_datagram : Station → Live → Caller → List ℕ → Said → Handled
+handled_datagram station live caller address said =
+    if is_running live.values.running address then handled_said station live caller said else Refuses note.NotMine
 
 -- ---- what is exchanged
 
 -- The relation became this, and these frames are sent.
-abbrev pub goes_on_with : Live → Option Link → List Sent → Judged
+abbrev pub goes_on_with : Live → Option RelationState → List Sent → Handled
 goes_on_with live link sent = Moves (record live.rest { link = link }) sent
 
 -- A cyclic frame, by what happens to it.
-abbrev pub judged_received : Live → Received → Option Link → Judged
-judged_received live received.Foreign link = Refuses note.NoRelation
-judged_received live received.Short link = Refuses note.Fault
-judged_received live received.Stale link = Refuses note.StaleCycle
-judged_received live received.Taken link = goes_on_with live link []
+abbrev pub handled_received : Live → Received → Option RelationState → Handled
+handled_received live received.Foreign link = Refuses note.NoRelation
+handled_received live received.Short link = Refuses note.Fault
+handled_received live received.Stale link = Refuses note.StaleCycle
+handled_received live received.Taken link = goes_on_with live link []
 
-abbrev pub judged_cyclic : Live → Mac → ℕ → List ℕ → Judged
-judged_cyclic live source frame_id body =
-    judged_received live (received_by source frame_id body live.rest.link) (moved (receiving source frame_id body live.rest.link) live.rest.link)
+abbrev pub handled_cyclic : Live → Mac → ℕ → List ℕ → Handled
+handled_cyclic live source frame_id body =
+    handled_received live (received_by source frame_id body live.rest.link) (updated (receiving source frame_id body live.rest.link) live.rest.link)
 
 -- An input is given, or refused.
-abbrev pub judged_input : Live → Option Flow → Judged
-judged_input live (Some flow) = goes_on_with live (moved (Exchanged flow) live.rest.link) []
-judged_input live None = Refuses note.Refused
+abbrev pub handled_input : Live → Option Flow → Handled
+handled_input live (Some flow) = goes_on_with live (updated (Exchanged flow) live.rest.link) []
+handled_input live None = Refuses note.Refused
 
-abbrev pub judged_given : Live → ℕ → ℕ → List ℕ → Judged
-judged_given live slot subslot value = judged_input live (given_to slot subslot value live.rest.link)
+abbrev pub handled_given : Live → ℕ → ℕ → List ℕ → Handled
+handled_given live slot subslot value = handled_input live (given_to slot subslot value live.rest.link)
 
 -- An alarm is raised and sent, or refused.
-abbrev pub judged_notice : Live → Option Flow → Judged
-judged_notice live (Some flow) =
-    let link = moved (Exchanged flow) live.rest.link in
+abbrev pub handled_notice : Live → Option Flow → Handled
+handled_notice live (Some flow) =
+    let link = updated (Exchanged flow) live.rest.link in
     goes_on_with live link (alarms_of (flow_of link))
-judged_notice live None = Refuses note.Refused
+handled_notice live None = Refuses note.Refused
 
-abbrev pub judged_raised : Station → Live → ℕ → ℕ → List ℕ → Judged
-judged_raised station live slot subslot octets = judged_notice live (raised_to station.real.modules.items slot subslot octets live.rest.link)
+abbrev pub handled_raised : Station → Live → ℕ → ℕ → List ℕ → Handled
+handled_raised station live slot subslot octets = handled_notice live (raised_to station.real.modules.items slot subslot octets live.rest.link)
 
 -- A PDU of the partner, by what happens to it: data is answered, an ACK counts or does not, and an ERR ends the
 -- relation.
-abbrev pub judged_pdu : Live → PduFate → Option Link → Judged
-judged_pdu live (fate.Data taken) link = goes_on_with live link (replies_of taken (flow_of link))
-judged_pdu live fate.Done link = goes_on_with live link []
-judged_pdu live fate.Ignored link = Refuses note.Filter
-judged_pdu live fate.Aborted link = goes_on_with live link []
+abbrev pub handled_pdu : Live → PduFate → Option RelationState → Handled
+handled_pdu live (fate.Data taken) link = goes_on_with live link (replies_of taken (flow_of link))
+handled_pdu live fate.Done link = goes_on_with live link []
+handled_pdu live fate.Ignored link = Refuses note.Filter
+handled_pdu live fate.Aborted link = goes_on_with live link []
 
-abbrev pub judged_message : Live → ToDevice → Judged
-judged_message live message = judged_pdu live (heard_by message live.rest.link) (moved (hearing message live.rest.link) live.rest.link)
+abbrev pub handled_message : Live → ToDevice → Handled
+handled_message live message = handled_pdu live (heard_by message live.rest.link) (updated (hearing message live.rest.link) live.rest.link)
 
-abbrev pub judged_alarm : Live → Mac → Header → ToDevice → Judged
-judged_alarm live source header message =
-    if is_alarm_of source header.destination header.source live.rest.link then judged_message live message else Refuses note.NoRelation
+abbrev pub handled_alarm : Live → Mac → Header → ToDevice → Handled
+handled_alarm live source header message =
+    if is_alarm_of source header.destination header.source live.rest.link then handled_message live message else Refuses note.NoRelation
 
 -- ---- events
 
 -- The state after a unit of time.
-abbrev pub ticked : Live → Judged
+abbrev pub ticked : Live → Handled
 ticked live =
     let due = due_of live.rest.link in
-    let link = moved (passing live.rest.link) live.rest.link in
+    let link = updated (passing live.rest.link) live.rest.link in
     let units = (live.rest.units + 1) % 65536 in
     Moves (record live.rest { lamp = live.rest.lamp - 1; link = link; units = units })
     (due_frames live.values.running.suite.address units due link)
 
-abbrev pub judged : Station → Live → Heard → Judged
-judged station live (Asks asker request) = judged_request station live asker request.service request
-judged station live (Resolves asker packet) = judged_arp live asker packet
-judged station live (Told caller address said) = judged_datagram station live caller address said
-judged station live (Alarms source header message) = judged_alarm live source header message
-judged station live (Cyclic source frame_id body) = judged_cyclic live source frame_id body
-judged station live (Given slot subslot value) = judged_given live slot subslot value
-judged station live (Raised slot subslot octets) = judged_raised station live slot subslot octets
-judged station live Ticks = ticked live
-judged station live Unreadable = Refuses note.Fault
-judged station live Elsewhere = Refuses note.NotMine
+abbrev pub handled : Station → Live → Heard → Handled
+handled station live (Asks asker request) = handled_request station live asker request.service request
+handled station live (Resolves asker packet) = handled_arp live asker packet
+handled station live (Reported caller address said) = handled_datagram station live caller address said
+handled station live (Alarms source header message) = handled_alarm live source header message
+handled station live (Cyclic source frame_id body) = handled_cyclic live source frame_id body
+handled station live (Given slot subslot value) = handled_given live slot subslot value
+handled station live (Raised slot subslot octets) = handled_raised station live slot subslot octets
+handled station live Ticks = ticked live
+handled station live Unreadable = Refuses note.Fault
+handled station live Elsewhere = Refuses note.NotMine

@@ -13,46 +13,46 @@ use Rattle.relations.specs.declared.phase.Partner.{Partner}
 -- A relation: its phase, what its Connect asked for and who sent that, how many units the activity timer has run, how
 -- many units have passed since ApplicationReady was sent, the parameter records that were accepted, the octets of its
 -- ModuleDiffBlock, none if no module differs, and its exchange.
-pub record Link : Type 0 where
+pub record RelationState : Type 0 where
   pub phase : Phase
   pub request : Request
   pub partner : Partner
-  pub quiet : ℕ
+  pub inactive : ℕ
   pub waited : ℕ
   pub taken : List TakenRecord
   pub differing : List ℕ
   pub flow : Flow
 
 -- A relation in a phase, if there is one.
-abbrev pub link_in : Option Phase → (Phase → Link) → Option Link
+abbrev pub link_in : Option Phase → (Phase → RelationState) → Option RelationState
 link_in None link = None
 link_in (Some phase) link = Some (link phase)
 
-abbrev pub phase_of : Option Link → Option Phase
+abbrev pub phase_of : Option RelationState → Option Phase
 phase_of link = option_map (λ l. l.phase) link
 
-abbrev pub uuid_of : Option Link → Option (List ℕ)
+abbrev pub uuid_of : Option RelationState → Option (List ℕ)
 uuid_of link = option_map (λ l. l.request.ar.uuid) link
 
 -- The records that it accepted, and its ModuleDiffBlock.
-abbrev pub taken_of : Option Link → List TakenRecord
+abbrev pub taken_of : Option RelationState → List TakenRecord
 taken_of None = []
 taken_of (Some link) = link.taken
 
-abbrev pub differing_in : Option Link → List ℕ
+abbrev pub differing_in : Option RelationState → List ℕ
 differing_in None = []
 differing_in (Some link) = link.differing
 
 -- What it exchanges.
-abbrev pub flow_of : Option Link → Option Flow
+abbrev pub flow_of : Option RelationState → Option Flow
 flow_of link = option_map (λ l. l.flow) link
 
 -- Whether this is its ARUUID.
-abbrev pub is_named : List ℕ → Option Link → Bool
+abbrev pub is_named : List ℕ → Option RelationState → Bool
 is_named uuid link = is_relation (uuid_of link) uuid
 
 -- Whether this is its SessionKey.
-abbrev pub is_session : ℕ → Option Link → Bool
+abbrev pub is_session : ℕ → Option RelationState → Bool
 is_session key None = false
 is_session key (Some link) = link.request.ar.session_key == key
 
@@ -80,12 +80,12 @@ HasBegunIn None flow = Unit {0}
 HasBegunIn (Some phase) flow = flow.cyclic.begun ≡ is_exchanging phase
 
 -- The same for the state of the relation.
-abbrev pub IsInStep : Option Link → Type 0
+abbrev pub IsInStep : Option RelationState → Type 0
 IsInStep None = Unit {0}
 IsInStep (Some link) = HasBegunIn (Some link.phase) link.flow
 
 -- Whether an alarm frame with this source, to this endpoint and from this one, belongs to it.
-abbrev pub is_alarm_of : Mac → ℕ → ℕ → Option Link → Bool
+abbrev pub is_alarm_of : Mac → ℕ → ℕ → Option RelationState → Bool
 is_alarm_of source destination endpoint None = false
 is_alarm_of source destination endpoint (Some link) =
     pointwise nat_eq source.octets link.request.ar.initiator.octets && (destination == 1 && endpoint == link.request.alarm.reference)

@@ -14,10 +14,10 @@ use Rattle.im_records.specs.Writable.{is_writable}
 use Rattle.im_records.specs.Writes.{command_of}
 use Rattle.records.specs.declared.status.call_fault.CallFault.{CallFault}
 use Rattle.records.specs.declared.status.call_fault.CallFault.TheVariants as fault
-use Rattle.records.specs.calls.Judged.{judged}
+use Rattle.records.specs.calls.Handled.{handled}
 use Rattle.records.specs.calls.Single.{single_of}
 use Rattle.records.specs.calls.Naming.{in_relation}
-use Rattle.records.specs.reads.Judged.{has_parameter, placed}
+use Rattle.records.specs.reads.Handled.{has_parameter, placed}
 use Rattle.records.specs.reads.Parameters.{parameter_length}
 use Rattle.records.specs.declared.writes.write.Effect.{Effect}
 use Rattle.records.specs.declared.writes.write.Effect.TheVariants.{Stores, Keeps}
@@ -66,7 +66,7 @@ effect_of real request octets =
 -- The checks of the record: there is one with this index at its place, it is writable, its octets are all there, and they
 -- are a whole record; the octets after it are ignored.
 unfoldable pub written : Real → IodWriteReq → List ℕ → Result Effect CallFault
-written real request behind = judged
+written real request behind = handled
     ((not (is_known real request), fault.Index)
     ∷ (is_read_only (record_with request.header.index), fault.Access)
     ∷ (nat_lt (length behind) request.header.record_data_length, fault.WriteLength)
@@ -79,8 +79,8 @@ targeted standing real request = in_relation standing request.header.ar_uuid
     >>= λ _. placed real request.header.api request.header.slot_number request.header.subslot_number request.header.index
 
 -- The checks of a request, with these octets after its header.
-unfoldable pub judged_request : Option (List ℕ) → Real → IodWriteReq → List ℕ → Result Write CallFault
-judged_request standing real request behind = targeted standing real request
+unfoldable pub handled_request : Option (List ℕ) → Real → IodWriteReq → List ℕ → Result Write CallFault
+handled_request standing real request behind = targeted standing real request
     >>= λ _. written real request behind
     >>= λ effect. Ok (record { request = request; effect = effect })
 
@@ -88,4 +88,4 @@ judged_request standing real request behind = targeted standing real request
 unfoldable pub write_of : Option (List ℕ) → Real → List ℕ → Result Write CallFault
 write_of standing real blocks = single_of kind.IodWriteReq blocks
     >>= λ x. or_fault fault.BlockForm (in_iod_write_req x.0)
-    >>= λ request. judged_request standing real request x.1
+    >>= λ request. handled_request standing real request x.1

@@ -1,9 +1,0 @@
--- What a look-up says, independent of the place of its frame in memory.
-use Rattle.rpc_core.specs.declared.cache.Looked.{Looked}
-use Rattle.rpc_core.specs.declared.cache.Looked.TheVariants as looked
-use Rattle.rpc_core.specs.Cache.{Told, new, again, old}
-
-abbrev pub told : Looked → Told
-told looked.New = new
-told (looked.Again frame) = again frame.now.items
-told looked.Old = old
