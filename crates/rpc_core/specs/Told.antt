@@ -3,6 +3,7 @@ use Rattle.rpc_core.specs.declared.cache.Looked.{Looked}
 use Rattle.rpc_core.specs.declared.cache.Looked.TheVariants as looked
 use Rattle.rpc_core.specs.Cache.{Told, new, again, old}
 
+-- what a look-up says, with the octets of its frame
 abbrev pub told : Looked → Told
 told looked.New = new
 told (looked.Again frame) = again frame.now.items
