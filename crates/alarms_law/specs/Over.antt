@@ -56,6 +56,7 @@ taken_of live source header (notice.Ack number) = []
 taken_of live source header notice.Nack = []
 taken_of live source header notice.Abort = []
 
+-- the alarms accepted with what a controller hears
 abbrev pub taken_by : Live → Heard → List AlarmNotification
 taken_by live (Alarms source header notice) = taken_of live source header notice
 taken_by live Nothing = []
@@ -70,10 +71,12 @@ taken_in true controlling octets = []
 taken_in false controlling octets = taken_by controlling.live (heard_of controlling.setup.plan.controller octets)
 
 module _ {F : Type 0} where
+  -- the alarms accepted from a frame that is delivered to the controller, if it exists
   abbrev pub taken_from : World F → Option (List ℕ) → List AlarmNotification
   taken_from world None = []
   taken_from world (Some octets) = taken_in (is_skipped world.device world.controller Controller octets) world.controller octets
 
+  -- the alarms accepted with a move
   abbrev pub taken_with : World F → Move → List AlarmNotification
   taken_with world (move.Deliver Controller number) = taken_from world (slice_get world.sent number)
   taken_with world (move.Deliver Device number) = []

@@ -10,13 +10,15 @@ use Rattle.message_laws.specs.sending.Sized.{Found}
 
 -- ---- what is plugged
 
--- slots and subslots have 16 bits, and ident numbers 32
+-- the subslot of a submodule has 16 bits, and its ident number has 32
 abbrev pub IsSizedPart : RealSubmodule → Type 0
 IsSizedPart part = (part.subslot < 65536) × (part.ident < 4294967296)
 
+-- the slot of a module has 16 bits, and its ident number has 32, and its submodules have their sizes
 abbrev pub IsSizedModule : RealModule → Type 0
 IsSizedModule entry = (entry.slot < 65536) × (entry.ident < 4294967296) × AllByRecursion IsSizedPart entry.submodules.items
 
+-- each module has its sizes
 abbrev pub AreSizedModules : List RealModule → Type 0
 AreSizedModules modules = AllByRecursion IsSizedModule modules
 

@@ -50,7 +50,7 @@ pub record IsBegunAndPlayed {F : Type 0} {S : ℕ} (as_flash : Flash F S) (setup
   pub shown : last.controller.live.alarm ≡ last_of (taken_over first run)
   pub alarm : length (raised_over first run) ≤ 32768 → IsOneOfTheLastTwo (raised_over first run) last.controller.live.alarm
 
--- The same for the moves before the one for which memory ran out.
+-- If memory ran out, all of this holds of the moves before the one for which it did.
 pub record IsBegunAndCut {F : Type 0} {S : ℕ} (as_flash : Flash F S) (setup : Setup) (device : State F) (moves : List Move) (last : World F) : Type 0 where
   pub count : ℕ
   pub before : count < length moves

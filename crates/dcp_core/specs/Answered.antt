@@ -14,6 +14,7 @@ use Rattle.dcp_core.specs.Response.{Answered, AnsweredBlock, reported, came_out}
 use Rattle.dcp_core.specs.Every.{values_in}
 use Rattle.dcp_core.specs.Answer.{answer_block}
 
+-- the contents of a block, independent of its place in memory
 abbrev pub answered_block : ResponseBlock → AnsweredBlock
 answered_block (given.Value kind info value) = reported kind info value.now
 answered_block (given.Outcome kind outcome) = came_out kind outcome
@@ -22,6 +23,7 @@ answered_block (given.Outcome kind outcome) = came_out kind outcome
 unfoldable pub blocks_left : ResponseBlocks → List AnsweredBlock
 blocks_left blocks = values_in answer_block blocks.bytes.now
 
+-- the contents of a response, independent of its place in memory
 abbrev pub answered : Response → Answered
 answered response = record {
   service = response.service;
@@ -36,6 +38,7 @@ value_among kind [] = None
 value_among kind (reported found info value ∷ blocks) = if is_same kind found then Some value else value_among kind blocks
 value_among kind (came_out found outcome ∷ blocks) = value_among kind blocks
 
+-- whether an outcome is success
 abbrev pub is_done : Outcome → Bool
 is_done (Known error.Done) = true
 is_done outcome = false

@@ -25,7 +25,7 @@ viewed to from codec = record {
   read = (seen to from codec).read;
 }
 
--- the same for a format of all the bytes
+-- a format of all the bytes under another view of its values; only values that come back from `from` can be written
 abbrev pub viewed_whole : {F A B : Type 0} → (A → B) → (B → A) → Whole F A → Whole F B
 viewed_whole {A = A} to from whole = record {
   Spells = λ bytes value. (inner : A) × (to inner ≡ value) × whole.Spells bytes inner;

@@ -22,6 +22,7 @@ use Rattle.dcp_core.specs.Kinds.{blame}
 abbrev pub qualifier_of : List ℕ → ℕ
 qualifier_of contents = from_be_bytes w16 (take 2 contents)
 
+-- whether a value must be kept over a power failure: bit 0 of the BlockQualifier
 abbrev pub is_permanent : List ℕ → Bool
 is_permanent contents = qualifier_of contents % 2 == 1
 

@@ -7,33 +7,33 @@ use pn_values::BlockError;
 /// The kind of a block or pair: Option and Suboption (IEC 61158-6-10, 4.3.1.4.1).
 #[derive(Clone, Copy, Debug, PartialEq, Eq)]
 pub enum Kind {
-    /// 1/1
+    /// 1/1: the MAC address.
     MacAddress,
-    /// 1/2: the IP suite
+    /// 1/2: the IP suite.
     IpSuite,
-    /// 2/1: DeviceVendorValue
+    /// 2/1: DeviceVendorValue.
     StationType,
-    /// 2/2
+    /// 2/2: NameOfStation.
     NameOfStation,
-    /// 2/3: VendorID and DeviceID
+    /// 2/3: VendorID and DeviceID.
     DeviceId,
-    /// 2/4
+    /// 2/4: DeviceRole.
     DeviceRole,
-    /// 2/5: the options that the device knows
+    /// 2/5: the options that the device knows.
     DeviceOptions,
-    /// 2/7
+    /// 2/7: DeviceInstance.
     DeviceInstance,
-    /// 5/3: the signal lamp
+    /// 5/3: the signal lamp.
     Signal,
-    /// 5/4: the outcome of one block of a Set, or of one pair of a Get
+    /// 5/4: the outcome of one block of a Set, or of one pair of a Get.
     Response,
-    /// 5/5
+    /// 5/5: FactoryReset.
     FactoryReset,
-    /// 5/6
+    /// 5/6: ResetToFactory.
     ResetToFactory,
-    /// FF/FF
+    /// FF/FF: all stations, in an Identify.
     All,
-    /// Any other.
+    /// Any other Option and Suboption.
     Other { option: u8, suboption: u8 },
 }
 

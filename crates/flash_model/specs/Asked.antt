@@ -15,6 +15,7 @@ pub record Chip : Type 0 where
   pub armed : Option Order
   pub is_lost : Bool
 
+-- the chip of a flash in memory
 abbrev pub chip_of : {S : ℕ} → MemoryFlash S → Chip
 chip_of flash = record { image = image_of flash; armed = against_writes (armed_in flash); is_lost = is_powerless flash }
 

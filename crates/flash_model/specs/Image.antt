@@ -8,6 +8,7 @@ pub record Image : Type 0 where
   pub first : List ℕ
   pub second : List ℕ
 
+-- the bytes of a sector of the image
 abbrev pub sector_of : Image → Sector → List ℕ
 sector_of image First = image.first
 sector_of image Second = image.second
@@ -17,6 +18,7 @@ abbrev pub with_sector : Image → Sector → List ℕ → Image
 with_sector image First bytes = record image { first = bytes }
 with_sector image Second bytes = record image { second = bytes }
 
+-- the other sector
 abbrev pub other : Sector → Sector
 other First = Second
 other Second = First

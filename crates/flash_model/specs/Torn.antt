@@ -22,7 +22,8 @@ pub record TornSector (start end : ℕ) (finished old new : List ℕ) : Type 0 w
   pub behind : drop end new ≡ drop end old
   pub inside : (k : ℕ) → start ≤ k → k < end → IsBetween (slice_index old k) (slice_index finished k) (slice_index new k)
 
--- The same for a sector of an image: the other sector is unchanged.
+-- A call on the bytes from start to end of a sector of an image failed: inside the range each bit is old or as
+-- finished, and everything else is unchanged.
 pub record Torn (sector : Sector) (start end : ℕ) (finished : List ℕ) (old new : Image) : Type 0 where
   pub other : sector_of new (other sector) ≡ sector_of old (other sector)
   pub here : TornSector start end finished (sector_of old sector) (sector_of new sector)

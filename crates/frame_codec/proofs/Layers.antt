@@ -262,7 +262,7 @@ layers_onward bytes more meaning s = (
 
 -- ---- what two writers append
 
--- octets appended after a written value are what the value is written in front of
+-- octets that are appended after a written value follow it in its spelling
 pub put_behind : {A : Type 0} (codec : Codec FrameFault A) (value : A) (front mid end rest : List ℕ) → IsSound codec
     → mid ≡ front ++ codec.write value [] → end ≡ mid ++ rest → end ≡ front ++ codec.write value rest
 put_behind codec value front mid end rest sound one other =

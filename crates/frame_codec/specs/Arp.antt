@@ -19,6 +19,7 @@ abbrev pub number_of_operation : ArpOperation → ℕ
 number_of_operation Request = 1
 number_of_operation Reply = 2
 
+-- an operation in two octets; any number but 1 and 2 is a fault
 unfoldable pub operation : Codec FrameFault ArpOperation
 operation = named operation_of number_of_operation fault.Arp (number fault.Arp 2)
 

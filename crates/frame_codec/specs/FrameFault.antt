@@ -3,7 +3,7 @@ use Rattle.std.specs.Prelude.{ℕ}
 use Rattle.frame_codec.specs.declared.fault.FrameFault.{FrameFault}
 use Rattle.frame_codec.specs.declared.fault.FrameFault.TheVariants.{TooShort, TooLong, Tag, EtherType, IpHeader, IpChecksum, UdpLength, UdpChecksum, Arp}
 
--- in the order in which the layers are judged
+-- the number of a fault; the numbers follow the order in which the layers are judged
 abbrev pub number_of : FrameFault → ℕ
 number_of TooShort = 1
 number_of TooLong = 2

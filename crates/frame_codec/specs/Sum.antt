@@ -21,6 +21,6 @@ ones_sum_of bytes = carried (words_total bytes)
 abbrev pub complement : ℕ → ℕ
 complement sum = 65535 - sum
 
--- the same for a field in which 0 means that there is no checksum: 65,535 is sent in place of 0
+-- the value of a checksum's field in which 0 means that there is no checksum: 65,535 is sent in place of 0
 abbrev pub complement_of_sum : ℕ → ℕ
 complement_of_sum sum = if sum == 65535 then 65535 else complement sum

@@ -36,11 +36,13 @@ world_of device controller sent = record { device = device; controller = control
 
 -- ---- which frames are skipped
 
+-- whether a content is cyclic data
 abbrev pub is_cyclic_content : Content → Bool
 is_cyclic_content (RealTime frame_id body) = is_cyclic frame_id
 is_cyclic_content (ArpPacket arp) = false
 is_cyclic_content (UdpDatagram source destination body) = false
 
+-- whether a frame that was read is a cyclic frame
 abbrev pub is_cyclic_read : Result Meaning FrameFault → Bool
 is_cyclic_read (Ok meaning) = is_cyclic_content meaning.content
 is_cyclic_read (Err fault) = false
@@ -49,6 +51,7 @@ is_cyclic_read (Err fault) = false
 unfoldable pub is_cyclic_frame : List ℕ → Bool
 is_cyclic_frame octets = is_cyclic_read (frame_of octets)
 
+-- whether a controller in this state has left its relation
 abbrev pub is_ended : ControllerState → Bool
 is_ended Looking = false
 is_ended Addressing = false

@@ -58,11 +58,12 @@ image_given setup moves = record {
   cells = map (λ place. cell_of_kind place.kind place (last_given place None moves)) (places_for setup);
 }
 
--- the output of a submodule, if the plan has a place for it: zeros; or the value that was set last by these moves, or
--- zeros if none was set
+-- zeros, as many octets as the output of a submodule has, if the plan has a place for it
 abbrev pub zero_for : Setup → ℕ → ℕ → Option (List ℕ)
 zero_for setup slot subslot = option_map zeros_at (place_at Data slot subslot (places_for setup))
 
+-- the value that was set last by these moves for the output of a submodule, or zeros if none was, if the plan has a
+-- place for it
 abbrev pub given_for : Setup → List Move → ℕ → ℕ → Option (List ℕ)
 given_for setup moves slot subslot = option_map (λ place. value_or_zeros place (last_given place None moves)) (place_at Data slot subslot (places_for setup))
 

@@ -62,15 +62,17 @@ has_accepted link = is_some link.flow.cyclic.hearing.last
 abbrev pub taken_in : RelationState → Image
 taken_in link = link.flow.cyclic.taken
 
--- the same if there may be no relation: without one, no frame was accepted and the image is zeros
+-- whether the relation, if there is one, has accepted a cyclic frame
 abbrev pub accepted_in : Option RelationState → Bool
 accepted_in None = false
 accepted_in (Some link) = has_accepted link
 
+-- the image of the relation; zeros without a relation
 abbrev pub image_in : Setup → Option RelationState → Image
 image_in setup None = zeros_for setup
 image_in setup (Some link) = taken_in link
 
+-- a world, as far as outputs are concerned
 abbrev pub shown_of : {F : Type 0} → World F → Shown Image Image
 shown_of world = record {
   accepted = accepted_in world.device.live.rest.link;

@@ -1,13 +1,15 @@
 -- The rules of a NameOfStation (IEC 61158-6-10, 4.3.1.4.15): labels, joined by dots.
 use Rattle.std.specs.Prelude.{◌≡◌, ◌≢◌, ◌⊎◌, ◌≤◌, ◌<◌, ◌==◌, ℕ, Bool, List, [], ◌∷◌, ◌++◌, length, take, All, nat_le, ◌||◌, ◌&&◌, IsTrue, if◌then◌else◌, slice_get, Some}
 
--- the ASCII codes of '-' and '.'
+-- the ASCII code of '-'
 abbrev pub hyphen : ℕ
 hyphen = 45
 
+-- the ASCII code of '.'
 abbrev pub dot : ℕ
 dot = 46
 
+-- 0 to 9
 abbrev pub is_digit : ℕ → Bool
 is_digit byte = nat_le 48 byte && nat_le byte 57
 

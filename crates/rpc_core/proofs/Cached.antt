@@ -7,7 +7,7 @@ use Rattle.rpc_core.specs.declared.cache.Slot.{Slot}
 use Rattle.rpc_core.specs.Cache.{Kept, is_of, kept_of, without}
 use Rattle.rpc_core.specs.Slots.{blank, kept_in, kept_at, shown, IsFree, IsTidy}
 
--- ---- places that are tidy
+-- ---- indices without duplicates
 
 free_removed : (place : ℕ) (order : List ℕ) (p : ℕ) → IsFree place order → IsFree place (remove order p)
 free_removed place [] zero free = tt

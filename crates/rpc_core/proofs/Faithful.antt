@@ -74,7 +74,7 @@ reported_old kept sequence less = step (eqb sequence kept.sequence) refl
     step true e = absurd (omega (arith, less, eqb-true sequence kept.sequence (sym e)))
     step false e = rw (lt-ltb sequence kept.sequence less) refl
 
--- the cases by which of the two numbers is greater
+-- the cases: which of the two numbers is greater, if they differ
 data Case (kept : Kept) (sequence : ℕ) : Type 0 where
   later : reported_by sequence (Some kept) ≡ new → kept.sequence < sequence → Case kept sequence
   same : reported_by sequence (Some kept) ≡ again kept.frame → sequence ≡ kept.sequence → Case kept sequence

@@ -50,6 +50,7 @@ behind_reported most call cache new = kept_more most call cache
 behind_reported most call cache (again frame) = cache
 behind_reported most call cache old = cache
 
+-- the cache after a call: only a new call changes it
 abbrev pub behind_call : ℕ → Kept → List Kept → List Kept
 behind_call most call cache = behind_reported most call cache (looked call.activity call.sequence cache)
 
@@ -59,6 +60,7 @@ reported_frame call new = Some call.frame
 reported_frame call (again frame) = Some frame
 reported_frame call old = None
 
+-- the frame that answers a call at a cache, if it is answered
 abbrev pub answer_of : Kept → List Kept → Option (List ℕ)
 answer_of call cache = reported_frame call (looked call.activity call.sequence cache)
 

@@ -19,7 +19,7 @@ use Rattle.settings_journal.proofs.Rising.{stored_bytes}
 pub range_at : (xs : List ℕ) (from upto size : ℕ) → upto - from ≡ size → slice_range xs from upto ≡ take size (drop from xs)
 range_at xs from upto size e = ap (λ n. take n (drop from xs)) e
 
--- a prefix is a shorter prefix and the rest of it
+-- a prefix is a shorter prefix followed by the items up to its end
 front_more : (xs : List ℕ) (i j : ℕ) → i ≤ j → take j xs ≡ take i xs ++ slice_range xs i j
 front_more xs i j h =
     let e = take-append-drop i (take j xs) in

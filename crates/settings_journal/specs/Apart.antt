@@ -15,7 +15,7 @@ IsApart slots (Some active) (suc left) old new =
 IsApart slots (Some active) zero old new = sector_of new active ≡ sector_of old active
 IsApart slots None free old new = sector_of new Second ≡ sector_of old Second
 
--- the same for an image that is read as these settings
+-- a commit on an image that is read as these settings leaves everything else unchanged, as `IsApart` says
 abbrev pub StandsApart : Image → Settings → Image → Type 0
 StandsApart old settings new =
     (active : Option Sector) × (generation : ℕ) × (free : ℕ) × StartsAt old active settings generation free × IsApart (slots_of old.first) active free old new

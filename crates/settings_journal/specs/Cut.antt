@@ -42,6 +42,7 @@ IsWrite (Programs sector place bytes) = length bytes ≤ 437
 IsWrite (Erases sector) = Unit {0}
 IsWrite (Arms order) = ⊥
 
+-- each of these calls is an erase, or a program of at most as many bytes as a base has
 abbrev pub AreWrites : List Call → Type 0
 AreWrites [] = Unit {0}
 AreWrites (call ∷ calls) = IsWrite call × AreWrites calls

@@ -16,6 +16,7 @@ number_of Two = 2
 abbrev pub magic_of : Version → List ℕ
 magic_of version = 80 ∷ 78 ∷ 74 ∷ number_of version ∷ []
 
+-- the first 512 bytes of a sector
 abbrev pub head_of : List ℕ → List ℕ
 head_of sector = take 512 sector
 

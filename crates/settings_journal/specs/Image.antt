@@ -91,6 +91,7 @@ pub record IsLeft (image : Image) (sector : Sector) : Type 0 where
   pub settings : (settings : Settings) × Reads (sector_of image sector) settings
   pub stale : (risen : List ℕ) → Rises (head_in image (other sector)) risen → IsOlder (generation_at (head_in image sector)) risen
 
+-- a journal left the image with this active sector, or with no sector that counts
 abbrev pub LeftAt : Image → Option Sector → Type 0
 LeftAt image (Some sector) = IsLeft image sector
 LeftAt image None = IsClosed image

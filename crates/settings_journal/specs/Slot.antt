@@ -141,5 +141,6 @@ abbrev pub left_by : Version → ℕ → ℕ → ℕ
 left_by One count next = 0
 left_by Two count next = count - next
 
+-- how many slots of a sector are left, of this many
 abbrev pub free_in : Version → List ℕ → ℕ → ℕ
 free_in version sector count = left_by version count (next_slot sector count)

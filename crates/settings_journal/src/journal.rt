@@ -356,8 +356,7 @@ impl<F: Flash<S>, const S: usize> Journal<F, S> {
         // is unchanged.
         ensures apart { self.old.has_failed ≡ false → StandsApart (F.image self.old.flash) self.old.settings (F.image self.new.flash) }
 
-        // If this device left the image before, it is left by this device after, whichever call failed, with power lost
-        // or not.
+        // An image that this device left stays one, whichever call failed, with power lost or not.
         ensures left { LeftByDevice (F.image self.old.flash) → LeftByDevice (F.image self.new.flash) }
         // If this device left the image and no earlier commit failed, a start on the new image gives the settings from
         // before or those after the command, whichever call failed, with power lost or not.

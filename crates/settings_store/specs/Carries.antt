@@ -42,8 +42,8 @@ abbrev pub Continues : {F : Type 0} {S : ℕ} → Flash F S → State F → List
 Continues {F} as_flash old accepted new =
     (first : State F) (front : List Accepted) → Stretch as_flash first front old → Stretch as_flash first (front ++ accepted) new
 
--- The same for one item, by its outcome. If it passes, no call of the flash and no commit failed. A fault is that of
--- its own commit, the first since the start, in which a call failed.
+-- The cause of a fault in one item, by its outcome. If the item passes, no call of the flash and no commit failed. A
+-- fault is that of its own commit, the first since the start, in which a call failed.
 abbrev pub IsCausedAlone : Outcome → ℕ → ℕ → Values → Values → Type 0
 IsCausedAlone Pass before now old new = (now ≡ before) × (new.has_failed ≡ old.has_failed)
 IsCausedAlone (Fault is_lost) before now old new = HasRisen before now × (old.has_failed ≡ false) × (new.has_failed ≡ true)

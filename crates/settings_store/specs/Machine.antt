@@ -52,6 +52,7 @@ abbrev pub committed : Outcome → Values → Command → Carried
 committed outcome values command =
     if values.has_failed then answered Local values else (if values.room == 0 then answered Exhausted values else accepted outcome values command)
 
+-- one item, for an outcome of its call: a command is judged, and a signal and an answer change nothing
 abbrev pub carried_one : Outcome → Values → SetItem → Carried
 carried_one outcome values (Ask command) = committed outcome values command
 carried_one outcome values Signal = answered Done values
@@ -62,6 +63,7 @@ abbrev pub first_of : List Outcome → Outcome
 first_of [] = Pass
 first_of (outcome ∷ outcomes) = outcome
 
+-- the outcomes after the first one
 abbrev pub rest_of : List Outcome → List Outcome
 rest_of [] = []
 rest_of (outcome ∷ outcomes) = outcomes
@@ -77,5 +79,6 @@ carried outcomes values [] = record { values = values; answers = []; accepted = 
 carried outcomes values (item ∷ items) =
     let one = carried_one (first_of outcomes) values item in followed_by one (carried (rest_of outcomes) one.values items)
 
+-- the commands that were accepted
 abbrev pub commands_of : List Accepted → List Command
 commands_of accepted = map (λ a. a.command) accepted

@@ -1,5 +1,5 @@
-//! The running settings beside the stored ones, and the effect of commands in order. The flash is hidden behind the
-//! outcomes of its commits: the device is specified without any term of the flash.
+//! The running settings beside the stored ones, and the effect of commands in order. Of the flash only the outcomes of
+//! its commits are visible: the device is specified without any other term of the flash.
 #![tactic(auto)]
 
 mod store;

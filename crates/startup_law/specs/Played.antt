@@ -24,7 +24,7 @@ module _ {F : Type 0} where
   abbrev pub moves_of : List (Move × World F) → List Move
   moves_of run = map (λ one. one.0) run
 
-  -- the same run, as a start-up sees it
+  -- a run, as a start-up sees it
   abbrev pub viewed : List (Move × World F) → List (small.Move × small.World TakenRecord Request)
   viewed run = map (λ one. (move_of one.0, view_of one.1)) run
 
@@ -36,6 +36,7 @@ IsParameter entry = entry.index < 0x8000
 abbrev pub IsPlaced : PlanRecord → Type 0
 IsPlaced entry = (entry.slot < 65536) × (entry.subslot < 65536)
 
+-- the slot and the subslot of each record have 16 bits
 abbrev pub ArePlaced : List PlanRecord → Type 0
 ArePlaced records = AllByRecursion IsPlaced records
 

@@ -19,7 +19,7 @@ pub record Seen (labels : List (List ℕ)) (seen : Labels) : Type 0 where
   pub parts : IsTrue seen.are_address_parts ↔ All IsAddressPart labels
   pub port : 0 < length labels → IsTrue seen.begins_with_port ↔ All IsPort (take 1 labels)
 
--- the same for all labels of a text that is not too long, and whether it has a byte that may not be in a label
+-- the facts about all labels of a text that is not too long, and whether it has a byte that may not be in a label
 pub record IsFound (bytes : List ℕ) (found : Found) : Type 0 where
   pub short : length bytes ≤ 240
   pub seen : Seen (labels_of bytes) found.labels

@@ -17,6 +17,7 @@ is_label label = nat_lt 0 (length label) && nat_le (length label) 63 && list_all
 abbrev pub is_address_part : List ℕ → Bool
 is_address_part label = nat_lt 0 (length label) && nat_le (length label) 3 && list_all is_digit label
 
+-- four labels of one to three digits each, as an IP address is written
 abbrev pub looks_like_address : List (List ℕ) → Bool
 looks_like_address labels = (length labels == 4) && list_all is_address_part labels
 

@@ -20,9 +20,10 @@ pub record CanBeSaid (said : Said) : Type 0 where
   pub long : is_long said.header.kind (length said.body) ≡ true
   pub few : length said.body ≤ 1486
 
--- data that carries an AlarmAck, and a PDU without a body
+-- a PDU with an AlarmAck as its data
 abbrev pub ack_pdu : Header → AlarmAck → Said
 ack_pdu header ack = record { header = header; body = block_bytes (is.AlarmAck ack) }
 
+-- a PDU without a body
 abbrev pub empty_pdu : Header → Said
 empty_pdu header = record { header = header; body = [] }

@@ -92,19 +92,22 @@ line_after line number value due_is.Nothing = line
 line_after line number value due_is.Again = repeated line number value
 line_after line number value due_is.Spent = line
 
+-- the alarm sent last is repeated
 abbrev pub repeated_to_controller : World → Option AlarmNotification → World
 repeated_to_controller w alarm = record w { alarms = repeated w.alarms (send_number w.device.sender.sending.last) alarm }
 
+-- the AlarmAck sent last is repeated
 abbrev pub repeated_to_device : World → Option AlarmAck → World
 repeated_to_device w ack = record w { confirms = repeated w.confirms (send_number w.controller.sending.last) ack }
 
--- a unit passes at the device, or at the controller
+-- a unit passes at the device
 abbrev pub after_device_tick : World → World
 after_device_tick w = record w {
   device = end_later w.device;
   alarms = line_after w.alarms (send_number w.device.sender.sending.last) w.device.sender.standing (due w.device.sender.sending);
 }
 
+-- a unit passes at the controller
 abbrev pub after_controller_tick : World → World
 after_controller_tick w = record w {
   controller = controller_later w.controller;
@@ -123,6 +126,7 @@ nacks_after nacks number New = nacks
 nacks_after nacks number Again = nacks
 nacks_after nacks number Refused = nacks ++ number ∷ []
 
+-- an alarm arrives at the controller, if there is one
 abbrev pub after_alarm : World → Option (ℕ × AlarmNotification) → World
 after_alarm w None = w
 after_alarm w (Some pdu) = record w {
@@ -132,6 +136,7 @@ after_alarm w (Some pdu) = record w {
   nacks_to_device = nacks_after w.nacks_to_device pdu.0 (taken_as w.controller.seen pdu.0);
 }
 
+-- an AlarmAck arrives at the device, if there is one
 abbrev pub after_confirms : World → Option (ℕ × AlarmAck) → World
 after_confirms w None = w
 after_confirms w (Some pdu) = record w {
@@ -141,15 +146,17 @@ after_confirms w (Some pdu) = record w {
   nacks_to_controller = nacks_after w.nacks_to_controller pdu.0 (taken_as w.device.seen pdu.0);
 }
 
+-- an ACK arrives at the device, if there is one
 abbrev pub after_ack_to_device : World → Option ℕ → World
 after_ack_to_device w None = w
 after_ack_to_device w (Some number) = record w { device = end_behind w.device (message.Ack number) }
 
+-- an ACK arrives at the controller, if there is one
 abbrev pub after_ack_to_controller : World → Option ℕ → World
 after_ack_to_controller w None = w
 after_ack_to_controller w (Some number) = record w { controller = with_ack w.controller number }
 
--- a NACK is received by a device; a controller ignores it and goes on repeating
+-- a NACK arrives at the device, if there is one; a controller ignores NACKs and goes on repeating
 abbrev pub after_nack_to_device : World → Option ℕ → World
 after_nack_to_device w None = w
 after_nack_to_device w (Some number) = record w { device = end_behind w.device message.Nack }

@@ -40,12 +40,13 @@ pub record IsWritten (block : IodWriteRes) : Type 0 where
   pub additional_value_2 : block.additional_value_2 < 65536
   pub pnio_status : block.pnio_status < 4294967296
 
--- the response of a device for the relation and for each direction of its data
+-- the ARBlockRes of a response to a Connect
 pub record IsArAnswer (block : ArBlockRes) : Type 0 where
   pub ar_uuid : length block.ar_uuid ≡ 16
   pub session_key : block.session_key < 65536
   pub cm_responder_mac_add : length block.cm_responder_mac_add.octets ≡ 6
 
+-- an IOCRBlockRes of a response to a Connect
 pub record IsIocrAnswer (block : IocrBlockRes) : Type 0 where
   pub iocr_type : block.iocr_type < 65536
   pub iocr_reference : block.iocr_reference < 65536

@@ -10,10 +10,11 @@ use Rattle.frame_codec.specs.Meaning.{Content, RealTime, ArpPacket, UdpDatagram,
 abbrev pub IsMac : Mac → Type 0
 IsMac mac = length mac.octets ≡ 6
 
--- an IPv4 address has four octets, and a port has two
+-- an endpoint: its IPv4 address has four octets, and its port has two
 abbrev pub IsEndpoint : Endpoint → Type 0
 IsEndpoint endpoint = (length endpoint.address ≡ 4) × (endpoint.port < 65536)
 
+-- a station with its MAC address and IPv4 address, each of its size
 abbrev pub IsHolder : Holder → Type 0
 IsHolder holder = IsMac holder.mac × (length holder.address ≡ 4)
 

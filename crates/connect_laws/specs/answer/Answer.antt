@@ -20,12 +20,13 @@ abbrev pub caller_of : Controller → Caller
 caller_of controller = record { mac = controller.mac; endpoint = calls_at controller.address }
 
 -- The message with which a device that has no relation, and the modules of the plan, answers the Connect of the plan
--- from this address, and its frame.
+-- from this address.
 abbrev pub answer_message : Setup → Identity → List ℕ → Sent
 answer_message setup identity address =
     answer_from address (caller_of setup.plan.controller) (call_for setup asks.Connect) Connect
     (connect_answer identity setup.plan.real None (blocks_of setup asks.Connect))
 
+-- The frame of that message.
 abbrev pub answer_frame : Setup → Identity → List ℕ → List ℕ
 answer_frame setup identity address = bytes_of identity (answer_message setup identity address)
 

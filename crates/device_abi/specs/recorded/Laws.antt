@@ -8,13 +8,15 @@ use Rattle.settings_journal.specs.Cut.{AreWrites}
 use Rattle.device_abi.specs.recorded.Record.{Record, image_of, record_of, after_one, after_all, IsAsked}
 use Rattle.device_abi.specs.declared.recorded.flash.RecordedFlash.{RecordedFlash}
 
--- no call fails, and power is never lost
+-- the count of failed calls, which never rises
 abbrev pub failures_of : {S : ℕ} → RecordedFlash S → ℕ
 failures_of flash = memory.failures_of flash.memory
 
+-- whether power was lost, which never happens
 abbrev pub has_power : {S : ℕ} → RecordedFlash S → Bool
 has_power flash = false
 
+-- a recorded flash is always reliable
 abbrev pub IsAlways : {S : ℕ} → RecordedFlash S → Type 0
 IsAlways flash = Unit {0}
 

@@ -19,6 +19,7 @@ pub record Record : Type 0 where
 abbrev pub image_of : {S : ℕ} → RecordedFlash S → Image
 image_of flash = memory.image_of flash.memory
 
+-- the record of a flash
 abbrev pub record_of : {S : ℕ} → RecordedFlash S → Record
 record_of flash = record { image = image_of flash; recent = map call_of flash.calls.items; count = flash.count }
 

@@ -1,4 +1,4 @@
-// A call, as it is recorded.
+// The record of a call.
 ghost use Rattle.std.specs.Prelude.{◌≡◌, ◌<◌, length, MatchOption};
 ghost use Rattle.flash_model.specs.Calls.{Programs};
 ghost use Rattle.device_abi.specs.recorded.Entry.{call_of};

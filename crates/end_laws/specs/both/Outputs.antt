@@ -72,6 +72,7 @@ module _ {O V : Type 0} where
   abbrev pub IsShownRun : Outputs O V → Shown O V → List (Move × Shown O V) → Type 0
   IsShownRun rules first run = AreSteps (ShowsBehind rules) first run
 
+  -- what is shown after a run
   abbrev pub shown_last : Shown O V → List (Move × Shown O V) → Shown O V
   shown_last first run = end_of first run
 

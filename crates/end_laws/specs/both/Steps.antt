@@ -160,18 +160,20 @@ module _ {T Q : Type 0} where
     pub controller : after.controller ≡ before.controller
     pub behind : after.sent ≡ before.sent ++ frames
 
+  -- the controller steps, and nothing else changes
   pub record StepsAtController (rules : Rules T Q) (heard : ToController) (before after : World T Q) : Type 0 where
     pub frames : List (List ℕ)
     pub steps : ControllerSteps rules heard before.controller after.controller frames
     pub device : after.device ≡ before.device
     pub behind : after.sent ≡ before.sent ++ frames
 
-  -- a frame is delivered, if there is one with this number
+  -- a frame is delivered to the device, if there is one with this number
   pub record ComesToDeviceAs (rules : Rules T Q) (number : ℕ) (before after : World T Q) : Type 0 where
     pub frame : List ℕ
     pub there : slice_get before.sent number ≡ Some frame
     pub steps : StepsAtDevice rules (rules.to_device frame) before after
 
+  -- a frame is delivered to the controller, if there is one with this number
   pub record ComesToControllerAs (rules : Rules T Q) (number : ℕ) (before after : World T Q) : Type 0 where
     pub frame : List ℕ
     pub there : slice_get before.sent number ≡ Some frame

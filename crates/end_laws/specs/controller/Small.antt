@@ -29,6 +29,7 @@ abbrev pub asking_of : Parts → Option Request → Controller
 asking_of plan (Some request) = small.Asking (sequence_of plan request)
 asking_of plan None = small.Ended
 
+-- the state of a controller, as a start-up sees it
 abbrev pub state_of : Parts → State → Option Request → Controller
 state_of plan Looking asked = small.Seeking
 state_of plan Addressing asked = small.Seeking
@@ -39,6 +40,7 @@ state_of plan Waiting asked = small.Waiting
 state_of plan Exchanging asked = small.Exchanges
 state_of plan (Ended cause) asked = small.Ended
 
+-- a controller, as a start-up sees it
 abbrev pub small_of : Parts → Live → Controller
 small_of plan live = state_of plan live.phase live.asked
 
@@ -72,6 +74,7 @@ said_to setup (Alarms source header notice) = small.Nothing
 
 -- ---- what it says
 
+-- a request as the call that it is
 abbrev pub asked_by : Parts → Request → ToDevice
 asked_by plan asks.Identify = small.Idle
 asked_by plan asks.Address = small.Idle

@@ -30,14 +30,17 @@ use Rattle.end_laws.specs.both.Steps.{SaysAtMost}
 
 -- ---- its state
 
+-- the phase of a relation, as a start-up sees it
 abbrev pub phase_in : Phase → small.Phase
 phase_in Started = small.Started
 phase_in Awaiting = small.Awaiting
 phase_in Exchanging = small.Exchanging
 
+-- a relation, as a start-up sees it
 abbrev pub link_of : RelationState → small.RelationState TakenRecord Request
 link_of link = record { phase = phase_in link.phase; request = link.request; taken = link.taken }
 
+-- a stored response, as a start-up sees it
 abbrev pub kept_in : Answer → small.Kept
 kept_in answer = record { sequence = answer.sequence; frame = answer.frame }
 
@@ -58,16 +61,18 @@ asked_by sequence (Some operation.Read) = small.Idle
 asked_by sequence (Some operation.ReadImplicit) = small.Idle
 asked_by sequence None = small.Idle
 
--- the positive response to an ApplicationReady: its block names the relation whose ARUUID was the activity of the call
+-- whether a block names the relation whose ARUUID is the activity of the call
 abbrev pub names_own : List ℕ → Option ControlBlock → Bool
 names_own activity None = false
 names_own activity (Some block) = pointwise nat_eq block.ar_uuid activity
 
+-- whether a response is the positive one to an ApplicationReady, whose block names the relation of the call
 abbrev pub confirms : Response → Bool
 confirms response =
     (response.header.sequence == 0 && response.header.operation == 4)
     && (is_done response.status && names_own response.header.activity (confirmed_block (block_of response.blocks)))
 
+-- what a datagram says to a device, as a start-up sees it
 abbrev pub said_to : Said → ToDevice
 said_to (Calls call) = asked_by call.header.sequence (operation_of call.header.operation)
 said_to (Responds response) = if confirms response then small.Confirms else small.Idle
@@ -97,6 +102,7 @@ pub record IsPlannedWrite (rules : Rules TakenRecord Request) (real : Real) (seq
   pub there : slice_get rules.records number ≡ Some value
   pub keeps : (standing : Option (List ℕ)) (write : Write) → write_of standing real blocks ≡ Ok write → write.effect ≡ Keeps value
 
+-- these blocks of a call with this operation are those of the start-up; a Read is not one of its calls
 abbrev pub IsPlannedAs : Rules TakenRecord Request → Real → ℕ → List ℕ → Option Operation → Type 0
 IsPlannedAs rules real sequence blocks (Some operation.Connect) = request_of None blocks ≡ Ok rules.request
 IsPlannedAs rules real sequence blocks (Some operation.Write) = IsPlannedWrite rules real sequence blocks
@@ -119,6 +125,7 @@ IsPlannedIn rules activity real (Calls call) = IsPlannedCall rules activity real
 IsPlannedIn rules activity real (Responds response) = Unit {0}
 IsPlannedIn rules activity real Garbled = Unit {0}
 
+-- if a call is heard, it is one of the start-up
 abbrev pub IsPlanned : Rules TakenRecord Request → List ℕ → Real → Heard → Type 0
 IsPlanned rules activity real (Reported caller address said) = IsPlannedIn rules activity real said
 IsPlanned rules activity real Ticks = Unit {0}
@@ -150,6 +157,7 @@ said_by (Exchanges route frame) = small.Nothing
 abbrev pub IsHeardBy : Rules TakenRecord Request → List ℕ → ToController → Type 0
 IsHeardBy rules frame says = (rules.to_device frame ≡ small.Idle) × SaysAtMost rules says frame
 
+-- both ends hear a message of the device as it is meant
 abbrev pub IsHeardAs : Rules TakenRecord Request → Identity → Sent → Type 0
 IsHeardAs rules identity (Again frame) = Unit {0}
 IsHeardAs rules identity (CallAnswer caller address answer) = IsHeardBy rules (bytes_of identity (CallAnswer caller address answer)) (said_by (CallAnswer caller address answer))

@@ -54,6 +54,7 @@ pub record Standing : Type 0 where
   pub last : Option ℕ
   pub outputs : Image
 
+-- what outputs and alarms depend on in a relation
 abbrev pub standing_of : RelationState → Standing
 standing_of link = record {
   request = link.request;
@@ -83,11 +84,13 @@ IsCalm before (CallAnswer caller address answer) = Unit {0}
 IsCalm before (Again frame) = Unit {0}
 IsCalm before (ReadyCall address ready) = Unit {0}
 
+-- each of these messages is calm
 abbrev pub AreCalm : Option RelationState → List Sent → Type 0
 AreCalm before sent = AllByRecursion (IsCalm before) sent
 
 -- ---- the kinds of turns
 
+-- the relation stays the same as far as outputs and alarms are concerned, or it ends
 pub record Stays (before after : Option RelationState) (sent : List Sent) : Type 0 where
   pub link : IsSameOr before after
   pub calm : AreCalm before sent
@@ -128,11 +131,12 @@ pub record Refused (real : List RealModule) (before : Option RelationState) (slo
   pub same : after ≡ before
   pub silent : sent ≡ []
 
+-- an alarm is raised, or it is refused
 abbrev pub IsRaise : List RealModule → Option RelationState → ℕ → ℕ → List ℕ → Option RelationState → List Sent → Type 0
 IsRaise real before slot subslot octets after sent =
     Raises real before (Raised slot subslot octets) after sent ⊎ Refused real before slot subslot octets after sent
 
--- an ACK or an AlarmAck arrives
+-- an ACK arrives
 pub record HearsAck (before : Option RelationState) (heard : Heard) (after : Option RelationState) (sent : List Sent) : Type 0 where
   pub source : Mac
   pub header : Header
@@ -143,6 +147,7 @@ pub record HearsAck (before : Option RelationState) (heard : Heard) (after : Opt
   pub becomes : after ≡ Some (with_flow (behind_message link.flow (notice.Ack number)) link)
   pub silent : sent ≡ []
 
+-- an AlarmAck arrives
 pub record HearsData (before : Option RelationState) (heard : Heard) (after : Option RelationState) (sent : List Sent) : Type 0 where
   pub source : Mac
   pub header : Header
@@ -176,6 +181,7 @@ pub record Takes (before : Option RelationState) (heard : Heard) (after : Option
   pub becomes : after ≡ Some (with_flow (behind_frame link.flow source frame_id body) link)
   pub silent : sent ≡ []
 
+-- the kinds of turns, as far as outputs and alarms are concerned
 abbrev pub IsTurn : List RealModule → List Kept → Option RelationState → Heard → Option RelationState → List Sent → Type 0
 IsTurn real calls before heard after sent =
     Stays before after sent ⊎ (Makes calls before heard after sent ⊎ (Raises real before heard after sent
@@ -195,6 +201,7 @@ pub record Answers (identity : Identity) (before after : List Kept) (sent : List
 
 -- ---- a turn
 
+-- one turn of a device: its kind, the response that it stores, and that each message is owed
 pub record Turn (station : Station) (live : Live) (heard : Heard) (after : Rest) (sent : List Sent) : Type 0 where
   pub is : IsTurn station.real.modules.items live.rest.calls live.rest.link heard after.link sent
   pub answers : (after.calls ≡ live.rest.calls) ⊎ Answers station.identity live.rest.calls after.calls sent

@@ -11,7 +11,8 @@ ghost use Rattle.end_laws.specs.controller.Small.{GoesOn, IsInStep, said_in, sma
 
 use message_laws::turns_are_of_a_kind;
 
-/// The machine by which each step of a controller is specified, as far as a start-up is concerned.
+/// A controller refines its small machine, as far as a start-up is concerned. This is a law of the machine by which
+/// each step of a controller is specified.
 pub fn controller_goes_on()
     // A controller that was just made looks for the device.
     ensures begins { (plan : Parts) → IsInStep plan (first plan).phase (first plan).asked × (small_of plan (first plan) ≡ Seeking) }

@@ -13,7 +13,8 @@ ghost use Rattle.end_laws.specs.device.Small.{IsHeardAs, IsPlanned, heard_as, sm
 
 use records::refusals_are_not_done;
 
-/// The machine by which each step of a device is specified, as far as a start-up is concerned.
+/// A device refines its small machine, as far as a start-up is concerned. This is a law of the machine by which each
+/// step of a device is specified.
 pub fn device_goes_on()
     // If each call is one of the start-up and each message that is sent is heard as it is meant, each step of a device
     // is a step of the small machine, whatever the device hears and whatever the flash did.

@@ -11,7 +11,8 @@ ghost use Rattle.end_laws.specs.both.Small.{Rules};
 ghost use Rattle.end_laws.specs.device.Small.{IsPlanned};
 ghost use Rattle.end_laws.specs.device.Owed.{IsOwed};
 
-/// The machine by which each step of a device is specified, as far as responses and ApplicationReady are concerned.
+/// A device sends only what it owes, as far as responses and ApplicationReady are concerned. This is a law of the
+/// machine by which each step of a device is specified.
 pub fn device_sends_what_it_owes()
     // If each call that a device hears is one of the start-up, a response is to a call that it heard, or the one stored
     // for its activity, and ApplicationReady is of the relation that existed, whatever the flash did.

@@ -10,7 +10,8 @@ ghost use Rattle.end_laws.specs.both.Small.{Rules};
 ghost use Rattle.end_laws.specs.device.Small.{IsPlanned};
 ghost use Rattle.end_laws.specs.device.Turn.{IsRaise, Turn};
 
-/// The machine by which each step of a device is specified, turn by turn. The laws of outputs and of alarms use it.
+/// Each turn of a device, as far as outputs and alarms are concerned. This is a law of the machine by which each step
+/// of a device is specified. The laws of outputs and of alarms use it.
 pub fn device_turns()
     // If each call that a device hears is one of the start-up: what its outputs and alarms depend on stays the same, or
     // changes as a Connect, a cyclic frame, an alarm frame, an alarm or a unit of time changes it; a response that is

@@ -25,12 +25,12 @@ comes octets = Frame (record { items = octets })
 abbrev pub own_hears : Identity → Mac → Heard → Heard
 own_hears identity destination heard = if is_own identity destination then heard else device.Elsewhere
 
--- the same for a frame that may also go to all stations
+-- a frame to this device or to all stations is heard, and one to another station is not for it
 abbrev pub all_hears : Identity → Mac → Heard → Heard
 all_hears identity destination heard =
     if is_own identity destination || pointwise nat_eq destination.octets device.broadcast then heard else device.Elsewhere
 
--- the same for a datagram, which must also go to the port of calls
+-- a datagram to this device and the port of calls is heard, and any other is not for it
 abbrev pub own_reported : Identity → Mac → Mac → Endpoint → Endpoint → Said → Heard
 own_reported identity source destination from to said =
     if is_own identity destination && to.port == 34964 then device.Reported (record { mac = source; endpoint = from }) to.address said else device.Elsewhere
@@ -46,7 +46,7 @@ IsUnreported heard = ⊤
 abbrev pub mine_hears : Controller → Mac → controller.Heard → controller.Heard
 mine_hears mine destination heard = if pointwise nat_eq destination.octets mine.mac.octets then heard else controller.Nothing
 
--- the same for a datagram, which must also go to its IP address and the port of calls
+-- a datagram to this controller, its IP address and the port of calls is heard, and any other is ignored
 abbrev pub mine_reported : Controller → Mac → Endpoint → controller.Heard → controller.Heard
 mine_reported mine destination to heard = mine_hears mine destination (if controller.is_to mine.address to then heard else controller.Nothing)
 

@@ -67,6 +67,6 @@ pub record IsRoute (route : Route) : Type 0 where
   pub tag : route.sent_tag < 65536
   pub alarm_tag : route.alarm_tag < 65536
 
--- the call ApplicationReady, as it is written
+-- the call of an ApplicationReady
 abbrev pub ready_call : Ready → Call
 ready_call ready = record { header = ready.header; args_maximum = 1372; blocks = Some (block_bytes (is.ApplicationReady ready.block)) }

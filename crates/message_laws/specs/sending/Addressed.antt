@@ -34,6 +34,7 @@ IsHeardFrom mac (Responds response) = ⊤
 IsHeardFrom mac (Cyclic source frame_id body) = ⊤
 IsHeardFrom mac (Alarms source header reported) = ⊤
 
+-- what the event brings comes from this station, each field with its size
 abbrev pub IsEventFrom : Mac → Setup → Event → Type 0
 IsEventFrom mac setup (Frame bytes) = IsHeardFrom mac (heard_of setup.plan.controller bytes.items)
 IsEventFrom mac setup Tick = ⊤

@@ -29,15 +29,17 @@ IsFew (asks.Write number) = number < 32
 IsFew asks.PrmEnd = ⊤
 IsFew (asks.Release sequence) = sequence < 4294967296
 
+-- the pending request, if there is one, has its sizes
 abbrev pub AreFew : Option Request → Type 0
 AreFew None = ⊤
 AreFew (Some request) = IsFew request
 
--- a number of two octets, if there is one, and an AlarmAck, if there is one
+-- a number of two octets, if there is one
 abbrev pub IsShort : Option ℕ → Type 0
 IsShort None = ⊤
 IsShort (Some number) = number < 65536
 
+-- an AlarmAck that can be written, if there is one
 abbrev pub IsAckOrNone : Option AlarmAck → Type 0
 IsAckOrNone None = ⊤
 IsAckOrNone (Some ack) = IsAck ack
@@ -62,6 +64,7 @@ pub record IsNoted (alarm : AlarmNotification) : Type 0 where
   pub subslot_number : alarm.subslot_number < 65536
   pub alarm_specifier : alarm.alarm_specifier < 65536
 
+-- what an alarm frame says has its sizes
 abbrev pub IsNotice : ToController → Type 0
 IsNotice (notice.Data number alarm) = (number < 65536) × IsNoted alarm
 IsNotice notice.Nack = ⊤
@@ -72,6 +75,7 @@ IsNotice notice.Abort = ⊤
 abbrev TypeOf : {A : Type 0} → A → Type 0
 TypeOf {A = A} value = A
 
+-- what a controller finds in the response to a Connect
 abbrev pub Found : Type 0
 Found = TypeOf nothing
 
@@ -79,6 +83,7 @@ Found = TypeOf nothing
 abbrev pub chosen_in : List ℕ → Option ℕ
 chosen_in blocks = option_and_then (λ (found : Found). found.output) (found_in 400 blocks nothing)
 
+-- the FrameID that these blocks choose for outputs has two octets
 abbrev pub IsChosen : List ℕ → Type 0
 IsChosen blocks = (frame_id : ℕ) → chosen_in blocks ≡ Some frame_id → frame_id < 65536
 
@@ -91,6 +96,7 @@ IsSized (Calls caller call) = IsCaller caller × IsHeader call.header × (call.a
 IsSized (Cyclic source frame_id body) = ⊤
 IsSized (Alarms source header reported) = IsNotice reported
 
+-- what the event brings has its sizes
 abbrev pub IsSizedEvent : Setup → Event → Type 0
 IsSizedEvent setup (Frame bytes) = IsSized (heard_of setup.plan.controller bytes.items)
 IsSizedEvent setup Tick = ⊤

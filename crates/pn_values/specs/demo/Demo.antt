@@ -26,6 +26,7 @@ abbrev pub plugged : ℕ → ℕ → ℕ → ℕ → RealSubmodule
 plugged subslot ident input output =
     record { subslot = subslot; ident = ident; input = input; output = output; parameters = record { items = [] } }
 
+-- a module in a slot, with these submodules
 abbrev pub module_of : ℕ → ℕ → List RealSubmodule → RealModule
 module_of slot ident submodules = record { slot = slot; ident = ident; submodules = record { items = submodules } }
 
