@@ -20,7 +20,7 @@
 
 #define VERSION "0.1.0"
 
-/* While no relation stands nothing is due at a unit of time, so that many may go by at once. */
+/* Without a relation nothing is due at a unit of time, so many units may pass at once. */
 #define IDLE_PERIOD 10000000ull /* nanoseconds */
 #define IDLE_MOST 320000u       /* units: ten seconds */
 #define SECOND 1000000000ull
@@ -31,7 +31,7 @@ struct options {
     const char *flash;
     const char *station;
     const char *socket;
-    const char *socket_group; /* who may use the socket too, or nobody */
+    const char *socket_group; /* a group that may use the socket too, or NULL */
     uint8_t mac[6];
     int has_mac;
     uint64_t period; /* nanoseconds */
@@ -53,14 +53,14 @@ struct device {
     struct places outputs;
     struct sets sets;
     uint64_t period;
-    /* What was told last. */
+    /* The last reported values. */
     uint32_t phase;
     int is_lamp_on;
     pn_settings settings;
     /* Statistics. */
     uint64_t notes[8];
     struct histogram intervals;
-    uint64_t last_cyclic; /* when one was sent, 0 for none */
+    uint64_t last_cyclic; /* when the last one was sent; 0: none yet */
     uint64_t next_look;
 };
 
@@ -91,14 +91,14 @@ static int transmit(void *context, const uint8_t *octets, uint32_t length)
     return wire_send(&device->wire, octets, length);
 }
 
-/* The library is used as its header says, so that none of its other answers can come. */
+/* The program uses the library as its header says, so the library cannot return any other number. */
 static void must(uint32_t answer, const char *call)
 {
     if (answer != PN_OK)
         fail(STATUS_SOFTWARE, "%s answers %u: the library and this program do not fit", call, (unsigned)answer);
 }
 
-/* Starts from what the file holds. */
+/* Starts from the contents of the file. */
 static void start(struct device *device)
 {
     uint32_t answer;
@@ -115,8 +115,8 @@ static void start(struct device *device)
 
 static void look(struct device *device, int is_first);
 
-/* Takes the work of a step and does it. A call of the flash that fails is power that is lost: nothing more is sent, and the device
- * starts again from the file. */
+/* Takes the work of a step and does it. A flash call that fails counts as lost power: nothing more is sent, and the device starts again
+ * from the file. */
 static void carry_out(struct device *device)
 {
     if (pn_carry_out(&device->room, &device->op, &device->host) != PN_FLASH_FAULT)
@@ -127,7 +127,7 @@ static void carry_out(struct device *device)
     look(device, 0);
 }
 
-/* --- What is told --- */
+/* --- Reports --- */
 
 static void tell_suite(const char *label, const pn_settings *s, char *text, size_t size)
 {
@@ -147,7 +147,7 @@ static void tell_octets(char *text, size_t size, const char *label, uint16_t slo
         words_hex(text + head, octets, length);
 }
 
-/* The kernel answers ARP for each address of its own, on every interface, and calls on it too. */
+/* The kernel answers ARP, and calls, for each of its own addresses, on every interface. */
 static void warn_of_kernel(struct device *device, const pn_settings *settings)
 {
     static const uint8_t none[4];
@@ -197,7 +197,7 @@ static void look_at_outputs(struct device *device)
     }
 }
 
-/* Gives an input that is kept to the relation. Whether one has it. */
+/* Sets a kept input for the relation. Returns whether a relation has it. */
 static int give(struct device *device, const struct place *place)
 {
     uint32_t note;
@@ -207,7 +207,7 @@ static int give(struct device *device, const struct place *place)
     return note == PN_DONE;
 }
 
-/* The inputs of a new relation are zeros until they are given, so that what was given before is given again. */
+/* The inputs of a new relation are zeros until they are set. So the earlier values are set again. */
 static void give_all(struct device *device)
 {
     for (unsigned i = 0; i < device->inputs.count; i++)
@@ -281,9 +281,9 @@ static void take_frames(struct device *device)
 {
     static uint8_t octets[WIRE_FRAME];
     size_t length;
-    /* Frames that wait came before the time that is handed in behind them: a program that was held up must not take its partner for
-     * silent. Not all at once, so that a flood of them does not hold up the time. Until something is due at a unit of time many of them
-     * are handed in at once, and then in front of the frame. */
+    /* Waiting frames are handed in before the elapsed time, because they arrived before its end: a delayed program must not judge its
+     * partner to be silent. There is a limit for each turn, so that a flood of frames does not delay the time. While nothing is due at a
+     * unit of time, many units are handed in at once, before the frame. */
     for (int i = 0; i < FRAMES_AT_ONCE && wire_receive(&device->wire, octets, &length); i++) {
         if (device->phase == PN_NONE)
             take_time(device);
@@ -379,7 +379,7 @@ static void help(struct lines *lines)
     lines_answer(lines, "quit                     ends the program");
 }
 
-/* A line of three words more: a place and octets. */
+/* A line with three arguments: a place and octets. */
 static void take_place(struct device *device, char *words[])
 {
     uint8_t octets[STATION_DATA];
@@ -452,7 +452,7 @@ static _Noreturn void misused(const char *why, const char *word)
     fail(STATUS_USAGE, "%s%s (nandutable-device --help)", why, word);
 }
 
-/* One word behind an option. */
+/* One option and its argument. */
 static void take_option(struct options *options, int option, const char *word)
 {
     unsigned long number;
@@ -491,15 +491,15 @@ static const struct option known[] = {
     {"sets-per-second", required_argument, NULL, 'l'}, {"realtime", required_argument, NULL, 'r'}, {"help", no_argument, NULL, 'h'},
     {"version", no_argument, NULL, 'v'},               {NULL, 0, NULL, 0}};
 
-/* Looks at the flash file's name alone, before there is anything to be said: a message could go into that file. */
+/* Checks only the flash file's name, before any message is printed: a message could go into that file. */
 static void keep_flash_apart(int count, char *words[])
 {
     int option;
     opterr = 0;
-    while ((option = getopt_long(count, words, "-h", known, NULL)) != -1) /* in the order in which they stand */
+    while ((option = getopt_long(count, words, "-h", known, NULL)) != -1) /* in their order */
         if (option == 'f')
             chip_keep_apart(optarg);
-    optind = 0; /* from the first word again */
+    optind = 0; /* from the first argument again */
 }
 
 static void read_words(struct options *options, int count, char *words[])
@@ -572,7 +572,7 @@ static void begin(struct device *device)
     look(device, 1);
 }
 
-/* What is seen to once a second. */
+/* What the program checks once a second. */
 static void look_around(struct device *device)
 {
     int change;
@@ -585,7 +585,7 @@ static void look_around(struct device *device)
     if (ticker_tells(&device->ticker))
         lines_tell(&device->lines, "stall: %" PRIu64 " units of time were forgotten since the start, in %" PRIu64 " stalls", device->ticker.forgotten,
                    device->ticker.stalls);
-    device->wake.has_lines = 1; /* what waits for a reader is written on */
+    device->wake.has_lines = 1; /* continues to write what waits for a reader */
 }
 
 static void run(struct device *device)

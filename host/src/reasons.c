@@ -4,7 +4,7 @@
 #include <stdio.h>
 #include <string.h>
 
-/* Where things stand in an untagged datagram of DCE/RPC: behind Ethernet (14), IPv4 (20) and UDP (8). */
+/* Places in an untagged DCE/RPC datagram: after Ethernet (14), IPv4 (20) and UDP (8). */
 #define RPC_AT 42u
 #define STATUS_AT (RPC_AT + 80u)
 

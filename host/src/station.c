@@ -5,7 +5,7 @@
 #include <stdlib.h>
 #include <string.h>
 
-/* A catalogue is some thousand octets; what is longer is none. */
+/* A catalogue has some thousand octets; a longer file is refused. */
 #define CATALOGUE_MOST (4u << 20)
 
 void station_demo(pn_station *station)

@@ -44,7 +44,7 @@ void ticker_pace(struct ticker *ticker, uint64_t period)
 void ticker_wait_again(struct ticker *ticker)
 {
     uint64_t times;
-    /* What it answers says nothing that the clock does not say better. */
+    /* The number that it returns is not needed: the clock is more exact. */
     if (read(ticker->fd, &times, sizeof times) < 0 && errno != EAGAIN && errno != EINTR)
         fail(STATUS_SYSTEM, "the timer cannot be read: %s", strerror(errno));
 }

@@ -20,8 +20,8 @@ void wake_open(struct wake *wake)
     sigaddset(&heard, SIGUSR1);
     sigprocmask(SIG_BLOCK, &heard, NULL);
     signal(SIGPIPE, SIG_IGN);
-    signal(SIGTTIN, SIG_IGN); /* in the background of a terminal: reading fails, and no line comes */
-    signal(SIGTTOU, SIG_IGN); /* and writing does not stop the program */
+    signal(SIGTTIN, SIG_IGN); /* in the background of a terminal: reading fails, and no line arrives */
+    signal(SIGTTOU, SIG_IGN); /* writing does not stop the program */
     wake->signals = signalfd(-1, &heard, SFD_NONBLOCK | SFD_CLOEXEC);
     if (wake->signals < 0)
         fail(STATUS_SYSTEM, "the system gives no signals: %s", strerror(errno));
