@@ -102,7 +102,7 @@ static void judge_left(int fd, const char *made, const char *path)
             is_left &= found[i] == 0xFF;
     }
     if (!is_left)
-        fail(STATUS_CREATE, "the flash file '%s' cannot be made: it is made under the name '%s', which is there and holds something: name another file, or move that one away",
+        fail(STATUS_CREATE, "the flash file '%s' cannot be made: it is made under the name '%s', which exists and is not empty: name another file, or move that one away",
              path, made);
 }
 
@@ -169,9 +169,9 @@ static void judge(const struct chip *chip)
         fail(STATUS_INPUT, "the flash file '%s': %s", chip->path, strerror(errno));
     keep_apart(&found, chip->path); /* a new file may have been a stream under its other name */
     if (!S_ISREG(found.st_mode) && !S_ISBLK(found.st_mode))
-        fail(STATUS_DATA, "'%s' is no file: name one with --flash", chip->path);
+        fail(STATUS_DATA, "'%s' is not a file: name a file with --flash", chip->path);
     if (S_ISREG(found.st_mode) && found.st_size != CHIP_SIZE)
-        fail(STATUS_DATA, "'%s' is no flash file: it has %lld octets, and one has %lld. It is left as it is: name another file, or move it away to begin anew",
+        fail(STATUS_DATA, "'%s' is not a flash file: it has %lld octets, and a flash file has %lld. It was not changed: name another file, or move it away to start with a new one",
              chip->path, (long long)found.st_size, (long long)CHIP_SIZE);
     if (!is_named(chip->fd, chip->path))
         fail(STATUS_IN_USE, "the flash file '%s' was replaced while it was opened: start again", chip->path);
@@ -189,7 +189,7 @@ void chip_open(struct chip *chip, const char *path)
     if (chip->fd < 0)
         chip->fd = open_old(path);
     if (chip->fd < 0)
-        fail(STATUS_IN_USE, "the flash file '%s' comes and goes: another process makes it", path);
+        fail(STATUS_IN_USE, "the flash file '%s' appears and disappears: another process is making it", path);
     judge(chip);
 }
 

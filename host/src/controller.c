@@ -103,7 +103,7 @@ static int transmit(void *context, const uint8_t *octets, uint32_t length)
 static void must(uint32_t answer, const char *call)
 {
     if (answer != PN_OK)
-        fail(STATUS_SOFTWARE, "%s answers %u: the library and this program do not fit", call, (unsigned)answer);
+        fail(STATUS_SOFTWARE, "%s returned %u: the library and this program do not fit", call, (unsigned)answer);
 }
 
 /* Sends the frames of the previous step. The controller repeats a frame that could not be sent, as one that is lost on the wire. */
@@ -331,7 +331,7 @@ static void show(struct controller *controller)
 
 static void help(struct lines *lines)
 {
-    lines_answer(lines, "give SLOT SUBSLOT HEX   gives the output of a submodule");
+    lines_answer(lines, "give SLOT SUBSLOT HEX   sets the output of a submodule");
     lines_answer(lines, "show                    state, status, inputs and outputs");
     lines_answer(lines, "statistics              counts since the start");
     lines_answer(lines, "stop                    releases the relation and ends the program");
@@ -389,20 +389,20 @@ static void usage(void)
          "                             [--realtime N]\n"
          "       nandutable-controller IFACE --list\n"
          "\n"
-         "A PROFINET IO controller on the network interface IFACE. It finds the station of the plan by its name, gives it its address, makes\n"
+         "A PROFINET IO controller on the network interface IFACE. It finds the station of the plan by its name, sets its address, makes\n"
          "the relation, writes its records, and exchanges data until it is stopped.\n"
          "\n"
-         "  PLAN.json             a catalogue in JSON with the keys of GSDML: host/demo/pump.json is one, installed\n"
-         "                        share/doc/nandutable/pump.json\n"
+         "  PLAN.json             a catalogue in JSON with the keys of GSDML, such as host/demo/pump.json (installed:\n"
+         "                        share/doc/nandutable/pump.json)\n"
          "  --list                prints a line for each station that answers within a second, and ends\n"
-         "  --assign MAC          first gives the station with this MAC address the name of the plan, to be kept\n"
+         "  --assign MAC          first sets the name of the plan permanently at the station with this MAC address\n"
          "  --socket PATH         lines go in and out over this unix socket, and not over the standard streams\n"
-         "  --socket-group GROUP  the members of this group may use the socket too, and not its owner alone\n"
-         "  --period US           time is handed in so often, 31 to 10000 microseconds (default: the plan's interval, at most 1000)\n"
-         "  --realtime N          runs by this priority, 1 to 99, of the first-in first-out scheduler\n"
+         "  --socket-group GROUP  the members of this group may use the socket too, not only its owner\n"
+         "  --period US           the period in which time is handed in, 31 to 10000 microseconds (default: the plan's interval, at most 1000)\n"
+         "  --realtime N          runs with this priority, 1 to 99, of the first-in first-out scheduler\n"
          "  --help, --version\n"
          "\n"
-         "It takes the capability CAP_NET_RAW: run it as root, or once `setcap cap_net_raw+ep nandutable-controller`.\n"
+         "It needs the capability CAP_NET_RAW: run it as root, or run `setcap cap_net_raw+ep nandutable-controller` once.\n"
          "\n"
          "Examples:\n"
          "  nandutable-controller eth1 --list\n"
@@ -410,9 +410,9 @@ static void usage(void)
          "  nandutable-controller eth1 pump.json\n"
          "  echo 'give 2 1 00ff' | nandutable-controller eth1 pump.json\n"
          "\n"
-         "Lines that it takes: `give SLOT SUBSLOT HEX`, `show`, `statistics`, `stop`, `help`. SIGUSR1 has it tell its statistics; SIGTERM\n"
+         "Lines that it accepts: `give SLOT SUBSLOT HEX`, `show`, `statistics`, `stop`, `help`. On SIGUSR1 it prints its statistics; SIGTERM\n"
          "stops it, and a second one ends it at once. Its status is the cause of its end: 1 another device, 2 refused, 3 other modules,\n"
-         "4 data hold, 5 ended by the device, 6 an alarm without answer, 7 stopped; 64 and more: it did not begin.");
+         "4 data hold, 5 ended by the device, 6 an alarm without answer, 7 stopped; 64 and more: it did not start.");
 }
 
 static _Noreturn void misused(const char *why, const char *word)
@@ -442,7 +442,7 @@ static void take_option(struct options *options, int option, const char *word)
             misused("--realtime takes 1 to 99: ", word);
         options->realtime = (int)number;
         return;
-    default: misused("there is no such option, or its word is missing", "");
+    default: misused("there is no such option, or its argument is missing", "");
     }
 }
 
@@ -489,9 +489,9 @@ static void assign(struct controller *controller, const uint8_t mac[6])
     const pn_plan *plan = &controller->plan;
     int answer = naming_assign(&controller->wire, plan->controller_mac, mac, plan->name, plan->name_length);
     if (answer < 0)
-        fail(STATUS_NO_INPUT, "no station answers at %02x:%02x:%02x:%02x:%02x:%02x (--list says who is there)", mac[0], mac[1], mac[2], mac[3], mac[4], mac[5]);
+        fail(STATUS_NO_INPUT, "no station answers at %02x:%02x:%02x:%02x:%02x:%02x (--list lists the stations)", mac[0], mac[1], mac[2], mac[3], mac[4], mac[5]);
     if (answer > 0)
-        fail(PN_WAS_REFUSED, "the station does not take the name, BlockError %d: %s", answer, reasons_block_error((uint8_t)answer));
+        fail(PN_WAS_REFUSED, "the station does not accept the name, BlockError %d: %s", answer, reasons_block_error((uint8_t)answer));
 }
 
 static void open_all(struct controller *controller, const struct options *options)
@@ -559,7 +559,7 @@ static void look_around(struct controller *controller)
                    controller->ticker.stalls);
     if (controller->state == PN_LOOKING && !controller->is_missing_told && ticker_now() - controller->ticker.started > 3 * SECOND) {
         controller->is_missing_told = 1;
-        lines_tell(&controller->lines, "nobody answers to the name '%.*s' yet (--list says who is there, --assign MAC gives a station this name)",
+        lines_tell(&controller->lines, "nobody answers to the name '%.*s' yet (--list lists the stations, --assign MAC sets this name at a station)",
                    (int)controller->plan.name_length, (const char *)controller->plan.name);
     }
     keep_status(controller);

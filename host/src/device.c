@@ -95,7 +95,7 @@ static int transmit(void *context, const uint8_t *octets, uint32_t length)
 static void must(uint32_t answer, const char *call)
 {
     if (answer != PN_OK)
-        fail(STATUS_SOFTWARE, "%s answers %u: the library and this program do not fit", call, (unsigned)answer);
+        fail(STATUS_SOFTWARE, "%s returned %u: the library and this program do not fit", call, (unsigned)answer);
 }
 
 /* Starts from the contents of the file. */
@@ -103,12 +103,12 @@ static void start(struct device *device)
 {
     uint32_t answer;
     if (chip_settle(&device->chip) != 0)
-        fail(STATUS_INPUT, "the flash file '%s' cannot be read and written: %s. Nothing was sent of the step that it failed in; put it right and start again",
+        fail(STATUS_INPUT, "the flash file '%s' cannot be read and written: %s. Nothing was sent of the step in which it failed; correct this and start again",
              device->chip.path, device->chip.why);
     must(pn_make(&device->room, &device->station), "pn_make");
     answer = pn_boot(&device->room, &device->op, device->chip.sectors[0], device->chip.sectors[1]);
     if (answer == PN_FOREIGN)
-        fail(STATUS_DATA, "the flash file '%s' holds what no device of this kind left there. It is left as it is: name another file, or move it away to begin anew",
+        fail(STATUS_DATA, "no device of this kind wrote the contents of the flash file '%s'. It was not changed: name another file, or move it away to start with a new one",
              device->chip.path);
     must(answer, "pn_boot");
 }
@@ -156,7 +156,7 @@ static void warn_of_kernel(struct device *device, const pn_settings *settings)
         return;
     interface = wire_with_address(settings->address);
     if (interface != NULL)
-        lines_tell(&device->lines, "warning: the kernel has the device's address %u.%u.%u.%u on %s and answers for it too: remove it (`ip address del`) or give the device another",
+        lines_tell(&device->lines, "warning: the kernel has the device's address %u.%u.%u.%u on %s and answers for it too: remove it (`ip address del`) or assign another to the device",
                    settings->address[0], settings->address[1], settings->address[2], settings->address[3], interface);
 }
 
@@ -367,14 +367,14 @@ static void take_alarm(struct device *device, uint16_t slot, uint16_t subslot, c
     note = device->op.note;
     carry_out(device);
     lines_answer(&device->lines, note == PN_DONE ? "note done"
-                                                 : "note refused: an alarm has a plugged submodule and at most 32 octets, and is raised while data is exchanged and none stands");
+                                                 : "note refused: an alarm has a plugged submodule and at most 32 octets, and may be raised while data is exchanged and no alarm is active");
 }
 
 static void help(struct lines *lines)
 {
-    lines_answer(lines, "input SLOT SUBSLOT HEX   gives the input of a submodule");
+    lines_answer(lines, "input SLOT SUBSLOT HEX   sets the input of a submodule");
     lines_answer(lines, "alarm SLOT SUBSLOT HEX   raises a process alarm with these octets");
-    lines_answer(lines, "show                     name, address, how many commits are left, phase, lamp, inputs and outputs");
+    lines_answer(lines, "show                     name, address, remaining commits, phase, lamp, inputs and outputs");
     lines_answer(lines, "statistics               counts since the start");
     lines_answer(lines, "quit                     ends the program");
 }
@@ -421,30 +421,30 @@ static void usage(void)
     puts("Usage: nandutable-device IFACE --flash FILE [--station FILE] [--mac MAC] [--socket PATH] [--socket-group GROUP]\n"
          "                         [--period US] [--realtime N] [--sets-per-second N]\n"
          "\n"
-         "A PROFINET IO device on the network interface IFACE. Its name, address and I&M texts are in the flash file, and are there again\n"
-         "after a power failure at any moment.\n"
+         "A PROFINET IO device on the network interface IFACE. Its name, address and I&M texts are in the flash file, and survive a power\n"
+         "failure at any moment.\n"
          "\n"
-         "  --flash FILE          the flash: 8,192 octets; made where there is none. One process a file\n"
-         "  --station FILE        a catalogue in JSON with the keys of GSDML: identity and modules. Without: the demo station, with two\n"
-         "                        octets of input in slot 1 and two of output in slot 2, as in host/demo/pump.json, installed\n"
-         "                        share/doc/nandutable/pump.json\n"
-         "  --mac MAC             the device's MAC address, where it is not to be the interface's\n"
+         "  --flash FILE          the flash: 8,192 octets; made if it does not exist. Only one process may use a file\n"
+         "  --station FILE        a catalogue in JSON with the keys of GSDML: identity and modules. Default: the demo station, with two\n"
+         "                        octets of input in slot 1 and two of output in slot 2, as in host/demo/pump.json (installed:\n"
+         "                        share/doc/nandutable/pump.json)\n"
+         "  --mac MAC             the device's MAC address (default: the interface's)\n"
          "  --socket PATH         lines go in and out over this unix socket, and not over the standard streams\n"
-         "  --socket-group GROUP  the members of this group may use the socket too, and not its owner alone\n"
-         "  --period US           time is handed in so often while a relation stands, 31 to 10000 microseconds; at least as often as the\n"
+         "  --socket-group GROUP  the members of this group may use the socket too, not only its owner\n"
+         "  --period US           the period in which time is handed in during a relation, 31 to 10000 microseconds; choose at most the\n"
          "                        controller's interval (default: 250)\n"
-         "  --realtime N          runs by this priority, 1 to 99, of the first-in first-out scheduler\n"
-         "  --sets-per-second N   takes at most N Sets of DCP a second, 1 to 1000000, and drops the others (default: no limit)\n"
+         "  --realtime N          runs with this priority, 1 to 99, of the first-in first-out scheduler\n"
+         "  --sets-per-second N   accepts at most N DCP Sets a second, 1 to 1000000, and drops the others (default: no limit)\n"
          "  --help, --version\n"
          "\n"
-         "It takes the capability CAP_NET_RAW: run it as root, or once `setcap cap_net_raw+ep nandutable-device`.\n"
+         "It needs the capability CAP_NET_RAW: run it as root, or run `setcap cap_net_raw+ep nandutable-device` once.\n"
          "\n"
          "Examples:\n"
          "  nandutable-device eth1 --flash /var/lib/nandutable/pump.flash\n"
          "  nandutable-device eth1 --flash pump.flash --station pump.json --socket /run/pump --realtime 50\n"
          "\n"
-         "Lines that it takes: `input SLOT SUBSLOT HEX`, `alarm SLOT SUBSLOT HEX`, `show`, `statistics`, `help`, `quit`. SIGUSR1 has it tell\n"
-         "its statistics, SIGTERM ends it.");
+         "Lines that it accepts: `input SLOT SUBSLOT HEX`, `alarm SLOT SUBSLOT HEX`, `show`, `statistics`, `help`, `quit`. On SIGUSR1 it\n"
+         "prints its statistics; SIGTERM ends it.");
 }
 
 static _Noreturn void misused(const char *why, const char *word)
@@ -481,7 +481,7 @@ static void take_option(struct options *options, int option, const char *word)
             misused("--sets-per-second takes 1 to 1000000: ", word);
         options->sets_a_second = (uint32_t)number;
         return;
-    default: misused("there is no such option, or its word is missing", "");
+    default: misused("there is no such option, or its argument is missing", "");
     }
 }
 
@@ -519,7 +519,7 @@ static void read_words(struct options *options, int count, char *words[])
         take_option(options, option, optarg);
     }
     if (optind + 1 != count)
-        misused(optind == count ? "name a network interface" : "there is one interface a device", "");
+        misused(optind == count ? "name a network interface" : "a device has only one interface", "");
     options->interface = words[optind];
     if (options->flash == NULL)
         misused("name a flash file with --flash", "");

@@ -34,7 +34,7 @@ static void remove_left(const char *path, const struct sockaddr_un *address)
     if (lstat(path, &found) != 0)
         return;
     if (!S_ISSOCK(found.st_mode))
-        fail(STATUS_CREATE, "'%s' is there and is no socket: name another path with --socket", path);
+        fail(STATUS_CREATE, "'%s' exists and is not a socket: name another path with --socket", path);
     fd = socket(AF_UNIX, SOCK_STREAM | SOCK_CLOEXEC, 0);
     if (fd >= 0 && connect(fd, (const struct sockaddr *)address, sizeof *address) == 0)
         fail(STATUS_IN_USE, "the socket '%s' is in use by another process", path);
@@ -52,7 +52,7 @@ static void share(const char *path, const char *group)
     if (found == NULL)
         fail(STATUS_USAGE, "there is no group '%s' for --socket-group%s%s", group, errno != 0 ? ": " : "", errno != 0 ? strerror(errno) : "");
     if (chown(path, (uid_t)-1, found->gr_gid) != 0 || chmod(path, 0660) != 0)
-        fail(STATUS_CREATE, "the socket '%s' cannot be given to the group '%s': %s (who starts the program must be a member)", path, group, strerror(errno));
+        fail(STATUS_CREATE, "the socket '%s' cannot be given to the group '%s': %s (the user who starts the program must be a member)", path, group, strerror(errno));
 }
 
 static int listen_at(const char *path, const char *group)
@@ -63,7 +63,7 @@ static int listen_at(const char *path, const char *group)
     remove_left(path, &address);
     fd = socket(AF_UNIX, SOCK_STREAM | SOCK_NONBLOCK | SOCK_CLOEXEC, 0);
     if (fd < 0)
-        fail(STATUS_SYSTEM, "the system gives no socket: %s", strerror(errno));
+        fail(STATUS_SYSTEM, "the system refuses a socket: %s", strerror(errno));
     before = umask(0177); /* only for the owner */
     is_bound = bind(fd, (struct sockaddr *)&address, sizeof address) == 0;
     umask(before);

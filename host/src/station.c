@@ -33,7 +33,7 @@ static uint8_t *read_whole(const char *path, size_t *length)
     if (ferror(file))
         fail(STATUS_INPUT, "the catalogue '%s' cannot be read: %s", path, strerror(errno));
     if (*length > CATALOGUE_MOST)
-        fail(STATUS_DATA, "'%s' is no catalogue: it has more than %u octets", path, CATALOGUE_MOST);
+        fail(STATUS_DATA, "'%s' is not a catalogue: it has more than %u octets", path, CATALOGUE_MOST);
     fclose(file);
     return text;
 }

@@ -23,7 +23,7 @@ void ticker_open(struct ticker *ticker)
     memset(ticker, 0, sizeof *ticker);
     ticker->fd = timerfd_create(CLOCK_MONOTONIC, TFD_NONBLOCK | TFD_CLOEXEC);
     if (ticker->fd < 0)
-        fail(STATUS_SYSTEM, "the system gives no timer: %s", strerror(errno));
+        fail(STATUS_SYSTEM, "the system refuses a timer: %s", strerror(errno));
     ticker->started = ticker_now();
 }
 

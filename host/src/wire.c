@@ -64,9 +64,9 @@ static void identify_interface(struct wire *wire)
     struct ifreq request;
     wire->index = (int)if_nametoindex(wire->name);
     if (wire->index == 0)
-        fail(STATUS_NO_INPUT, "there is no interface '%s' (`ip link` lists those that there are)", wire->name);
+        fail(STATUS_NO_INPUT, "there is no interface '%s' (`ip link` lists the interfaces)", wire->name);
     if (ask(wire, SIOCGIFHWADDR, &request) != 0 || request.ifr_hwaddr.sa_family != 1 /* ARPHRD_ETHER */)
-        fail(STATUS_NO_INPUT, "%s is no Ethernet interface", wire->name);
+        fail(STATUS_NO_INPUT, "%s is not an Ethernet interface", wire->name);
     memcpy(wire->hardware, request.ifr_hwaddr.sa_data, sizeof wire->hardware);
 }
 
@@ -88,12 +88,12 @@ void wire_open(struct wire *wire, const char *interface)
     /* Without a protocol yet: frames arrive only after the filter is set. */
     wire->fd = socket(AF_PACKET, SOCK_RAW | SOCK_NONBLOCK | SOCK_CLOEXEC, 0);
     if (wire->fd < 0 && errno == EPERM)
-        fail(STATUS_PERMISSION, "the capability CAP_NET_RAW is missing: run it as root, or once `setcap cap_net_raw+ep` on the program");
+        fail(STATUS_PERMISSION, "the capability CAP_NET_RAW is missing: run it as root, or run `setcap cap_net_raw+ep` on the program once");
     if (wire->fd < 0)
-        fail(STATUS_SYSTEM, "the system gives no packet socket: %s", strerror(errno));
+        fail(STATUS_SYSTEM, "the system refuses a packet socket: %s", strerror(errno));
     identify_interface(wire);
     set(wire, SOL_SOCKET, SO_ATTACH_FILTER, &filter, sizeof filter, "the filter");
-    set(wire, SOL_PACKET, PACKET_AUXDATA, &yes, sizeof yes, "to be told of tags");
+    set(wire, SOL_PACKET, PACKET_AUXDATA, &yes, sizeof yes, "data about tags");
     /* Older kernels do not have this option; wire_receive skips such frames too. */
     setsockopt(wire->fd, SOL_PACKET, PACKET_IGNORE_OUTGOING, &yes, sizeof yes);
     setsockopt(wire->fd, SOL_SOCKET, SO_RCVBUF, &room, sizeof room);
