@@ -1,21 +1,21 @@
 /* nandutable: the controller of a station, and the plan that it follows.
  *
- * The controller finds the station of its plan by its name, gives it its address, makes the relation, writes the records of the plan,
- * and exchanges data. Like the device it owns no memory but the room that it is given, takes none, calls nothing back and keeps no
- * time of its own. All of its calls come from one thread at a time.
+ * The controller finds the station of its plan by its name, sets its address, makes the relation, writes the records of the plan, and
+ * exchanges data. Like the device it uses only the memory of the room that it is given, allocates none, calls nothing back and keeps no
+ * time of its own. Call it from one thread at a time.
  *
  *     static pn_plan plan;
  *     static pn_controller controller;
  *     static pn_op op;
- *     pn_plan_read(&plan, text, length);                       // from a catalogue in JSON; this call alone takes memory
+ *     pn_plan_read(&plan, text, length);                       // from a catalogue in JSON; only this call allocates memory
  *     pn_controller_start(&controller, &plan, ar, activity);
  *     for (;;) {
- *         pn_controller_send(&controller, &op, &host);         // takes all frames: the first one is there from the start
+ *         pn_controller_send(&controller, &op, &host);         // takes all frames; the first one waits from the start
  *         pn_controller_frame(&controller, &op, octets, length); // or pn_controller_tick, pn_controller_give, pn_controller_stop
  *     }
  *
- * The calls of the controller lie in libnandutable-controller.a, those that read a plan in libnandutable-plan.a: proved sources as
- * plain Rust.
+ * The functions of the controller are in libnandutable-controller.a, those that read a plan in libnandutable-plan.a. Both are proved
+ * sources as plain Rust.
  *
  * Under the MIT licence or the Apache License 2.0, as you choose. */
 #ifndef NANDUTABLE_CONTROLLER_H
@@ -27,56 +27,56 @@
 extern "C" {
 #endif
 
-/* Octets of the room of a controller; it stands on a multiple of 16. */
+/* Octets of the room of a controller; its address is a multiple of 16. */
 #define PN_CONTROLLER_SIZE 40960u
-/* Parameter records of a plan. */
+/* The maximum number of parameter records of a plan. */
 #define PN_RECORDS 32u
 
-/* What the functions below answer beside the numbers of nandutable.h. Behind it nothing has changed. */
-enum { PN_BAD_PLAN = 14 /* the plan is not valid: pn_plan_fault says why; or the ARUUID is zero */ };
+/* What the functions below return in addition to the numbers of nandutable.h. After it nothing has changed. */
+enum { PN_BAD_PLAN = 14 /* the plan is not valid (pn_plan_fault returns why), or the ARUUID is zero */ };
 
-/* How far a controller is (pn_op.phase). */
+/* The state of a controller (pn_op.phase). */
 enum {
-    PN_LOOKING = 1,    /* for the station, by its name */
-    PN_ADDRESSING = 2, /* gives it its IP suite */
+    PN_LOOKING = 1,    /* looks for the station, by its name */
+    PN_ADDRESSING = 2, /* sets its IP suite */
     PN_CONNECTING = 3, /* asks for the relation */
     PN_WRITING = 4,    /* writes the records of the plan */
-    PN_ENDING = 5,     /* ends the parameters */
-    PN_WAITING = 6,    /* for ApplicationReady */
+    PN_ENDING = 5,     /* ends the parameters, by PrmEnd */
+    PN_WAITING = 6,    /* waits for ApplicationReady */
     PN_EXCHANGED = 7,  /* exchanges data */
-    PN_ENDED = 8       /* is over: pn_op.note says why */
+    PN_ENDED = 8       /* has ended; pn_op.note is the cause */
 };
 
 /* Why a controller ended (pn_op.note). */
 enum {
-    PN_WRONG_DEVICE = 1,  /* the station is of another VendorID or DeviceID */
+    PN_WRONG_DEVICE = 1,  /* the station has another VendorID or DeviceID */
     PN_WAS_REFUSED = 2,   /* the device refused a request */
-    PN_MODULE_DIFF = 3,   /* what is plugged is not what the plan expects */
-    PN_DATA_HOLD = 4,     /* no cyclic frame came within the data hold time */
+    PN_MODULE_DIFF = 3,   /* the plugged modules are not those that the plan expects */
+    PN_DATA_HOLD = 4,     /* no cyclic frame arrived within the data hold time */
     PN_ABORTED = 5,       /* the device ended the relation */
     PN_ALARM_RETRIES = 6, /* the device did not acknowledge an AlarmAck */
     PN_STOPPED = 7        /* pn_controller_stop */
 };
 
-/* Why a catalogue gives no plan, as pn_plan_read answers it, and why a plan that a host wrote is not valid, as pn_plan_fault does: the
- * first fault. The first three are of a catalogue alone. */
+/* The first fault of a catalogue that gives no plan (pn_plan_read), or of a plan that a host wrote and that is not valid (pn_plan_fault).
+ * Only a catalogue has the first three. */
 enum {
-    PN_PLAN_JSON = 1,          /* the text is no JSON */
+    PN_PLAN_JSON = 1,          /* the text is not JSON */
     PN_PLAN_MISSING_KEY = 2,
-    PN_PLAN_WRONG_KIND = 3,    /* a value is of another kind than its key wants */
-    PN_PLAN_NUMBER = 4,        /* a number is out of its range, or what it names is not there or there twice */
+    PN_PLAN_WRONG_KIND = 3,    /* a value is of another kind than its key requires */
+    PN_PLAN_NUMBER = 4,        /* a number is out of its range, or what it names does not exist or exists twice */
     PN_PLAN_NOT_ALLOWED = 5,   /* a module is not allowed in its slot */
-    PN_PLAN_TOO_MANY = 6,      /* slots, submodules or records */
+    PN_PLAN_TOO_MANY = 6,      /* too many slots, submodules or records */
     PN_PLAN_FRAME_LONG = 7,    /* a cyclic frame would hold more than 1,440 octets */
-    PN_PLAN_CONNECT_LONG = 8,  /* the Connect would be longer than a frame */
+    PN_PLAN_CONNECT_LONG = 8,  /* the Connect would not fit a frame */
     PN_PLAN_NAME = 9,          /* a station name is not valid */
     PN_PLAN_ADDRESS = 10,      /* an address is not valid */
     PN_PLAN_MEMORY = 11,       /* out of memory */
-    PN_PLAN_NULL = 12          /* a pointer is null, or the plan has another size than the library's */
+    PN_PLAN_NULL = 12          /* a pointer is null, or the size of the plan is not the library's */
 };
 
-/* A parameter record that the controller writes at start-up: one of those that the submodule in this slot and subslot takes (its
- * `parameters`), of the same index and exactly its length, 1 to 64 octets. The access point, in slot 0, is written none. */
+/* A parameter record that the controller writes at start-up. The submodule in this slot and subslot must accept it (its `parameters`), with
+ * the same index and exactly its length, 1 to 64 octets. No record may be written to the access point, in slot 0. */
 typedef struct pn_record {
     uint16_t slot;
     uint16_t subslot;
@@ -85,32 +85,33 @@ typedef struct pn_record {
     uint8_t octets[64];
 } pn_record;
 
-/* The plan of a station. pn_plan_read makes it from a catalogue; a host that writes it itself keeps to the same rules, which
- * pn_controller_start judges. Beside those at the fields:
- * - both names are station names, and not empty;
- * - address, mask and gateway are all zeros, or the address is one of a host (its first octet 1 to 126 or 128 to 223) and the mask is ones
- *   and then zeros; the controller's address is one of a host, and its MAC address one of a single station (its first octet is even);
- * - the first module is the access point, in slot 0; the others follow in the order of their slots, at most 15, each slot once; the
- *   ident of a module is not 0;
- * - the submodules of a module are in the order of their subslots, 1 to 36,863, each once; their parameter records have an index of their
- *   own each, 0 to 32,767, and a length from 1 to 64;
- * - the data of all submodules fits a cyclic frame in each direction, and all modules fit a Connect. */
+/* The plan of a station. pn_plan_read makes it from a catalogue. A host that writes it itself must keep the same rules, which
+ * pn_controller_start checks. In addition to those at the fields:
+ * - Both names are station names, and not empty.
+ * - Address, mask and gateway are all zeros, or the address is one of a host (its first octet 1 to 126 or 128 to 223) and the mask is
+ *   ones followed by zeros. The controller's address is one of a host, and its MAC address one of a single station (its first octet is
+ *   even).
+ * - The first module is the access point, in slot 0. The others follow in the order of their slots, at most 15, each slot once. The ident
+ *   of a module is not 0.
+ * - The submodules of a module are in the order of their subslots, 1 to 36,863, each once. The indexes of their parameter records are
+ *   distinct, 0 to 32,767; their lengths are from 1 to 64.
+ * - The data of all submodules fits a cyclic frame in each direction, and all modules fit a Connect. */
 typedef struct pn_plan {
     uint8_t name[240];            /* NameOfStation of the device */
-    uint8_t controller_name[240]; /* and of the controller */
+    uint8_t controller_name[240]; /* NameOfStation of the controller */
     uint32_t name_length;
     uint32_t controller_name_length;
-    uint8_t address[4]; /* the IP suite that the device is given */
+    uint8_t address[4]; /* the IP suite that the controller sets at the device */
     uint8_t mask[4];
     uint8_t gateway[4];
-    uint8_t controller_address[4]; /* of a host */
+    uint8_t controller_address[4]; /* the address of a host */
     uint8_t controller_mac[6];     /* the first octet is even */
     uint16_t vendor_id;
     uint16_t device_id;
     uint16_t send_clock_factor; /* 1 to 128, in units of PN_UNIT_NS */
     uint16_t reduction_ratio;   /* 1 to 512: send_clock_factor times this is the interval of cyclic frames */
     uint16_t data_hold_factor;  /* 1 to 7,680 intervals */
-    uint32_t station_type_length; /* more than 25: too long for a device, and station_type has nothing */
+    uint32_t station_type_length; /* if more than 25: too long for a device, and station_type is empty */
     uint8_t station_type[28];     /* DeviceVendorValue */
     uint32_t module_count;        /* 1 to PN_MODULES, in the order of the slots, from slot 0 on */
     uint32_t record_count;        /* at most PN_RECORDS, in the order in which they are written */
@@ -118,7 +119,7 @@ typedef struct pn_plan {
     pn_record records[PN_RECORDS];
 } pn_plan;
 
-/* The room of a controller. What is in it is the library's alone. */
+/* The room of a controller. Only the library uses its contents. */
 typedef struct pn_controller {
 #if defined(__cplusplus)
     alignas(16) unsigned char room[PN_CONTROLLER_SIZE];
@@ -135,15 +136,15 @@ _Static_assert(sizeof(pn_plan) == 4272, "another layout than the library's");
 
 /* --- The calls. Use the functions below them. ---
  *
- * pn_controller_judge answers why no controller can be made of a plan and the number of its relation in a room of `size` octets, and
- * PN_OK where one can. pn_plan_judge answers the first fault of a plan, and PN_OK where it is valid.
- * pn_controller_put puts a controller into the room: what lay there is gone. It is only called with a plan that pn_controller_judge
- * answered PN_OK for, and a room of PN_CONTROLLER_SIZE octets on a multiple of 16.
- * pn_controller_step carries one operation out on a room into which pn_controller_put put a controller and that only these calls
- * changed since.
- * pn_plan_make reads a catalogue into a plan of `size` octets, and pn_plan_show writes at which key the first fault of one stands. What
- * they write to has been written to before.
- * No pointer is null, with a length of 0 neither; the operation, what is given, the plan, the numbers and the room lie apart. */
+ * pn_controller_judge returns why no controller can be made from a plan and the number of its relation in a room of `size` octets, or
+ * PN_OK if one can be made. pn_plan_judge returns the first fault of a plan, or PN_OK if it is valid.
+ * pn_controller_put puts a controller into the room and overwrites its contents. Call it only with a plan for which pn_controller_judge
+ * returned PN_OK, and a room of PN_CONTROLLER_SIZE octets whose address is a multiple of 16.
+ * pn_controller_step executes one operation on a room into which pn_controller_put put a controller and that only these calls changed
+ * since.
+ * pn_plan_make reads a catalogue into a plan of `size` octets, and pn_plan_show writes the key of its first fault. The memory that they
+ * write must have been initialised.
+ * Pointers must not be NULL, even if the length is 0. The operation, `given`, the plan, the numbers and the room must not overlap. */
 uint32_t pn_plan_make(const uint8_t *text, size_t length, size_t size, pn_plan *plan);
 uint32_t pn_plan_show(const uint8_t *text, size_t length, char *where, size_t size);
 uint32_t pn_plan_judge(const pn_plan *plan);
@@ -151,7 +152,7 @@ uint32_t pn_controller_judge(size_t size, uint32_t abi, size_t op_size, const pn
 void pn_controller_put(void *room, const pn_plan *plan, const uint8_t ar[16], const uint8_t activity[16]);
 uint32_t pn_controller_step(void *room, pn_op *op, const uint8_t *given, size_t length);
 
-/* Reads the catalogue of a station, whose keys are those of GSDML. PN_OK, or a number of PN_PLAN_JSON and so on. */
+/* Reads the catalogue of a station, whose keys are those of GSDML. Returns PN_OK, or a number from PN_PLAN_JSON on. */
 static inline uint32_t pn_plan_read(pn_plan *plan, const uint8_t *text, size_t length)
 {
     if (text == NULL || plan == NULL)
@@ -160,8 +161,8 @@ static inline uint32_t pn_plan_read(pn_plan *plan, const uint8_t *text, size_t l
     return pn_plan_make(text, length, sizeof *plan, plan);
 }
 
-/* For a message: at which key the first fault of a catalogue stands, as `Project.Slots[1].Slot`, with a zero behind it. 0 where it
- * stands at none. What is left of the room is zeros; with no text or no room nothing changes. */
+/* For a message: writes the key of the first fault of a catalogue, such as `Project.Slots[1].Slot`, followed by a zero. Returns 0 if the
+ * fault has no key. The rest of the room is zeros. Without a text or a room nothing changes. */
 static inline uint32_t pn_plan_where(const uint8_t *text, size_t length, char *where, size_t size)
 {
     if (text == NULL || where == NULL || size == 0)
@@ -170,17 +171,18 @@ static inline uint32_t pn_plan_where(const uint8_t *text, size_t length, char *w
     return pn_plan_show(text, length, where, size);
 }
 
-/* The first fault of a plan that a host wrote, with the number that a catalogue with this fault has; PN_OK if it is valid. A count that is
- * more than its list holds comes first (PN_PLAN_TOO_MANY), and then PN_PLAN_NUMBER (times, modules, submodules, parameter records, and
- * records that no submodule takes), PN_PLAN_NAME, PN_PLAN_ADDRESS, PN_PLAN_NOT_ALLOWED (the order of the slots, a slot that is there
- * twice, a record for slot 0), PN_PLAN_TOO_MANY (a slot past 15), PN_PLAN_FRAME_LONG, PN_PLAN_CONNECT_LONG. PN_PLAN_NULL. */
+/* Returns the first fault of a plan that a host wrote, with the number that a catalogue with this fault has, or PN_OK if it is valid. The
+ * order: a count that is more than its list holds (PN_PLAN_TOO_MANY); PN_PLAN_NUMBER (times, modules, submodules, parameter records, and
+ * records that no submodule accepts); PN_PLAN_NAME; PN_PLAN_ADDRESS; PN_PLAN_NOT_ALLOWED (the order of the slots, a slot that occurs
+ * twice, a record for slot 0); PN_PLAN_TOO_MANY (a slot past 15); PN_PLAN_FRAME_LONG; PN_PLAN_CONNECT_LONG. For a null pointer
+ * PN_PLAN_NULL. */
 static inline uint32_t pn_plan_fault(const pn_plan *plan)
 {
     return plan == NULL ? (uint32_t)PN_PLAN_NULL : pn_plan_judge(plan);
 }
 
-/* The station that a plan expects, for a device that is to be it: what a catalogue does not say (the MAC address, texts of I&M0)
- * is left as it was. */
+/* Fills in the station that a plan expects, for a device that represents it. What a catalogue does not contain (the MAC address, texts of
+ * I&M0) is unchanged. */
 static inline void pn_plan_station(const pn_plan *plan, pn_station *station)
 {
     station->vendor_id = plan->vendor_id;
@@ -191,8 +193,8 @@ static inline void pn_plan_station(const pn_plan *plan, pn_station *station)
     memcpy(station->modules, plan->modules, sizeof station->modules);
 }
 
-/* Makes the controller of a plan in a room of `size` octets, by a header of the version `abi` whose operation has `op_size` octets.
- * PN_NULL, PN_BAD_ABI, PN_SMALL_ROOM, PN_BAD_PLAN. */
+/* Makes the controller of a plan in a room of `size` octets. `abi` is the version of the caller's header, `op_size` the size of its
+ * operation. May return PN_NULL, PN_BAD_ABI, PN_SMALL_ROOM, PN_BAD_PLAN. */
 static inline uint32_t pn_controller_make(void *room, size_t size, uint32_t abi, size_t op_size, const pn_plan *plan, const uint8_t ar[16],
                                           const uint8_t activity[16])
 {
@@ -207,10 +209,9 @@ static inline uint32_t pn_controller_make(void *room, size_t size, uint32_t abi,
     return answer;
 }
 
-/* Makes the controller of a plan, and copies the plan. `ar` names its relation, `activity` its calls: numbers of 16 octets that
- * nobody else uses (UUIDs). Its first frame waits to be taken. PN_BAD_PLAN of each plan that pn_plan_fault finds a fault in, and of an
- * `ar` of zeros.
- * PN_NULL, PN_BAD_ABI, PN_SMALL_ROOM, PN_BAD_PLAN. */
+/* Makes the controller of a plan, and copies the plan. `ar` names its relation, `activity` its calls: unique numbers of 16 octets (UUIDs).
+ * Its first frame waits to be taken. Returns PN_BAD_PLAN if pn_plan_fault finds a fault in the plan, or if `ar` is zeros.
+ * May return PN_NULL, PN_BAD_ABI, PN_SMALL_ROOM, PN_BAD_PLAN. */
 static inline uint32_t pn_controller_start(pn_controller *controller, const pn_plan *plan, const uint8_t ar[16], const uint8_t activity[16])
 {
     if (controller == NULL)
@@ -218,7 +219,7 @@ static inline uint32_t pn_controller_start(pn_controller *controller, const pn_p
     return pn_controller_make(controller->room, sizeof controller->room, PN_ABI, sizeof(pn_op), plan, ar, activity);
 }
 
-/* One operation, with octets that are given; null ones are none. */
+/* One operation, with the octets `given`; NULL if there are none. */
 static inline uint32_t pn_controller_ask(pn_controller *controller, pn_op *op, uint32_t what, const uint8_t *given, size_t length)
 {
     static const uint8_t none[1] = {0};
@@ -228,17 +229,17 @@ static inline uint32_t pn_controller_ask(pn_controller *controller, pn_op *op, u
     return pn_controller_step(controller->room, op, given == NULL ? none : given, length);
 }
 
-/* --- Events. Each wants all frames of the one before to be taken, else PN_HAS_WORK. What a function does not name as set keeps its value
- * in the operation. --- */
+/* --- Events. Before each, all frames of the previous one must be taken, otherwise PN_HAS_WORK. What a function does not name as set keeps
+ * its value in the operation. --- */
 
-/* A frame came in: its octets from the destination address on, without the check sequence. */
+/* Hands in a received frame: its octets from the destination address on, without the check sequence. */
 static inline uint32_t pn_controller_frame(pn_controller *controller, pn_op *op, const uint8_t *octets, size_t length)
 {
     return pn_controller_ask(controller, op, 3, octets, length);
 }
 
-/* `units` units of time went by (PN_UNIT_NS each). It stops after a unit that sends something or ends the controller: `units` of
- * the operation is how many are left then. Take the frames, and give the rest again. */
+/* `units` units of time have passed (PN_UNIT_NS each). It stops after a unit that sends something or ends the controller: then `units` of
+ * the operation is the remaining number. Take the frames, and hand in the rest again. */
 static inline uint32_t pn_controller_tick(pn_controller *controller, pn_op *op, uint32_t units)
 {
     if (op == NULL)
@@ -247,8 +248,8 @@ static inline uint32_t pn_controller_tick(pn_controller *controller, pn_op *op, 
     return pn_controller_ask(controller, op, 4, NULL, 0);
 }
 
-/* The application gives the output of a submodule: exactly its octets, else nothing changes. It may be given before data is
- * exchanged, and is kept. */
+/* The application sets the output of a submodule. It must have exactly the submodule's length, otherwise nothing changes. It may be set
+ * before data is exchanged, and is kept. */
 static inline uint32_t pn_controller_give(pn_controller *controller, pn_op *op, uint16_t slot, uint16_t subslot, const uint8_t *octets,
                                           size_t length)
 {
@@ -259,7 +260,7 @@ static inline uint32_t pn_controller_give(pn_controller *controller, pn_op *op, 
     return pn_controller_ask(controller, op, 5, octets, length);
 }
 
-/* The application stops the controller: the relation is released. */
+/* The application stops the controller, which releases the relation. */
 static inline uint32_t pn_controller_stop(pn_controller *controller, pn_op *op)
 {
     return pn_controller_ask(controller, op, 13, NULL, 0);
@@ -272,7 +273,7 @@ static inline uint32_t pn_controller_next(pn_controller *controller, pn_op *op)
     return pn_controller_ask(controller, op, 7, NULL, 0);
 }
 
-/* Takes all frames and sends them by the host's `send`. PN_NULL, PN_NOT_SENT (a frame was lost, as it could be on the wire). */
+/* Takes all frames and sends them by the host's `send`. May return PN_NULL, PN_NOT_SENT (a frame was lost, as it could be on the wire). */
 static inline uint32_t pn_controller_send(pn_controller *controller, pn_op *op, const pn_host *host)
 {
     uint32_t answer, sent = PN_OK;
@@ -289,10 +290,10 @@ static inline uint32_t pn_controller_send(pn_controller *controller, pn_op *op, 
     }
 }
 
-/* --- What a controller tells --- */
+/* --- Reading a controller --- */
 
-/* The input of a submodule, in `length` and `octets`: what the last cyclic frame that was taken holds for it; zeros where none was,
- * where the device calls it bad, and once the controller is over. PN_NO_SLOT. */
+/* The input of a submodule, in `length` and `octets`: its value in the last accepted cyclic frame. Zeros if no frame was accepted yet, if
+ * its IOPS is not GOOD, and after the end of the controller. May return PN_NO_SLOT. */
 static inline uint32_t pn_controller_value(pn_controller *controller, pn_op *op, uint16_t slot, uint16_t subslot)
 {
     if (op == NULL)
@@ -302,14 +303,14 @@ static inline uint32_t pn_controller_value(pn_controller *controller, pn_op *op,
     return pn_controller_ask(controller, op, 8, NULL, 0);
 }
 
-/* How far it is (`phase`), and why it ended (`note`). */
+/* Its state (`phase`), and the cause of its end (`note`). */
 static inline uint32_t pn_controller_state(pn_controller *controller, pn_op *op)
 {
     return pn_controller_ask(controller, op, 9, NULL, 0);
 }
 
-/* The last alarm that was taken: `slot`, `subslot`, its type in `note`, its AlarmSpecifier in `units`, its data in `length` and `octets`.
- * PN_NO_SLOT where none was. */
+/* The last accepted alarm: `slot`, `subslot`, its type in `note`, its AlarmSpecifier in `units`, its data in `length` and `octets`.
+ * PN_NO_SLOT if no alarm was accepted. */
 static inline uint32_t pn_controller_alarm(pn_controller *controller, pn_op *op)
 {
     return pn_controller_ask(controller, op, 12, NULL, 0);

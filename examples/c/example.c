@@ -1,9 +1,9 @@
-/* A whole host: a device over a chip of two sectors in memory, that is named, loses its power, and has its name again.
+/* A complete host: a device over a chip of two sectors in memory. It gets a name, loses power, and still has its name.
  * cc -std=c11 example.c $(pkg-config --cflags --libs nandutable) */
 #include "nandutable.h"
 #include <stdio.h>
 
-static uint8_t chip[2][PN_SECTOR_SIZE]; /* where a product has its flash */
+static uint8_t chip[2][PN_SECTOR_SIZE]; /* a product has its flash here */
 static pn_device device;
 static pn_op op;
 
@@ -39,7 +39,7 @@ static const pn_station station = {
     .modules = {{.ident = 1, .slot = 0, .submodule_count = 2, .submodules = {{.ident = 1, .subslot = 1}, {.ident = 2, .subslot = 0x8000}}},
                 {.ident = 32, .slot = 1, .submodule_count = 1, .submodules = {{.ident = 32, .subslot = 1, .output = 2}}}}};
 
-/* A Set of DCP: the name `pump-1`, to be kept. */
+/* A DCP Set: the permanent name `pump-1`. */
 static const uint8_t set[] = {0x02, 0, 0, 0, 0, 1, 0x02, 0, 0, 0, 0, 2, 0x88, 0x92, 0xFE, 0xFD, 4, 0, 0, 0, 0, 1, 0, 0, 0, 12,
                               2, 2, 0, 8, 0, 1, 'p', 'u', 'm', 'p', '-', '1'};
 
@@ -61,5 +61,5 @@ int main(void)
         return 1;
     if (pn_carry_out(&device, &op, &host) != PN_OK)
         return 1;
-    return start(); /* power is lost and comes back */
+    return start(); /* power is lost and returns */
 }

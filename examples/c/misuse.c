@@ -1,4 +1,4 @@
-/* Each misuse that the header names answers its number, and changes nothing. */
+/* Each misuse that the header names returns its number, and changes nothing. */
 #include "nandutable.h"
 #include <stdio.h>
 #include <stdlib.h>
@@ -30,7 +30,7 @@ static void keep(uint32_t answer)
     memcpy(&before, &device, sizeof device);
 }
 
-/* Each operation, and some that there are not, straight to the library: one that is refused leaves the whole operation as it was. */
+/* Each operation, and some that do not exist, directly to the library: a refused one leaves the whole operation unchanged. */
 static void ask_all(const char *when)
 {
     static pn_op asked, told;
@@ -50,7 +50,7 @@ static void ask_all(const char *when)
 static const uint8_t set[] = {0x02, 0, 0, 0, 0, 1, 0x02, 0, 0, 0, 0, 2, 0x88, 0x92, 0xFE, 0xFD, 4, 0, 0, 0, 0, 1, 0, 0, 0, 12,
                               2, 2, 0, 8, 0, 1, 'p', 'u', 'm', 'p', '-', '1'};
 
-/* The same with another name. */
+/* The same request with another name. */
 static const uint8_t reset[] = {0x02, 0, 0, 0, 0, 1, 0x02, 0, 0, 0, 0, 2, 0x88, 0x92, 0xFE, 0xFD, 4, 0, 0, 0, 0, 1, 0, 0, 0, 12,
                                 2, 2, 0, 8, 0, 1, 'p', 'u', 'm', 'p', '-', '2'};
 
@@ -154,7 +154,7 @@ int main(void)
         return 1;
     keep(pn_tick(&device, &op, 1000));
 
-    /* A step whose first call of the flash fails: nothing of it is handed out any more. */
+    /* A step whose first flash call fails: nothing more of it is handed out. */
     keep(pn_frame(&device, &op, reset, sizeof reset));
     if (pn_carry_out(&device, &op, &failing) != PN_FLASH_FAULT || sent != 0)
         return 1;

@@ -1,6 +1,6 @@
 /* Plays a script (docs/SCRIPTS.md) through the header, and prints what `pnscript run` prints: the demo station over a chip in
- * memory. A `cut` tears the call that this host carries out. A `fault` cannot be played, since a call that fails on the host's
- * side is power that is lost: status 5. */
+ * memory. A `cut` tears the call that this host executes. A `fault` cannot be played, because a call that fails on the host's side
+ * counts as lost power: status 5. */
 #include "nandutable.h"
 #include <ctype.h>
 #include <stdio.h>
@@ -14,7 +14,7 @@ static uint8_t chip[2][PN_SECTOR_SIZE];
 static int is_off, is_cut_armed;
 static unsigned long cut_after;
 static uint8_t cut_mask[8];
-static char sent[4 * (2 * PN_FRAME_SIZE + 5)]; /* what one step prints */
+static char sent[4 * (2 * PN_FRAME_SIZE + 5)]; /* the output of one step */
 static size_t sent_length;
 
 /* The demo station of the scripts. */
@@ -29,7 +29,7 @@ static const pn_station station = {
 
 /* --- The chip --- */
 
-/* Whether power stays there in this call. */
+/* Whether this call keeps power. */
 static int has_power(void)
 {
     if (!is_cut_armed || cut_after-- != 0)
@@ -38,7 +38,7 @@ static int has_power(void)
     return 0;
 }
 
-/* Puts what a call makes of an octet: all of it, or, where power is lost, the bits of the mask. */
+/* Writes the result of a call for one octet: all bits, or only those of the mask if power is lost. */
 static void put(int power, uint8_t *octet, uint8_t value, size_t number)
 {
     uint8_t mask = power ? 0xFF : cut_mask[number % 8];
@@ -95,7 +95,7 @@ static void boot(void)
     puts(is_off ? "boot foreign" : "boot ok");
 }
 
-/* Carries the work of a step out. Whether power is still there. */
+/* Executes the work of a step. Returns whether there is still power. */
 static int carry_out(void)
 {
     uint32_t answer = pn_carry_out(&device, &op, &host);
@@ -188,9 +188,9 @@ static void show(void)
         }
 }
 
-/* --- Words --- */
+/* --- Arguments --- */
 
-/* A decimal number of at most `most`, behind one space; *at moves behind it. */
+/* Reads a decimal number of at most `most`, after one space; *at moves past it. */
 static int number(const char **at, unsigned long most, unsigned long *value)
 {
     const char *p = *at;
@@ -205,7 +205,7 @@ static int number(const char **at, unsigned long most, unsigned long *value)
     return 1;
 }
 
-/* Octets in hex up to the line's end, behind one space. How many there are; 0 where these are none. */
+/* Reads octets in hex up to the end of the line, after one space. Returns their number; 0 if there are none. */
 static size_t octets_of(const char *p, uint8_t *octets)
 {
     size_t length = 0;
@@ -225,7 +225,7 @@ static int begins(const char *line, const char *word)
     return strncmp(line, word, strlen(word)) == 0;
 }
 
-/* Plays one line that has words. Its status: 0, 3 for one that a script cannot have, 5 for one that cannot be played. */
+/* Plays one line that is not empty. Returns 0, 3 for an invalid line, 5 for a line that cannot be played. */
 static int play(const char *line)
 {
     static uint8_t octets[LONGEST];

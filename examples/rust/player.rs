@@ -1,6 +1,6 @@
 //! Plays a script (docs/SCRIPTS.md) over the crates of the plain Rust edition, and prints what `pnscript run` prints: the demo
-//! station over a chip in memory. It is also what a host in Rust looks like: it boots the device, hands events in, sends what is
-//! in the box, and asks for outputs.
+//! station over a chip in memory. It is also an example of a host in Rust: it boots the device, hands events in, sends the frames in
+//! the box, and reads outputs.
 
 use device_core::{Device, Event, Note};
 use flash_model::{MemoryFlash, Order};
@@ -13,7 +13,7 @@ use std::process::ExitCode;
 
 type Chip = MemoryFlash<4096>;
 
-/// The station, or why its chip did not start one.
+/// The station, or the reason why it did not start from its chip.
 enum Power {
     On(Box<Device<Chip, 4096>>),
     Off(Box<Chip>),
@@ -77,7 +77,7 @@ fn hex(octets: &[u8]) -> String {
     octets.iter().map(|octet| format!("{octet:02x}")).collect()
 }
 
-/// Octets in hex: `None` where these are none.
+/// Octets in hex; `None` if the text is not hex.
 fn octets_of(text: &str) -> Option<Vec<u8>> {
     let is_hex = text.bytes().all(|digit| digit.is_ascii_hexdigit());
     if !is_hex || text.is_empty() || text.len() % 2 != 0 {
@@ -89,7 +89,7 @@ fn octets_of(text: &str) -> Option<Vec<u8>> {
         .collect()
 }
 
-/// The first octets of these, as many as an event has.
+/// The first octets, up to the size of an event.
 fn bytes_of(octets: &[u8]) -> Bytes {
     octets.iter().copied().take(1519).collect()
 }
@@ -168,7 +168,7 @@ impl Player {
         }
     }
 
-    /// Hands so many equal events in, and prints what is sent. Where power is lost, that alone is printed.
+    /// Hands in this many equal events, and prints the frames sent. If power is lost, prints only that.
     fn step(&mut self, event: &Event, times: u32, out: &mut impl Write) -> io::Result<()> {
         let mut sent = Vec::new();
         let mut note = Note::Done;
@@ -242,7 +242,7 @@ impl Player {
         Ok(())
     }
 
-    /// Plays a line that has words. Whether it is one that a script may have.
+    /// Plays a line that is not empty. Returns whether it is a valid script line.
     fn play(&mut self, line: &str, out: &mut impl Write) -> io::Result<bool> {
         let words: Vec<&str> = line.split(' ').collect();
         if words == ["restart"] {

@@ -15,7 +15,7 @@
 
 #define CHIP_SIZE ((off_t)(2 * PN_SECTOR_SIZE))
 
-/* Writes all octets from a place of the file on. 0, or 1 where it cannot. */
+/* Writes all octets from this place of the file on. Returns 0, or 1 on failure. */
 static int write_at(int fd, const uint8_t *octets, size_t length, off_t place)
 {
     while (length != 0) {
@@ -62,14 +62,14 @@ static void lock(int fd, const char *path)
     fail(STATUS_INPUT, "the flash file '%s' cannot be locked: %s", path, strerror(errno));
 }
 
-/* Whether a path still names the file of a descriptor. */
+/* Whether a path still refers to the file of a descriptor. */
 static int is_named(int fd, const char *path)
 {
     struct stat here, there;
     return fstat(fd, &here) == 0 && stat(path, &there) == 0 && here.st_dev == there.st_dev && here.st_ino == there.st_ino;
 }
 
-/* Makes a name durable: its folder is synced. 0, or 1 where it cannot. */
+/* Makes a name durable: syncs its folder. Returns 0, or 1 on failure. */
 static int sync_folder(const char *path)
 {
     char *copy = strdup(path);
@@ -90,7 +90,7 @@ static _Noreturn void not_made(const char *path, const char *made)
     fail(STATUS_CREATE, "the flash file '%s' cannot be made: %s", path, strerror(why));
 }
 
-/* A file of the other name may be the flash of another device. What an interrupted start left there is shorter than a flash, or erased. */
+/* A file with the other name may be the flash of another device. One that an interrupted start left is shorter than a flash, or erased. */
 static void judge_left(int fd, const char *made, const char *path)
 {
     static uint8_t found[2 * PN_SECTOR_SIZE];
@@ -102,12 +102,12 @@ static void judge_left(int fd, const char *made, const char *path)
             is_left &= found[i] == 0xFF;
     }
     if (!is_left)
-        fail(STATUS_CREATE, "the flash file '%s' cannot be made: it is made under the name '%s', which is there and holds something: name another file, or move that one away",
+        fail(STATUS_CREATE, "the flash file '%s' cannot be made: it is made under the name '%s', which exists and is not empty: name another file, or move that one away",
              path, made);
 }
 
-/* Makes a file of erased sectors under another name, syncs it, gives it its name, and syncs the folder: at no moment is there a file
- * of this name with fewer octets. The lock that it is given first stays with it. The answer is -1 where another process was faster. */
+/* Makes a file of erased sectors under another name, syncs it, renames it, and syncs the folder. So a file of this name never has fewer
+ * octets. The file keeps the lock that it gets first. Returns -1 if another process was faster. */
 static int make(const char *path)
 {
     static uint8_t erased[2 * PN_SECTOR_SIZE];
@@ -119,7 +119,7 @@ static int make(const char *path)
     if (fd < 0)
         not_made(path, NULL);
     lock(fd, path);
-    /* Whoever holds the lock of the file of this name is the only one that may rename it. */
+    /* Only the holder of the lock of the file with this name may rename it. */
     if (!is_named(fd, made)) {
         close(fd);
         return -1;
@@ -138,7 +138,7 @@ static int make(const char *path)
     return fd;
 }
 
-/* Opens a file that is there. */
+/* Opens an existing file. */
 static int open_old(const char *path)
 {
     int fd = open(path, O_RDWR | O_CLOEXEC);
@@ -167,11 +167,11 @@ static void judge(const struct chip *chip)
     struct stat found;
     if (fstat(chip->fd, &found) != 0)
         fail(STATUS_INPUT, "the flash file '%s': %s", chip->path, strerror(errno));
-    keep_apart(&found, chip->path); /* one that was made may have been a stream under its other name */
+    keep_apart(&found, chip->path); /* a new file may have been a stream under its other name */
     if (!S_ISREG(found.st_mode) && !S_ISBLK(found.st_mode))
-        fail(STATUS_DATA, "'%s' is no file: name one with --flash", chip->path);
+        fail(STATUS_DATA, "'%s' is not a file: name a file with --flash", chip->path);
     if (S_ISREG(found.st_mode) && found.st_size != CHIP_SIZE)
-        fail(STATUS_DATA, "'%s' is no flash file: it has %lld octets, and one has %lld. It is left as it is: name another file, or move it away to begin anew",
+        fail(STATUS_DATA, "'%s' is not a flash file: it has %lld octets, and a flash file has %lld. It was not changed: name another file, or move it away to start with a new one",
              chip->path, (long long)found.st_size, (long long)CHIP_SIZE);
     if (!is_named(chip->fd, chip->path))
         fail(STATUS_IN_USE, "the flash file '%s' was replaced while it was opened: start again", chip->path);
@@ -189,11 +189,11 @@ void chip_open(struct chip *chip, const char *path)
     if (chip->fd < 0)
         chip->fd = open_old(path);
     if (chip->fd < 0)
-        fail(STATUS_IN_USE, "the flash file '%s' comes and goes: another process makes it", path);
+        fail(STATUS_IN_USE, "the flash file '%s' appears and disappears: another process is making it", path);
     judge(chip);
 }
 
-/* Whether the file is still there as this process opened it: it has a name, this is its name, and it has its length. */
+/* Whether the file still is as this process opened it: it has a name, the name is this one, and its length is right. */
 static int is_there(struct chip *chip)
 {
     struct stat found;
@@ -209,7 +209,7 @@ static int is_there(struct chip *chip)
     return chip->why == NULL;
 }
 
-/* Whether the file is there, and holds what this process put there. */
+/* Whether the file exists, and holds what this process wrote. */
 static int is_ours(struct chip *chip)
 {
     static uint8_t found[PN_SECTOR_SIZE];
@@ -250,15 +250,15 @@ int chip_settle(struct chip *chip)
     return !is_ours(chip);
 }
 
-/* A call failed: what lies in memory need not lie in the file. */
+/* A call failed: the contents in memory may differ from the file. */
 static int failed(struct chip *chip)
 {
     chip->faults++;
     return 1;
 }
 
-/* Carries what the sector is to hold out. The file is looked at again after the write: one that was removed or replaced in between holds
- * nothing of it for the next start. */
+/* Writes the new contents of a sector. Checks the file again after the write: if it was removed or replaced in between, the next start
+ * would not find them. */
 static int carry(struct chip *chip, uint32_t sector, uint32_t place, uint32_t length)
 {
     return store(chip, sector, place, length) == 0 && is_ours(chip) ? 0 : failed(chip);

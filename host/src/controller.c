@@ -22,14 +22,14 @@
 #define VERSION "0.1.0"
 
 #define SECOND 1000000000ull
-/* Until the relation is asked for only requests are due, one a second. */
+/* Before the Connect only requests are due, one a second. */
 #define IDLE_PERIOD 10000000ull /* nanoseconds */
 #define IDLE_MOST 32000u        /* units */
 #define LONGEST_PERIOD 1000000ull
 #define FRAMES_AT_ONCE 64
-/* The FrameID of the cyclic frames that the controller asks a device for. */
+/* The FrameID of the cyclic frames that the controller requests from a device. */
 #define FRAME_INPUT 0xC001u
-/* A Release is waited for so long, and the status is written so often. */
+/* How long to wait for the answer to a Release, and how often to write the status. */
 #define RELEASE_WAITS (SECOND / 5)
 #define STATUS_EACH (SECOND / 4)
 
@@ -37,8 +37,8 @@ struct options {
     const char *interface;
     const char *plan;
     const char *socket;
-    const char *socket_group; /* who may use the socket too, or nobody */
-    uint8_t assigned[6]; /* who is given the station's name first */
+    const char *socket_group; /* a group that may use the socket too, or NULL */
+    uint8_t assigned[6]; /* the station that first gets the plan's name */
     int has_assigned;
     int is_list;
     uint64_t period; /* nanoseconds; 0: that of the plan */
@@ -57,24 +57,24 @@ struct controller {
     struct places inputs;
     struct places outputs;
     struct reasons reasons;
-    uint8_t device[6]; /* the other end of the relation: whom its cyclic frames go to */
+    uint8_t device[6]; /* the other end of the relation, to which the cyclic frames go */
     int has_device;
     uint64_t interval; /* of cyclic frames, in nanoseconds */
     uint64_t period;
-    /* What was told last. */
+    /* The last reported values. */
     uint32_t state;
     uint32_t cause;
     pn_op alarm;
     /* Statistics. */
-    struct histogram intervals; /* between frames that came */
-    struct histogram jitter;    /* how far these are from the plan's */
-    uint64_t last_cyclic;       /* when one came, 0 for none */
+    struct histogram intervals; /* between received frames */
+    struct histogram jitter;    /* how far these differ from the plan's */
+    uint64_t last_cyclic;       /* when the last one arrived; 0: none yet */
     uint16_t last_counter;
     uint64_t lost;
     uint64_t cyclic;
     uint64_t next_look;
-    int is_missing_told; /* that nobody answers to the name */
-    uint64_t ends_at;    /* 0 while it is not over */
+    int is_missing_told; /* that no station has answered to the name */
+    uint64_t ends_at;    /* 0 before the end */
 };
 
 static const char *const states[] = {"", "looking", "addressing", "connecting", "writing", "ending", "waiting", "exchanging", "ended"};
@@ -99,14 +99,14 @@ static int transmit(void *context, const uint8_t *octets, uint32_t length)
     return wire_send(&controller->wire, octets, length);
 }
 
-/* The library is used as its header says, so that none of its other answers can come. */
+/* The program uses the library as its header says, so the library cannot return any other number. */
 static void must(uint32_t answer, const char *call)
 {
     if (answer != PN_OK)
-        fail(STATUS_SOFTWARE, "%s answers %u: the library and this program do not fit", call, (unsigned)answer);
+        fail(STATUS_SOFTWARE, "%s returned %u: the library and this program do not fit", call, (unsigned)answer);
 }
 
-/* Sends what the step before has. A frame that does not go out is sent again by the controller, as one that is lost on the wire. */
+/* Sends the frames of the previous step. The controller repeats a frame that could not be sent, as one that is lost on the wire. */
 static void send_all(struct controller *controller)
 {
     uint32_t answer = pn_controller_send(&controller->room, &controller->op, &controller->host);
@@ -114,7 +114,7 @@ static void send_all(struct controller *controller)
         must(answer, "pn_controller_send");
 }
 
-/* --- What is told --- */
+/* --- Reports --- */
 
 static void tell_octets(char *text, size_t size, const char *label, const uint8_t *octets, size_t length)
 {
@@ -139,7 +139,7 @@ static void look_at_inputs(struct controller *controller)
     }
 }
 
-/* The last alarm, where it is another than the one that was told. */
+/* Reports the last alarm, if it differs from the one reported before. */
 static void look_at_alarm(struct controller *controller)
 {
     pn_op *op = &controller->op, *told = &controller->alarm;
@@ -193,7 +193,7 @@ static void look_at_state(struct controller *controller)
     }
     tell_end(controller);
     look_at_inputs(controller);
-    /* These two ends are told to the device by a Release; its answer is waited for. */
+    /* For these two causes the controller sends a Release; the program waits for its answer. */
     controller->ends_at = ticker_now() + (controller->cause == PN_STOPPED || controller->cause == PN_MODULE_DIFF ? RELEASE_WAITS : 0);
 }
 
@@ -213,7 +213,7 @@ static void take_time(struct controller *controller)
     look_at_state(controller);
 }
 
-/* Counts a cyclic frame: how long after the one before it came, and how many are missing between them by their CycleCounter. */
+/* Counts a cyclic frame: the time since the previous one, and how many are missing between them by their CycleCounter. */
 static void count_cyclic(struct controller *controller, const uint8_t *octets, size_t length)
 {
     uint64_t now = ticker_now(), apart = now - controller->last_cyclic, units = controller->interval / PN_UNIT_NS;
@@ -230,7 +230,7 @@ static void count_cyclic(struct controller *controller, const uint8_t *octets, s
     controller->last_counter = counter;
 }
 
-/* The octets that a cyclic frame of the device has from its destination on. What trails is padding. */
+/* The number of octets of a cyclic frame of the device, from its destination on. Further octets are padding. */
 static size_t cyclic_length(const struct controller *controller, const uint8_t *octets, size_t length)
 {
     size_t data = 0, at = wire_frame_id_at(octets, length);
@@ -242,7 +242,7 @@ static size_t cyclic_length(const struct controller *controller, const uint8_t *
     return at + 2 + (data < 40 ? 40 : data) + 4;
 }
 
-/* Whether a frame is a whole cyclic one of the relation, as far as that is seen from outside: others are not counted. */
+/* Whether a frame is a complete cyclic frame of the relation, as far as this program can see; only those are counted. */
 static int is_of_relation(const struct controller *controller, const uint8_t *octets, size_t length)
 {
     return controller->has_device && wire_frame_id(octets, length) == FRAME_INPUT && memcmp(octets, controller->plan.controller_mac, 6) == 0 &&
@@ -272,9 +272,9 @@ static void take_frames(struct controller *controller)
 {
     static uint8_t octets[WIRE_FRAME];
     size_t length;
-    /* Frames that wait came before the time that is handed in behind them: a program that was held up must not take its partner for
-     * silent. Not all at once, so that a flood of them does not hold up the time. Until something is due at a unit of time many of them
-     * are handed in at once, and then in front of the frame. */
+    /* Waiting frames are handed in before the elapsed time, because they arrived before its end: a delayed program must not judge its
+     * partner to be silent. There is a limit for each turn, so that a flood of frames does not delay the time. While nothing is due at a
+     * unit of time, many units are handed in at once, before the frame. */
     for (int i = 0; i < FRAMES_AT_ONCE && wire_receive(&controller->wire, octets, &length); i++) {
         if (controller->state < PN_CONNECTING)
             take_time(controller);
@@ -331,7 +331,7 @@ static void show(struct controller *controller)
 
 static void help(struct lines *lines)
 {
-    lines_answer(lines, "give SLOT SUBSLOT HEX   gives the output of a submodule");
+    lines_answer(lines, "give SLOT SUBSLOT HEX   sets the output of a submodule");
     lines_answer(lines, "show                    state, status, inputs and outputs");
     lines_answer(lines, "statistics              counts since the start");
     lines_answer(lines, "stop                    releases the relation and ends the program");
@@ -389,20 +389,20 @@ static void usage(void)
          "                             [--realtime N]\n"
          "       nandutable-controller IFACE --list\n"
          "\n"
-         "A PROFINET IO controller on the network interface IFACE. It finds the station of the plan by its name, gives it its address, makes\n"
+         "A PROFINET IO controller on the network interface IFACE. It finds the station of the plan by its name, sets its address, makes\n"
          "the relation, writes its records, and exchanges data until it is stopped.\n"
          "\n"
-         "  PLAN.json             a catalogue in JSON with the keys of GSDML: host/demo/pump.json is one, installed\n"
-         "                        share/doc/nandutable/pump.json\n"
+         "  PLAN.json             a catalogue in JSON with the keys of GSDML, such as host/demo/pump.json (installed:\n"
+         "                        share/doc/nandutable/pump.json)\n"
          "  --list                prints a line for each station that answers within a second, and ends\n"
-         "  --assign MAC          first gives the station with this MAC address the name of the plan, to be kept\n"
+         "  --assign MAC          first sets the name of the plan permanently at the station with this MAC address\n"
          "  --socket PATH         lines go in and out over this unix socket, and not over the standard streams\n"
-         "  --socket-group GROUP  the members of this group may use the socket too, and not its owner alone\n"
-         "  --period US           time is handed in so often, 31 to 10000 microseconds (default: the plan's interval, at most 1000)\n"
-         "  --realtime N          runs by this priority, 1 to 99, of the first-in first-out scheduler\n"
+         "  --socket-group GROUP  the members of this group may use the socket too, not only its owner\n"
+         "  --period US           the period in which time is handed in, 31 to 10000 microseconds (default: the plan's interval, at most 1000)\n"
+         "  --realtime N          runs with this priority, 1 to 99, of the first-in first-out scheduler\n"
          "  --help, --version\n"
          "\n"
-         "It takes the capability CAP_NET_RAW: run it as root, or once `setcap cap_net_raw+ep nandutable-controller`.\n"
+         "It needs the capability CAP_NET_RAW: run it as root, or run `setcap cap_net_raw+ep nandutable-controller` once.\n"
          "\n"
          "Examples:\n"
          "  nandutable-controller eth1 --list\n"
@@ -410,9 +410,9 @@ static void usage(void)
          "  nandutable-controller eth1 pump.json\n"
          "  echo 'give 2 1 00ff' | nandutable-controller eth1 pump.json\n"
          "\n"
-         "Lines that it takes: `give SLOT SUBSLOT HEX`, `show`, `statistics`, `stop`, `help`. SIGUSR1 has it tell its statistics; SIGTERM\n"
+         "Lines that it accepts: `give SLOT SUBSLOT HEX`, `show`, `statistics`, `stop`, `help`. On SIGUSR1 it prints its statistics; SIGTERM\n"
          "stops it, and a second one ends it at once. Its status is the cause of its end: 1 another device, 2 refused, 3 other modules,\n"
-         "4 data hold, 5 ended by the device, 6 an alarm without answer, 7 stopped; 64 and more: it did not begin.");
+         "4 data hold, 5 ended by the device, 6 an alarm without answer, 7 stopped; 64 and more: it did not start.");
 }
 
 static _Noreturn void misused(const char *why, const char *word)
@@ -442,7 +442,7 @@ static void take_option(struct options *options, int option, const char *word)
             misused("--realtime takes 1 to 99: ", word);
         options->realtime = (int)number;
         return;
-    default: misused("there is no such option, or its word is missing", "");
+    default: misused("there is no such option, or its argument is missing", "");
     }
 }
 
@@ -474,7 +474,7 @@ static void read_words(struct options *options, int count, char *words[])
     options->plan = options->is_list ? NULL : words[optind + 1];
 }
 
-/* Says who is there, and ends. */
+/* Lists the stations, and ends. */
 static _Noreturn void list(struct controller *controller, const char *interface)
 {
     wire_open(&controller->wire, interface);
@@ -483,15 +483,15 @@ static _Noreturn void list(struct controller *controller, const char *interface)
     exit(0);
 }
 
-/* Gives a station the name of the plan. */
+/* Sets the name of the plan at a station. */
 static void assign(struct controller *controller, const uint8_t mac[6])
 {
     const pn_plan *plan = &controller->plan;
     int answer = naming_assign(&controller->wire, plan->controller_mac, mac, plan->name, plan->name_length);
     if (answer < 0)
-        fail(STATUS_NO_INPUT, "no station answers at %02x:%02x:%02x:%02x:%02x:%02x (--list says who is there)", mac[0], mac[1], mac[2], mac[3], mac[4], mac[5]);
+        fail(STATUS_NO_INPUT, "no station answers at %02x:%02x:%02x:%02x:%02x:%02x (--list lists the stations)", mac[0], mac[1], mac[2], mac[3], mac[4], mac[5]);
     if (answer > 0)
-        fail(PN_WAS_REFUSED, "the station does not take the name, BlockError %d: %s", answer, reasons_block_error((uint8_t)answer));
+        fail(PN_WAS_REFUSED, "the station does not accept the name, BlockError %d: %s", answer, reasons_block_error((uint8_t)answer));
 }
 
 static void open_all(struct controller *controller, const struct options *options)
@@ -515,7 +515,7 @@ static void open_all(struct controller *controller, const struct options *option
     wake_open(&controller->wake);
 }
 
-/* A number that nobody else uses: a UUID of version 4. */
+/* A unique number: a UUID of version 4. */
 static void make_uuid(uint8_t uuid[16])
 {
     if (getrandom(uuid, 16, 0) != 16)
@@ -559,14 +559,14 @@ static void look_around(struct controller *controller)
                    controller->ticker.stalls);
     if (controller->state == PN_LOOKING && !controller->is_missing_told && ticker_now() - controller->ticker.started > 3 * SECOND) {
         controller->is_missing_told = 1;
-        lines_tell(&controller->lines, "nobody answers to the name '%.*s' yet (--list says who is there, --assign MAC gives a station this name)",
+        lines_tell(&controller->lines, "nobody answers to the name '%.*s' yet (--list lists the stations, --assign MAC sets this name at a station)",
                    (int)controller->plan.name_length, (const char *)controller->plan.name);
     }
     keep_status(controller);
-    controller->wake.has_lines = 1; /* what waits for a reader is written on */
+    controller->wake.has_lines = 1; /* continues to write what waits for a reader */
 }
 
-/* A stop is asked for once; then the Release is waited for, and the second time not. */
+/* On the first request the controller stops, and the program waits for the answer to its Release; on the second it does not wait. */
 static int is_over(struct controller *controller)
 {
     if (controller->wake.is_ended && controller->state == PN_ENDED)

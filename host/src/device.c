@@ -20,7 +20,7 @@
 
 #define VERSION "0.1.0"
 
-/* While no relation stands nothing is due at a unit of time, so that many may go by at once. */
+/* Without a relation nothing is due at a unit of time, so many units may pass at once. */
 #define IDLE_PERIOD 10000000ull /* nanoseconds */
 #define IDLE_MOST 320000u       /* units: ten seconds */
 #define SECOND 1000000000ull
@@ -31,7 +31,7 @@ struct options {
     const char *flash;
     const char *station;
     const char *socket;
-    const char *socket_group; /* who may use the socket too, or nobody */
+    const char *socket_group; /* a group that may use the socket too, or NULL */
     uint8_t mac[6];
     int has_mac;
     uint64_t period; /* nanoseconds */
@@ -53,14 +53,14 @@ struct device {
     struct places outputs;
     struct sets sets;
     uint64_t period;
-    /* What was told last. */
+    /* The last reported values. */
     uint32_t phase;
     int is_lamp_on;
     pn_settings settings;
     /* Statistics. */
     uint64_t notes[8];
     struct histogram intervals;
-    uint64_t last_cyclic; /* when one was sent, 0 for none */
+    uint64_t last_cyclic; /* when the last one was sent; 0: none yet */
     uint64_t next_look;
 };
 
@@ -91,32 +91,32 @@ static int transmit(void *context, const uint8_t *octets, uint32_t length)
     return wire_send(&device->wire, octets, length);
 }
 
-/* The library is used as its header says, so that none of its other answers can come. */
+/* The program uses the library as its header says, so the library cannot return any other number. */
 static void must(uint32_t answer, const char *call)
 {
     if (answer != PN_OK)
-        fail(STATUS_SOFTWARE, "%s answers %u: the library and this program do not fit", call, (unsigned)answer);
+        fail(STATUS_SOFTWARE, "%s returned %u: the library and this program do not fit", call, (unsigned)answer);
 }
 
-/* Starts from what the file holds. */
+/* Starts from the contents of the file. */
 static void start(struct device *device)
 {
     uint32_t answer;
     if (chip_settle(&device->chip) != 0)
-        fail(STATUS_INPUT, "the flash file '%s' cannot be read and written: %s. Nothing was sent of the step that it failed in; put it right and start again",
+        fail(STATUS_INPUT, "the flash file '%s' cannot be read and written: %s. Nothing was sent of the step in which it failed; correct this and start again",
              device->chip.path, device->chip.why);
     must(pn_make(&device->room, &device->station), "pn_make");
     answer = pn_boot(&device->room, &device->op, device->chip.sectors[0], device->chip.sectors[1]);
     if (answer == PN_FOREIGN)
-        fail(STATUS_DATA, "the flash file '%s' holds what no device of this kind left there. It is left as it is: name another file, or move it away to begin anew",
+        fail(STATUS_DATA, "no device of this kind wrote the contents of the flash file '%s'. It was not changed: name another file, or move it away to start with a new one",
              device->chip.path);
     must(answer, "pn_boot");
 }
 
 static void look(struct device *device, int is_first);
 
-/* Takes the work of a step and does it. A call of the flash that fails is power that is lost: nothing more is sent, and the device
- * starts again from the file. */
+/* Takes the work of a step and does it. A flash call that fails counts as lost power: nothing more is sent, and the device starts again
+ * from the file. */
 static void carry_out(struct device *device)
 {
     if (pn_carry_out(&device->room, &device->op, &device->host) != PN_FLASH_FAULT)
@@ -127,7 +127,7 @@ static void carry_out(struct device *device)
     look(device, 0);
 }
 
-/* --- What is told --- */
+/* --- Reports --- */
 
 static void tell_suite(const char *label, const pn_settings *s, char *text, size_t size)
 {
@@ -147,7 +147,7 @@ static void tell_octets(char *text, size_t size, const char *label, uint16_t slo
         words_hex(text + head, octets, length);
 }
 
-/* The kernel answers ARP for each address of its own, on every interface, and calls on it too. */
+/* The kernel answers ARP, and calls, for each of its own addresses, on every interface. */
 static void warn_of_kernel(struct device *device, const pn_settings *settings)
 {
     static const uint8_t none[4];
@@ -156,7 +156,7 @@ static void warn_of_kernel(struct device *device, const pn_settings *settings)
         return;
     interface = wire_with_address(settings->address);
     if (interface != NULL)
-        lines_tell(&device->lines, "warning: the kernel has the device's address %u.%u.%u.%u on %s and answers for it too: remove it (`ip address del`) or give the device another",
+        lines_tell(&device->lines, "warning: the kernel has the device's address %u.%u.%u.%u on %s and answers for it too: remove it (`ip address del`) or assign another to the device",
                    settings->address[0], settings->address[1], settings->address[2], settings->address[3], interface);
 }
 
@@ -197,7 +197,7 @@ static void look_at_outputs(struct device *device)
     }
 }
 
-/* Gives an input that is kept to the relation. Whether one has it. */
+/* Sets a kept input for the relation. Returns whether a relation has it. */
 static int give(struct device *device, const struct place *place)
 {
     uint32_t note;
@@ -207,7 +207,7 @@ static int give(struct device *device, const struct place *place)
     return note == PN_DONE;
 }
 
-/* The inputs of a new relation are zeros until they are given, so that what was given before is given again. */
+/* The inputs of a new relation are zeros until they are set. So the earlier values are set again. */
 static void give_all(struct device *device)
 {
     for (unsigned i = 0; i < device->inputs.count; i++)
@@ -281,9 +281,9 @@ static void take_frames(struct device *device)
 {
     static uint8_t octets[WIRE_FRAME];
     size_t length;
-    /* Frames that wait came before the time that is handed in behind them: a program that was held up must not take its partner for
-     * silent. Not all at once, so that a flood of them does not hold up the time. Until something is due at a unit of time many of them
-     * are handed in at once, and then in front of the frame. */
+    /* Waiting frames are handed in before the elapsed time, because they arrived before its end: a delayed program must not judge its
+     * partner to be silent. There is a limit for each turn, so that a flood of frames does not delay the time. While nothing is due at a
+     * unit of time, many units are handed in at once, before the frame. */
     for (int i = 0; i < FRAMES_AT_ONCE && wire_receive(&device->wire, octets, &length); i++) {
         if (device->phase == PN_NONE)
             take_time(device);
@@ -367,19 +367,19 @@ static void take_alarm(struct device *device, uint16_t slot, uint16_t subslot, c
     note = device->op.note;
     carry_out(device);
     lines_answer(&device->lines, note == PN_DONE ? "note done"
-                                                 : "note refused: an alarm has a plugged submodule and at most 32 octets, and is raised while data is exchanged and none stands");
+                                                 : "note refused: an alarm has a plugged submodule and at most 32 octets, and may be raised while data is exchanged and no alarm is active");
 }
 
 static void help(struct lines *lines)
 {
-    lines_answer(lines, "input SLOT SUBSLOT HEX   gives the input of a submodule");
+    lines_answer(lines, "input SLOT SUBSLOT HEX   sets the input of a submodule");
     lines_answer(lines, "alarm SLOT SUBSLOT HEX   raises a process alarm with these octets");
-    lines_answer(lines, "show                     name, address, how many commits are left, phase, lamp, inputs and outputs");
+    lines_answer(lines, "show                     name, address, remaining commits, phase, lamp, inputs and outputs");
     lines_answer(lines, "statistics               counts since the start");
     lines_answer(lines, "quit                     ends the program");
 }
 
-/* A line of three words more: a place and octets. */
+/* A line with three arguments: a place and octets. */
 static void take_place(struct device *device, char *words[])
 {
     uint8_t octets[STATION_DATA];
@@ -421,30 +421,30 @@ static void usage(void)
     puts("Usage: nandutable-device IFACE --flash FILE [--station FILE] [--mac MAC] [--socket PATH] [--socket-group GROUP]\n"
          "                         [--period US] [--realtime N] [--sets-per-second N]\n"
          "\n"
-         "A PROFINET IO device on the network interface IFACE. Its name, address and I&M texts are in the flash file, and are there again\n"
-         "after a power failure at any moment.\n"
+         "A PROFINET IO device on the network interface IFACE. Its name, address and I&M texts are in the flash file, and survive a power\n"
+         "failure at any moment.\n"
          "\n"
-         "  --flash FILE          the flash: 8,192 octets; made where there is none. One process a file\n"
-         "  --station FILE        a catalogue in JSON with the keys of GSDML: identity and modules. Without: the demo station, with two\n"
-         "                        octets of input in slot 1 and two of output in slot 2, as in host/demo/pump.json, installed\n"
-         "                        share/doc/nandutable/pump.json\n"
-         "  --mac MAC             the device's MAC address, where it is not to be the interface's\n"
+         "  --flash FILE          the flash: 8,192 octets; made if it does not exist. Only one process may use a file\n"
+         "  --station FILE        a catalogue in JSON with the keys of GSDML: identity and modules. Default: the demo station, with two\n"
+         "                        octets of input in slot 1 and two of output in slot 2, as in host/demo/pump.json (installed:\n"
+         "                        share/doc/nandutable/pump.json)\n"
+         "  --mac MAC             the device's MAC address (default: the interface's)\n"
          "  --socket PATH         lines go in and out over this unix socket, and not over the standard streams\n"
-         "  --socket-group GROUP  the members of this group may use the socket too, and not its owner alone\n"
-         "  --period US           time is handed in so often while a relation stands, 31 to 10000 microseconds; at least as often as the\n"
+         "  --socket-group GROUP  the members of this group may use the socket too, not only its owner\n"
+         "  --period US           the period in which time is handed in during a relation, 31 to 10000 microseconds; choose at most the\n"
          "                        controller's interval (default: 250)\n"
-         "  --realtime N          runs by this priority, 1 to 99, of the first-in first-out scheduler\n"
-         "  --sets-per-second N   takes at most N Sets of DCP a second, 1 to 1000000, and drops the others (default: no limit)\n"
+         "  --realtime N          runs with this priority, 1 to 99, of the first-in first-out scheduler\n"
+         "  --sets-per-second N   accepts at most N DCP Sets a second, 1 to 1000000, and drops the others (default: no limit)\n"
          "  --help, --version\n"
          "\n"
-         "It takes the capability CAP_NET_RAW: run it as root, or once `setcap cap_net_raw+ep nandutable-device`.\n"
+         "It needs the capability CAP_NET_RAW: run it as root, or run `setcap cap_net_raw+ep nandutable-device` once.\n"
          "\n"
          "Examples:\n"
          "  nandutable-device eth1 --flash /var/lib/nandutable/pump.flash\n"
          "  nandutable-device eth1 --flash pump.flash --station pump.json --socket /run/pump --realtime 50\n"
          "\n"
-         "Lines that it takes: `input SLOT SUBSLOT HEX`, `alarm SLOT SUBSLOT HEX`, `show`, `statistics`, `help`, `quit`. SIGUSR1 has it tell\n"
-         "its statistics, SIGTERM ends it.");
+         "Lines that it accepts: `input SLOT SUBSLOT HEX`, `alarm SLOT SUBSLOT HEX`, `show`, `statistics`, `help`, `quit`. On SIGUSR1 it\n"
+         "prints its statistics; SIGTERM ends it.");
 }
 
 static _Noreturn void misused(const char *why, const char *word)
@@ -452,7 +452,7 @@ static _Noreturn void misused(const char *why, const char *word)
     fail(STATUS_USAGE, "%s%s (nandutable-device --help)", why, word);
 }
 
-/* One word behind an option. */
+/* One option and its argument. */
 static void take_option(struct options *options, int option, const char *word)
 {
     unsigned long number;
@@ -481,7 +481,7 @@ static void take_option(struct options *options, int option, const char *word)
             misused("--sets-per-second takes 1 to 1000000: ", word);
         options->sets_a_second = (uint32_t)number;
         return;
-    default: misused("there is no such option, or its word is missing", "");
+    default: misused("there is no such option, or its argument is missing", "");
     }
 }
 
@@ -491,15 +491,15 @@ static const struct option known[] = {
     {"sets-per-second", required_argument, NULL, 'l'}, {"realtime", required_argument, NULL, 'r'}, {"help", no_argument, NULL, 'h'},
     {"version", no_argument, NULL, 'v'},               {NULL, 0, NULL, 0}};
 
-/* Looks at the flash file's name alone, before there is anything to be said: a message could go into that file. */
+/* Checks only the flash file's name, before any message is printed: a message could go into that file. */
 static void keep_flash_apart(int count, char *words[])
 {
     int option;
     opterr = 0;
-    while ((option = getopt_long(count, words, "-h", known, NULL)) != -1) /* in the order in which they stand */
+    while ((option = getopt_long(count, words, "-h", known, NULL)) != -1) /* in their order */
         if (option == 'f')
             chip_keep_apart(optarg);
-    optind = 0; /* from the first word again */
+    optind = 0; /* from the first argument again */
 }
 
 static void read_words(struct options *options, int count, char *words[])
@@ -519,7 +519,7 @@ static void read_words(struct options *options, int count, char *words[])
         take_option(options, option, optarg);
     }
     if (optind + 1 != count)
-        misused(optind == count ? "name a network interface" : "there is one interface a device", "");
+        misused(optind == count ? "name a network interface" : "a device has only one interface", "");
     options->interface = words[optind];
     if (options->flash == NULL)
         misused("name a flash file with --flash", "");
@@ -572,7 +572,7 @@ static void begin(struct device *device)
     look(device, 1);
 }
 
-/* What is seen to once a second. */
+/* What the program checks once a second. */
 static void look_around(struct device *device)
 {
     int change;
@@ -585,7 +585,7 @@ static void look_around(struct device *device)
     if (ticker_tells(&device->ticker))
         lines_tell(&device->lines, "stall: %" PRIu64 " units of time were forgotten since the start, in %" PRIu64 " stalls", device->ticker.forgotten,
                    device->ticker.stalls);
-    device->wake.has_lines = 1; /* what waits for a reader is written on */
+    device->wake.has_lines = 1; /* continues to write what waits for a reader */
 }
 
 static void run(struct device *device)

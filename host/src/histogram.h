@@ -1,10 +1,10 @@
-/* How long something took, counted by microseconds. */
+/* Durations, counted by microseconds. */
 #ifndef HOST_HISTOGRAM_H
 #define HOST_HISTOGRAM_H
 
 #include <stdint.h>
 
-#define HISTOGRAM_MOST 8192 /* what takes longer is counted as this */
+#define HISTOGRAM_MOST 8192 /* longer durations are counted as this */
 
 struct histogram {
     uint64_t counts[HISTOGRAM_MOST + 1];
@@ -12,10 +12,10 @@ struct histogram {
     uint64_t most; /* nanoseconds */
 };
 
-/* Counts one, in nanoseconds. */
+/* Counts one duration, in nanoseconds. */
 void histogram_put(struct histogram *histogram, uint64_t nanoseconds);
 
-/* The microseconds that so many of a thousand do not pass. */
+/* The duration in microseconds that this many of a thousand do not exceed. */
 unsigned histogram_within(const struct histogram *histogram, unsigned thousandths);
 
 #endif

@@ -13,7 +13,7 @@
 #include <unistd.h>
 
 #define NOBODY (-1)
-#define LINE_ROOM 4096 /* of a line that is written */
+#define LINE_ROOM 4096 /* octets of a written line */
 
 /* --- Sockets --- */
 
@@ -26,7 +26,7 @@ static struct sockaddr_un address_of(const char *path)
     return address;
 }
 
-/* Removes the socket that a process left which is no more. */
+/* Removes a socket that an ended process left. */
 static void remove_left(const char *path, const struct sockaddr_un *address)
 {
     struct stat found;
@@ -34,7 +34,7 @@ static void remove_left(const char *path, const struct sockaddr_un *address)
     if (lstat(path, &found) != 0)
         return;
     if (!S_ISSOCK(found.st_mode))
-        fail(STATUS_CREATE, "'%s' is there and is no socket: name another path with --socket", path);
+        fail(STATUS_CREATE, "'%s' exists and is not a socket: name another path with --socket", path);
     fd = socket(AF_UNIX, SOCK_STREAM | SOCK_CLOEXEC, 0);
     if (fd >= 0 && connect(fd, (const struct sockaddr *)address, sizeof *address) == 0)
         fail(STATUS_IN_USE, "the socket '%s' is in use by another process", path);
@@ -52,7 +52,7 @@ static void share(const char *path, const char *group)
     if (found == NULL)
         fail(STATUS_USAGE, "there is no group '%s' for --socket-group%s%s", group, errno != 0 ? ": " : "", errno != 0 ? strerror(errno) : "");
     if (chown(path, (uid_t)-1, found->gr_gid) != 0 || chmod(path, 0660) != 0)
-        fail(STATUS_CREATE, "the socket '%s' cannot be given to the group '%s': %s (who starts the program must be a member)", path, group, strerror(errno));
+        fail(STATUS_CREATE, "the socket '%s' cannot be given to the group '%s': %s (the user who starts the program must be a member)", path, group, strerror(errno));
 }
 
 static int listen_at(const char *path, const char *group)
@@ -63,8 +63,8 @@ static int listen_at(const char *path, const char *group)
     remove_left(path, &address);
     fd = socket(AF_UNIX, SOCK_STREAM | SOCK_NONBLOCK | SOCK_CLOEXEC, 0);
     if (fd < 0)
-        fail(STATUS_SYSTEM, "the system gives no socket: %s", strerror(errno));
-    before = umask(0177); /* for the owner alone */
+        fail(STATUS_SYSTEM, "the system refuses a socket: %s", strerror(errno));
+    before = umask(0177); /* only for the owner */
     is_bound = bind(fd, (struct sockaddr *)&address, sizeof address) == 0;
     umask(before);
     if (is_bound && group != NULL)
@@ -88,13 +88,13 @@ static void let_in(struct lines *lines)
         talker->is_socket = 1;
         return;
     }
-    close(fd); /* all places are taken */
+    close(fd); /* all places are in use */
 }
 
 /* --- Opening --- */
 
-/* A terminal or a pipe is opened once more, so that a write never waits for its reader: the stream itself may be shared with other
- * programs, which would not wait then either. Where it cannot be opened, the stream. */
+/* Opens a terminal or a pipe again as non-blocking, so that a write never waits for its reader: the stream itself may be shared with other
+ * programs, for which it would become non-blocking too. If it cannot be opened, returns the stream. */
 static int without_waiting(int fd)
 {
     struct stat found;
@@ -133,14 +133,14 @@ static void leave(struct talker *talker)
 
 /* --- Writing --- */
 
-/* Whether a reader takes octets at once, so that writing them does not wait. */
+/* Whether a write would not block. */
 static int is_ready(int fd)
 {
     struct pollfd one = {.fd = fd, .events = POLLOUT};
     return poll(&one, 1, 0) == 1 && (one.revents & POLLOUT) != 0 && (one.revents & (POLLERR | POLLHUP)) == 0;
 }
 
-/* Writes what waits, as far as it is taken. */
+/* Writes what waits, as far as possible without blocking. */
 static void flush(struct talker *talker)
 {
     while (talker->kept_length != 0 && talker->out != NOBODY) {
@@ -149,7 +149,7 @@ static void flush(struct talker *talker)
         if (length > talker->kept_length)
             length = talker->kept_length;
         if (length > 512)
-            length = 512; /* a stream that could not be opened once more takes so many whole where it is ready, if it is a pipe */
+            length = 512; /* if the stream could not be opened again and is a ready pipe, it accepts this many at once */
         if (!is_ready(talker->out))
             return;
         done = write(talker->out, talker->kept + talker->kept_first, length);
@@ -163,7 +163,7 @@ static void flush(struct talker *talker)
     }
 }
 
-/* Puts a text behind what waits, whole or not at all. */
+/* Appends a text to what waits, completely or not at all. */
 static void put(struct talker *talker, const char *text, size_t length)
 {
     if (talker->out == NOBODY)
@@ -178,7 +178,7 @@ static void put(struct talker *talker, const char *text, size_t length)
     flush(talker);
 }
 
-/* Puts a line; on a terminal in front of the status, which is written again below it. */
+/* Puts a line; on a terminal before the status, which is written again below it. */
 static void put_line(struct lines *lines, struct talker *talker, const char *line)
 {
     char text[LINE_ROOM + 300];
@@ -258,7 +258,7 @@ nfds_t lines_polls(struct lines *lines, struct pollfd *polls)
     return count;
 }
 
-/* Gives each whole line of what was read away, and keeps the rest. */
+/* Passes each complete line to `take`, and keeps the rest. */
 static void give_lines(struct lines *lines, struct talker *talker, void (*take)(void *, char *), void *context)
 {
     char *line = talker->given, *end;
@@ -292,7 +292,7 @@ static void read_from(struct lines *lines, struct talker *talker, void (*take)(v
     } else if (got == 0 || (errno != EINTR && errno != EAGAIN)) {
         if (talker->is_socket)
             leave(talker);
-        talker->in = NOBODY; /* no more lines come; what is told still goes out */
+        talker->in = NOBODY; /* no more lines can arrive; reports are still written */
     }
 }
 

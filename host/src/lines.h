@@ -1,5 +1,5 @@
-/* Lines that go in and out: over the standard streams, or over a unix socket that several programs may open. No line ever makes the
- * program wait: what a reader does not take is kept up to a limit, and then lines are lost and counted. */
+/* Lines in and out: over the standard streams, or over a unix socket that several programs may open. Output never blocks the program: what
+ * a reader has not read is kept up to a limit; beyond it lines are lost and counted. */
 #ifndef HOST_LINES_H
 #define HOST_LINES_H
 
@@ -8,16 +8,16 @@
 #include <stdint.h>
 
 #define LINES_TALKERS 9      /* the standard streams and eight others */
-#define LINES_LONGEST 4096   /* octets of a line that is read */
+#define LINES_LONGEST 4096   /* octets of a received line */
 #define LINES_KEPT 65536     /* octets that wait for a reader */
 #define LINES_POLLS (LINES_TALKERS + 1)
 
-/* Who reads and writes lines. */
+/* A reader and writer of lines. */
 struct talker {
-    int in;  /* -1 where there is none, or no more comes */
-    int out; /* -1 where nobody is there */
+    int in;  /* -1 if there is none, or if it has ended */
+    int out; /* -1 if there is none */
     int is_socket;
-    int is_too_long; /* the line that is being read */
+    int is_too_long; /* applies to the line that is being read */
     char given[LINES_LONGEST];
     size_t given_length;
     char kept[LINES_KEPT];
@@ -27,37 +27,37 @@ struct talker {
 };
 
 struct lines {
-    const char *path; /* of the socket, or none */
+    const char *path; /* of the socket, or NULL */
     int listener;
     int is_terminal;
-    char status[256]; /* what stands below all lines on a terminal */
+    char status[256]; /* shown below all lines on a terminal */
     struct talker talkers[LINES_TALKERS];
-    struct talker *asking; /* who gave the line that is being answered, or nobody */
+    struct talker *asking; /* the sender of the line that is being answered, or NULL */
 };
 
-/* Opens the standard streams, or a socket of this path in their place. The socket is for its owner alone, or for the members of a group
- * too: a name, or NULL for none. */
+/* Opens the standard streams, or a socket with this path instead. Only its owner and the members of `group` may use the socket; NULL for
+ * no group. */
 void lines_open(struct lines *lines, const char *path, const char *group);
 
-/* Closes, and removes the socket's name. */
+/* Closes all, and removes the socket's name. */
 void lines_close(struct lines *lines);
 
-/* What is to be waited for: fills in at most LINES_POLLS. How many. */
+/* Fills in what to wait for, at most LINES_POLLS entries. Returns their number. */
 nfds_t lines_polls(struct lines *lines, struct pollfd *polls);
 
-/* Takes what came; each line is given to `take`, which may change it. */
+/* Reads what arrived, and passes each line to `take`, which may change it. */
 void lines_take(struct lines *lines, void (*take)(void *context, char *line), void *context);
 
-/* A line for everybody. */
+/* Sends a line to all readers. */
 void lines_tell(struct lines *lines, const char *format, ...) __attribute__((format(printf, 2, 3)));
 
-/* A line for who asked. */
+/* Sends a line to the sender of the line that is being answered. */
 void lines_answer(struct lines *lines, const char *format, ...) __attribute__((format(printf, 2, 3)));
 
-/* What stands below all lines on a terminal. */
+/* Sets the text below all lines on a terminal. */
 void lines_status(struct lines *lines, const char *text);
 
-/* How many lines were lost, since the reader did not take them. */
+/* How many lines were lost because the reader did not read. */
 uint64_t lines_lost(const struct lines *lines);
 
 #endif

@@ -7,7 +7,7 @@
 
 #define SECOND 1000000000ull
 #define LEAST_FRAME 60u
-#define BLOCKS_AT 26u /* behind addresses, EtherType, FrameID and the header of DCP */
+#define BLOCKS_AT 26u /* after the addresses, EtherType, FrameID and the header of DCP */
 
 enum { SERVICE_SET = 4, SERVICE_IDENTIFY = 5 };
 enum { FRAME_SET = 0xFEFD, FRAME_IDENTIFY = 0xFEFE, FRAME_IDENTIFIED = 0xFEFF };
@@ -25,7 +25,7 @@ static void put_head(uint8_t *frame, const uint8_t target[6], const uint8_t sour
     memcpy(frame + 12, head, sizeof head);
 }
 
-/* The next answer to such a request until a time. Whether one came. */
+/* Waits until a time for the next answer to such a request. Returns whether one arrived. */
 static int next_answer(struct wire *wire, unsigned id, unsigned service, uint64_t until, uint8_t octets[WIRE_FRAME], size_t *length)
 {
     static const uint8_t xid[] = {XID >> 24, XID >> 16 & 0xFF, XID >> 8 & 0xFF, XID & 0xFF};
@@ -40,7 +40,7 @@ static int next_answer(struct wire *wire, unsigned id, unsigned service, uint64_
     return 0;
 }
 
-/* The contents of a block of an answer, or none. */
+/* The contents of a block of an answer, or NULL. */
 static const uint8_t *find_block(const uint8_t *octets, size_t length, unsigned option, unsigned suboption, size_t *size)
 {
     for (size_t at = BLOCKS_AT; at + 4 <= length; at += 4 + *size + *size % 2) {
@@ -55,7 +55,7 @@ static const uint8_t *find_block(const uint8_t *octets, size_t length, unsigned 
     return NULL;
 }
 
-/* What stands behind a block's BlockInfo, or nothing. */
+/* The value after a block's BlockInfo, or NULL. */
 static const uint8_t *value_of(const uint8_t *octets, size_t length, unsigned option, unsigned suboption, size_t *size)
 {
     const uint8_t *found = find_block(octets, length, option, suboption, size);
@@ -67,7 +67,7 @@ static const uint8_t *value_of(const uint8_t *octets, size_t length, unsigned op
     return found + 2;
 }
 
-/* A text from the wire is shown with a dot for what is no letter. */
+/* Copies a text from the wire, with a dot for each octet that is not printable ASCII. */
 static void show_text(char *shown, size_t room, const uint8_t *text, size_t size)
 {
     size_t count = size < room - 1 ? size : room - 1;
@@ -113,7 +113,7 @@ int naming_assign(struct wire *wire, const uint8_t source[6], const uint8_t mac[
     static uint8_t octets[WIRE_FRAME];
     uint8_t frame[LEAST_FRAME + 256] = {0};
     size_t blocks = 6 + length + length % 2, came, size = 0;
-    const uint8_t head[] = {2, 2, (uint8_t)((length + 2) >> 8), (uint8_t)(length + 2), 0, 1 /* to be kept */};
+    const uint8_t head[] = {2, 2, (uint8_t)((length + 2) >> 8), (uint8_t)(length + 2), 0, 1 /* permanent */};
     const uint8_t *said;
     if (length > 240)
         return -1;

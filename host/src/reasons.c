@@ -4,7 +4,7 @@
 #include <stdio.h>
 #include <string.h>
 
-/* Where things stand in an untagged datagram of DCE/RPC: behind Ethernet (14), IPv4 (20) and UDP (8). */
+/* Places in an untagged DCE/RPC datagram: after Ethernet (14), IPv4 (20) and UDP (8). */
 #define RPC_AT 42u
 #define STATUS_AT (RPC_AT + 80u)
 
@@ -58,7 +58,7 @@ static const char *status_words(const uint8_t s[4])
     if (s[1] == 0x80 && s[2] == 0xB0)
         return "there is no such record";
     if (s[1] == 0x80 && s[2] == 0xB1)
-        return "a record of the plan has another length than the device wants";
+        return "a record of the plan has another length than the device expects";
     if (s[1] == 0x80 && s[2] == 0xB2)
         return "there is no such slot or subslot";
     if (s[1] == 0x81 && s[2] == 0x40 && s[3] == 4)
@@ -66,23 +66,23 @@ static const char *status_words(const uint8_t s[4])
     if (s[1] == 0x81 && s[2] == 0x40 && s[3] == 6)
         return "the device is in another state of the relation";
     if (s[1] == 0x81 && s[2] >= 1 && s[2] <= 4)
-        return "the device does not take what a block of the Connect asks for";
+        return "the device does not accept what a block of the Connect asks for";
     return "see the device's manual for this status";
 }
 
 static const char *abort_words(uint8_t code)
 {
     switch (code) {
-    case 5: return "its data hold time expired: no cyclic frame of this controller came";
+    case 5: return "its data hold time expired: no cyclic frame of this controller arrived";
     case 6: return "its activity timeout expired";
-    case 13: return "it was reset, or ended the relation on its own account";
+    case 13: return "it was reset, or ended the relation by itself";
     default: return "see the device's manual for this code";
     }
 }
 
 const char *reasons_block_error(uint8_t error)
 {
-    static const char *const words[] = {"", "it has no such option", "it has no such suboption", "it does not take the value", "it has no room left", "it has no power for its flash",
+    static const char *const words[] = {"", "it has no such option", "it has no such suboption", "it does not accept the value", "it has no room left", "it has no power for its flash",
                                         "it is in a relation, and is not named or addressed in one"};
     return error < sizeof words / sizeof words[0] ? words[error] : "an unknown BlockError";
 }

@@ -1,4 +1,4 @@
-/* Why a device refused or ended, in words: from the frames that said so. For a message alone. */
+/* Why a device refused or ended, as text, from its frames. Only used for messages. */
 #ifndef HOST_REASONS_H
 #define HOST_REASONS_H
 
@@ -7,19 +7,19 @@
 
 struct reasons {
     uint8_t status[4];    /* PNIOStatus of the last response or ERR that has one */
-    uint8_t block_error;  /* of the last Set that was refused */
+    uint8_t block_error;  /* of the last refused Set */
 };
 
-/* Looks at a frame that came. */
+/* Reads a received frame. */
 void reasons_hear(struct reasons *reasons, const uint8_t *octets, size_t length);
 
 /* Whether a frame is a response of DCE/RPC. */
 int reasons_is_response(const uint8_t *octets, size_t length);
 
-/* What a BlockError of a Set says. */
+/* The meaning of a BlockError of a Set. */
 const char *reasons_block_error(uint8_t error);
 
-/* What there is to be said of an end for this cause, behind a colon, or nothing. */
+/* The details of an end with this cause, after a colon, or an empty text. */
 void reasons_words(const struct reasons *reasons, uint32_t cause, char *text, size_t size);
 
 #endif

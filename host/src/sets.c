@@ -2,7 +2,7 @@
 #include "wire.h"
 #include <string.h>
 
-/* A Set takes this many parts of the room. Each nanosecond adds as many parts as the limit has Sets. */
+/* A Set uses this many parts of the room. Each nanosecond adds as many parts as the limit has Sets. */
 #define SETS_PART 1000000000ull
 
 enum { FRAME_SET = 0xFEFD, SERVICE_SET = 4, REQUEST = 0 };
@@ -22,7 +22,7 @@ static int is_set(const uint8_t *octets, size_t length, const uint8_t mac[6])
            memcmp(octets, mac, 6) == 0;
 }
 
-/* What the time since then brought, up to the room for the Sets of a second. */
+/* Adds the parts for the elapsed time, up to the room for the Sets of one second. */
 static void fill(struct sets *sets, uint64_t now)
 {
     uint64_t most = sets->limit * SETS_PART, passed = now - sets->filled;

@@ -5,7 +5,7 @@
 #include <stdlib.h>
 #include <string.h>
 
-/* A catalogue is some thousand octets; what is longer is none. */
+/* A catalogue has some thousand octets; a longer file is refused. */
 #define CATALOGUE_MOST (4u << 20)
 
 void station_demo(pn_station *station)
@@ -33,7 +33,7 @@ static uint8_t *read_whole(const char *path, size_t *length)
     if (ferror(file))
         fail(STATUS_INPUT, "the catalogue '%s' cannot be read: %s", path, strerror(errno));
     if (*length > CATALOGUE_MOST)
-        fail(STATUS_DATA, "'%s' is no catalogue: it has more than %u octets", path, CATALOGUE_MOST);
+        fail(STATUS_DATA, "'%s' is not a catalogue: it has more than %u octets", path, CATALOGUE_MOST);
     fclose(file);
     return text;
 }

@@ -1,4 +1,4 @@
-/* What a device is, and the places of its data. */
+/* The station of a device, and the places of its data. */
 #ifndef HOST_STATION_H
 #define HOST_STATION_H
 
@@ -26,13 +26,13 @@ enum direction { OF_INPUT, OF_OUTPUT };
 /* The demo station: two octets of input in slot 1, and two of output in slot 2. */
 void station_demo(pn_station *station);
 
-/* Reads a catalogue. Ends the program with a sentence where it gives no plan. */
+/* Reads a catalogue. If it gives no plan, ends the program with a message. */
 void station_plan(pn_plan *plan, const char *path);
 
 /* The submodules that have data of a direction. */
 void station_places(struct places *places, const pn_module *modules, uint32_t count, enum direction direction);
 
-/* The place of a submodule, or none. */
+/* The place of a submodule, or NULL. */
 struct place *station_place(struct places *places, uint16_t slot, uint16_t subslot);
 
 #endif

@@ -13,13 +13,13 @@ static int open_null(void)
 
 void streams_secure(void)
 {
-    /* A new descriptor is the lowest one that is free, and those below are open by then. */
+    /* A new descriptor is the lowest free one, and those below are open by then. */
     for (int fd = STDIN_FILENO; fd <= STDERR_FILENO; fd++)
         if (fcntl(fd, F_GETFD) < 0 && open_null() != fd)
             fail(STATUS_SYSTEM, "stream %d is closed, and /dev/null cannot be opened for it: %s", fd, strerror(errno));
 }
 
-/* Without /dev/null it is closed: a message is lost then, and the next file that is opened may have its number; the program ends. */
+/* Without /dev/null it is closed: then a message is lost, and the next opened file may get its number; the program ends anyway. */
 static void silence(void)
 {
     int fd = open_null();

@@ -4,11 +4,11 @@
 
 #include <sys/stat.h>
 
-/* Opens /dev/null for each of the standard streams that is closed. The first call of a program: else the next file or socket that it
- * opens has the number of a stream, and the program's lines go into it. Ends the program if it cannot. */
+/* Opens /dev/null for each standard stream that is closed. A program must call it first: otherwise the next file or socket that it opens
+ * gets the number of a stream, and the program's lines go into it. On failure, ends the program. */
 void streams_secure(void);
 
-/* Whether a standard stream leads to this file. A standard error that does is led to /dev/null, so that no message goes there either. */
+/* Whether a standard stream is this file. If standard error is, it is redirected to /dev/null, so that no message goes there either. */
 int streams_lead_to(const struct stat *file);
 
 #endif

@@ -23,7 +23,7 @@ void ticker_open(struct ticker *ticker)
     memset(ticker, 0, sizeof *ticker);
     ticker->fd = timerfd_create(CLOCK_MONOTONIC, TFD_NONBLOCK | TFD_CLOEXEC);
     if (ticker->fd < 0)
-        fail(STATUS_SYSTEM, "the system gives no timer: %s", strerror(errno));
+        fail(STATUS_SYSTEM, "the system refuses a timer: %s", strerror(errno));
     ticker->started = ticker_now();
 }
 
@@ -44,7 +44,7 @@ void ticker_pace(struct ticker *ticker, uint64_t period)
 void ticker_wait_again(struct ticker *ticker)
 {
     uint64_t times;
-    /* What it answers says nothing that the clock does not say better. */
+    /* The number that it returns is not needed: the clock is more exact. */
     if (read(ticker->fd, &times, sizeof times) < 0 && errno != EAGAIN && errno != EINTR)
         fail(STATUS_SYSTEM, "the timer cannot be read: %s", strerror(errno));
 }

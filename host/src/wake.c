@@ -20,11 +20,11 @@ void wake_open(struct wake *wake)
     sigaddset(&heard, SIGUSR1);
     sigprocmask(SIG_BLOCK, &heard, NULL);
     signal(SIGPIPE, SIG_IGN);
-    signal(SIGTTIN, SIG_IGN); /* in the background of a terminal: reading fails, and no line comes */
-    signal(SIGTTOU, SIG_IGN); /* and writing does not stop the program */
+    signal(SIGTTIN, SIG_IGN); /* in the background of a terminal: reading fails, and no line arrives */
+    signal(SIGTTOU, SIG_IGN); /* writing does not stop the program */
     wake->signals = signalfd(-1, &heard, SFD_NONBLOCK | SFD_CLOEXEC);
     if (wake->signals < 0)
-        fail(STATUS_SYSTEM, "the system gives no signals: %s", strerror(errno));
+        fail(STATUS_SYSTEM, "the system refuses signals: %s", strerror(errno));
 }
 
 static void take_signals(struct wake *wake)
@@ -63,7 +63,7 @@ void wake_realtime(int priority)
 {
     struct sched_param wanted = {.sched_priority = priority};
     if (sched_setscheduler(0, SCHED_FIFO, &wanted) != 0)
-        fail(STATUS_PERMISSION, "--realtime is refused: %s (it takes the capability CAP_SYS_NICE, or a limit by `ulimit -r`)", strerror(errno));
+        fail(STATUS_PERMISSION, "--realtime is refused: %s (it needs the capability CAP_SYS_NICE, or a limit by `ulimit -r`)", strerror(errno));
     if (mlockall(MCL_CURRENT | MCL_FUTURE) != 0)
-        say("the memory is not locked, so a page that is swapped out makes frames late: %s (`ulimit -l`)", strerror(errno));
+        say("the memory is not locked, so a swapped-out page delays frames: %s (`ulimit -l`)", strerror(errno));
 }

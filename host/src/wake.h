@@ -1,4 +1,4 @@
-/* What both programs wait for: a frame, the timer, a signal, a line. */
+/* What both programs wait for: a frame, the timer, a signal or a line. */
 #ifndef HOST_WAKE_H
 #define HOST_WAKE_H
 
@@ -8,18 +8,18 @@
 
 struct wake {
     int signals;
-    int has_lines; /* a line may have come */
-    int is_asked;  /* SIGUSR1: statistics are wanted */
+    int has_lines; /* a line may have arrived */
+    int is_asked;  /* SIGUSR1: print statistics */
     int is_ended;  /* SIGTERM, SIGINT or SIGHUP */
 };
 
-/* From now on signals are heard by wake_wait alone, and a reader that is gone is no signal. */
+/* From now on only wake_wait receives signals, and a closed reader causes no signal. */
 void wake_open(struct wake *wake);
 
-/* Waits until something is there. */
+/* Waits until one of them arrives. */
 void wake_wait(struct wake *wake, struct wire *wire, struct ticker *ticker, struct lines *lines);
 
-/* Runs by this priority of the first-in first-out scheduler, in memory that is not swapped out. Ends the program where it may not. */
+/* Runs with this priority of the first-in first-out scheduler, in memory that is not swapped out. On failure, ends the program. */
 void wake_realtime(int priority);
 
 #endif

@@ -20,15 +20,15 @@
 #define TYPE_TAG 0x8100u
 #define PORT_CALLS 34964u
 
-/* Room for what comes while the program waits for its flash. */
+/* Room for frames that arrive while the program waits for its flash. */
 #define RECEIVE_ROOM (1 << 20)
 
 #ifndef PACKET_IGNORE_OUTGOING
 #define PACKET_IGNORE_OUTGOING 23
 #endif
 
-/* What a station takes, so that all other traffic of the interface does not wake the program. The kernel has taken a tag out here.
- * A number behind a jump is how many lines it passes over, where the test holds and where it does not. */
+/* The frames that a station accepts, so that other traffic of the interface does not wake the program. The kernel has removed a tag here.
+ * The two numbers at the end of a jump are how many lines it skips if the test is true, and if it is false. */
 static struct sock_filter wanted[] = {
     BPF_STMT(BPF_LD | BPF_H | BPF_ABS, 12),
     BPF_JUMP(BPF_JMP | BPF_JEQ | BPF_K, TYPE_PROFINET, 9, 0),
@@ -51,7 +51,7 @@ static void set(const struct wire *wire, int level, int option, const void *valu
         fail(STATUS_SYSTEM, "%s: %s is refused: %s", wire->name, what, strerror(errno));
 }
 
-/* Asks the kernel of the interface. */
+/* Asks the kernel about the interface. */
 static int ask(const struct wire *wire, unsigned long what, struct ifreq *request)
 {
     memset(request, 0, sizeof *request);
@@ -64,9 +64,9 @@ static void identify_interface(struct wire *wire)
     struct ifreq request;
     wire->index = (int)if_nametoindex(wire->name);
     if (wire->index == 0)
-        fail(STATUS_NO_INPUT, "there is no interface '%s' (`ip link` lists those that there are)", wire->name);
+        fail(STATUS_NO_INPUT, "there is no interface '%s' (`ip link` lists the interfaces)", wire->name);
     if (ask(wire, SIOCGIFHWADDR, &request) != 0 || request.ifr_hwaddr.sa_family != 1 /* ARPHRD_ETHER */)
-        fail(STATUS_NO_INPUT, "%s is no Ethernet interface", wire->name);
+        fail(STATUS_NO_INPUT, "%s is not an Ethernet interface", wire->name);
     memcpy(wire->hardware, request.ifr_hwaddr.sa_data, sizeof wire->hardware);
 }
 
@@ -85,16 +85,16 @@ void wire_open(struct wire *wire, const char *interface)
     if (strlen(interface) >= sizeof wire->name)
         fail(STATUS_NO_INPUT, "there is no interface '%s': a name has at most %d letters", interface, IFNAMSIZ - 1);
     strcpy(wire->name, interface);
-    /* Of no protocol yet: frames come once the filter is there. */
+    /* Without a protocol yet: frames arrive only after the filter is set. */
     wire->fd = socket(AF_PACKET, SOCK_RAW | SOCK_NONBLOCK | SOCK_CLOEXEC, 0);
     if (wire->fd < 0 && errno == EPERM)
-        fail(STATUS_PERMISSION, "the capability CAP_NET_RAW is missing: run it as root, or once `setcap cap_net_raw+ep` on the program");
+        fail(STATUS_PERMISSION, "the capability CAP_NET_RAW is missing: run it as root, or run `setcap cap_net_raw+ep` on the program once");
     if (wire->fd < 0)
-        fail(STATUS_SYSTEM, "the system gives no packet socket: %s", strerror(errno));
+        fail(STATUS_SYSTEM, "the system refuses a packet socket: %s", strerror(errno));
     identify_interface(wire);
     set(wire, SOL_SOCKET, SO_ATTACH_FILTER, &filter, sizeof filter, "the filter");
-    set(wire, SOL_PACKET, PACKET_AUXDATA, &yes, sizeof yes, "to be told of tags");
-    /* Older kernels do not know it; wire_receive leaves such frames out too. */
+    set(wire, SOL_PACKET, PACKET_AUXDATA, &yes, sizeof yes, "data about tags");
+    /* Older kernels do not have this option; wire_receive skips such frames too. */
     setsockopt(wire->fd, SOL_PACKET, PACKET_IGNORE_OUTGOING, &yes, sizeof yes);
     setsockopt(wire->fd, SOL_SOCKET, SO_RCVBUF, &room, sizeof room);
     setsockopt(wire->fd, SOL_SOCKET, SO_PRIORITY, &priority, sizeof priority);
@@ -121,7 +121,7 @@ void wire_join_identify(struct wire *wire)
     join(wire, PACKET_MR_MULTICAST, group, "the group 01-0E-CF-00-00-00");
 }
 
-/* What the kernel tells beside a frame, or nothing. */
+/* The kernel's data about a frame, or NULL. */
 static const struct tpacket_auxdata *told(struct msghdr *message)
 {
     for (struct cmsghdr *entry = CMSG_FIRSTHDR(message); entry != NULL; entry = CMSG_NXTHDR(message, entry))
@@ -130,7 +130,7 @@ static const struct tpacket_auxdata *told(struct msghdr *message)
     return NULL;
 }
 
-/* Puts a tag back behind both addresses. */
+/* Puts a tag back after both addresses. */
 static void put_tag(uint8_t *octets, size_t *length, const struct tpacket_auxdata *aux)
 {
     unsigned type = (aux->tp_status & TP_STATUS_VLAN_TPID_VALID) != 0 ? aux->tp_vlan_tpid : TYPE_TAG;
@@ -142,7 +142,7 @@ static void put_tag(uint8_t *octets, size_t *length, const struct tpacket_auxdat
     *length += 4;
 }
 
-/* A frame from a program on this machine, whose UDP checksum nobody has computed yet: it says 'none', since the kernel vouches for it. */
+/* In a frame from this machine the UDP checksum is not computed yet. This writes 'no checksum' (0), because the kernel vouches for it. */
 static void clear_checksum(uint8_t *octets, size_t length)
 {
     size_t head = 14 + (size_t)(octets[14] & 15) * 4;
@@ -164,7 +164,7 @@ int wire_receive(struct wire *wire, uint8_t octets[WIRE_FRAME], size_t *length)
         const struct tpacket_auxdata *aux;
         ssize_t got = recvmsg(wire->fd, &message, 0);
         if (got < 0)
-            return 0; /* none waits, or the interface is down, which wire_look tells */
+            return 0; /* no frame waits, or the interface is down, which wire_look reports */
         if (got < 14 || from.sll_pkttype == PACKET_OUTGOING)
             continue;
         *length = (size_t)got;
@@ -188,7 +188,7 @@ int wire_send(struct wire *wire, const uint8_t *octets, size_t length)
     return 1;
 }
 
-/* Whether there is a carrier; an interface that does not know has one. */
+/* Whether the interface has a carrier; one that cannot report it counts as having one. */
 static int has_carrier(const struct wire *wire)
 {
     struct ethtool_value link = {.cmd = ETHTOOL_GLINK, .data = 1};
@@ -214,7 +214,7 @@ uint64_t wire_missed(struct wire *wire)
     struct tpacket_stats counts;
     socklen_t size = sizeof counts;
     if (getsockopt(wire->fd, SOL_PACKET, PACKET_STATISTICS, &counts, &size) == 0)
-        wire->missed += counts.tp_drops; /* the kernel counts from the last question on */
+        wire->missed += counts.tp_drops; /* the kernel counts from the last query on */
     return wire->missed;
 }
 

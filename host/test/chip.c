@@ -1,5 +1,5 @@
-/* The flash file by itself: chip FILE. A program call turns only ones to zeros and an erase makes ones, whatever lies in the file; a call
- * that is not within a sector is refused; what was asked is in the file, and nothing beside it. */
+/* The flash file alone: chip FILE. A program call only turns ones to zeros and an erase makes ones, with any contents of the file; a call
+ * that is not within a sector is refused; the file holds what was asked, and nothing else. */
 #include "chip.h"
 #include <stdio.h>
 #include <stdlib.h>

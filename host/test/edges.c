@@ -1,7 +1,7 @@
-/* The edges to C of the controller and of the reading of plans: each misuse that the header names answers its number and changes nothing;
- * each catalogue that is read makes a controller; a plan that a host writes has the fault of the catalogue that says the same, or is the
- * same plan; and catalogues with octets bent, cut out and put in answer a fault, the same one each time, and no more (under the
- * sanitizers). Words: a catalogue, and how many are bent. */
+/* The C interfaces of the controller and of the reading of plans. Each misuse that the header names returns its number and changes nothing.
+ * Each catalogue that is read makes a controller. A plan that a host writes has the fault of the catalogue with the same content, or is
+ * the same plan. Catalogues with changed, removed and inserted octets give a fault, the same one each time, and nothing else (under the
+ * sanitizers). Arguments: a catalogue, and how many changed ones to try. */
 #include "nandutable_controller.h"
 #include <stdarg.h>
 #include <stdio.h>
@@ -29,7 +29,7 @@ static void keep(const char *what, uint32_t answer)
     memcpy(&before, &controller, sizeof before);
 }
 
-/* The plan again, with parameter records and records that are right. */
+/* The plan again, with valid parameter records and records. */
 static void bend_again(void)
 {
     bent = plan;
@@ -41,7 +41,7 @@ static void bend_again(void)
     bent.records[1] = (pn_record){1, 1, 32767, 64, {0}};
 }
 
-/* A bent plan: no controller is made of it, and its fault is told. */
+/* A changed plan: no controller is made from it, and its fault is reported. */
 static void refuses(const char *what, uint32_t fault)
 {
     wants(what, pn_controller_start(&controller, &bent, ar, activity), PN_BAD_PLAN);
@@ -52,7 +52,7 @@ static void refuses(const char *what, uint32_t fault)
     bend_again();
 }
 
-/* A plan that is as far from others as it may be makes a controller. */
+/* A plan at the limits makes a controller. */
 static void takes(const char *what)
 {
     if (pn_plan_fault(&bent) != PN_OK || pn_controller_start(&controller, &bent, ar, activity) != PN_OK) {
@@ -63,7 +63,7 @@ static void takes(const char *what)
     bend_again();
 }
 
-/* What a catalogue may not say in a number. */
+/* Numbers that a catalogue may not have. */
 static void bend_numbers(void)
 {
     pn_submodule *part = &bent.modules[1].submodules[0];
@@ -92,7 +92,7 @@ static void bend_numbers(void)
     part->parameters[1].length = 1, bent.records[1].length = 1, takes("a record of one octet");
 }
 
-/* Records that no submodule takes. */
+/* Records that no submodule accepts. */
 static void bend_records(void)
 {
     bent.records[0].length = 0, refuses("a record of no octets", PN_PLAN_NUMBER);
@@ -168,7 +168,7 @@ static void bend_plans(void)
         exit(1);
 }
 
-/* Each operation, and some that there are not, straight to the library: one that is refused leaves the whole operation as it was. */
+/* Each operation, and some that do not exist, directly to the library: a refused one leaves the whole operation unchanged. */
 static void ask_all(const char *when)
 {
     static pn_op asked, told;
@@ -230,7 +230,7 @@ static uint32_t drawn(void)
     return (uint32_t)(seed >> 33);
 }
 
-/* A catalogue with some octets bent, cut out, or put in from elsewhere. Its length. */
+/* Makes a catalogue with some octets changed, removed, or inserted from elsewhere. Returns its length. */
 static size_t bend(size_t length)
 {
     memcpy(made, text, length);
@@ -262,7 +262,7 @@ static void bend_catalogues(size_t length, unsigned long times)
         faults[fault]++;
         if (fault == PN_OK && pn_controller_start(&controller, &bent, ar, activity) != PN_OK)
             exit(1);
-        /* What stands at a key is told so, but for what is judged over the whole. */
+        /* A fault of a key is reported with it, except the faults of the whole catalogue. */
         if ((fault == PN_OK) != (found == 0) && (fault < PN_PLAN_NOT_ALLOWED) && fault != PN_PLAN_JSON) {
             printf("fault %u and a place %u: %.*s\n", (unsigned)fault, (unsigned)found, (int)now, (const char *)made);
             exit(1);
@@ -274,7 +274,7 @@ static void bend_catalogues(size_t length, unsigned long times)
     puts("");
 }
 
-/* --- A plan that a host writes beside a catalogue that says the same --- */
+/* --- A plan that a host writes, and a catalogue with the same content --- */
 
 static char said[65536];
 static size_t said_length;
@@ -330,7 +330,7 @@ static unsigned uses_of(const pn_plan *from, unsigned slot, unsigned modules)
     return uses;
 }
 
-/* A slot with its records, in their order; they are said once, where the slot is there twice. */
+/* A slot with its records, in their order; if the slot occurs twice, they are written once. */
 static void say_slot(const pn_plan *from, unsigned slot, const char *target, unsigned uses)
 {
     unsigned number = 0;
@@ -384,7 +384,7 @@ static void say_plan(const pn_plan *from)
         say_slot(from, from->modules[i].slot, target, uses_of(from, from->modules[i].slot, i));
         say(i + 1 < from->module_count ? "," : "");
     }
-    /* A record of a slot in which there is no module. */
+    /* A record of a slot without a module. */
     for (unsigned i = 0; i < from->record_count; i++)
         if (uses_of(from, from->records[i].slot, from->module_count) == 0)
             say(","), say_slot(from, from->records[i].slot, "none", 0);
@@ -397,7 +397,7 @@ static unsigned one_of(unsigned a, unsigned b, unsigned c, unsigned d)
     return all[drawn() % 4];
 }
 
-/* One number of a plan that is right becomes another, which is mostly at an end of a range. */
+/* Changes one number of a valid plan, mostly to one at an end of a range. */
 static void bend_number(void)
 {
     pn_module *module = &bent.modules[drawn() % 3];
@@ -425,7 +425,7 @@ static void bend_number(void)
     }
 }
 
-/* Plans that a host writes have the fault of the catalogue that says the same, or both are the same plan. */
+/* A plan that a host writes has the fault of the catalogue with the same content, or both are the same plan. */
 static void bend_both(unsigned long times)
 {
     static pn_plan other;

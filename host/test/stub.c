@@ -1,5 +1,5 @@
-/* stub IFACE PERIOD_US SECONDS: sends a cyclic frame of forty octets each period, as a device in a relation does, and does nothing else:
- * what the system alone makes of a timer and a socket. It wakes by the same timer as the programs. */
+/* stub IFACE PERIOD_US SECONDS: sends a cyclic frame of forty octets each period, as a device in a relation does, and nothing else. It
+ * shows the effect of the system's timer and socket alone. It uses the same timer as the programs. */
 #define _GNU_SOURCE
 #include <arpa/inet.h>
 #include <linux/if_ether.h>

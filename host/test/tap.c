@@ -1,5 +1,5 @@
-/* tap IFACE FILE: writes each frame of an interface, in and out, to a capture file that Wireshark reads, with the kernel's times in
- * nanoseconds, until SIGTERM. It opens the file in front of the interface, and says `ready` once it hears. */
+/* tap IFACE FILE: writes each frame of an interface, in and out, to a capture file for Wireshark, with the kernel's times in nanoseconds,
+ * until SIGTERM. It opens the file before the interface, and prints `ready` once it receives. */
 #define _GNU_SOURCE
 #include <arpa/inet.h>
 #include <errno.h>
@@ -45,7 +45,7 @@ static int open_interface(const char *name)
     return fd;
 }
 
-/* Of the capture file: numbers of four octets, as this machine writes them. */
+/* Writes numbers of four octets of the capture file, in this machine's byte order. */
 static void put(FILE *file, const uint32_t *words, size_t count)
 {
     if (fwrite(words, sizeof *words, count, file) != count)

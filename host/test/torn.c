@@ -1,13 +1,13 @@
-/* Preloaded in front of a device (LD_PRELOAD), this takes the power away inside a call of its flash, or tells what is asked of the system.
- * Six words of the environment:
+/* Preloaded into a device (LD_PRELOAD), this cuts the power inside a flash call, or records the calls to the system. Six environment
+ * variables:
  *
- *   TORN=K:SEED   the K-th write (from 0, those of the start counted) reaches the disk in part, each bit by the seed, and the process
+ *   TORN=K:SEED   the K-th write (from 0, including those of the start) reaches the disk in part, each bit by the seed, and the process
  *                 is killed in it
  *   FULL=K:N      N writes from the K-th on find the disk full (N 0: all of them): the first half of each is written
- *   GONE=K:N      the file is removed as the K-th write begins (N is 1)
- *   NO_NULL=1     there is no /dev/null
- *   FAILS=K:N     N syncs from the K-th on answer that the disk failed (N 0: all of them)
- *   ORDER=FILE    a line for each write, sync, new name and frame, in their order */
+ *   GONE=K:N      the file is removed when the K-th write begins (N is 1)
+ *   NO_NULL=1     /dev/null does not exist
+ *   FAILS=K:N     N syncs from the K-th on report that the disk failed (N 0: all of them)
+ *   ORDER=FILE    writes a line for each write, sync, rename and frame, in their order */
 #define _GNU_SOURCE
 #include <dlfcn.h>
 #include <errno.h>
@@ -25,7 +25,7 @@
 
 static unsigned long writes, syncs;
 
-/* The system's own function of a name. */
+/* The system's own function with this name. */
 static uintptr_t next(const char *name)
 {
     return (uintptr_t)dlsym(RTLD_NEXT, name);
@@ -60,7 +60,7 @@ static uint8_t drawn(uint64_t *seed)
     return (uint8_t)(*seed >> 56);
 }
 
-/* Writes some of the bits, and none of those behind a place where the seed says so. */
+/* Writes some of the bits; for some seeds all bits before a place, or all after it. */
 static void tear(int fd, const uint8_t *octets, size_t length, off_t place, uint64_t seed)
 {
     uint8_t torn[8192];
@@ -76,7 +76,7 @@ static void tear(int fd, const uint8_t *octets, size_t length, off_t place, uint
         abort();
 }
 
-/* Whether a call is one of those that fail. */
+/* Whether this call must fail. */
 static int is_struck(const char *name, unsigned long *passed)
 {
     unsigned long at, count, now;
@@ -103,7 +103,7 @@ static void remove_file(int fd)
 ssize_t pwrite(int fd, const void *octets, size_t length, off_t place)
 {
     static unsigned long filled, left;
-    static int is_half; /* of a write that found the disk full half is written: nothing of the rest */
+    static int is_half; /* half of a write to a full disk is written, and nothing of the rest */
     unsigned long at, seed;
     tell("write %lld %zu\n", (long long)place, length);
     if (read_pair("TORN", &at, &seed) && writes++ == at) {

@@ -1,4 +1,4 @@
-"""A wire between two network namespaces, programs on it whose lines are read as they come, and frames without any library."""
+"""A wire between two network namespaces, programs on it whose lines are read as they arrive, and frames without any library."""
 
 import ctypes
 import os
@@ -47,7 +47,7 @@ class Wire:
             for name in (self.device, self.controller):
                 command("ip", "netns", "add", name)
                 self.made.append(name)
-                # Else the kernel's own packets of IPv6 are on the wire too.
+                # Otherwise the kernel's own IPv6 packets are on the wire too.
                 self.within(name, "sh", "-c", "echo 1 > /proc/sys/net/ipv6/conf/default/disable_ipv6; :")
             self.plug()
         except (NoWire, OSError) as fault:
@@ -68,7 +68,7 @@ class Wire:
         command("ip", "-n", self.device if end == "d0" else self.controller, "link", *words)
 
     def __exit__(self, *_):
-        # What a test that went wrong left running.
+        # Programs that a failed test left running.
         for program in self.programs:
             if program.process.poll() is None:
                 program.process.kill()
@@ -93,7 +93,7 @@ class Wire:
 
 
 class Program:
-    """A program in a namespace. Its lines are kept with the time at which they came."""
+    """A program in a namespace. Its lines are kept with their times of arrival."""
 
     def __init__(self, wire, end, *words, name=None, environment=None, kind=""):
         program = name or ("nandutable-device" if end == "d0" else "nandutable-controller")
@@ -126,7 +126,7 @@ class Program:
         return "\n".join(line for _, line in self.lines) + self.fault.decode(errors="replace")
 
     def expect(self, pattern, seconds=10):
-        """The next line, behind those that were expected before, that is so from its beginning on."""
+        """The next line whose beginning matches the pattern, after the lines that were expected before."""
         ends = time.monotonic() + seconds
         with self.news:
             while True:
@@ -142,12 +142,12 @@ class Program:
         raise AssertionError(f"no line '{pattern}' of {os.path.basename(self.words[4])}:\n{self.text()}")
 
     def has(self, pattern):
-        """Whether some line is so."""
+        """Whether the beginning of some line matches."""
         with self.news:
             return any(re.match(pattern, line) for _, line in self.lines)
 
     def sees(self, pattern, seconds=10):
-        """Waits until some line is so, wherever it stands."""
+        """Waits until the beginning of some line matches."""
         ends = time.monotonic() + seconds
         while not self.has(pattern):
             if time.monotonic() > ends or not self.is_open:
@@ -163,7 +163,7 @@ class Program:
         return self.expect(pattern, seconds)
 
     def end(self, number=15, seconds=10):
-        """Sends a signal and waits. The status."""
+        """Sends a signal and waits. Returns the status."""
         if self.process.poll() is None:
             self.process.send_signal(number)
         return self.wait(seconds)
@@ -203,7 +203,7 @@ class Tap(Program):
 
 
 def talk_to(path, seconds=5):
-    """The socket over which a program takes lines, once it listens there."""
+    """The socket over which a program receives lines, once it listens there."""
     talker = socket.socket(socket.AF_UNIX)
     talker.settimeout(seconds)
     ends = time.monotonic() + seconds
@@ -253,7 +253,7 @@ def identify_all(xid):
 
 
 def answer(link, frame, frame_id, seconds=5.0):
-    """Sends a request of DCP, and gives the answer with its Xid; None where none comes."""
+    """Sends a DCP request, and returns the answer with its Xid; None without an answer."""
     link.send(frame)
     ends = time.monotonic() + seconds
     while (left := ends - time.monotonic()) > 0:
@@ -268,7 +268,7 @@ def answer(link, frame, frame_id, seconds=5.0):
 
 
 def drain(link):
-    """What came and was not read."""
+    """Drops what arrived and was not read."""
     link.settimeout(0)
     found = []
     while True:
@@ -279,7 +279,7 @@ def drain(link):
 
 
 def blocks_of(came):
-    """Blocks of an answer of DCP, by option and suboption."""
+    """The blocks of a DCP answer, by option and suboption."""
     at, found = 26, {}
     ends = 26 + struct.unpack_from(">H", came, 24)[0]
     while at + 4 <= ends:
