@@ -102,6 +102,7 @@ pub fn put_alarm_cr_block_res<const N: usize>(out: &mut ArrayVec<u8, N>, value: 
     ensures len { array_vec_len out.new ≡ array_vec_len out.old + alarm_cr_block_res.size value.now }
     ensures fits { alarm_cr_block_res.Fits value.now }
 {
+    // The length is the same for every value. The list of fields does not read it, so it is named here.
     let _all = value;
     alarm_cr_block_res_fields!(put_fields [out, value]);
 }
@@ -112,6 +113,7 @@ pub fn alarm_cr_block_res_len(value: &AlarmCrBlockRes) -> usize
     ensures size { result ≡ alarm_cr_block_res.size value.now }
     ensures few { result ≡ 6 }
 {
+    // The length is the same for every value. The list of fields does not read it, so it is named here.
     let _all = value;
     alarm_cr_block_res_fields!(len_fields[value])
 }

@@ -99,6 +99,7 @@ fn object_in(octets: &[u8], count: usize, index: usize) -> IoObject
     requires few { length (objects_in count octets.now) ≤ 256 }
     ensures { slice_get (objects_in count octets.now) index ≡ Some result }
 {
+    // Only the clauses need the count; the program reads the place alone.
     let _count = count;
     let from = &octets[OBJECT_LEN * index..];
     match io_object_at(from) {

@@ -175,6 +175,7 @@ fn iocr_type_len(value: &IocrType) -> usize
     ensures size { result ≡ iocr_type.size value.now }
     ensures two { result ≡ 2 }
 {
+    // The length is the same for every value. A field list calls this function with one, so it is named here.
     let _any = value;
     2
 }
@@ -213,6 +214,7 @@ fn rt_class_len(value: &RtClass) -> usize
     ensures size { result ≡ rt_class.size value.now }
     ensures four { result ≡ 4 }
 {
+    // The length is the same for every value. A field list calls this function with one, so it is named here.
     let _any = value;
     4
 }
@@ -365,6 +367,7 @@ pub fn iocr_block_res_len(value: &IocrBlockRes) -> usize
     ensures size { result ≡ iocr_block_res.size value.now }
     ensures few { result ≡ 6 }
 {
+    // The length is the same for every value. A field list calls this function with one, so it is named here.
     let _any = value;
     iocr_block_res_fields!(len_fields[value])
 }

@@ -123,6 +123,7 @@ impl<'a> Judge<'a> {
         ensures below { IfSome result (λ mark. mark < 128) }
     {
         let (index, io_data) = self.find(slot, subslot, last)?;
+        // The size is not needed here: a place that takes no octets has no mark.
         let _size = taken(self.direction, kind, io_data)?;
         Some(mark_in(kind, index))
     }

@@ -30,6 +30,7 @@ use records::TakenRecord;
 fn has_16_bits(number: u16)
     ensures { number < 65536 }
 {
+    // The type gives the bound once the number is read.
     let _number = number;
 }
 
