@@ -24,7 +24,7 @@ from program import answer_help, need, refuse
 ROOT = pathlib.Path(__file__).resolve().parent.parent.parent
 PROGRAM = ROOT / "crates/bench_block/out/bench_block"
 # how the names of functions begin that read or write blocks
-CRATES_OF_BLOCKS = "(?:block_codec|connect_blocks|module_lists|module_blocks|record_blocks)::"
+CRATES_OF_BLOCKS = "(?:block_codec|connect_blocks|block_fields|module_blocks|record_blocks)::"
 MOST_INSTRUCTIONS = 60_000
 # of a block without lists, which needs no room
 MOST_OF_ONE = 2_000
