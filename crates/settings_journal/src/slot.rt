@@ -23,6 +23,29 @@ pub(crate) const ENTRY: usize = 2 + MOST;
 // The maximum length of a payload.
 const MOST: usize = 240;
 
+// The kinds of entries, as the flash holds them. A kind never changes its number: older builds wrote it.
+const PERMANENT_NAME: u8 = 1;
+
+const NO_NAME: u8 = 2;
+
+const PERMANENT_SUITE: u8 = 3;
+
+const NO_SUITE: u8 = 4;
+
+const IM1: u8 = 5;
+
+const IM2: u8 = 6;
+
+const IM3: u8 = 7;
+
+const RESET_APPLICATION: u8 = 8;
+
+const RESET_COMMUNICATION: u8 = 9;
+
+const RESET_ALL: u8 = 10;
+
+const IM4: u8 = 11;
+
 // An erased slot.
 const BLANK: [u8; SLOT] = [0xFF; SLOT];
 
@@ -33,14 +56,20 @@ pub(crate) fn encode_command(command: &Command) -> ArrayVec<u8, ENTRY>
     ensures kept { IsEntryOf result.items command.now }
 {
     match command {
-        Command::SetName { permanent, name } if *permanent => entry(1, name.as_bytes()),
-        Command::SetName { .. } => entry(2, &[]),
-        Command::SetIp { permanent, suite } if *permanent => entry(3, octets_of(suite).as_slice()),
-        Command::SetIp { .. } => entry(4, &[]),
+        Command::SetName { permanent, name } if *permanent => entry(
+            PERMANENT_NAME,
+            name.as_bytes(),
+        ),
+        Command::SetName { .. } => entry(NO_NAME, &[]),
+        Command::SetIp { permanent, suite } if *permanent => entry(
+            PERMANENT_SUITE,
+            octets_of(suite).as_slice(),
+        ),
+        Command::SetIp { .. } => entry(NO_SUITE, &[]),
         Command::SetIm(value) => im_entry(value),
-        Command::ResetApplication => entry(8, &[]),
-        Command::ResetCommunication => entry(9, &[]),
-        Command::ResetAll => entry(10, &[]),
+        Command::ResetApplication => entry(RESET_APPLICATION, &[]),
+        Command::ResetCommunication => entry(RESET_COMMUNICATION, &[]),
+        Command::ResetAll => entry(RESET_ALL, &[]),
     }
 }
 
@@ -51,10 +80,10 @@ fn im_entry(value: &ImValue) -> ArrayVec<u8, ENTRY>
     ensures kept { IsEntryOf result.items (SetIm value.now) }
 {
     match value {
-        ImValue::Im1(text) => entry(5, text.as_bytes()),
-        ImValue::Im2(text) => entry(6, text.as_bytes()),
-        ImValue::Im3(text) => entry(7, text.as_bytes()),
-        ImValue::Im4(text) => entry(11, text.as_bytes()),
+        ImValue::Im1(text) => entry(IM1, text.as_bytes()),
+        ImValue::Im2(text) => entry(IM2, text.as_bytes()),
+        ImValue::Im3(text) => entry(IM3, text.as_bytes()),
+        ImValue::Im4(text) => entry(IM4, text.as_bytes()),
     }
 }
 
@@ -145,29 +174,29 @@ fn command_at(version: Version, kind: u8, payload: &[u8]) -> Option<Command>
     ensures { IsHandled (command_of version kind payload.now) result }
 {
     match kind {
-        1 => name_at(payload),
-        2 => bare(
+        PERMANENT_NAME => name_at(payload),
+        NO_NAME => bare(
             payload,
             Command::SetName {
                 permanent: false,
                 name: StationName::none(),
             },
         ),
-        3 => suite_at(payload),
-        4 => bare(
+        PERMANENT_SUITE => suite_at(payload),
+        NO_SUITE => bare(
             payload,
             Command::SetIp {
                 permanent: false,
                 suite: IpSuite::zero(),
             },
         ),
-        5 => Some(Command::SetIm(ImValue::Im1(text_at(payload)?))),
-        6 => Some(Command::SetIm(ImValue::Im2(text_at(payload)?))),
-        7 => Some(Command::SetIm(ImValue::Im3(text_at(payload)?))),
-        8 => bare(payload, Command::ResetApplication),
-        9 => bare(payload, Command::ResetCommunication),
-        10 => bare(payload, Command::ResetAll),
-        11 => im4_at(version, payload),
+        IM1 => Some(Command::SetIm(ImValue::Im1(text_at(payload)?))),
+        IM2 => Some(Command::SetIm(ImValue::Im2(text_at(payload)?))),
+        IM3 => Some(Command::SetIm(ImValue::Im3(text_at(payload)?))),
+        RESET_APPLICATION => bare(payload, Command::ResetApplication),
+        RESET_COMMUNICATION => bare(payload, Command::ResetCommunication),
+        RESET_ALL => bare(payload, Command::ResetAll),
+        IM4 => im4_at(version, payload),
         _ => None,
     }
 }
