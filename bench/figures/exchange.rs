@@ -1,7 +1,7 @@
-// What crates/bench_exchange does, in plain Rust: a device in a relation that takes cyclic frames and alarms and sends its own. It has
+// What bench_exchange of tests/benches does, in one file: a device in a relation that takes cyclic frames and alarms and sends its own. It has
 // no calls: an exchange begins with the first line that is a cyclic frame, an alarm, an input or a unit of time. The octets of data,
 // the units of an interval and the intervals of data hold come from the command line; what else a Connect would have said stands in the
-// relation, as it does in a device. It prints what that crate prints.
+// relation, as it does in a device. It prints what that program prints.
 use std::env::args;
 use std::io::{self, Read};
 

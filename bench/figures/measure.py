@@ -236,7 +236,7 @@ def print_journal(bench):
 
 def print_room(program, bench):
     """How large a device is, and a plan, and the largest frame on the stack of a step. Says whether they keep their bounds."""
-    said = subprocess.run([bench], capture_output=True, text=True, check=True).stderr
+    said = subprocess.run([bench], capture_output=True, text=True, check=True).stdout
     device, flash, plan, _ = map(int, re.findall(r"\d+", said))
     print(f"a device in memory: {device} octets, of which {SECTORS} are the sectors of its flash and {flash - SECTORS} else of it: "
           f"{device - SECTORS} (at most {MOST_IN_MEMORY})")

@@ -1,8 +1,10 @@
 //! Two worlds beside each other: one plays four moves in a call, the other the same moves one by one. Where an allocation fails, a call
 //! leaves a world of the moves before.
 use crate::ladder::Play;
+use crate::schedule::{Choice, Schedule};
+use crate::station::{Net, fresh_world};
+use crate::told::Told;
 use std::alloc::{AllocError, Global};
-use test_worlds::{Choice, Net, Schedule, Told, fresh_world};
 
 /// Both worlds, and what was found.
 #[derive(Drop)]

@@ -20,8 +20,9 @@
 //! alarms MOVES           the same: an alarm is raised, or one of the last three comes
 //! ```
 //!
-//! Behind each move all laws of both ends are reckoned anew (`test_worlds`), and at the end of a schedule that each frame is as it was
-//! when it was sent. The first law that does not hold is printed with the number of the move.
+//! After each move all laws of both ends are computed again (`watch`), from the octets of the frames and from what both ends report, by code
+//! that shares nothing with the definitions of these laws. At the end of a schedule each frame is compared with what it was when it was
+//! sent. The first law that does not hold is printed with the number of the move.
 //!
 //! `growths` is for a run in which an allocation fails: where `play` has no memory, its world has to be that of a front of the moves, and
 //! at the end both worlds are the same, as without. How many were refused goes to standard error.
@@ -32,8 +33,14 @@
 #![tactic(auto)]
 
 mod growths;
+mod kind;
 mod ladder;
+mod law;
 mod rows;
+mod schedule;
+mod station;
+mod told;
+mod watch;
 mod worlds;
 
 use ladder::Play;

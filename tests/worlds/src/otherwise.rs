@@ -1,6 +1,6 @@
 //! Worlds whose device is not what the plan says: a record of another length or of none, a module that is not plugged, another module. How
 //! a start-up ends was worked out by hand, each frame by its kind; in schedules the laws of both ends are computed behind each move
-//! (`test_worlds`), and in none of them is data exchanged.
+//! (`watch` of `table_world`), and in none of them is data exchanged.
 use arrayvec::ArrayVec;
 use configurator::plan_from_json;
 use controller_core::{Cause, Controller, State};
@@ -12,8 +12,11 @@ use network_world::World;
 use pn_values::{ParameterRecord, Real, RealModule, RealSubmodule};
 use rattle_std::alloc::Global;
 use relations::Phase;
+use table_world::kind::Kind;
+use table_world::schedule::{Choice, Schedule};
+use table_world::station::Fresh;
+use table_world::watch::Watched;
 use test_stations::{Station, no_modules, set_pump, step};
-use test_worlds::{Choice, Fresh, Kind, Schedule, Watched};
 use uuid::Uuid;
 
 /// A station with an input in slot 1, which is given two records of four octets, and outputs in slots 2 and 3.

@@ -127,11 +127,6 @@ impl Watched {
         Ok(watched)
     }
 
-    /// The world.
-    pub fn net(&self) -> &Net {
-        &self.net
-    }
-
     /// What both ends tell.
     pub fn told(&self) -> Told {
         self.told
@@ -150,11 +145,6 @@ impl Watched {
     /// How many records the controller writes.
     pub fn records(&self) -> usize {
         self.records
-    }
-
-    /// How many relations the device made.
-    pub fn relations(&self) -> u32 {
-        self.relations
     }
 
     /// How often something was at stake.

@@ -1,6 +1,6 @@
 //! What may happen next, and schedules from a seed.
+use crate::station::octets;
 use network_world::{End, Move};
-use test_stations::octets;
 
 /// A move, without what it is made of.
 #[derive(Clone, Copy, Debug, PartialEq, Eq)]
