@@ -10,7 +10,8 @@ use frame_codec::{Bytes, Frame, Outbox};
 use rattle_std::alloc::Global;
 use relations::Phase;
 use test_stations::{
-    DONE, SET, Station, WRITE, call, frame, is_filled, is_padded, octets, plugged, set_pump, step,
+    DONE, SET, Station, WRITE, call, frame, is_filled, is_padded, octets, plugged, set, set_pump,
+    shortened, step,
 };
 use uuid::Uuid;
 
@@ -282,6 +283,70 @@ fn other_modules_are_told() {
     ends.is_related(Some(Phase::Started));
     ends.turn();
     ends.is_related(None);
+}
+
+// An answer to Identify of another transaction (Xid) than the controller's, which is 1, is not the answer to its Identify.
+#[test]
+fn an_identify_answer_of_another_transaction_is_ignored() {
+    let mut ends = Ends::new(Global, PUMP);
+    ends.notes(&frame(ends.sent.as_slice()), Note::Done);
+    let answer = one(&ends.answers).expect("an answer");
+    for xid in [0, 2, 0x0000_0101, 0x0001_0001, 0x0100_0001, u32::MAX] {
+        let mut other = octets(answer.as_slice());
+        for (place, octet) in (18..).zip(xid.to_be_bytes()) {
+            set(&mut other, place, octet);
+        }
+        let sent = told(&mut ends.controller, &ControllerEvent::Frame(other));
+        assert_eq!(sent.len(), 0, "{xid:#x}");
+        ends.is_at(State::Looking);
+    }
+    assert_eq!(answer.get(18..22), Some([0, 0, 0, 1].as_slice()));
+    let sent = told(&mut ends.controller, &ControllerEvent::Frame(answer));
+    assert_eq!(sent.len(), 1);
+    ends.is_at(State::Addressing);
+}
+
+// Where the blocks of the answer to a Connect of other modules are, from the first octet of each to behind its last: ARBlockRes, the
+// IOCRBlockRes of inputs and of outputs, AlarmCRBlockRes and ModuleDiffBlock.
+const ANSWERED: [(usize, usize); 5] = [(142, 176), (176, 188), (188, 200), (200, 212), (212, 262)];
+
+/// An answer to a Connect without the octets from one place up to another. Its UDP checksum is 0: it is not used.
+fn without(answer: &Bytes, from: usize, to: usize) -> Bytes {
+    let mut bytes = octets(&answer[..from]);
+    bytes.try_extend_from_slice(&answer[to..]).expect("room");
+    let mut part = shortened(&bytes, bytes.len());
+    set(&mut part, 40, 0);
+    set(&mut part, 41, 0);
+    part
+}
+
+// An answer to a Connect that lacks the ARBlockRes, an IOCRBlockRes or the AlarmCRBlockRes is no answer, though it says that modules
+// differ. The whole one ends the relation by a Release.
+#[test]
+fn an_answer_to_a_connect_without_a_block_is_ignored() {
+    let mut ends = Ends::new(Global, OTHER_MODULES);
+    ends.turns(2);
+    ends.is_at(State::Connecting);
+    ends.notes(&frame(ends.sent.as_slice()), Note::Done);
+    let answer = one(&ends.answers).expect("an answer");
+    let [needed @ .., differing] = ANSWERED;
+    for (from, to) in needed {
+        let part = without(&answer, from, to);
+        let sent = told(&mut ends.controller, &ControllerEvent::Frame(part));
+        assert_eq!(sent.len(), 0, "without {from}..{to}");
+        ends.is_at(State::Connecting);
+    }
+    // Octets that are left out are the reason, and not how they are left out: without the last block the relation begins.
+    let mut same = Ends::new(Global, OTHER_MODULES);
+    same.turns(2);
+    let part = without(&answer, differing.0, differing.1);
+    let sent = told(&mut same.controller, &ControllerEvent::Frame(part));
+    assert_eq!(sent.len(), 1);
+    same.is_at(State::Ending);
+    let whole = without(&answer, answer.len(), answer.len());
+    let sent = told(&mut ends.controller, &ControllerEvent::Frame(whole));
+    assert_eq!(sent.len(), 1);
+    ends.is_at(State::Ended(Cause::ModuleDiff));
 }
 
 // Mode 7 is none.

@@ -2,6 +2,7 @@
 #![cfg(test)]
 
 mod otherwise;
+mod played;
 
 use controller_core::{Cause, State};
 use demo_station::identity;

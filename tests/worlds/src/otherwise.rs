@@ -20,7 +20,7 @@ use test_stations::{Station, no_modules, set_pump, step};
 use uuid::Uuid;
 
 /// A station with an input in slot 1, which is given two records of four octets, and outputs in slots 2 and 3.
-const RECORDS: &str = r#"{"DeviceIdentity":{"VendorID":291,"DeviceID":1110},"DeviceAccessPointItem":{"ModuleIdentNumber":1,"PhysicalSlots":[0,1,2,3],"DNS_CompatibleName":"pn-demo","MinDeviceInterval":32,"VirtualSubmoduleItem":[{"Subslot":1,"SubmoduleIdentNumber":1},{"Subslot":32768,"SubmoduleIdentNumber":2},{"Subslot":32769,"SubmoduleIdentNumber":3}],"ModuleItemRef":[{"ModuleItemTarget":"IN2","AllowedInSlots":[1,2,3]},{"ModuleItemTarget":"OUT2","AllowedInSlots":[1,2,3]}]},"ModuleItem":[{"ID":"IN2","ModuleIdentNumber":16,"VirtualSubmoduleItem":[{"Subslot":1,"SubmoduleIdentNumber":16,"IOData":{"Input":[{"DataType":"Unsigned16"}]},"ParameterRecordDataItem":[{"Index":1,"Length":4},{"Index":2,"Length":4}]}]},{"ID":"OUT2","ModuleIdentNumber":32,"VirtualSubmoduleItem":[{"Subslot":1,"SubmoduleIdentNumber":32,"IOData":{"Output":[{"DataType":"Unsigned16"}]}}]}],"Project":{"NameOfStation":"pump-1","IPAddress":"192.168.0.2","SubnetMask":"255.255.255.0","Gateway":"0.0.0.0","Controller":{"NameOfStation":"plc","MAC":"02-00-00-00-00-02","IPAddress":"192.168.0.1"},"SendClockFactor":32,"ReductionRatio":1,"DataHoldFactor":3,"Slots":[{"Slot":1,"ModuleItemTarget":"IN2","Records":[{"Subslot":1,"Index":1,"Data":"00000064"},{"Subslot":1,"Index":2,"Data":"000000c8"}]},{"Slot":2,"ModuleItemTarget":"OUT2"},{"Slot":3,"ModuleItemTarget":"OUT2"}]}}"#;
+pub(crate) const RECORDS: &str = r#"{"DeviceIdentity":{"VendorID":291,"DeviceID":1110},"DeviceAccessPointItem":{"ModuleIdentNumber":1,"PhysicalSlots":[0,1,2,3],"DNS_CompatibleName":"pn-demo","MinDeviceInterval":32,"VirtualSubmoduleItem":[{"Subslot":1,"SubmoduleIdentNumber":1},{"Subslot":32768,"SubmoduleIdentNumber":2},{"Subslot":32769,"SubmoduleIdentNumber":3}],"ModuleItemRef":[{"ModuleItemTarget":"IN2","AllowedInSlots":[1,2,3]},{"ModuleItemTarget":"OUT2","AllowedInSlots":[1,2,3]}]},"ModuleItem":[{"ID":"IN2","ModuleIdentNumber":16,"VirtualSubmoduleItem":[{"Subslot":1,"SubmoduleIdentNumber":16,"IOData":{"Input":[{"DataType":"Unsigned16"}]},"ParameterRecordDataItem":[{"Index":1,"Length":4},{"Index":2,"Length":4}]}]},{"ID":"OUT2","ModuleIdentNumber":32,"VirtualSubmoduleItem":[{"Subslot":1,"SubmoduleIdentNumber":32,"IOData":{"Output":[{"DataType":"Unsigned16"}]}}]}],"Project":{"NameOfStation":"pump-1","IPAddress":"192.168.0.2","SubnetMask":"255.255.255.0","Gateway":"0.0.0.0","Controller":{"NameOfStation":"plc","MAC":"02-00-00-00-00-02","IPAddress":"192.168.0.1"},"SendClockFactor":32,"ReductionRatio":1,"DataHoldFactor":3,"Slots":[{"Slot":1,"ModuleItemTarget":"IN2","Records":[{"Subslot":1,"Index":1,"Data":"00000064"},{"Subslot":1,"Index":2,"Data":"000000c8"}]},{"Slot":2,"ModuleItemTarget":"OUT2"},{"Slot":3,"ModuleItemTarget":"OUT2"}]}}"#;
 
 /// How many schedules are played of each world, and how many moves each has.
 const SEEDS: u64 = 40;
@@ -73,19 +73,24 @@ fn plugged(records: &[(u16, u16)]) -> Real {
 }
 
 /// What the catalogue says.
-fn as_planned() -> Real {
+pub(crate) fn as_planned() -> Real {
     plugged(&[(1, 4), (2, 4)])
 }
 
-/// The station "pump-1" in which this is plugged, and a controller of the plan of the catalogue.
-fn world(real: Real) -> Watched {
+/// The station "pump-1" with these modules.
+pub(crate) fn station(real: Real) -> Station {
     let mut named: Station = Device::boot(identity(), no_modules(), MemoryFlash::blank())
         .ok()
         .expect("a station");
     step(&mut named, &set_pump(b'1'), &mut Outbox::new());
-    let device: Station = Device::boot(identity(), real, named.into_flash())
+    Device::boot(identity(), real, named.into_flash())
         .ok()
-        .expect("a station");
+        .expect("a station")
+}
+
+/// The station "pump-1" in which this is plugged, and a controller of the plan of the catalogue.
+fn world(real: Real) -> Watched {
+    let device = station(real);
     let plan = plan_from_json(Global, RECORDS.as_bytes())
         .ok()
         .expect("a plan");
