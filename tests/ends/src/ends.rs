@@ -32,7 +32,7 @@ const ASKED: [u8; 32] =
     *b"\x02\x00\x00\x00\x00\x01\x02\x00\x00\x00\x00\x02\x88\x92\xfe\xfd\x04\x00\x00\x00\x00\x02\x00\x00\x00\x06\
     \x05\x06\x00\x02\x00\x02";
 
-// The answer to one that is done, and to one of a mode that there is not.
+// The answer to one that is done, and to one of a mode that does not exist.
 const RESET: [u8; 33] =
     *b"\x02\x00\x00\x00\x00\x02\x02\x00\x00\x00\x00\x01\x88\x92\xfe\xfd\x04\x01\x00\x00\x00\x02\x00\x00\x00\x08\
     \x05\x04\x00\x03\x05\x06\x00";
@@ -109,7 +109,7 @@ impl Ends {
         }
     }
 
-    /// The same, so many times.
+    /// The same, `count` times.
     fn turns(&mut self, count: u32) {
         for _ in 0..count {
             self.turn();
@@ -138,7 +138,7 @@ impl Ends {
         assert_eq!(step(&mut self.device, event, &mut self.answers), note);
     }
 
-    /// The device sent one frame, of so many octets.
+    /// The device sent one frame, of this many octets.
     fn is_answer_long(&self, length: usize) {
         let answer = one(&self.answers).expect("an answer");
         assert_eq!(answer.len(), length);
@@ -242,7 +242,7 @@ fn is_alarm_shown(controller: &Controller) -> bool {
     }
 }
 
-// What the controller is at behind each turn of a start-up.
+// The state of the controller after each turn of a start-up.
 const STATES: [State; 5] = [
     State::Addressing,
     State::Connecting,
@@ -261,7 +261,7 @@ fn a_start_up() {
     ends.is_related(Some(Phase::Exchanging));
 }
 
-// The Connect of the plan is a frame of 533 octets, and cut anywhere it is none; its answer is one of 212.
+// The Connect of the plan is a frame of 533 octets. Cut anywhere it is not a frame. Its answer has 212 octets.
 #[test]
 fn a_connect_that_is_cut_is_none() {
     let mut ends = Ends::new(Global, PUMP);
@@ -306,8 +306,8 @@ fn an_identify_answer_of_another_transaction_is_ignored() {
     ends.is_at(State::Addressing);
 }
 
-// Where the blocks of the answer to a Connect of other modules are, from the first octet of each to behind its last: ARBlockRes, the
-// IOCRBlockRes of inputs and of outputs, AlarmCRBlockRes and ModuleDiffBlock.
+// Where the blocks of the answer to a Connect of other modules are, from the first octet of each to the octet after its last:
+// ARBlockRes, the IOCRBlockRes of inputs and of outputs, AlarmCRBlockRes and ModuleDiffBlock.
 const ANSWERED: [(usize, usize); 5] = [(142, 176), (176, 188), (188, 200), (200, 212), (212, 262)];
 
 /// An answer to a Connect without the octets from one place up to another. Its UDP checksum is 0: it is not used.
@@ -349,7 +349,7 @@ fn an_answer_to_a_connect_without_a_block_is_ignored() {
     ends.is_at(State::Ended(Cause::ModuleDiff));
 }
 
-// Mode 7 is none.
+// Mode 7 does not exist.
 #[test]
 fn a_reset_that_is_refused_is_an_answer() {
     let mut ends = Ends::started(Global);
@@ -385,7 +385,7 @@ fn no_name_is_set_before_the_release() {
     ends.is_answer(&DONE);
 }
 
-// The controller takes the alarm of the device, and the next one can be raised behind its AlarmAck.
+// The controller accepts the alarm of the device. After its AlarmAck the next one can be raised.
 #[test]
 fn an_alarm_is_taken() {
     let mut ends = Ends::started(Global);
@@ -402,7 +402,7 @@ fn an_alarm_is_taken() {
     ends.notes(&again, Note::Done);
 }
 
-// A Write that is repeated has the same answer and is one command; one of a smaller number is none.
+// A Write that is repeated has the same answer and is one command. One of a smaller number is not a command.
 #[test]
 fn a_write_that_is_repeated_is_one_command() {
     let mut ends = Ends::started(Global);

@@ -72,7 +72,7 @@ fn kind_of(net: &Net, number: usize) -> Option<Kind> {
     }
 }
 
-/// Whether so many frames were sent.
+/// Whether this many frames were sent.
 fn are_sent(net: &Net, count: usize) -> bool {
     count != 0 && net.sent(count - 1).is_some() && net.sent(count).is_none()
 }
@@ -127,7 +127,7 @@ fn a_world_begins_as_the_laws_ask() {
     assert_eq!(net.device().taken().len(), 0);
 }
 
-// How far both are behind each part of a start-up, and what was sent.
+// The state of both ends after each part of a start-up, and what was sent.
 #[test]
 fn a_start_up_as_moves() {
     let mut net = world(Global);

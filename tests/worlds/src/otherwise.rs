@@ -1,5 +1,5 @@
 //! Worlds whose device is not what the plan says: a record of another length or of none, a module that is not plugged, another module. How
-//! a start-up ends was worked out by hand, each frame by its kind; in schedules the laws of both ends are computed behind each move
+//! a start-up ends was worked out by hand, each frame by its kind; in schedules the laws of both ends are computed after each move
 //! (`watch` of `table_world`), and in none of them is data exchanged.
 use arrayvec::ArrayVec;
 use configurator::plan_from_json;
@@ -103,7 +103,7 @@ fn world(real: Real) -> Watched {
     Watched::new(Global, fresh).expect("memory")
 }
 
-/// A move is made, and all laws hold behind it.
+/// A move is made, and all laws hold after it.
 fn make(watched: &mut Watched, choice: Choice) {
     let broken = watched.make(choice).expect("memory");
     assert!(broken.is_none(), "{choice:?} breaks {broken:?}");
@@ -159,7 +159,7 @@ fn refuses_the_second(real: fn() -> Real) {
     never_exchanges(real, Cause::Refused);
 }
 
-/// A module differs: the device is told at once that its relation is not wanted.
+/// A module differs: the controller sends a Release at once.
 fn differs(real: fn() -> Real) {
     let mut watched = world(real());
     starts_up(&mut watched, &[Kind::Release, Kind::Positive]);
@@ -197,7 +197,7 @@ fn a_record_that_there_is_not_is_refused() {
     refuses_the_second(|| plugged(&[(1, 4), (3, 4)]));
 }
 
-// Not even the first one is taken, and the second is not written.
+// Not even the first one is accepted, and the second is not written.
 #[test]
 fn the_first_record_of_another_length_ends_it() {
     let real = || plugged(&[(1, 5), (2, 4)]);
