@@ -53,7 +53,7 @@ def ar_block():
 
 
 def places(entries, first):
-    """A count and the places of entries (slot, subslot, octets), packed from the first octet on; and what is behind them."""
+    """A count and the places of entries (slot, subslot, octets), packed from the first octet on; and the place after them."""
     out = struct.pack(">H", len(entries))
     for slot, subslot, size in entries:
         out += struct.pack(">HHH", slot, subslot, first)
@@ -62,7 +62,7 @@ def places(entries, first):
 
 
 def iocr_block(kind, reference, frame_id, objects, statuses):
-    """The data objects, each with a provider status behind it, and then the consumer statuses."""
+    """The data objects, each followed by its provider status, and then the consumer statuses."""
     data, behind = places([(slot, subslot, size + 1) for slot, subslot, size in objects], 0)
     status, end = places([(slot, subslot, 1) for slot, subslot, _ in statuses], behind)
     head = struct.pack(">HHHIHH", kind, reference, CYCLIC, 1, max(40, end), frame_id)
@@ -100,7 +100,7 @@ def prm_end():
 
 
 def instructions(program, first, second, octets=b""):
-    """The instructions of a run of a program that does two things so many times each, over these octets."""
+    """The instructions of a run of a program that does each of two things a number of times, over these octets."""
     ran = subprocess.run(
         ["valgrind", "--tool=callgrind", "--callgrind-out-file=/dev/null", program, str(first), str(second)],
         input=octets, capture_output=True, check=True)
@@ -114,8 +114,8 @@ def each(program, octets, reads, writes):
 
 
 def frame(body):
-    """The octets of a function's frame, by the instructions at its head: a large one is taken in parts, each of which is
-    probed, or in a loop down to what r11 holds."""
+    """The octets of a function's frame, by the instructions at its head: a large one is reserved in parts, each of which
+    is probed, or in a loop down to what r11 holds."""
     head = "\n".join(body.split("\n")[:60])
     looped = [int(size, 16) for pair in re.findall(r"(?:lea +-0x([0-9a-f]+)\(%rsp\)|sub +\$0x([0-9a-f]+)),%r11", head) for size in pair if size]
     straight = re.sub(r"%r11.*?jne", "", head, flags=re.DOTALL)

@@ -49,7 +49,7 @@ def octets_of(text):
 
 
 def catalogue(octets, timing):
-    """An access point, an input and an output, each of whose frames has so many octets of data and statuses."""
+    """An access point, an input and an output, each of whose frames has this many octets of data and statuses."""
     part = {"DataType": "OctetString", "Length": octets - 3}
     used = [(1, "IN", 16, {"Input": [part]}), (2, "OUT", 32, {"Output": [part]})]
     point = {"ModuleIdentNumber": 1, "PhysicalSlots": [0, 1, 2], "DNS_CompatibleName": "pn-demo", "MinDeviceInterval": 1,
@@ -156,7 +156,7 @@ def alarm(number):
     return "".join(frame(calls.TOOL + calls.DEVICE + ALARM + body) for body in (data, ack))
 
 
-# What is counted: what stands in front, the line of each number, the steps of a line, how many lines, the octets of data, and how many
+# What is counted: the lines before it, the line of each number, the steps of a line, how many lines, the octets of data, and how many
 # instructions a step may take.
 KINDS = {
     "a tick that sends nothing": (LONG, lambda _: "tick 100\n", 100, 10, 40, 60),
@@ -182,7 +182,7 @@ def body(kind, count):
 
 
 def words(kind):
-    """What the plain program is told."""
+    """The arguments of the plain program."""
     timing, _, _, _, octets, _ = KINDS[kind]
     return [str(octets), str(timing[0] * timing[1]), str(timing[2])]
 
@@ -211,7 +211,7 @@ def each(command, kind, name, before):
 
 
 def exchanged(said):
-    """What is printed behind the start-up."""
+    """What is printed after the start-up."""
     return said.split("state exchanging\n", 1)[1]
 
 
@@ -247,7 +247,7 @@ def measure_start(program):
 
 
 def measure_room(program):
-    """Prints how large a controller is, and the largest frame on the stack of what it stands on."""
+    """Prints how large a controller is, and the largest frame on the stack of the crates below it."""
     said = subprocess.run([bench("bench_device")], capture_output=True, text=True, check=True).stdout
     size = int(re.search(r"a controller (\d+)", said)[1])
     listed = re.findall(r"^(\w+)[^:#\n]*:(.*)$", (ROOT / "crates.txt").read_text(encoding="utf-8"), re.MULTILINE)

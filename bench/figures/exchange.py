@@ -34,7 +34,7 @@ CYCLIC, ALARM = TAG + b"\xc0\x00", TAG + b"\xfc\x01\0\x01\0\x01"
 
 
 def modules(octets):
-    """An access point, an input and an output, each of whose frames has so many octets of data and statuses."""
+    """An access point, an input and an output, each of whose frames has this many octets of data and statuses."""
     return [(0, 1, [(1, 1, 0, 0)]), (1, 16, [(1, 16, octets - 3, 0)]), (2, 32, [(1, 32, 0, octets - 3)])]
 
 
@@ -55,7 +55,7 @@ def cyclic(octets):
 
 
 def numbered(count):
-    """The number of the data behind so many others."""
+    """The number of the data after this many others."""
     return 0xFFFF if count == 0 else (count - 1) % 0x8000
 
 
@@ -69,7 +69,7 @@ def alarm(number):
     return f"alarm 1 {32 * '5a'}\n" + "".join(f"frame {frame}\n" for frame in frames)
 
 
-# What is counted: what stands in front, the line of each number, the steps of a line, how many lines, the octets of data, the units of
+# What is counted: the lines before it, the line of each number, the steps of a line, how many lines, the octets of data, the units of
 # an interval, and how many instructions a step may take.
 KINDS = {
     "a tick in an exchange that sends nothing": (LONG, lambda _: "tick 100\n", 100, 10, 40, 200),
@@ -87,7 +87,7 @@ def lines(kind, count):
 
 
 def words(kind):
-    """What the plain program is told."""
+    """The arguments of the plain program."""
     timing, _, _, _, octets, _ = KINDS[kind]
     return [str(octets), str(timing[0] * timing[1]), str(timing[2])]
 
