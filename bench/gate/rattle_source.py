@@ -404,9 +404,7 @@ class Names:
                 found = self.name(inner[0], name, seen) if inner and inner[1] is None else None
                 if found:
                     return found
-            elif alias == name and parts[0] != name:
-                return self.path(module, parts, seen)
-            elif alias == name and len(parts) > 1:
+            elif alias == name:
                 return self.path(module, parts, seen)
         return None
 
