@@ -127,7 +127,7 @@ def items_at(tree, key):
 
 
 def each(judge, trees):
-    """The entries of a list, each judged behind those before it."""
+    """The entries of a list, each judged after those before it."""
     found = []
     for index, tree in enumerate(trees):
         found.append(at(index, judge, found, tree))
@@ -277,7 +277,7 @@ def judge_addresses(texts):
 
 
 class Station:
-    """What stands in the slots of a station."""
+    """What is plugged in the slots of a station."""
 
     def __init__(self, point, modules, slots):
         self.point, self.slots = point, slots

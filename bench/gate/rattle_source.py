@@ -35,7 +35,7 @@ class Clause:
 
 
 class Function:
-    """A function with its clauses, and the definitions that are imported where it stands."""
+    """A function with its clauses, and the definitions that are imported there."""
 
     def __init__(self, module, name, doc, clauses, imports):
         self.module, self.name, self.doc, self.clauses, self.imports = module, name, doc, clauses, imports
@@ -132,8 +132,8 @@ class Reader:
     def fail(self, at, what):
         raise Broken(f"{self.module.file}:{self.text.count(chr(10), 0, at) + 1}: {what}")
 
-    def behind(self, at):
-        """The place behind the bracket that closes the one at a place."""
+    def after(self, at):
+        """The place after the bracket that closes the one at a place."""
         return self.closing[at] + 1
 
     def next_of(self, at, end, letters):
@@ -143,7 +143,7 @@ class Reader:
             found = wanted.search(self.quiet, at, end)
             if not found or found[0] in letters:
                 return found.start() if found else end
-            at = self.behind(found.start())
+            at = self.after(found.start())
         return end
 
     def doc_above(self, begin, floor):
@@ -153,18 +153,18 @@ class Reader:
         return "\n".join(found)
 
     def skip(self, at, end):
-        """The place of the next item, behind attributes and blanks."""
+        """The place of the next item, after attributes and blanks."""
         while at < end:
             if self.quiet[at].isspace() or self.quiet[at] == ";":
                 at += 1
             elif self.quiet[at] == "#":
-                at = self.behind(self.quiet.index("[", at))
+                at = self.after(self.quiet.index("[", at))
             else:
                 return at
         return end
 
     def heads(self, begin, end):
-        """Each item with its place, that behind its visibility, whether it is public, and its doc comment."""
+        """Each item with its place, the place after its visibility, whether it is public, and its doc comment."""
         at = floor = begin
         while True:
             at = self.skip(at, end)
@@ -202,7 +202,7 @@ class Reader:
         return sum(part.count(letter) for letter in OPENING) - sum(part.count(letter) for letter in CLOSING)
 
     def item(self, at, head, end, is_public, doc):
-        """Keeps one item of a module. Gives the place behind it."""
+        """Keeps one item of a module. Returns the place after it."""
         function = FUNCTION.match(self.text, head)
         if function:
             made, place = self.function(function, doc, end)
@@ -212,7 +212,7 @@ class Reader:
         if not kind:
             # A call of a macro, or what else has no name that others see.
             place = self.next_of(head, end, ";{")
-            return self.behind(place) if place < end and self.quiet[place] == "{" else place + 1
+            return self.after(place) if place < end and self.quiet[place] == "{" else place + 1
         return self.known(kind[1], kind.end(), end, is_public, doc)
 
     def known(self, kind, head, end, is_public, doc):
@@ -232,7 +232,7 @@ class Reader:
             if kind in ("struct", "enum", "union"):
                 self.module.items[name[1]] = Item(kind, name[1], is_public, doc)
             return place + 1
-        close = self.behind(place)
+        close = self.after(place)
         self.block(kind, name[1] if name else "", head, place, close, is_public, doc)
         return close
 
@@ -290,7 +290,7 @@ class Reader:
             if not function:
                 word = WORD.match(self.quiet, head)
                 if word:
-                    self.words[word[1]] = (doc, " ".join(self.text[word.end():self.behind(word.end() - 1) - 1].split()))
+                    self.words[word[1]] = (doc, " ".join(self.text[word.end():self.after(word.end() - 1) - 1].split()))
                 return self.next_of(head, end, ";") + 1
             made, place = self.function(function, doc, end)
             found.append((is_public, made))
@@ -300,13 +300,13 @@ class Reader:
         return found
 
     def function(self, head, doc, end):
-        """A function and the place behind it."""
+        """A function and the place after it."""
         at, begin, clauses = head.end(), head.end(), []
         while True:
             place = self.next_of(at, end, ";{")
             if place >= end or self.quiet[place] == ";":
                 break
-            close = self.behind(place)
+            close = self.after(place)
             clause = CLAUSE.search(self.quiet, at, place)
             if clause:
                 clauses.append(self.clause(clause, place, close, begin))
@@ -340,7 +340,7 @@ def dedented(text, begin, end):
 
 
 def grouped(clauses):
-    """The clauses, each with the comment that it stands under: its own, or that of the one above it where no blank line parts them."""
+    """The clauses in groups, each under one comment: a clause without a comment belongs to the one above it, unless a blank line separates them."""
     groups = []
     for clause in clauses:
         if groups and not clause.comment and not clause.is_apart and groups[-1][0].comment and groups[-1][0].kind == clause.kind:
@@ -372,13 +372,13 @@ def all_modules(root):
 
 
 class Names:
-    """What the names of a crate stand for."""
+    """What the names of a crate mean."""
 
     def __init__(self, root):
         self.root, self.modules = root, {module.path: module for module in all_modules(root)}
 
     def path(self, module, parts, seen=()):
-        """The module, or the item with its module, that a path stands for; None of what other crates have."""
+        """The module, or the item with its module, that a path names; None if another crate has it."""
         if parts[0] == "crate":
             module, parts = self.root, parts[1:]
         while parts and parts[0] in ("self", "super"):
@@ -450,7 +450,7 @@ class Public:
         return found[1] if found else None
 
     def functions(self):
-        """Each function with its name, in the order of the sources; those of a type stand where its first one, or the type itself, does."""
+        """Each function with its name, in the order of the sources; those of a type are where the type is."""
         entries = {}
         for module in all_modules(self.names.root):
             for item in module.items.values():
