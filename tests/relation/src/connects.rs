@@ -18,7 +18,7 @@ type Submodule = (u16, u32, Option<u16>, Option<u16>);
 type Place = (u16, u16, u16);
 
 /// What a controller expects: the slot of each module, its ident number and its submodules; and where the data and the
-/// statuses of the inputs and of the outputs stand.
+/// statuses of the inputs and of the outputs are.
 #[derive(Clone, Copy)]
 pub(crate) struct Plan {
     modules: &'static [(u16, u32, &'static [Submodule])],
@@ -47,6 +47,15 @@ pub(crate) const THREE: Plan = Plan {
         &[(2, 1, 0)],
         &[(0, 1, 3), (0, 0x8000, 4), (0, 0x8001, 5), (1, 1, 6)],
     ),
+};
+
+/// The same as `THREE`, with the output after the statuses in the frames of outputs.
+pub(crate) const MOVED: Plan = Plan {
+    outputs: (
+        &[(2, 1, 4)],
+        &[(0, 1, 0), (0, 0x8000, 1), (0, 0x8001, 2), (1, 1, 3)],
+    ),
+    ..THREE
 };
 
 /// The same with another module in slot 2, and one without data in slot 3.

@@ -1,11 +1,13 @@
 //! What a relation exchanges: cyclic frames each way, and an alarm. The octets were worked out by hand from IEC 61158-6-10.
 use crate::Tried;
-use crate::connects::{THREE, connect};
-use crate::requests::{exchanging, exchanging_by, related};
+use crate::connects::{MOVED, THREE, connect};
+use crate::requests::{exchanging, exchanging_by, related, served};
 use device_core::{Event, Note};
 use frame_codec::Outbox;
 use relations::Phase;
-use test_stations::{Station, frame, is_filled, octets, set};
+use test_stations::{
+    CONNECT, CONTROL, END, PRM_END, RELEASE, Station, call, frame, is_filled, octets, response, set,
+};
 
 // The first cyclic frame of the device, for which the application gave 12 34.
 const INPUTS: [u8; 64] =
@@ -180,6 +182,31 @@ fn outputs_are_those_of_the_newest_frame() {
         device.sends_none(&outputs(counter, value), note);
         device.is_output(shown);
     }
+}
+
+// A second relation has its frames of outputs laid out in another way, with the same length. Its output is zeros, and then what its own
+// frame has at its own place.
+#[test]
+fn a_second_relation_has_its_own_places() {
+    let mut device = Tried::new(exchanging());
+    device.notes(&frame(&OUTPUTS), Note::Done);
+    device.is_output([0xAA, 0x55]);
+    let _ = served(&mut device.station, &call(RELEASE, 7, 2, &END));
+    device.is_at(None);
+    let blocks = connect(0x11, 600, MOVED);
+    for call in [
+        call(CONNECT, 7, 3, &blocks),
+        call(CONTROL, 7, 4, &PRM_END),
+        response(),
+    ] {
+        let _ = served(&mut device.station, &call);
+    }
+    device.is_at(Some(Phase::Exchanging));
+    device.is_output([0, 0]);
+    let mut moved = OUTPUTS;
+    moved[20..27].copy_from_slice(&[0x80, 0x80, 0x80, 0x80, 0x12, 0x34, 0x80]);
+    device.notes(&frame(&moved), Note::Done);
+    device.is_output([0x12, 0x34]);
 }
 
 #[test]

@@ -67,6 +67,22 @@ fn a_loss_of_power_that_was_armed_ends_it() {
     is_stored(&start(&mut flash).unwrap(), b' ');
 }
 
+// An item is one commit: three flash calls for a base, then two for a slot. The call after these is struck.
+#[test]
+fn an_item_is_one_commit() {
+    for (after, done) in [(3, 1), (5, 2)] {
+        let mut flash = MemoryFlash::blank();
+        let mut store = start(&mut flash).unwrap();
+        let mask = [0; 8];
+        store.arm(Order::Cut { after, mask });
+        for number in 1..=done {
+            carries(&mut store, &date(b'0' + number), BlockError::Done);
+        }
+        carries(&mut store, &date(b'9'), BlockError::Local);
+        runs(&store, b'0' + done);
+    }
+}
+
 /// What four items are answered.
 fn answers(store: &mut Kept<'_>, items: &[SetItem; 4]) -> ArrayVec<BlockError, 4> {
     store.carry_out(items)

@@ -25,6 +25,9 @@ pub(crate) const RECORDS: &str = r#"{"DeviceIdentity":{"VendorID":291,"DeviceID"
 const SEEDS: u64 = 40;
 const MOVES: usize = 1_000;
 
+/// More frames than a start-up has.
+const MOST_FRAMES: usize = 100;
+
 /// Up to the Connect and the positive answer to it.
 const CONNECTED: [Kind; 6] = [
     Kind::Identify,
@@ -112,6 +115,7 @@ fn make(watched: &mut Watched, choice: Choice) {
 fn starts_up(watched: &mut Watched, rest: &[Kind]) {
     let mut number = 0;
     while number < watched.count() {
+        assert!(number < MOST_FRAMES, "the start-up does not end");
         let end = watched.other_end(number);
         make(watched, Choice::Deliver(end, number));
         number += 1;

@@ -7,6 +7,7 @@ use controller_core::State;
 use controller_frames::Setup;
 use pn_values::demo_identity;
 use network_world::{End, Move};
+use pn_values::{ParameterRecord, Real};
 use rattle_std::alloc::Global;
 use relations::Phase;
 use table_world::kind::Kind;
@@ -21,8 +22,8 @@ const AGAIN: usize = 32_000;
 /// Units of time of an interval: one millisecond.
 const INTERVAL: usize = 32;
 
-fn setup() -> Setup {
-    let plan = plan_from_json(Global, RECORDS.as_bytes())
+fn setup(catalogue: &str) -> Setup {
+    let plan = plan_from_json(Global, catalogue.as_bytes())
         .ok()
         .expect("a plan");
     Setup {
@@ -34,7 +35,12 @@ fn setup() -> Setup {
 
 /// What comes of these moves, at the station as planned and a controller of its plan.
 fn played(moves: &[Move]) -> Net {
-    let (device, setup) = (station(as_planned()), setup());
+    played_with(as_planned(), RECORDS, moves)
+}
+
+/// What comes of these moves, at a station with these modules and a controller of the plan of a catalogue.
+fn played_with(real: Real, catalogue: &str, moves: &[Move]) -> Net {
+    let (device, setup) = (station(real), setup(catalogue));
     assert!(can_meet(&setup, &demo_identity()));
     let (world, result) = play_both_ends(Global, device, setup, &demo_identity(), moves);
     assert!(result.is_ok());
@@ -199,4 +205,86 @@ fn outputs_and_alarms_over_a_network_that_loses_frames() {
     let alarm = world.controller().alarm().expect("an alarm");
     assert_eq!(alarm.slot_number, 1);
     assert_eq!(alarm.alarm_data.octets(), [0xAA, 0x01]);
+}
+
+/// The frames of a kind, each with its number.
+fn of_kind(world: &Net, kind: Kind) -> Vec<(usize, &[u8])> {
+    (0..)
+        .map_while(|number| world.sent(number).map(|frame| (number, frame.as_slice())))
+        .filter(|(_, octets)| Kind::of(octets) == kind)
+        .collect()
+}
+
+// The answer to the first Write, frame 7, is lost: the controller sends that Write again and no other. The device answers it again, and
+// takes its record once.
+#[test]
+fn a_write_whose_answer_is_lost_is_sent_again() {
+    let mut moves: Vec<Move> = vec![
+        to_device(0),
+        to_controller(1),
+        to_device(2),
+        to_controller(3),
+        to_device(4),
+        to_controller(5),
+        to_device(6),
+    ];
+    wait(&mut moves, AGAIN);
+    let world = played(&moves);
+    assert_eq!(world.controller().state(), State::Writing);
+    let writes = of_kind(&world, Kind::Write);
+    assert_eq!(writes.len(), 2);
+    let ((first, octets), (second, again)) = (writes[0], writes[1]);
+    assert_eq!(first, 6);
+    assert_eq!(octets, again);
+    moves.push(to_device(second));
+    let world = played(&moves);
+    let answers = of_kind(&world, Kind::Positive);
+    assert_eq!(answers.len(), 3);
+    assert_eq!(answers[1].1, answers[2].1);
+    assert_eq!(world.device().taken().len(), 1);
+}
+
+// Three records, two of slot 1 and one of slot 2, are written in the order of the plan, each once.
+#[test]
+fn three_records_are_written_in_order() {
+    let output = r#""SubmoduleIdentNumber":32,"IOData":{"Output":[{"DataType":"Unsigned16"}]}"#;
+    let slot = r#"{"Slot":2,"ModuleItemTarget":"OUT2""#;
+    let catalogue = RECORDS
+        .replace(
+            output,
+            &format!(r#"{output},"ParameterRecordDataItem":[{{"Index":1,"Length":4}}]"#),
+        )
+        .replace(
+            slot,
+            &format!(r#"{slot},"Records":[{{"Subslot":1,"Index":1,"Data":"0000012c"}}]"#),
+        );
+    let mut real = as_planned();
+    let record = ParameterRecord {
+        index: 1,
+        length: 4,
+    };
+    real.modules[2].submodules[0].parameters.push(record);
+    let mut moves = Vec::new();
+    // Identify, the Set, the Connect, three Writes and PrmEnd, each with its answer; ApplicationReady with its answer.
+    for number in [0, 2, 4, 6, 8, 10, 12] {
+        moves.extend([to_device(number), to_controller(number + 1)]);
+    }
+    moves.extend([to_controller(14), to_device(15)]);
+    let world = played_with(real, &catalogue, &moves);
+    let taken: Vec<(u16, u16, &[u8])> = world
+        .device()
+        .taken()
+        .iter()
+        .map(|record| (record.slot, record.index, record.value.as_slice()))
+        .collect();
+    assert_eq!(
+        taken,
+        [
+            (1, 1, [0, 0, 0, 100].as_slice()),
+            (1, 2, [0, 0, 0, 200].as_slice()),
+            (2, 1, [0, 0, 1, 44].as_slice()),
+        ]
+    );
+    assert_eq!(world.controller().state(), State::Exchanging);
+    assert_eq!(world.device().phase(), Some(Phase::Exchanging));
 }
