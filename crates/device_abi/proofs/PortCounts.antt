@@ -18,11 +18,6 @@ pub counted_since : (before n : ℕ) → before < 2 ^ 32 → n < 2 ^ 32 → ((be
 counted_since before n small few =
     mod-add-mod (before + n) (2 ^ 32) (2 ^ 32 - before) ∙ ap (λ k. k % 2 ^ 32) (omega (arith, small)) ∙ add-mod_left (2 ^ 32) n ∙ mod-eq_of_lt {n = n} {m = 2 ^ 32} few
 
--- The number of older ones, of those that are stored.
-pub older_is : (before calls count kept : ℕ) → before < 2 ^ 32 → calls ≤ 48 → count ≡ (before + calls) % 2 ^ 32 → kept - (count + (2 ^ 32 - before)) % 2 ^ 32 ≡ kept - calls
-older_is before calls count kept small few is =
-    ap (λ n. kept - n) (ap (λ c. (c + (2 ^ 32 - before)) % 2 ^ 32) is ∙ counted_since before calls small (omega (arith, few)))
-
 -- The last of some calls, as many as there are, are those calls.
 pub last_of : (front calls : List Call) → drop (length (front ++ calls) - length calls) (front ++ calls) ≡ calls
 last_of front calls = ap (λ n. drop n (front ++ calls)) (ap (λ k. k - length calls) (length-append front calls) ∙ omega arith) ∙ drop-append_seam front calls

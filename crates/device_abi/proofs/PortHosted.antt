@@ -394,23 +394,6 @@ pub erased_by : {E : Type 0} (size : ℕ) (old new : Image) (sector : Sector) (r
     → OnErr result (Torn sector 0 size (erased size) old new) → Carries old (Erases sector) result new
 erased_by size old new sector result sized is torn = erased_of size old new sector result (long_sector size old sector sized) is torn
 
--- A program call of a chip.
-pub programmed_by : {E : Type 0} (old new : Image) (sector : Sector) (place : ℕ) (bytes : List ℕ) (result : Result (Unit {0}) E) → OnOk result (new ≡ with_sector old sector (programmed (sector_of old sector) place bytes))
-    → OnErr result (Torn sector place (place + length bytes) (programmed (sector_of old sector) place bytes) old new) → Carries old (Programs sector place bytes) result new
-programmed_by old new sector place bytes (Ok done) is torn = is
-programmed_by old new sector place bytes (Err fault) is torn = torn
-
--- The next piece of work is this call.
-pub carries_next : {E : Type 0} (calls : List Call) (frames : List (List ℕ)) (chip : Image) (sent : List (List ℕ)) (result : Result (Unit {0}) E) (chip_then : Image) (call : Call) (rest : List Call)
-    → calls ≡ call ∷ rest → Carries chip call result chip_then → Performs calls frames chip sent result chip_then sent
-carries_next calls frames chip sent result chip_then call rest e is = subst (λ c. Performs c frames chip sent result chip_then sent) (sym e) (is, refl)
-
--- The next piece of work is this frame.
-pub sends_next : {E : Type 0} (calls : List Call) (frames : List (List ℕ)) (chip : Image) (sent : List (List ℕ)) (result : Result (Unit {0}) E) (now : List (List ℕ)) (frame : List ℕ) (rest : List (List ℕ))
-    → calls ≡ [] → frames ≡ frame ∷ rest → IsOk result → now ≡ sent ++ frame ∷ [] → Performs calls frames chip sent result chip now
-sends_next calls frames chip sent result now frame rest e f ok is =
-    subst (λ c. Performs c frames chip sent result chip now) (sym e) (subst (λ l. Performs [] l chip sent result chip now) (sym f) (ok, refl, is))
-
 -- No work remains.
 pub rests : {E : Type 0} (calls : List Call) (frames : List (List ℕ)) (chip : Image) (sent : List (List ℕ)) (result : Result (Unit {0}) E) → (calls ≡ []) × (frames ≡ []) → IsOk result
     → Performs calls frames chip sent result chip sent

@@ -27,10 +27,6 @@ plain_answers outcomes values (Ask command ∷ items) nothing = cc
 plain_answers outcomes values (Signal ∷ items) nothing = ap (λ a. Done ∷ a) (plain_answers (rest_of outcomes) values items nothing)
 plain_answers outcomes values (Answer answer ∷ items) nothing = ap (λ a. answer ∷ a) (plain_answers (rest_of outcomes) values items nothing)
 
--- A state with other running settings, and another rest.
-with_seen : Live → Values → Live
-with_seen seen values = record { values = record values { running = seen.values.running }; rest = seen.rest }
-
 -- The outcome depends only on the running settings and the rest.
 handled_same : (station : Station) (one other : Live) (heard : Heard) → other.values.running ≡ one.values.running → other.rest ≡ one.rest → handled station other heard ≡ handled station one heard
 handled_same station one other heard running rest =

@@ -140,10 +140,6 @@ ready_calm : (before : Option RelationState) (address : List ℕ) (link : Option
 ready_calm before address None = tt
 ready_calm before address (Some link) = (tt, tt)
 
-behind_calm : (before : Option RelationState) (address : List ℕ) (link : Option RelationState) (ended : Result ControlBlock CallFault) → AreCalm before (ready_behind address link ended)
-behind_calm before address link (Ok block) = ready_calm before address link
-behind_calm before address link (Err why) = tt
-
 due_calm : (before : Option RelationState) (b : Bool) (sent : List Sent) → AreCalm before sent → AreCalm before (where_due b sent)
 due_calm before true sent calm = calm
 due_calm before false sent calm = tt

@@ -103,9 +103,3 @@ alarm_no_identify Data = refl
 alarm_no_identify Nack = refl
 alarm_no_identify Ack = refl
 alarm_no_identify Error = refl
-
-pub alarm_no_cyclic : (kind : PduType) → is_cyclic (frame_id_of kind) ≡ false
-alarm_no_cyclic Data = refl
-alarm_no_cyclic Nack = refl
-alarm_no_cyclic Ack = refl
-alarm_no_cyclic Error = refl

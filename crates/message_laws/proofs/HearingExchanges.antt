@@ -27,7 +27,7 @@ use Rattle.device_frames.specs.Heard.{Alarms, Cyclic, heard_of as device_hears}
 use Rattle.device_frames.specs.Sent.{Ends as Farewells, Exchanges, bytes_of as device_bytes}
 use Rattle.controller_frames.specs.declared.setup.Setup.{Setup}
 use Rattle.controller_frames.specs.Heard.{Alarms as Alarmed, Cyclic as Comes, heard_of as controller_hears}
-use Rattle.controller_frames.specs.Sent.{Confirms, Cycles, Ends, Replies, bytes_of as controller_bytes, end_pdu}
+use Rattle.controller_frames.specs.Sent.{Confirms, Ends, Replies, bytes_of as controller_bytes, end_pdu}
 use Rattle.codec_laws.specs.frames.Sendable.{CanBeSent, IsMac, carrying}
 use Rattle.codec_laws.specs.alarms.Sendable.{IsHeader, ack_pdu, empty_pdu}
 use Rattle.codec_laws.specs.blocks.Writable.{IsAck, IsAlarm}
@@ -45,24 +45,6 @@ cyclic_sent : (source : Mac) (route : Route) (body : List ℕ) → IsMac source 
 cyclic_sent source route body one is few =
     let small = cyclic_small route.sent_id is.cyclic in
     record { destination = is.partner; source = one; tag = is.tag; content = (omega (arith, small), few) }
-
-pub outputs_at_device : DataIsRead → (identity : Identity) (setup : Setup) (route : Route) (shown : Shown) (counter : ℕ)
-    → IsSetup setup → IsRoute route → length (cyclic_body shown counter) ≤ 1498
-    → device_hears identity (comes (controller_bytes setup (Cycles route shown counter)))
-    ≡ own_hears identity route.partner (Cyclic setup.plan.controller.mac route.sent_id
-    (padded setup.plan.controller.mac route.partner (Some route.sent_tag) route.sent_id (cyclic_body shown counter)))
-outputs_at_device reads identity setup route shown counter good is few =
-    device.cyclic_heard reads identity route.partner setup.plan.controller.mac (Some route.sent_tag) route.sent_id (cyclic_body shown counter)
-    (cyclic_sent _ route _ good.mac is few) is.cyclic
-
-pub outputs_at_controller : DataIsRead → (mine : Controller) (setup : Setup) (route : Route) (shown : Shown) (counter : ℕ)
-    → IsSetup setup → IsRoute route → length (cyclic_body shown counter) ≤ 1498
-    → controller_hears mine (controller_bytes setup (Cycles route shown counter))
-    ≡ mine_hears mine route.partner (Comes setup.plan.controller.mac route.sent_id
-    (padded setup.plan.controller.mac route.partner (Some route.sent_tag) route.sent_id (cyclic_body shown counter)))
-outputs_at_controller reads mine setup route shown counter good is few =
-    controller.cyclic_heard reads mine route.partner setup.plan.controller.mac (Some route.sent_tag) route.sent_id (cyclic_body shown counter)
-    (cyclic_sent _ route _ good.mac is few) is.cyclic
 
 pub inputs_at_controller : DataIsRead → (mine : Controller) (identity : Identity) (route : Route) (inputs : Shown) (counter : ℕ)
     → IsDevice identity → IsRoute route → length (cyclic_body inputs counter) ≤ 1498

@@ -13,5 +13,4 @@ pub mod TurnsInactive
 pub mod TurnsAlarms
 pub mod SendingSizes
 pub mod SendingTurns
-pub mod SendingHeard
 pub mod SendingAimed

@@ -1,4 +1,3 @@
 pub mod Messages
 pub mod Sized
-pub mod Devices
 pub mod Addressed

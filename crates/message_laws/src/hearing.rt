@@ -15,6 +15,6 @@ pub use calls::{
     calls_are_heard, calls_can_be_sent, datagrams_alone_are_calls, ready_answers_are_heard,
     ready_calls_are_heard, responses_are_heard,
 };
-pub use cyclic::{inputs_are_heard, outputs_are_heard};
+pub use cyclic::inputs_are_heard;
 pub use discovery::{answers_are_heard, packets_are_heard, requests_are_heard};
 pub use stations::stations_are_real;

@@ -11,10 +11,8 @@ mod turns;
 pub use hearing::{
     alarms_are_heard, answers_are_heard, calls_are_heard, calls_can_be_sent,
     confirmations_are_heard, datagrams_alone_are_calls, ends_are_heard, inputs_are_heard,
-    outputs_are_heard, packets_are_heard, ready_answers_are_heard, ready_calls_are_heard,
-    requests_are_heard, responses_are_heard, stations_are_real,
+    packets_are_heard, ready_answers_are_heard, ready_calls_are_heard, requests_are_heard,
+    responses_are_heard, stations_are_real,
 };
-pub use sending::{
-    frames_are_messages, messages_are_addressed, messages_are_sized, messages_can_be_sent,
-};
+pub use sending::{frames_are_messages, messages_are_addressed, messages_can_be_sent};
 pub use turns::{alarms_are_taken_in_order, ended_is_kept, turns_are_of_a_kind};

@@ -5,4 +5,4 @@ mod addressed;
 mod law;
 
 pub use addressed::messages_are_addressed;
-pub use law::{frames_are_messages, messages_are_sized, messages_can_be_sent};
+pub use law::{frames_are_messages, messages_can_be_sent};

@@ -8,32 +8,11 @@ ghost use Rattle.relations.specs.exchange.Frames.{Inputs};
 ghost use Rattle.plans.specs.declared.parts.Controller.{Controller};
 ghost use Rattle.device_frames.specs.Heard.{Cyclic, heard_of as device_hears};
 ghost use Rattle.device_frames.specs.Sent.{Exchanges, bytes_of as device_bytes};
-ghost use Rattle.controller_frames.specs.declared.setup.Setup.{Setup};
 ghost use Rattle.controller_frames.specs.Heard.{Cyclic as Comes, heard_of as controller_hears};
-ghost use Rattle.controller_frames.specs.Sent.{Cycles, bytes_of as controller_bytes};
 ghost use Rattle.message_laws.specs.hearing.Hearing.{comes, mine_hears, own_hears, padded};
-ghost use Rattle.message_laws.specs.hearing.Stations.{IsDevice, IsRoute, IsSetup};
+ghost use Rattle.message_laws.specs.hearing.Stations.{IsDevice, IsRoute};
 
 use codec_laws::frames_are_read;
-
-/// What is heard of a frame of outputs. These are laws of the definitions.
-pub fn outputs_are_heard()
-    // If its body has at most 1,498 octets, the device that the frame goes to hears it: from the controller, under its
-    // FrameID, with its padding.
-    ensures device { (identity : Identity) (setup : Setup) (route : Route) (shown : Shown) (counter : ℕ)
-        → IsSetup setup → IsRoute route → length (cyclic_body shown counter) ≤ 1498
-        → device_hears identity (comes (controller_bytes setup (Cycles route shown counter)))
-        ≡ own_hears identity route.partner (Cyclic setup.plan.controller.mac route.sent_id
-        (padded setup.plan.controller.mac route.partner (Some route.sent_tag) route.sent_id (cyclic_body shown counter))) }
-    // If its body has at most 1,498 octets, a controller that the frame goes to hears the same.
-    ensures controller { (mine : Controller) (setup : Setup) (route : Route) (shown : Shown) (counter : ℕ)
-        → IsSetup setup → IsRoute route → length (cyclic_body shown counter) ≤ 1498
-        → controller_hears mine (controller_bytes setup (Cycles route shown counter))
-        ≡ mine_hears mine route.partner (Comes setup.plan.controller.mac route.sent_id
-        (padded setup.plan.controller.mac route.partner (Some route.sent_tag) route.sent_id (cyclic_body shown counter))) }
-{
-    frames_are_read();
-}
 
 /// What is heard of a frame of inputs. These are laws of the definitions.
 pub fn inputs_are_heard()

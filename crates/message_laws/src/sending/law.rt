@@ -6,19 +6,11 @@ ghost use Rattle.controller_frames.specs.Sent.{bytes_of};
 ghost use Rattle.controller_core.specs.declared.event.Event.{Event};
 ghost use Rattle.controller_core.specs.Machine.{first, step_of, turn_of};
 ghost use Rattle.controller_core.specs.State.{Controlling, Live};
-ghost use Rattle.pn_values.specs.declared.identity.Identity.{Identity};
-ghost use Rattle.plans.specs.declared.parts.Controller.{Controller};
-ghost use Rattle.device_frames.specs.Sent.{Sent as Message, bytes_of as device_bytes};
-ghost use Rattle.controller_frames.specs.Heard.{heard_of};
-ghost use Rattle.message_laws.specs.hearing.Stations.{IsDevice, IsSetup};
-ghost use Rattle.message_laws.specs.sending.Devices.{CanBeSentBy};
+ghost use Rattle.message_laws.specs.hearing.Stations.{IsSetup};
 ghost use Rattle.message_laws.specs.sending.Messages.{CanBeSent};
-ghost use Rattle.message_laws.specs.sending.Sized.{IsLive, IsSized, IsSizedEvent};
+ghost use Rattle.message_laws.specs.sending.Sized.{IsLive, IsSizedEvent};
 
-use crate::{
-    alarms_are_heard, answers_are_heard, ends_are_heard, inputs_are_heard, packets_are_heard,
-    ready_calls_are_heard, responses_are_heard, turns_are_of_a_kind,
-};
+use crate::turns_are_of_a_kind;
 use codec_laws::blocks_are_read;
 
 /// Each frame that a controller sends is one of its messages. This is a law of the definitions.
@@ -38,19 +30,4 @@ pub fn messages_can_be_sent()
 {
     blocks_are_read();
     turns_are_of_a_kind();
-}
-
-/// What a controller hears of a device has its sizes. This is a law of the definitions.
-pub fn messages_are_sized()
-    // This holds for each message that the device can send and each controller that hears it.
-    ensures { (mine : Controller) (identity : Identity) (message : Message) → IsDevice identity → CanBeSentBy identity message
-        → IsSized (heard_of mine (device_bytes identity message)) }
-{
-    answers_are_heard();
-    packets_are_heard();
-    responses_are_heard();
-    ready_calls_are_heard();
-    inputs_are_heard();
-    alarms_are_heard();
-    ends_are_heard();
 }
