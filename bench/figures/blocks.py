@@ -4,7 +4,8 @@ the stack. Its status is 1 where a figure passes its bound.
 
 The blocks are made here from the tables of IEC 61158-6-10, 5.2, and not by the writer that is measured: the Connect to a
 station whose access point has three submodules, with a module of two octets of input and one of two octets of output.
-Needs python3, valgrind and objdump; `blocks.py --octets` prints the octets in hex, and needs nothing.
+Needs python3, valgrind, objdump and the program bench_block of tests/benches, built by rustc; `blocks.py --octets` prints the octets in
+hex, and needs nothing.
 
 On some processors glibc clears 2 KiB and more by `rep stosb`, which is one instruction to them, and one for each octet to
 callgrind: the counts of a Connect are then up to three times the lists of an ExpectedSubmoduleBlockReq, 7 KiB each time, higher
@@ -12,17 +13,14 @@ than they are on others.
 Use: bench/figures/blocks.py [--octets]
 """
 import os
-import pathlib
 import re
 import struct
 import subprocess
 import sys
 
 sys.path.insert(0, os.path.join(os.path.dirname(os.path.realpath(__file__)), "..", "gate"))
-from program import answer_help, need, refuse
+from program import answer_help, bench, need, refuse
 
-ROOT = pathlib.Path(__file__).resolve().parent.parent.parent
-PROGRAM = ROOT / "crates/bench_block/out/bench_block"
 # how the names of functions begin that read or write blocks
 CRATES_OF_BLOCKS = "(?:block_codec|connect_blocks|block_fields|module_blocks|record_blocks)::"
 MOST_INSTRUCTIONS = 60_000
@@ -55,7 +53,7 @@ def ar_block():
 
 
 def places(entries, first):
-    """A count and the places of entries (slot, subslot, octets), packed from the first octet on; and what is behind them."""
+    """A count and the places of entries (slot, subslot, octets), packed from the first octet on; and the place after them."""
     out = struct.pack(">H", len(entries))
     for slot, subslot, size in entries:
         out += struct.pack(">HHH", slot, subslot, first)
@@ -64,7 +62,7 @@ def places(entries, first):
 
 
 def iocr_block(kind, reference, frame_id, objects, statuses):
-    """The data objects, each with a provider status behind it, and then the consumer statuses."""
+    """The data objects, each followed by its provider status, and then the consumer statuses."""
     data, behind = places([(slot, subslot, size + 1) for slot, subslot, size in objects], 0)
     status, end = places([(slot, subslot, 1) for slot, subslot, _ in statuses], behind)
     head = struct.pack(">HHHIHH", kind, reference, CYCLIC, 1, max(40, end), frame_id)
@@ -102,22 +100,22 @@ def prm_end():
 
 
 def instructions(program, first, second, octets=b""):
-    """The instructions of a run of a program that does two things so many times each, over these octets."""
+    """The instructions of a run of a program that does each of two things a number of times, over these octets."""
     ran = subprocess.run(
         ["valgrind", "--tool=callgrind", "--callgrind-out-file=/dev/null", program, str(first), str(second)],
         input=octets, capture_output=True, check=True)
     return int(re.search(rb"Collected : (\d+)", ran.stderr)[1])
 
 
-def each(octets, reads, writes):
+def each(program, octets, reads, writes):
     """The instructions of one turn: what twice as many take beyond what half of them take."""
-    once, twice = (instructions(PROGRAM, 1 + reads * n * TURNS, 1 + writes * n * TURNS, octets) for n in (1, 2))
+    once, twice = (instructions(program, 1 + reads * n * TURNS, 1 + writes * n * TURNS, octets) for n in (1, 2))
     return (twice - once) / TURNS
 
 
 def frame(body):
-    """The octets of a function's frame, by the instructions at its head: a large one is taken in parts, each of which is
-    probed, or in a loop down to what r11 holds."""
+    """The octets of a function's frame, by the instructions at its head: a large one is reserved in parts, each of which
+    is probed, or in a loop down to what r11 holds."""
     head = "\n".join(body.split("\n")[:60])
     looped = [int(size, 16) for pair in re.findall(r"(?:lea +-0x([0-9a-f]+)\(%rsp\)|sub +\$0x([0-9a-f]+)),%r11", head) for size in pair if size]
     straight = re.sub(r"%r11.*?jne", "", head, flags=re.DOTALL)
@@ -126,7 +124,7 @@ def frame(body):
 
 def largest_frame(program, names):
     """The octets of the largest frame of a function whose name begins so, as the program was built, and its name."""
-    listing = subprocess.run(["objdump", "-d", "--no-show-raw-insn", program], capture_output=True, text=True, check=True).stdout
+    listing = subprocess.run(["objdump", "-d", "-C", "--no-show-raw-insn", program], capture_output=True, text=True, check=True).stdout
     functions = re.findall(rf"<((?:{names})[^\n]*)>:\n(.*?)\n\n", listing, re.DOTALL)
     if not functions:
         sys.exit(f"{program} has no function whose name begins so: {names}")
@@ -141,17 +139,16 @@ def main(words):
     if words:
         sys.exit(refuse(words))
     need("valgrind", "objdump")
-    if not PROGRAM.exists():
-        sys.exit("blocks.py: no program bench_block: `rt run` in crates/bench_block makes it")
+    program = bench("bench_block")
     measured = []
     for what, octets, bound in (("the blocks of a Connect", connect(), MOST_INSTRUCTIONS), ("a PrmEnd, which has no lists", prm_end(), MOST_OF_ONE)):
         for verb, turns in (("read", (1, 0)), ("write", (0, 1))):
-            measured.append((f"instructions to {verb} {what}, {len(octets)} octets", round(each(octets, *turns)), bound))
-    said = subprocess.run([PROGRAM, "1", "1"], input=connect(), capture_output=True, check=True).stdout.decode()
+            measured.append((f"instructions to {verb} {what}, {len(octets)} octets", round(each(program, octets, *turns)), bound))
+    said = subprocess.run([program, "1", "1"], input=connect(), capture_output=True, check=True).stdout.decode()
     if "as they came: true" not in said:
         sys.exit(f"the blocks are not written as they came: {said}")
     measured.append(("octets of a block in memory", int(re.search(r"a block (\d+) octets", said)[1]), MOST_ON_THE_STACK))
-    octets, name = largest_frame(PROGRAM, CRATES_OF_BLOCKS)
+    octets, name = largest_frame(program, CRATES_OF_BLOCKS)
     measured.append((f"octets of the largest frame on the stack, of {name}", octets, MOST_ON_THE_STACK))
     for what, figure, bound in measured:
         print(f"{figure} {what} (at most {bound}){'' if figure <= bound else ': over its bound'}")

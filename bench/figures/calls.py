@@ -67,7 +67,7 @@ TIMING = (32, 1, 3)
 
 
 def iocr(kind, frame_id, lists, timing):
-    """An IOCRBlockReq: its data objects, and its IOCSs, each by slot, subslot and octets, one behind the other."""
+    """An IOCRBlockReq: its data objects, and its IOCSs, each by slot, subslot and octets, one after another."""
     offset, places = 0, b""
     for found in lists:
         places += struct.pack(">H", len(found))

@@ -10,7 +10,7 @@ The frames are made here from IEC 61158-6-10, and not by what is measured.
     bench/figures/controller.py --tried FILE        measures this program in its place
     bench/figures/controller.py --lines KIND COUNT  prints the lines of a measurement
 
-Needs rustc, valgrind, objdump and crates/bench_device, built.
+Needs rustc, valgrind, objdump and the program bench_device of tests/benches, built: the size in memory is that of the plain Rust edition.
 """
 
 import json
@@ -25,11 +25,10 @@ sys.path.insert(0, os.path.join(os.path.dirname(os.path.realpath(__file__)), "..
 import blocks
 import calls
 from exchange import numbered
-from program import answer_help, launcher, need, refuse
+from program import answer_help, bench, launcher, need, refuse
 
 ROOT = pathlib.Path(__file__).resolve().parent.parent.parent
 PROGRAM = ROOT / "crates/table_controller/out/table_controller"
-SIZES = ROOT / "crates/bench_device/out/bench_device"
 PLAIN = ROOT / "bench/figures/build/controller"
 
 # Octets of a controller in memory, and of a frame on its stack; instructions of a start-up.
@@ -50,7 +49,7 @@ def octets_of(text):
 
 
 def catalogue(octets, timing):
-    """An access point, an input and an output, each of whose frames has so many octets of data and statuses."""
+    """An access point, an input and an output, each of whose frames has this many octets of data and statuses."""
     part = {"DataType": "OctetString", "Length": octets - 3}
     used = [(1, "IN", 16, {"Input": [part]}), (2, "OUT", 32, {"Output": [part]})]
     point = {"ModuleIdentNumber": 1, "PhysicalSlots": [0, 1, 2], "DNS_CompatibleName": "pn-demo", "MinDeviceInterval": 1,
@@ -157,7 +156,7 @@ def alarm(number):
     return "".join(frame(calls.TOOL + calls.DEVICE + ALARM + body) for body in (data, ack))
 
 
-# What is counted: what stands in front, the line of each number, the steps of a line, how many lines, the octets of data, and how many
+# What is counted: the lines before it, the line of each number, the steps of a line, how many lines, the octets of data, and how many
 # instructions a step may take.
 KINDS = {
     "a tick that sends nothing": (LONG, lambda _: "tick 100\n", 100, 10, 40, 60),
@@ -183,7 +182,7 @@ def body(kind, count):
 
 
 def words(kind):
-    """What the plain program is told."""
+    """The arguments of the plain program."""
     timing, _, _, _, octets, _ = KINDS[kind]
     return [str(octets), str(timing[0] * timing[1]), str(timing[2])]
 
@@ -212,7 +211,7 @@ def each(command, kind, name, before):
 
 
 def exchanged(said):
-    """What is printed behind the start-up."""
+    """What is printed after the start-up."""
     return said.split("state exchanging\n", 1)[1]
 
 
@@ -248,8 +247,8 @@ def measure_start(program):
 
 
 def measure_room(program):
-    """Prints how large a controller is, and the largest frame on the stack of what it stands on."""
-    said = subprocess.run([SIZES], capture_output=True, text=True, check=True).stderr
+    """Prints how large a controller is, and the largest frame on the stack of the crates below it."""
+    said = subprocess.run([bench("bench_device")], capture_output=True, text=True, check=True).stdout
     size = int(re.search(r"a controller (\d+)", said)[1])
     listed = re.findall(r"^(\w+)[^:#\n]*:(.*)$", (ROOT / "crates.txt").read_text(encoding="utf-8"), re.MULTILINE)
     below = "|".join(launcher().stands_on("controller_core", {name: words.split() for name, words in listed}, []))
@@ -269,10 +268,10 @@ def main(arguments):
         return refuse(arguments)
     program = arguments[1] if arguments else str(PROGRAM)
     need("rustc", "valgrind", "objdump")
-    for path in (program, SIZES):
-        if not os.path.exists(path):
-            print(f"controller.py: there is no program {path}: `rt run` in its crate's folder makes it", file=sys.stderr)
-            return 1
+    bench("bench_device")
+    if not os.path.exists(program):
+        print(f"controller.py: the program {program} does not exist: `rt run` in its crate's folder makes it", file=sys.stderr)
+        return 1
     os.makedirs(PLAIN.parent, exist_ok=True)
     subprocess.run(["rustc", "-O", "-g", "-o", str(PLAIN), str(ROOT / "bench/figures/controller.rs")], check=True)
     kept = [measure(program, kind) for kind in KINDS]

@@ -1,6 +1,6 @@
 // What crates/table_controller does with the lines of an exchange, in plain Rust: a controller in a relation that takes cyclic frames and
 // alarms and sends its own. It begins where ApplicationReady was answered. The octets of data, the units of an interval and the intervals
-// of data hold come from the command line; what else a Connect would have said stands in the relation, as it does in a controller. It
+// of data hold come from the command line; what else a Connect would have said is in the relation, as it is in a controller. It
 // prints what that program prints.
 use std::env::args;
 use std::io::{self, Read, Write};
@@ -83,7 +83,7 @@ enum State {
     Ended(u8),
 }
 
-/// The request that stands until it is answered.
+/// The request that is open until it is answered.
 struct Release;
 
 /// With whom, and under which numbers.
@@ -100,7 +100,7 @@ struct Route {
     alarm_retries: u16,
 }
 
-/// The AlarmAck of an alarm that was taken.
+/// The AlarmAck of an alarm that was accepted.
 struct Acknowledged {
     slot: u16,
     subslot: u16,
@@ -144,7 +144,7 @@ fn word(octets: &[u8], place: usize) -> u16 {
 }
 
 impl Controller {
-    /// In a relation whose frames have so many octets of data: a status of slot 0, the data and the status of slot 1 (input) or 2
+    /// In a relation whose frames have this many octets of data: a status of slot 0, the data and the status of slot 1 (input) or 2
     /// (output), and the statuses of the other direction.
     fn new(data_length: usize, interval: u32, intervals: u32) -> Controller {
         let mut outputs = [0; 1440];

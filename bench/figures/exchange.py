@@ -3,7 +3,8 @@
 plain Rust (bench/figures/exchange.rs): both take the same lines, and both have to send the same octets. Its status is 1 where a figure passes
 its bound or where they do not send the same.
 
-The frames are made here from IEC 61158-6-10, and not by what is measured. Needs rustc, valgrind and crates/bench_exchange, built.
+The frames are made here from IEC 61158-6-10, and not by what is measured. Needs rustc, valgrind and the program bench_exchange of
+tests/benches, built: both programs are made by rustc.
     bench/figures/exchange.py --lines KIND COUNT prints the lines of a measurement; --tried COMMAND has the device's counted steps done by this
                                          command, and compares only what is sent.
 """
@@ -17,10 +18,9 @@ import sys
 
 sys.path.insert(0, os.path.join(os.path.dirname(os.path.realpath(__file__)), "..", "gate"))
 import calls
-from program import answer_help, need, refuse
+from program import answer_help, bench, need, refuse
 
 ROOT = pathlib.Path(__file__).resolve().parent.parent.parent
-PROGRAM = ROOT / "crates/bench_exchange/out/bench_exchange"
 PLAIN = ROOT / "bench/figures/build/exchange"
 
 # How many times the instructions of the plain program a step may take, beside its own bound.
@@ -34,7 +34,7 @@ CYCLIC, ALARM = TAG + b"\xc0\x00", TAG + b"\xfc\x01\0\x01\0\x01"
 
 
 def modules(octets):
-    """An access point, an input and an output, each of whose frames has so many octets of data and statuses."""
+    """An access point, an input and an output, each of whose frames has this many octets of data and statuses."""
     return [(0, 1, [(1, 1, 0, 0)]), (1, 16, [(1, 16, octets - 3, 0)]), (2, 32, [(1, 32, 0, octets - 3)])]
 
 
@@ -55,7 +55,7 @@ def cyclic(octets):
 
 
 def numbered(count):
-    """The number of the data behind so many others."""
+    """The number of the data after this many others."""
     return 0xFFFF if count == 0 else (count - 1) % 0x8000
 
 
@@ -69,7 +69,7 @@ def alarm(number):
     return f"alarm 1 {32 * '5a'}\n" + "".join(f"frame {frame}\n" for frame in frames)
 
 
-# What is counted: what stands in front, the line of each number, the steps of a line, how many lines, the octets of data, the units of
+# What is counted: the lines before it, the line of each number, the steps of a line, how many lines, the octets of data, the units of
 # an interval, and how many instructions a step may take.
 KINDS = {
     "a tick in an exchange that sends nothing": (LONG, lambda _: "tick 100\n", 100, 10, 40, 200),
@@ -87,7 +87,7 @@ def lines(kind, count):
 
 
 def words(kind):
-    """What the plain program is told."""
+    """The arguments of the plain program."""
     timing, _, _, _, octets, _ = KINDS[kind]
     return [str(octets), str(timing[0] * timing[1]), str(timing[2])]
 
@@ -120,7 +120,7 @@ def measure(kind):
     """Prints the figures of a kind. Says whether they keep their bounds."""
     bound = KINDS[kind][-1]
     (ours, said), (plain, plain_said) = (
-        each([str(PROGRAM)], kind, r"(?:bench_exchange::)?turns::turn"), each([str(PLAIN), *words(kind)], kind, r"exchange::turn"))
+        each([bench("bench_exchange")], kind, r"test_benches::exchange::turn"), each([str(PLAIN), *words(kind)], kind, r"exchange::turn"))
     times = ours / plain
     print(f"{kind}: {ours:.0f} instructions (at most {bound}); in plain Rust {plain:.0f}: {times:.2f} times (at most {MOST_TIMES})")
     if said != plain_said:

@@ -1,7 +1,7 @@
-// What crates/bench_exchange does, in plain Rust: a device in a relation that takes cyclic frames and alarms and sends its own. It has
+// What bench_exchange of tests/benches does, in one file: a device in a relation that takes cyclic frames and alarms and sends its own. It has
 // no calls: an exchange begins with the first line that is a cyclic frame, an alarm, an input or a unit of time. The octets of data,
-// the units of an interval and the intervals of data hold come from the command line; what else a Connect would have said stands in the
-// relation, as it does in a device. It prints what that crate prints.
+// the units of an interval and the intervals of data hold come from the command line; what else a Connect would have said is in the
+// relation, as it does in a device. It prints what that program prints.
 use std::env::args;
 use std::io::{self, Read};
 
@@ -87,7 +87,7 @@ impl Outbox {
     }
 }
 
-/// An alarm that stands: it is sent again until its ACK comes, and is over with its AlarmAck.
+/// A pending alarm: it is sent again until its ACK comes, and is over with its AlarmAck.
 struct Alarm {
     slot: u16,
     subslot: u16,
@@ -169,7 +169,7 @@ fn word(octets: &[u8], place: usize) -> u16 {
 }
 
 impl Station {
-    /// In a relation whose frames have so many octets of data: a status of slot 0, the data and the status of slot 1 (input) or 2
+    /// In a relation whose frames have this many octets of data: a status of slot 0, the data and the status of slot 1 (input) or 2
     /// (output), and the statuses of the other direction.
     fn new(data_length: usize, interval: u32, intervals: u32) -> Station {
         let mut inputs = [0; 1440];

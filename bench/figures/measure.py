@@ -1,7 +1,7 @@
 #!/usr/bin/env python3
 """Times, peak memory and instruction counts of the program, beside a plain Rust program on the same scripts.
 
-Prints a line for each figure, with the bound that it is to keep. The status is 1 where one passes its bound. bench/figures/run makes
+Prints a line for each figure, with the bound that it must keep. The status is 1 if one passes its bound. bench/figures/run makes
 what it asks for.
 Use: bench/figures/measure.py PROGRAM ECHO PEAK DEVICE_BENCH JOURNAL_BENCH BUILD
 """
@@ -79,8 +79,8 @@ MOST_OF_A_PLAN = 8 * 1024
 MOST_ON_THE_STACK = 16 * 1024
 SECTORS = 2 * 4096
 
-# In a listing of callgrind: the device's step, and the script's, which also prints the frames that were sent. It is taken
-# where the compiler made one function of both.
+# In a listing of callgrind: the device's step, and the script's, which also prints the frames that were sent. It is used
+# if the compiler made one function of both.
 DEVICE_STEP = r"device_core::\S*\bstep"
 SCRIPT_STEP = r"script_runner::session::device::step"
 
@@ -188,7 +188,7 @@ def print_hex(program, file):
 
 
 def print_step(program, file, name, front, line, steps, bound):
-    """The instructions of a step. Where it is no function of its own, the printing of its bytes is taken off. Says whether
+    """The instructions of a step. If it is not a function of its own, the printing of its bytes is subtracted. Says whether
     they keep the bound."""
     step, printing_too, whole = each(program, front, line, steps, file)
     if step is not None:
@@ -205,7 +205,7 @@ def print_step(program, file, name, front, line, steps, bound):
 
 
 def print_beyond(program, file, name, front, line, without, bound):
-    """The instructions of the step by which one line is longer than another, the printing of its frames taken off. Says whether
+    """The instructions of the step by which one line is longer than another, the printing of its frames subtracted. Says whether
     they keep the bound."""
     (step, printing_too, whole), (step_less, printing_less, whole_less) = (
         each(program, front, made, 1, file) for made in (line, without))
@@ -236,7 +236,7 @@ def print_journal(bench):
 
 def print_room(program, bench):
     """How large a device is, and a plan, and the largest frame on the stack of a step. Says whether they keep their bounds."""
-    said = subprocess.run([bench], capture_output=True, text=True, check=True).stderr
+    said = subprocess.run([bench], capture_output=True, text=True, check=True).stdout
     device, flash, plan, _ = map(int, re.findall(r"\d+", said))
     print(f"a device in memory: {device} octets, of which {SECTORS} are the sectors of its flash and {flash - SECTORS} else of it: "
           f"{device - SECTORS} (at most {MOST_IN_MEMORY})")

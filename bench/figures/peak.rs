@@ -1,5 +1,5 @@
 // Runs a program, and says on standard error what its peak memory was, in KiB. A process takes over the peak of the one that
-// started it, so this one, which is small, stands between a large one and the program that is measured.
+// started it, so this one, which is small, runs between a large one and the program that is measured.
 use std::env::args;
 use std::process::{Command, ExitCode};
 

@@ -1,7 +1,7 @@
 #!/usr/bin/env python3
 """Counts the instructions of making the plan of a catalogue, for each octet of its text, at three sizes and kinds of text that are long in
 one thing each: modules as a maker writes them, modules of two keys, the lists by which modules are let into slots, what is put into slots
-with its records, and what nobody reads. What the program does at an empty text is taken off. Its status is 1 where a figure passes its bound.
+with its records, and what nobody reads. What the program does at an empty text is subtracted. Its status is 1 if a figure passes its bound.
 
 Needs valgrind. Use: bench/figures/plans.py [PROGRAM] [OCTETS]   (the proved program if left out; OCTETS: one size in place of the three, as
 16777216, the longest text that the program reads: minutes a kind)
@@ -47,7 +47,7 @@ def reference(catalogue, number):
 
 
 def with_parameters(catalogue, number):
-    """Of a module that stands in no slot: there they are not too many."""
+    """Of a module that is in no slot: there they are not too many."""
     if number == 0:
         part = {"Subslot": 1, "SubmoduleIdentNumber": 1, "ParameterRecordDataItem": []}
         catalogue["ModuleItem"].append({"ID": "LONG", "ModuleIdentNumber": 1, "VirtualSubmoduleItem": [part]})

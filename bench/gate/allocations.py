@@ -1,12 +1,12 @@
 #!/usr/bin/env python3
 """Each allocation of the built program's run failing in turn, until none is left to fail.
 
-The answer has to be `pnscript: out of memory`, status 4 and a front of the output, or the unchanged output. The scripts
+The answer must be `pnscript: out of memory`, status 4 and a prefix of the output, or the unchanged output. The scripts
 are the program's stored run and the examples; the catalogues are those of the examples, of which want of memory has to leave no
 output. Needs a C compiler (cc) and the GNU C library.
 
 Of `World::play` it is the run of a schedule by `table_world`, in calls of four moves beside a world that makes them one by one: where a
-growth of either is refused, its world has to be that of a front of the moves, and all goes on with memory; where it is another
+growth of either is refused, its world must be that of a prefix of the moves, and all goes on with memory; if it is another
 allocation of the program, this ends and prints nothing.
 
 Use: bench/gate/allocations.py [PROGRAM]   (the proved one if left out). Prints a line for each of them, with how many allocations

@@ -1,6 +1,6 @@
 #!/usr/bin/env python3
 """Catalogues at each bound of the catalogue's rules (docs/CATALOGUE.md) and one past it, with the fault that the rules give each and the key
-that it is told at. They are written from the rules alone and share no line with the program. `catalogues.py` makes the last rows of the table
+at which it is reported. They are written from the rules alone and share no line with the program. `catalogues.py` makes the last rows of the table
 tests/tables/catalogues of them, and the keys in its file `places`.
 """
 
@@ -212,7 +212,7 @@ def holder_in(tree, path):
 
 
 def where_of(path):
-    """A path as it is told."""
+    """A path as it is printed."""
     return "".join(f"[{step}]" if isinstance(step, int) else f".{step}" for step in path)[1:]
 
 
@@ -221,7 +221,7 @@ EMPTY = ("PhysicalSlots", "VirtualSubmoduleItem", "ModuleItemRef", "AllowedInSlo
          "ParameterRecordDataItem", "Slots", "Records")
 
 
-# Without these there is not what a record names: where that is told.
+# Without these what a record names does not exist: the key at which that is reported.
 NOT_THERE = {
     ("ModuleItem",): f"{RECORD}.Subslot", ("ModuleItem", 2, "VirtualSubmoduleItem"): f"{RECORD}.Subslot",
     ("ModuleItem", 2, "VirtualSubmoduleItem", 0, "ParameterRecordDataItem"): f"{RECORD}.Index",

@@ -1,12 +1,12 @@
 #!/usr/bin/env python3
-"""What the plan of a catalogue has to be, reckoned from its JSON by the rules alone (docs/CATALOGUE.md; IEC 61158-6-10, 5.2.3 and 5.2.4): the
+"""What the plan of a catalogue must be, computed from its JSON by the rules alone (docs/CATALOGUE.md; IEC 61158-6-10, 5.2.3 and 5.2.4): the
 layouts of its cyclic frames, the blocks of its Connect and its records. It shares no line with the program, and judges no catalogue.
 
     bench/gate/catalogues.py --lines FILE       prints the layouts of a catalogue, as `pnscript plan` does
     bench/gate/catalogues.py --table FILE       prints what must come of a file of catalogues, one a line, in the table tests/tables/catalogues
-                                                whose fault is told by --faults FILE: a line for each, `-` or the fault
+                                                whose fault is given by --faults FILE: a line for each, `-` or the fault
     bench/gate/catalogues.py --bounds           writes the last rows of that table: catalogues at each bound of the rules and one past it
-    bench/gate/catalogues.py --check            compares: each example with its layouts, the table with what stands there, and the Connect of
+    bench/gate/catalogues.py --check            compares: each example with its layouts, the table with what is there, and the Connect of
                                                 the demo station with the one that Scapy built in examples/exchange.txt
 """
 

@@ -1,6 +1,6 @@
 #!/usr/bin/env python3
-"""What has to become of a Connect, reckoned by offsets in its octets from the rules alone (IEC 61158-6-10, 5.2.3 and 5.2.6): the
-status that its answer carries, or that it is taken. It shares no line with the program.
+"""What must become of a Connect, computed by offsets in its octets from the rules alone (IEC 61158-6-10, 5.2.3 and 5.2.6): the
+status that its answer carries, or that it is accepted. It shares no line with the program.
 
     bench/gate/connect_table.py --lines         prints the table: a Connect a line, as edits of the first one
     bench/gate/connect_table.py --statuses      prints what has to become of each: a status, or 'ok'
@@ -16,7 +16,7 @@ import sys
 from program import answer_help, refuse
 
 AR, IOCR, ALARM, EXPECTED = 0x0101, 0x0102, 0x0103, 0x0104
-# ErrorCode1 of a fault in a field of each kind: the alarm block's comes behind that of Expected.
+# ErrorCode1 of a fault in a field of each kind: the alarm block's follows that of Expected.
 CODES = {AR: 1, IOCR: 2, EXPECTED: 3, ALARM: 4}
 # What is expected: slot and ident of each module, and of each of its submodules subslot, ident, properties, octets in and out.
 STATION = [
@@ -114,7 +114,7 @@ def is_cyclic(number):
 
 
 def opened(octets):
-    """The fields of a block whose header counts no more octets than there are, behind its version."""
+    """The fields of a block whose header counts no more octets than there are, after its version."""
     length = int.from_bytes(octets[2:4], "big")
     if len(octets) < 4 + length:
         raise Fault(1)
@@ -199,7 +199,7 @@ def read_expected(octets):
 
 
 def layout_fault(iocr, modules):
-    """The first fault of a layout as the field that it is told by, or None: 24 outside or overlapping, 23 not expected there or
+    """The first fault of a layout as the field that reports it, or None: 24 outside or overlapping, 23 not expected there or
     listed twice, 21 missing."""
     kind, data_length, data, status = iocr
     wanted_data, wanted_status = {}, set()
@@ -230,7 +230,7 @@ def layout_fault(iocr, modules):
 
 
 def judged_block(octets, state, standing):
-    """One block of a Connect: the status of its first fault, or the octets behind it."""
+    """One block of a Connect: the status of its first fault, or the octets after it."""
     if len(octets) < 4:
         return "db814000"
     kind = int.from_bytes(octets[:2], "big")
@@ -289,7 +289,7 @@ def status_of(octets, standing=None):
 
 # The table.
 
-# Fields of each kind behind BlockType: place in the block, octets, and values beside those that each field gets anyhow (0, 1, its
+# Fields of each kind after BlockType: place in the block, octets, and values beside those that each field gets anyhow (0, 1, its
 # own beside it, its greatest): the least and the greatest that are accepted, with one below and above.
 HEADER = [(0, 2, [0x0101, 0x0102, 0x0103, 0x0104, 0x0105, 0x8101, 0x0110]), (2, 2, []), (4, 1, []), (5, 1, [])]
 FIELDS = {
@@ -336,7 +336,7 @@ def fields_of(octets):
 
 
 def edits_of(blocks):
-    """Edits of a Connect: from where, up to where, and what stands there. Each field with each value; each block missing, twice, at
+    """Edits of a Connect: from where, up to where, and what is there. Each field with each value; each block missing, twice, at
     each other place; each block, and the whole, cut at each length."""
     starts = [sum(map(len, blocks[:index])) for index in range(len(blocks) + 1)]
     whole = starts[-1]
@@ -370,7 +370,7 @@ def edits_of(blocks):
 
 
 def pairs_of(blocks):
-    """Edits of two blocks at once: what stands in the first of them decides."""
+    """Edits of two blocks at once: what is in the first of them decides."""
     starts = [sum(map(len, blocks[:index])) for index in range(len(blocks) + 1)]
     broken = []
     for start, octets in zip(starts, blocks):
@@ -387,12 +387,12 @@ def pairs_of(blocks):
 
 
 def many(count, submodules=1):
-    """A Connect of so many modules without data, in one Expected block."""
+    """A Connect of this many modules without data, in one Expected block."""
     return [(slot, 1, [(subslot, 1, 0, 0, 0) for subslot in range(1, submodules + 1)]) for slot in range(count)]
 
 
 def table():
-    """The Connects: octets of one from which the edits behind it start, or an edit."""
+    """The Connects: octets of one from which the edits after it start, or an edit."""
     for modules, split in ((STATION, True), (MIXED, False)):
         blocks = connect(modules, split)
         yield b"".join(blocks)

@@ -3,9 +3,9 @@
 with power lost in that call (`cut`) or there (`fault`).
 
 Each script arms the order, sets the names n1 to n40 (permanent, one commit each: three flash calls for a base, and two for
-each of the fourteen slots behind it, 83 in all), takes the power away and gives it back, and asks what the name is. It has
-to be that of the last Set answered 'done' or of the one that was struck; and the new one exactly where the mask lets the
-last call of the commit open the gate, whose one byte goes from FF to 00: where the mask's first byte is FF. Behind a fault
+each of the fourteen slots after it, 83 in all), takes the power away and gives it back, and asks what the name is. It must
+be that of the last Set answered 'done' or of the one that was struck; and the new one exactly where the mask lets the
+last call of the commit open the gate, whose one byte goes from FF to 00: where the mask's first byte is FF. After a fault
 each Set is answered with error 5.
 
 Use: bench/gate/matrix.py [PROGRAM]   (the proved one if left out). Prints how many runs are right; its status is 1 if one is not.
@@ -25,7 +25,7 @@ MASKS = ("00", "55", "ff", "0f0f", "00000000ffff0000")
 HEAD = "out 0200000000020200000000018892fefd04010000000200000008"
 DONE = [HEAD + "0504000302020000" + 52 * "0", "note done"]
 REFUSED = [HEAD + "0504000302020500" + 52 * "0", "note done"]
-# what is printed of the Set whose call an order strikes, and of each one behind it
+# what is printed of the Set whose call an order strikes, and of each one after it
 ORDERS = {"cut": (["power lost"], ["off"]), "fault": (REFUSED, REFUSED)}
 SUITE = "0.0.0.0 0.0.0.0 0.0.0.0"
 
@@ -39,7 +39,7 @@ def set_name(name):
 
 
 def name(number):
-    """The name of the Set of this number; there is none before the first."""
+    """The name of the Set of this number; it is empty before the first."""
     return f"n{number}" if number else "-"
 
 
@@ -52,7 +52,7 @@ ALL_CALLS = sum(calls_of(number) for number in range(1, SETS + 1))
 
 
 def met(calls):
-    """How many Sets are answered before so many calls passed, and whether the next call opens a gate."""
+    """How many Sets are answered before this many calls passed, and whether the next call opens a gate."""
     answered = 0
     while calls >= calls_of(answered + 1):
         answered += 1
@@ -66,7 +66,7 @@ def script_of(order, calls, mask):
 
 
 def front_of(order, answered):
-    """What is printed up to the restart, where so many Sets are answered 'done'."""
+    """What is printed up to the restart, if this many Sets are answered 'done'."""
     struck, behind = ORDERS[order]
     return ["boot ok", *DONE * answered, *struck, *behind * (SETS - answered - 1), "boot ok"]
 

@@ -100,7 +100,7 @@ class Cyclic:
 
 @dataclass
 class Alarms:
-    """One end of the alarms of a relation: the numbers of data that was sent and taken. Data is numbered 0xFFFF, 0, 1 and so on."""
+    """One end of the alarms of a relation: the numbers of data that was sent and accepted. Data is numbered 0xFFFF, 0, 1 and so on."""
     sent: int = -2
     taken: int = -2
 
@@ -249,7 +249,7 @@ class Controller:
         return self.asks(self.asked + 1)
 
     def hears_within(self, frame):
-        """What comes while the relation stands."""
+        """What comes while the relation is active."""
         if frame.what == "inputs":
             self.cyclic.takes(frame.number)
         elif frame.what == "ERR":

@@ -1,11 +1,11 @@
 #!/usr/bin/env python3
-"""What `table_world` has to print of schedules of both ends. Of every schedule of a small world: how many there are, and at the end of how
+"""What `table_world` must print of schedules of both ends. Of every schedule of a small world: how many there are, and at the end of how
 many of them both ends exchange data, from the rules of a start-up alone: calls by their numbers, kept answers, phases and states. Of a
-schedule from a seed: each frame that comes to something, and how far both ends are behind it, by `world_model.py`. Neither has octets, nor
+schedule from a seed: each frame that changes something, and how far both ends are after it, by `world_model.py`. Neither has octets, nor
 shares a line with the program.
 
     bench/gate/worlds.py --lines       prints these lines, for the lines of crates/table_world/stdin that ask for them
-    bench/gate/worlds.py --check       compares them with what stands in crates/table_world/stdout
+    bench/gate/worlds.py --check       compares them with crates/table_world/stdout
     bench/gate/worlds.py --seeds PROGRAM FIRST LAST MOVES      compares the ladders of these seeds with those that a built program prints
 """
 
@@ -29,7 +29,7 @@ class Device:
         self.phase, self.taken, self.kept = phase, taken, kept
 
     def hears(self, what, records):
-        """The device behind a frame, and what it sends."""
+        """The device after a frame, and what it sends."""
         if what == ("confirm",):
             return Device("exchanging" if self.phase == "awaiting" else self.phase, self.taken, self.kept), []
         if what[0] != "call":
@@ -60,13 +60,13 @@ class Device:
 
 
 class Controller:
-    """Its state, and the number of the call that stands."""
+    """Its state, and the number of the open call."""
 
     def __init__(self, state="connecting", number=CONNECT):
         self.state, self.number = state, number
 
     def hears(self, what, records):
-        """The controller behind a frame, and what it sends."""
+        """The controller after a frame, and what it sends."""
         if what == ("ready",):
             if self.state in ("ending", "waiting", "exchanging"):
                 return Controller("exchanging", self.number), [("confirm",)]
@@ -90,7 +90,7 @@ class Controller:
 
 
 def starts(records, moves, device=None, controller=None, sent=(("call", CONNECT, "connect"),)):
-    """How many schedules there are from the Connect on, and behind how many of them both exchange data. Each frame comes to the end that did
+    """How many schedules there are from the Connect on, and after how many of them both exchange data. Each frame comes to the end that did
     not send it: calls and the answer to ApplicationReady to the device."""
     device, controller = device or Device(), controller or Controller()
     if moves == 0:
@@ -123,7 +123,7 @@ def counts(word, moves, records):
 
 
 def reckoned():
-    """The lines that have to be printed, one list for each line of stdin that is reckoned, each of the plan before it."""
+    """The lines that must be printed, one list for each line of stdin that is computed, each of the plan before it."""
     plan = None
     with open(os.path.join(TABLE, "stdin"), encoding="ascii") as file:
         for line in file:
@@ -142,7 +142,7 @@ def reckoned():
 
 
 def check():
-    """Whether all of them stand in stdout, each behind the one before it."""
+    """Whether all of them are in stdout, each after the one before it."""
     with open(os.path.join(TABLE, "stdout"), encoding="ascii") as file:
         printed = file.read().splitlines()
     place, wrong, lists = 0, 0, list(reckoned())
@@ -158,7 +158,7 @@ def check():
 
 
 def compare(program, first, last, moves):
-    """The same of a program's ladders: for each of these seeds what it prints is what is reckoned."""
+    """The same of a program's ladders: for each of these seeds what it prints is what is computed."""
     with open(os.path.join(TABLE, "stdin"), encoding="ascii") as file:
         line = file.readline()
     plan, wrong, rungs = world_model.Plan.of(json.loads(line.partition(" ")[2])["Project"]), 0, 0

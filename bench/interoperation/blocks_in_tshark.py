@@ -46,7 +46,7 @@ def written_otherwise(found):
 
 
 def frame_of(number, kind, block, records):
-    """A frame that carries the block, and behind a header the record that it counts."""
+    """A frame that carries the block, and after a header the record that it counts."""
     activity = bytes(15) + bytes([number])
     block += records.get(kind, b"")
     if kind in (0x0001, 0x8001):

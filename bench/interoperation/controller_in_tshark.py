@@ -2,7 +2,7 @@
 """Has tshark read each frame that the controller sends in the conversation of crates/table_controller, and compares the fields that its
 PROFINET dissectors name with what the plan of the station says: none may be malformed, or have a wrong checksum.
 
-What the plan says is reckoned here from the catalogue by the rules of IEC 61158-6-10 alone: who is asked for, the IP suite, each place
+What the plan says is computed here from the catalogue by the rules of IEC 61158-6-10 alone: who is asked for, the IP suite, each place
 of the Connect, each record, the numbers of the calls, the value and the statuses of each cyclic frame, and which alarm is acknowledged.
 
     bench/interoperation/controller_in_tshark.py                   asks the program, which `rt run` in crates/table_controller makes

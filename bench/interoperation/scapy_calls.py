@@ -98,7 +98,7 @@ def call(activity, sequence, index, endian=BIG, slot=0, subslot=1, api=0, most=4
 
 
 def read_set(frame, came):
-    """A Set's answer: the suite was taken."""
+    """A Set's answer: the suite was accepted."""
     answer = Ether(came)
     fields(answer, Ether, {"dst": TOOL, "src": DEVICE, "type": 0x8892})
     fields(answer, ProfinetIO, {"frameID": 0xFEFD})
@@ -232,7 +232,7 @@ def bent():
 
 
 def script(parts):
-    """A script of these frames, each behind its comment."""
+    """A script of these frames, each after its comment."""
     lines = ["# Reads what a station says of itself, over the network: ARP, then calls of DCE/RPC.",
              "# `bench/interoperation/scapy_calls.py --script` printed this: the frames are those that Scapy builds."]
     for comment, frame, _, _ in parts:

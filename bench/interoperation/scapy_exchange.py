@@ -4,7 +4,7 @@ alarms build each frame that comes in and each frame that has to be sent. No enc
 
 First the whole start-up of examples/exchange.txt, from Identify to a release. Then another relation is kept up for 1,000 intervals over
 a network that loses, repeats and reorders frames of both ends as a seed says, with frames that do not belong there among them. What
-the device has to do with each of them is reckoned here by the rules of IEC 61158-6-10; what it did is read with Scapy and handed to the
+the device must do with each of them is computed here by the rules of IEC 61158-6-10; what it did is read with Scapy and handed to the
 controller in the order in which the network brought it. In the end the controller falls silent. A last relation is one in which a
 module differs.
 
@@ -52,7 +52,7 @@ INTERVALS = 1000
 INTERVAL, HOLD, AGAIN = 32, 3 * 32, 3200
 MOST_AGAIN = 3
 
-# The numbers before the first of what was sent, and of what was taken.
+# The numbers before the first of what was sent, and of what was accepted.
 NONE_SENT, NONE_TAKEN = 0xFFFF, 0xFFFE
 
 # PDUType. Of its octet the low half is the type and the high one the version 1; Scapy 2.5.0 names them the other way round.
@@ -82,7 +82,7 @@ def head(source, priority=6):
 
 
 def cyclic(source, items, counter, frame_id=None, status=VALID, transfer=0):
-    """A cyclic frame of forty octets: values and statuses, each a Packet, and zeros behind them."""
+    """A cyclic frame of forty octets: values and statuses, each a Packet, followed by zeros."""
     known = INPUT_ID if source == DEVICE else OUTPUT_ID
     octets = sum(len(raw(item)) for item in items)
     return head(source) / ProfinetIO(frameID=known if frame_id is None else frame_id) / PNIORealTimeCyclicPDU(
@@ -95,7 +95,7 @@ def good(is_good=True):
 
 
 def inputs(value, counter, is_first_of_two=False):
-    """What the device sends. Where a module of another kind is expected in slot 2 and one in slot 3, both are told to be bad."""
+    """What the device sends. If a module of another kind is expected in slot 2 and one in slot 3, both are reported as bad."""
     if is_first_of_two:
         return cyclic(DEVICE, [good(), good(), good(), Raw(value), good(), good(False), good(False)], counter)
     return cyclic(DEVICE, [good(), good(), good(), Raw(value), good(), good()], counter)
@@ -123,12 +123,12 @@ def notification(slot, ident, specifier, octets):
 
 
 def following(number):
-    """The number of the data behind that of this number."""
+    """The number of the data after that of this number."""
     return {NONE_TAKEN: 0xFFFF, 0xFFFF: 0}.get(number, (number + 1) % 0x8000)
 
 
 class Alarm:
-    """The alarm that stands: its place, what was raised, and until when it is sent again."""
+    """The pending alarm: its place, what was raised, and until when it is sent again."""
 
     def __init__(self, slot, ident, specifier, octets):
         self.slot, self.specifier = slot, specifier
@@ -534,7 +534,7 @@ class Exchange:
 
 
 def conversation(seed, is_clean=False):
-    """The example, the exchange of this seed, the silence behind it, and a relation in which modules differ. Where it is clean each frame
+    """The example, the exchange of this seed, the silence after it, and a relation in which modules differ. If it is clean each frame
     that does not belong to the exchange is drawn and left out, so that all else is the same."""
     talk = Talk()
     started(talk)
@@ -564,7 +564,7 @@ def conversation(seed, is_clean=False):
 
 
 def script(parts):
-    """The example: each line behind its comment."""
+    """The example: each line after its comment."""
     lines = ["# Starts a station up as a controller does, exchanges cyclic data and an alarm with it, and ends the relation.",
              "# `bench/interoperation/scapy_exchange.py --script` printed this: the frames are those that Scapy builds."]
     for comment, line, _ in parts:

@@ -9,7 +9,7 @@ takes part. Calls are in little endian but where a part says otherwise.
     bench/interoperation/scapy_relation.py --output FILE   judges what was printed for all of them somewhere else
     bench/interoperation/scapy_relation.py --recorded FOLDER
                                             judges scripts (NAME) and what was printed for them (NAME.stdout) that others made:
-                                            each call that is answered positively is built anew by the functions of this page, from
+                                            each call that is answered positively is built again by the functions of this page, from
                                             the few values that a tool chooses, and is compared octet by octet; each answer is read
 
 Needs Scapy (Debian: apt-get install python3-scapy; 2.5.0 was used) and a program, or `rt` to run the sources with.
@@ -70,7 +70,7 @@ OUT_OF_PHASE, WRONG_COMMAND, WRITE_API, WRITE_INDEX, READ_ONLY, LENGTH = (
 STATION = [(0, 1, [(1, 1, 0, 0), (0x8000, 2, 0, 0), (0x8001, 3, 0, 0)]), (1, 16, [(1, 16, 2, 0)]), (2, 32, [(1, 32, 0, 2)])]
 # The same with another module in slot 2, and one in the empty slot 3.
 ANOTHER = STATION[:2] + [(2, 33, [(1, 33, 0, 2)]), (3, 48, [(1, 48, 0, 0)])]
-# The ModuleDiffBlock of that, behind its header: ident 33 where 32 is, and nothing in slot 3.
+# The ModuleDiffBlock of that, after its header: ident 33 where 32 is, and nothing in slot 3.
 DIFFERENCE = bytes.fromhex(
     "0001000000000002" "000200000020000100010001000000209000" "000300000000000000010001000000009800")
 
@@ -123,7 +123,7 @@ def expected(slot, ident, submodules):
 
 
 def connect(activity, sequence, endian=LITTLE, ar=AR, modules=None, factor=600, udp_port=0x8892, **lower):
-    """A Connect: what is expected, where each octet stands, and how long the controller may be silent."""
+    """A Connect: what is expected, where each octet is, and how long the controller may be silent."""
     modules = modules or STATION
     relation = ARBlockReq(
         ARUUID=ar, SessionKey=1, CMInitiatorMacAdd=TOOL, CMInitiatorObjectUUID=INITIATOR, ARProperties_ParametrizationServer=1,
@@ -372,7 +372,7 @@ def other_operation(packet, operation):
 
 
 def keep_second(kept, judge):
-    """ApplicationReady, which is to come again."""
+    """ApplicationReady, which must come again."""
     def judged(frame, came):
         kept["ready"] = [came]
         judge(frame, came)
@@ -390,7 +390,7 @@ def line_of(said):
 
 
 def script():
-    """The example: each line behind its comment."""
+    """The example: each line after its comment."""
     lines = ["# Makes a relation as a controller does, writes and reads records in it, and ends it.",
              "# `bench/interoperation/scapy_relation.py --script` printed this: the frames are those that Scapy builds."]
     for comment, said, _ in conversation():
@@ -445,7 +445,7 @@ def talk(text=None):
 
 
 class Recorded:
-    """What others recorded of a device: the calls in it are built anew, and the answers are read."""
+    """What others recorded of a device: the calls in it are built again, and the answers are read."""
 
     def __init__(self):
         self.counts = dict.fromkeys(("calls built alike", "calls with other values", "answers read", "answers given again", "frames that Scapy does not read"), 0)

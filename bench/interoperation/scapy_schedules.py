@@ -1,7 +1,7 @@
 #!/usr/bin/python3
 """Random schedules for the controller: 300 conversations, each with a station of Scapy's layers that answers, refuses, repeats and is
 silent as a seed says, among frames that do not belong there, and with an application that gives outputs and may stop it. What the
-controller has to do is reckoned as in bench/interoperation/scapy_station.py.
+controller must do is computed as in bench/interoperation/scapy_station.py.
 
     bench/interoperation/scapy_schedules.py [SEED [COUNT]]                asks the program, which `rt run` in crates/table_controller
                                                                           makes, judges what it prints, and counts what was reached;
@@ -74,7 +74,7 @@ class Walk:
         return self.talk.expected
 
     def standing(self):
-        """The call that stands."""
+        """The open call."""
         if self.release is not None:
             return self.release
         return self.calls[min(self.number, len(self.calls) - 1)]

@@ -5,7 +5,7 @@ controller sends and build each frame that it gets. No encoder of this repositor
 The controller is the program of lines `table_controller`. It is brought from looking for its station to the exchange of data, with two
 records, over a network that also brings frames that do not belong there. Then both exchange for 1,000 intervals over a network that
 loses, repeats and reorders the frames of both ends as a seed says. What the controller has to send, and which inputs and which alarm it
-has to show, is reckoned here by the rules of IEC 61158-6-10; each frame is compared octet by octet with the one that Scapy builds. In
+must show, is computed here by the rules of IEC 61158-6-10; each frame is compared octet by octet with the one that Scapy builds. In
 the end the station falls silent, and the controller ends the relation; another start-up ends at each refusal.
 
     bench/interoperation/scapy_station.py [SEED]                asks the program, which `rt run` in crates/table_controller makes, judges
@@ -51,7 +51,7 @@ from scapy.layers.inet import IP, UDP
 from scapy.layers.l2 import Ether
 from scapy.packet import Raw
 
-# Octets behind the data of an answer to the Set, and behind that of an ERR, that only fill the frame up, or the last block.
+# Octets after the data of an answer to the Set, and after that of an ERR, that only fill the frame up, or the last block.
 ADDRESSED_PADDING, ERR_PADDING = 60 - 14 - 2 - 10 - 7, 24
 
 PROGRAM = os.path.join(relation.TOP, "crates", "table_controller", "out", "table_controller")
@@ -226,7 +226,7 @@ def ready_answer():
 
 @functools.lru_cache(maxsize=None)
 def outputs_of(value, is_good):
-    """A cyclic frame of the controller in two parts, between which its CycleCounter stands."""
+    """A cyclic frame of the controller in two parts, between which its CycleCounter is."""
     octets = padded(outputs(value, 0, is_good))
     return octets[:60], octets[62:]
 
@@ -402,7 +402,7 @@ class Talk:
         self.script.ask("alarm", self.expected.alarm or "alarm none")
 
     def show_places(self):
-        """That there is an input without octets, that an output is none, and the ARUUID."""
+        """That an input without octets exists, that an output does not, and the ARUUID."""
         for line, answer in (("value 0 1", "-"), ("value 0 32769", "-"), ("value 2 1", "none"), ("value 1 2", "none"), ("value 9 1", "none")):
             self.script.ask(line, f"value {answer}")
         self.script.ask("ar", f"ar {AR.hex}")
@@ -673,7 +673,7 @@ def judged(wanted, printed):
 
 
 def words_of(words, most):
-    """The flag, what it takes, and at most so many numbers; or None."""
+    """The flag, what it takes, and at most this many numbers; or None."""
     flag = words[0] if words and words[0] in ("--script", "--wanted", "--output", "--tried") else None
     takes = flag in ("--output", "--tried")
     rest = words[(flag is not None) + takes:]

@@ -25,7 +25,7 @@ frames=$(mktemp)
 trap 'rm -f "$printed" "$frames"' EXIT
 "$program" run < "$script" > "$printed"
 
-# The frames of the script and of its output, one a line in hex, each answer behind its request.
+# The frames of the script and of its output, one a line in hex, each answer after its request.
 conversation() {
     awk -v printed="$printed" '
         function next_line() { has_line = (getline line < printed) > 0 }

@@ -42,7 +42,7 @@ class NotTranslated(Exception):
 
 
 def tokens_of(text):
-    """The tokens of a source, in which antt may stand in braces behind the words of a clause."""
+    """The tokens of a source, in which antt may be in braces after the words of a clause."""
     found, place = [], 0
     while place < len(text):
         match = TOKEN.match(text, place)
@@ -55,7 +55,7 @@ def tokens_of(text):
 
 def behind_clause(text, place, word):
     """Where what begins with this word ends: a clause with its braces, or a ghost item with its `;` or `,`. The token takes it all.
-    What a function binds for its clauses alone stands in front of them, and has neither."""
+    What a function binds for its clauses alone precedes them, and has neither."""
     start = place
     if word.text == "ghost" and text[place:].lstrip().startswith("use "):
         place = text.index(";", place) + 1
@@ -82,7 +82,7 @@ def behind_braces(text, place):
 
 
 def without_clauses(tokens):
-    """Takes out clauses, and ghost items with their documents. A comment that stands on a clause goes with it."""
+    """Takes out clauses, and ghost items with their documents. A comment on a clause goes with it."""
     left = []
     for token in tokens:
         if token.kind in ("requires", "ensures"):
@@ -134,7 +134,7 @@ def body_of(tokens, place):
 
 
 def code_behind(tokens, place):
-    """Where the next code stands behind this place."""
+    """Where the next code is after this place."""
     place += 1
     while place < len(tokens) and not tokens[place].is_code():
         place += 1
@@ -271,7 +271,7 @@ def with_plain_tests(tokens):
 
 
 def plain_test(tokens, place):
-    """Changes the test whose `fn` stands here. Gives where it ends."""
+    """Changes the test whose `fn` is here. Gives where it ends."""
     opens = place
     while tokens[opens].text != "(":
         opens += 1
@@ -380,7 +380,7 @@ def with_parts_of_slices(text):
 
 
 def with_plain_proofs(text):
-    """What a constant has the check prove, `prove!`, Rust's compiler reckons: `assert!`."""
+    """What a constant has the check prove, `prove!`, Rust's compiler computes: `assert!`."""
     return text.replace("const _: () = prove!(", "const _: () = assert!(")
 
 
@@ -401,11 +401,11 @@ def plain(text):
 
 
 def tidy(text):
-    """Lines as they would be written by hand: no empty one behind an opening brace or in front of a closing one, none twice."""
+    """Lines as they would be written by hand: no empty one after an opening brace or before a closing one, none twice."""
     text = re.sub(r"[ \t]+\n", "\n", text)
     text = re.sub(r"\n{3,}", "\n\n", text)
     text = re.sub(r"\{\n\n+", "{\n", text)
     text = re.sub(r"\n\n+([ \t]*\})", r"\n\1", text)
-    # A note on the whole file stands by itself.
+    # A note on the whole file is by itself.
     text = re.sub(r"\A((?://(?![/!])[^\n]*\n)+)(?=use |pub use |mod |const |pub |struct |fn )", r"\1\n", text)
     return text.strip("\n") + "\n"

@@ -1,6 +1,6 @@
 // ---- of the plain Rust edition alone: what the header says of sizes, and what an archive without `std` needs
 
-/// Octets of a room, and what it stands on a multiple of.
+/// Octets of a room, and its alignment.
 const ROOM: usize = 40_960;
 const ALIGNMENT: usize = 16;
 

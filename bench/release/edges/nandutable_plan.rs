@@ -11,7 +11,7 @@ unsafe extern "C" {
     fn free(place: *mut c_void);
 }
 
-/// The C library's heap. What it gives stands on a multiple of 16; nothing here asks for more.
+/// The C library's heap. What it gives is aligned to 16; nothing here asks for more.
 struct Heap;
 
 /// What `malloc` keeps.

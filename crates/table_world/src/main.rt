@@ -33,8 +33,14 @@
 #![tactic(auto)]
 
 mod growths;
+mod kind;
 mod ladder;
+mod law;
 mod rows;
+mod schedule;
+mod station;
+mod told;
+mod watch;
 mod worlds;
 
 use ladder::Play;

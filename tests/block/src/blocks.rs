@@ -84,7 +84,7 @@ const ALARM_NOTIFICATION: [u8; 32] = [
     0x00, 0x00, 0x00, 0x10, 0x00, 0x00, 0x00, 0x30, 0x00, 0x07, 0x00, 0x01, 0xde, 0xad, 0xbe, 0xef,
 ];
 
-/// What a reader gives next: a type, or why there is none; None at the end.
+/// What a reader gives next: a type, or the fault of the block. `None` at the end.
 fn next_of(reader: &mut BlockReader) -> Option<Result<BlockType, BlockFault>> {
     match reader.next() {
         Some(Ok(block)) => Some(Ok(block.block_type())),
@@ -159,7 +159,7 @@ fn an_alarm_has_at_most_65511_octets_of_data() {
     assert_eq!(block_len(&block), 65539);
 }
 
-/// A PrmEnd whose BlockLength, of all its octets or of few, is this, with these octets behind it.
+/// A PrmEnd with this BlockLength, followed by these octets.
 fn cut(length: u8, body: &[u8]) -> Option<BlockFault> {
     let mut bytes: ArrayVec<u8, 64> = ArrayVec::new();
     let _ = bytes.try_extend_from_slice(&[1, 0x10, 0, length]);
@@ -180,7 +180,7 @@ fn fault_of(bytes: &[u8]) -> Option<BlockFault> {
     read_block(bytes).err()
 }
 
-/// Why a block is none where the two octets at a place are this number.
+/// Why a block is not valid if the two octets at a place are this number.
 fn with_number(bytes: &[u8], place: usize, number: u16) -> Option<BlockFault> {
     let mut changed: ArrayVec<u8, 128> = ArrayVec::new();
     let _ = changed.try_extend_from_slice(bytes);
@@ -327,7 +327,7 @@ fn no_uuid_of_zeros_and_no_subslot_twice() {
     assert_eq!(with_number(&REPEATED, 36, 2), None);
 }
 
-/// An input IOCRBlockReq with so many data objects and no IOCS.
+/// An input IOCRBlockReq with this many data objects and no IOCS.
 fn input_of(objects: u16) -> ArrayVec<u8, 2048> {
     let mut bytes = ArrayVec::new();
     let length = 50u16.wrapping_add(objects.wrapping_mul(6));

@@ -130,7 +130,7 @@ pub(crate) fn sent(answer: &Blocks) -> Option<(&[u8], &[u8])> {
     Some((header.get(36..40)?, record))
 }
 
-/// Whether a call for so many octets is answered with so many of I&M0, by RecordDataLength too.
+/// Whether a call for this many octets is answered with that many of I&M0, by RecordDataLength too.
 fn gives(length: u32, told: u8) -> bool {
     match answered(&Asked { length, ..GOOD }.octets()) {
         Ok(answer) => match sent(&answer) {
@@ -205,7 +205,7 @@ fn tells_the_first_of_two_faults() {
     }
 }
 
-/// The status of so many octets of a call, which has another BlockType or not.
+/// The status of the first octets of a call, this many, with another BlockType or its own.
 fn refused_of(length: usize, kind: u16) -> Option<[u8; 4]> {
     let octets = Asked { kind, ..GOOD }.octets();
     refused(octets.get(..length)?)

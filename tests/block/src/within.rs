@@ -14,7 +14,7 @@ const DIFFERENCE: Asked = Asked {
     ..GOOD
 };
 
-/// What a Read is answered while the relation of an ARUUID of these octets stands, whose ModuleDiffBlock is these.
+/// The answer to a Read while a relation is active. All octets of its ARUUID are `relation`, and its ModuleDiffBlock is this.
 fn answered(relation: u8, differing: &[u8], asked: Asked) -> Result<Blocks, CallFault> {
     let uuid = Uuid::from_bytes([relation; 16]);
     let mut answer = Blocks::new();
@@ -30,7 +30,7 @@ fn answered(relation: u8, differing: &[u8], asked: Asked) -> Result<Blocks, Call
     Ok(answer)
 }
 
-/// Whether a ModuleDiffBlock of these octets is read, so many by RecordDataLength.
+/// Whether a ModuleDiffBlock of these octets is read, up to RecordDataLength `size`.
 fn reads_difference(differing: &[u8; 5], size: u8) -> bool {
     let Some(differing) = differing.get(..usize::from(size)) else {
         return false;

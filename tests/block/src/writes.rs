@@ -30,7 +30,7 @@ const DATE: Asked = Asked {
     ..GOOD
 };
 
-/// What a Write with these octets behind its header asks for while the relation of an ARUUID of these octets stands.
+/// What a Write asks for while a relation is active. All octets of its ARUUID are `relation`. The octets `behind` follow the header.
 fn judged_in(relation: u8, asked: Asked, behind: &[u8]) -> Result<Write, CallFault> {
     let mut call: ArrayVec<u8, 256> = ArrayVec::new();
     let _ = call.try_extend_from_slice(&asked.octets());
@@ -39,7 +39,7 @@ fn judged_in(relation: u8, asked: Asked, behind: &[u8]) -> Result<Write, CallFau
     judge_write(call.as_slice(), Some(&uuid), &plugged())
 }
 
-/// The status by which a Write is answered while this relation stands, if it is refused.
+/// The status by which a Write is refused while this relation is active. `None` if it is accepted.
 fn refused_in(relation: u8, asked: Asked, behind: &[u8]) -> Option<[u8; 4]> {
     Some(told(
         Operation::Write,
@@ -103,7 +103,7 @@ fn refuses_what_is_not_written_there() {
     assert_eq!(refused_at(2, 1, 1), Some(NO_INDEX));
 }
 
-/// The status by which a Write is answered while no relation stands.
+/// The status by which a Write is answered while no relation is active.
 fn refused_alone() -> Option<[u8; 4]> {
     Some(told(
         Operation::Write,

@@ -6,7 +6,7 @@ use super::stations::Trial;
 use rattle_std::Vec;
 use rattle_std::alloc::Global;
 
-/// Where a number stands behind the Ethernet header, and of how many octets it is.
+/// The place of a number, counted from the end of the Ethernet header, and how many octets it has.
 type Field = (usize, usize);
 
 /// Hardware, protocol, lengths, operation, target address.
@@ -60,7 +60,7 @@ const OF_BLOCK: [Field; 9] = [
     (164, 4),
 ];
 
-/// A frame with this number at a place behind its Ethernet header.
+/// A frame with this number at a place counted from the end of its Ethernet header.
 fn bent(
     (good, head): (&Vec<u8>, usize),
     order: Order,

@@ -42,7 +42,7 @@ fn lower(order: Order, packet: &mut [u8], lowered: Lowered) {
     mend(packet);
 }
 
-/// A frame of so many octets of this one.
+/// A frame of the first octets of this one, this many.
 fn cut((good, head): (&Vec<u8>, usize), order: Order, length: usize, lowered: Lowered) -> Vec<u8> {
     let mut octets = good.clone().unwrap();
     octets.truncate(length);

@@ -13,7 +13,7 @@ pub(crate) enum Fate {
     OldCall,
     /// A response that nothing waits for.
     NoRelation,
-    /// One frame of so many octets is sent, with this PNIOStatus, or 0 where it is a reply of ARP.
+    /// One frame of this many octets is sent, with this PNIOStatus. For a reply of ARP the PNIOStatus is 0.
     Answered { status: u32, length: usize },
 }
 
@@ -145,8 +145,8 @@ fn blocks_of(order: Order, body: &[u8]) -> Option<&[u8]> {
     body.get(20..)?.get(..length as usize)
 }
 
-/// PNIOStatus where a block of this operation or the counts of blocks are wrong; with 1 behind it, where there is none of its
-/// blocks. None where there is no such operation.
+/// PNIOStatus if a block of this operation or the counts of blocks are wrong. It is 1 greater if the call has no block of the
+/// operation. `None` if the operation does not exist.
 fn wrong_block(operation: u16) -> Option<u32> {
     match operation {
         0 => Some(0xDB81_4000),
@@ -179,7 +179,7 @@ fn fate_of_call(order: Order, header: &[u8], blocks: Option<&[u8]>) -> Option<Fa
     let is_known = header.get(40..56)? == [2; 16].as_slice();
     Some(match sequence {
         0..5 if is_known => Fate::OldCall,
-        // The kept answer: a whole I&M0 behind the block of the answer.
+        // The kept answer: the block of the answer, followed by a whole I&M0.
         5 if is_known => positive(60),
         _ if operation == 5 => fate_of_read(wrong, blocks).unwrap_or(negative(wrong)),
         _ => negative(status_without_relation(operation == 2, wrong, blocks)),
@@ -225,7 +225,7 @@ fn fate_of_read(wrong: u32, blocks: &[u8]) -> Option<Fate> {
     })
 }
 
-/// How many octets a record has at a place of the station, or the status where there is none.
+/// How many octets a record has at a place of the station, or the status if the record does not exist there.
 fn record_len(slot: u16, subslot: u16, index: u16) -> Result<usize, u32> {
     let is_real = matches!(
         (slot, subslot),
@@ -242,7 +242,7 @@ fn record_len(slot: u16, subslot: u16, index: u16) -> Result<usize, u32> {
     }
 }
 
-/// An answer with the block IODReadResHeader and so many octets of a record behind it.
+/// An answer with the block IODReadResHeader, followed by this many octets of a record.
 fn positive(record: usize) -> Fate {
     Fate::Answered {
         status: 0,

@@ -25,7 +25,7 @@ pub(crate) fn u32_at(order: Order, bytes: &[u8], place: usize) -> Option<u32> {
     }
 }
 
-/// The number of one, two or four octets at a place, or 0 where there is none.
+/// The number of one, two or four octets at a place, or 0 if the place is past the end.
 pub(crate) fn number_at(order: Order, bytes: &[u8], place: usize, size: usize) -> u32 {
     let number = match size {
         1 => bytes.get(place).map(|octet| u32::from(*octet)),
@@ -50,7 +50,7 @@ pub(crate) fn put(order: Order, bytes: &mut [u8], place: usize, size: usize, num
     }
 }
 
-/// The ones' complement sum of words of two octets, the first behind an even number of octets with this sum.
+/// The ones' complement sum of words of two octets, added to this sum of an even number of octets before them.
 pub(crate) fn ones_sum(before: u32, bytes: &[u8]) -> u32 {
     let mut sum = before;
     for (place, octet) in bytes.iter().enumerate() {

@@ -56,7 +56,7 @@ pub(crate) const DATAGRAMS: [Sample; 4] = [
 /// Without a VLAN tag, and with one of priority 6.
 pub(crate) const TAGS: [&[u8]; 2] = [&[], &[0x81, 0x00, 0xC0, 0x00]];
 
-/// The octets of a frame, with this tag behind both addresses, and how many stand in front of what the frame carries.
+/// The octets of a frame with this tag after both addresses, and the number of octets before its payload.
 pub(crate) fn frame(alloc: Global, hex: &str, tag: &[u8]) -> (Vec<u8>, usize) {
     let octets = hex::decode(alloc, hex.as_bytes()).unwrap();
     let (addresses, rest) = octets.as_slice().split_at_checked(12).expect("whole");
@@ -64,7 +64,7 @@ pub(crate) fn frame(alloc: Global, hex: &str, tag: &[u8]) -> (Vec<u8>, usize) {
     (bytes, tag.len().saturating_add(14))
 }
 
-/// One piece behind the other.
+/// The pieces, one after another.
 fn joined(alloc: Global, pieces: [&[u8]; 3]) -> Result<Vec<u8>, AllocError> {
     let mut octets = Vec::new(alloc);
     for piece in pieces {

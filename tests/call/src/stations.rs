@@ -76,7 +76,7 @@ impl Trial {
         }
     }
 
-    /// The second call is answered as it was, behind these octets.
+    /// The second call is answered as it was, after these octets.
     fn calls_again(&mut self, octets: &[u8]) {
         let mut outbox = Outbox::new();
         let note = step(&mut self.station, &self.again, &mut outbox);

@@ -1,4 +1,4 @@
-//! Frames that other stations sent, and what this one answers. Each is given from behind its FrameID.
+//! Frames that other stations sent, and what this one answers. Each is given from the end of its FrameID on.
 
 use arrayvec::ArrayVec;
 use dcp_core::{
@@ -173,7 +173,7 @@ fn faults_are_numbered() {
     assert_eq!(DcpFault::Block.number(), 3);
 }
 
-/// Whether a Set is to store the name `pump-1`, and to refuse the block behind it for its value.
+/// Whether a Set must store the name `pump-1`, and refuse the next block because of its value.
 fn stores_a_name_alone(request: &Request<'_>) -> bool {
     match set_plan(request, false).as_slice() {
         [

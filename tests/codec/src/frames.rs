@@ -20,7 +20,7 @@ const TAGGED: [u8; 34] = [
     0x00, 0x00,
 ];
 
-/// What both carry behind the FrameID.
+/// What both carry after the FrameID.
 const BODY: [u8; 14] = [
     0x05, 0x00, 0x00, 0x00, 0x00, 0x01, 0x00, 0x01, 0x00, 0x04, 0xFF, 0xFF, 0x00, 0x00,
 ];
@@ -91,7 +91,7 @@ fn two_tags() {
     long[16] = 0x81;
     reads(&long, Err(FrameFault::TooLong));
     reads(&long[..1518], Err(FrameFault::Tag));
-    // Nothing stands behind the second.
+    // Nothing follows the second.
     reads(&long[..18], Err(FrameFault::Tag));
 }
 

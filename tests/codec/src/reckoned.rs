@@ -1,9 +1,9 @@
-//! What frames are by the RFCs, reckoned by the places of their fields, against what is read of them.
+//! What frames are by the RFCs, computed from the places of their fields, against what is read of them.
 
 use frame_codec::{Arp, ArpOperation, Endpoint, FrameFault, Holder, Layered, Payload, Udp, read};
 use pn_values::Mac;
 
-/// The octet at a place, and 0 behind the end.
+/// The octet at a place, and 0 past the end.
 fn octet(frame: &[u8], place: usize) -> u8 {
     frame.get(place).copied().unwrap_or(0)
 }
@@ -158,7 +158,7 @@ const ASKS: Sample = Sample {
     length: 42,
 };
 
-/// A datagram of five octets, and three behind its packet.
+/// A datagram of five octets, and three octets after its packet.
 const PLAIN: Sample = Sample {
     octets: [
         0x02, 0x00, 0x00, 0x00, 0x00, 0x02, 0x02, 0x00, 0x00, 0x00, 0x00, 0x01, 0x08, 0x00, 0x45,
@@ -170,7 +170,7 @@ const PLAIN: Sample = Sample {
     length: 50,
 };
 
-/// A datagram of six octets behind a tag.
+/// A datagram of six octets after a tag.
 const TAGGED: Sample = Sample {
     octets: [
         0x02, 0x00, 0x00, 0x00, 0x00, 0x02, 0x02, 0x00, 0x00, 0x00, 0x00, 0x01, 0x81, 0x00, 0xC0,
@@ -194,7 +194,7 @@ const UNSUMMED: Sample = Sample {
     length: 52,
 };
 
-/// A DCP Identify request behind a tag.
+/// A DCP Identify request after a tag.
 const REAL_TIME: Sample = Sample {
     octets: [
         0x01, 0x0E, 0xCF, 0x00, 0x00, 0x00, 0x02, 0x00, 0x00, 0x00, 0x00, 0x02, 0x81, 0x00, 0x00,
@@ -206,7 +206,7 @@ const REAL_TIME: Sample = Sample {
     length: 34,
 };
 
-/// Whether a frame is read as reckoned.
+/// Whether a frame is read as computed.
 fn is_read(frame: &[u8]) -> bool {
     read(frame) == reckoned(frame)
 }
@@ -228,8 +228,8 @@ fn others(own: u16) -> [u16; 11] {
     ]
 }
 
-/// Whether a frame with another word at a place is read as reckoned. Where `sealed` says so, its header of IPv4 gets the
-/// checksum that it wants.
+/// Whether a frame with another word at a place is read as computed. If `sealed` says so, its IPv4 header gets the right
+/// checksum.
 fn is_read_with(sample: &Sample, sealed: Option<usize>, place: usize, value: u16) -> bool {
     let mut octets = sample.octets;
     let [high, low] = value.to_be_bytes();
@@ -241,7 +241,7 @@ fn is_read_with(sample: &Sample, sealed: Option<usize>, place: usize, value: u16
     is_read(octets.get(..sample.length).unwrap_or(&[]))
 }
 
-/// The first place at which a frame that was changed is not read as reckoned: each octet and each word in turn.
+/// The first place at which a changed frame is not read as computed: each octet and each word in turn.
 fn first_misread(sample: &Sample, sealed: Option<usize>) -> Option<usize> {
     for place in 0..63 {
         let own = u16::from_be_bytes([sample.octets[place], sample.octets[place + 1]]);
@@ -272,7 +272,7 @@ fn seal(octets: &mut [u8; 64], start: usize) {
     octets[start + 11] = low;
 }
 
-/// The first length at which the front of a frame is not read as reckoned.
+/// The first length at which a prefix of a frame is not read as computed.
 fn first_miscut(sample: &Sample) -> Option<usize> {
     (0..65).find(|length| !is_read(sample.octets.get(..*length).unwrap_or(&[])))
 }

@@ -104,7 +104,7 @@ fn is_one(outbox: &Outbox, octets: &[u8]) -> bool {
 }
 
 impl Tried {
-    // This becomes of a call, and so many frames are sent.
+    // The note of a call, and how many frames are sent.
     fn hears(&mut self, bytes: &[u8], note: Note, frames: usize) {
         self.notes(&frame(bytes), note);
         assert_eq!(self.last.len(), frames);
@@ -221,7 +221,7 @@ fn operations_that_are_not_served() {
     }
 }
 
-// A block of another call, or of a relation that there is not.
+// A block of another call, or of a relation that does not exist.
 #[test]
 fn operations_of_a_relation_that_there_is_not() {
     for (operation, status) in [

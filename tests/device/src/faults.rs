@@ -23,7 +23,7 @@ fn faulted() -> Tried {
     device
 }
 
-// The Set and each one behind it are answered, and change nothing, until the next start.
+// The Set and each one after it are answered, and change nothing, until the next start.
 #[test]
 fn a_set_is_refused_until_the_next_start() {
     let mut device = faulted();

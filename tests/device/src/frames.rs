@@ -1,4 +1,4 @@
-//! Frames that are answered, and frames that are not taken.
+//! Frames that are answered, and frames that are not accepted.
 use crate::Tried;
 use device_core::Note;
 use frame_codec::Bytes;
@@ -79,7 +79,7 @@ fn a_request_with_other_lengths() {
     }
 }
 
-// A Set of so many Signals.
+// A Set of this many Signals.
 fn signals(count: u8) -> Bytes {
     let mut bytes = Bytes::new();
     let _ = bytes.try_extend_from_slice(&SET[..25]);

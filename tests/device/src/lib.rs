@@ -55,7 +55,7 @@ impl Tried {
         assert_eq!(step(&mut self.station, event, &mut self.last), note);
     }
 
-    /// An event is taken, and one frame is sent: these octets, filled up.
+    /// An event is accepted, and one frame is sent: these octets, filled up.
     fn sends(&mut self, event: &Event, octets: &[u8]) {
         self.notes(event, Note::Done);
         self.sent(octets);

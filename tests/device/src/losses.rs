@@ -1,4 +1,4 @@
-//! Where names lie in the flash, and what is left of them where power is lost in a commit.
+//! Where names are in the flash, and what remains of them if power is lost in a commit.
 use crate::Tried;
 use device_core::Note;
 use flash_model::{Order, Sector};

@@ -10,7 +10,8 @@ use frame_codec::{Bytes, Frame, Outbox};
 use rattle_std::alloc::Global;
 use relations::Phase;
 use test_stations::{
-    DONE, SET, Station, WRITE, call, frame, is_filled, is_padded, octets, plugged, set_pump, step,
+    DONE, SET, Station, WRITE, call, frame, is_filled, is_padded, octets, plugged, set, set_pump,
+    shortened, step,
 };
 use uuid::Uuid;
 
@@ -31,7 +32,7 @@ const ASKED: [u8; 32] =
     *b"\x02\x00\x00\x00\x00\x01\x02\x00\x00\x00\x00\x02\x88\x92\xfe\xfd\x04\x00\x00\x00\x00\x02\x00\x00\x00\x06\
     \x05\x06\x00\x02\x00\x02";
 
-// The answer to one that is done, and to one of a mode that there is not.
+// The answer to one that is done, and to one of a mode that does not exist.
 const RESET: [u8; 33] =
     *b"\x02\x00\x00\x00\x00\x02\x02\x00\x00\x00\x00\x01\x88\x92\xfe\xfd\x04\x01\x00\x00\x00\x02\x00\x00\x00\x08\
     \x05\x04\x00\x03\x05\x06\x00";
@@ -108,7 +109,7 @@ impl Ends {
         }
     }
 
-    /// The same, so many times.
+    /// The same, `count` times.
     fn turns(&mut self, count: u32) {
         for _ in 0..count {
             self.turn();
@@ -137,7 +138,7 @@ impl Ends {
         assert_eq!(step(&mut self.device, event, &mut self.answers), note);
     }
 
-    /// The device sent one frame, of so many octets.
+    /// The device sent one frame, of this many octets.
     fn is_answer_long(&self, length: usize) {
         let answer = one(&self.answers).expect("an answer");
         assert_eq!(answer.len(), length);
@@ -241,7 +242,7 @@ fn is_alarm_shown(controller: &Controller) -> bool {
     }
 }
 
-// What the controller is at behind each turn of a start-up.
+// The state of the controller after each turn of a start-up.
 const STATES: [State; 5] = [
     State::Addressing,
     State::Connecting,
@@ -260,7 +261,7 @@ fn a_start_up() {
     ends.is_related(Some(Phase::Exchanging));
 }
 
-// The Connect of the plan is a frame of 533 octets, and cut anywhere it is none; its answer is one of 212.
+// The Connect of the plan is a frame of 533 octets. Cut anywhere it is not a frame. Its answer has 212 octets.
 #[test]
 fn a_connect_that_is_cut_is_none() {
     let mut ends = Ends::new(Global, PUMP);
@@ -284,7 +285,71 @@ fn other_modules_are_told() {
     ends.is_related(None);
 }
 
-// Mode 7 is none.
+// An answer to Identify of another transaction (Xid) than the controller's, which is 1, is not the answer to its Identify.
+#[test]
+fn an_identify_answer_of_another_transaction_is_ignored() {
+    let mut ends = Ends::new(Global, PUMP);
+    ends.notes(&frame(ends.sent.as_slice()), Note::Done);
+    let answer = one(&ends.answers).expect("an answer");
+    for xid in [0, 2, 0x0000_0101, 0x0001_0001, 0x0100_0001, u32::MAX] {
+        let mut other = octets(answer.as_slice());
+        for (place, octet) in (18..).zip(xid.to_be_bytes()) {
+            set(&mut other, place, octet);
+        }
+        let sent = told(&mut ends.controller, &ControllerEvent::Frame(other));
+        assert_eq!(sent.len(), 0, "{xid:#x}");
+        ends.is_at(State::Looking);
+    }
+    assert_eq!(answer.get(18..22), Some([0, 0, 0, 1].as_slice()));
+    let sent = told(&mut ends.controller, &ControllerEvent::Frame(answer));
+    assert_eq!(sent.len(), 1);
+    ends.is_at(State::Addressing);
+}
+
+// Where the blocks of the answer to a Connect of other modules are, from the first octet of each to the octet after its last:
+// ARBlockRes, the IOCRBlockRes of inputs and of outputs, AlarmCRBlockRes and ModuleDiffBlock.
+const ANSWERED: [(usize, usize); 5] = [(142, 176), (176, 188), (188, 200), (200, 212), (212, 262)];
+
+/// An answer to a Connect without the octets from one place up to another. Its UDP checksum is 0: it is not used.
+fn without(answer: &Bytes, from: usize, to: usize) -> Bytes {
+    let mut bytes = octets(&answer[..from]);
+    bytes.try_extend_from_slice(&answer[to..]).expect("room");
+    let mut part = shortened(&bytes, bytes.len());
+    set(&mut part, 40, 0);
+    set(&mut part, 41, 0);
+    part
+}
+
+// An answer to a Connect that lacks the ARBlockRes, an IOCRBlockRes or the AlarmCRBlockRes is no answer, though it says that modules
+// differ. The whole one ends the relation by a Release.
+#[test]
+fn an_answer_to_a_connect_without_a_block_is_ignored() {
+    let mut ends = Ends::new(Global, OTHER_MODULES);
+    ends.turns(2);
+    ends.is_at(State::Connecting);
+    ends.notes(&frame(ends.sent.as_slice()), Note::Done);
+    let answer = one(&ends.answers).expect("an answer");
+    let [needed @ .., differing] = ANSWERED;
+    for (from, to) in needed {
+        let part = without(&answer, from, to);
+        let sent = told(&mut ends.controller, &ControllerEvent::Frame(part));
+        assert_eq!(sent.len(), 0, "without {from}..{to}");
+        ends.is_at(State::Connecting);
+    }
+    // Octets that are left out are the reason, and not how they are left out: without the last block the relation begins.
+    let mut same = Ends::new(Global, OTHER_MODULES);
+    same.turns(2);
+    let part = without(&answer, differing.0, differing.1);
+    let sent = told(&mut same.controller, &ControllerEvent::Frame(part));
+    assert_eq!(sent.len(), 1);
+    same.is_at(State::Ending);
+    let whole = without(&answer, answer.len(), answer.len());
+    let sent = told(&mut ends.controller, &ControllerEvent::Frame(whole));
+    assert_eq!(sent.len(), 1);
+    ends.is_at(State::Ended(Cause::ModuleDiff));
+}
+
+// Mode 7 does not exist.
 #[test]
 fn a_reset_that_is_refused_is_an_answer() {
     let mut ends = Ends::started(Global);
@@ -320,7 +385,7 @@ fn no_name_is_set_before_the_release() {
     ends.is_answer(&DONE);
 }
 
-// The controller takes the alarm of the device, and the next one can be raised behind its AlarmAck.
+// The controller accepts the alarm of the device. After its AlarmAck the next one can be raised.
 #[test]
 fn an_alarm_is_taken() {
     let mut ends = Ends::started(Global);
@@ -337,7 +402,7 @@ fn an_alarm_is_taken() {
     ends.notes(&again, Note::Done);
 }
 
-// A Write that is repeated has the same answer and is one command; one of a smaller number is none.
+// A Write that is repeated has the same answer and is one command. One of a smaller number is not a command.
 #[test]
 fn a_write_that_is_repeated_is_one_command() {
     let mut ends = Ends::started(Global);

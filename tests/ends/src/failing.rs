@@ -26,7 +26,7 @@ impl<'a> Read for Breaking<'a> {
     }
 }
 
-/// A writer with room for some octets more, which fails behind them.
+/// A writer with room for some more octets, which fails after them.
 struct Filling {
     taken: Vec<u8>,
     room: usize,
@@ -79,7 +79,7 @@ fn fills(alloc: Global, script: &[u8], whole: &[u8], room: usize) {
     assert_eq!(Some(writer.taken.as_slice()), whole.get(..room));
 }
 
-/// Writes are refused in turn behind so many octets, each from `first` on, up to `last`.
+/// The writer fails after `first` octets, after one more, and so on up to `last`.
 fn refused_between(alloc: Global, first: usize, last: usize) {
     let script = long(alloc);
     let (result, whole) = output(alloc, script.as_bytes());

@@ -37,12 +37,12 @@ const STARTED_UP: &str = "plan ok\nstate looking\nmoved 1 1\nstate addressing\nm
 /// I&M1 of a device that has none, as it is shown.
 const BLANK: &str = "202020202020202020202020202020202020202020202020202020202020202020202020202020202020202020202020202020202020";
 
-/// The I&M texts behind it.
+/// The I&M texts that follow it.
 const TEXTS: &str = "im2 20202020202020202020202020202020\nim3 2020202020202020202020202020202020202020202020202020202020202020202020202020202020202020202\
         02020202020202020\nim4 00000000000000000000000000000000000000000000000000000000000000000000000000000000000000000000000000000000000\
         0\n";
 
-/// These texts, one behind the other.
+/// These texts, one after another.
 fn joined(alloc: Global, parts: &[&str]) -> Result<String, AllocError> {
     let mut text = String::new(alloc);
     for part in parts {
@@ -65,7 +65,7 @@ fn prints(alloc: Global, script: &str, wanted: &str) {
     assert_eq!(text.as_slice(), wanted.as_bytes());
 }
 
-/// A start-up to the exchange of data, and these lines behind it.
+/// A start-up to the exchange of data, followed by these lines.
 fn started_up(alloc: Global, lines: &str) -> Result<String, AllocError> {
     joined(
         alloc,

@@ -1,4 +1,4 @@
-//! A controller as a host in C asks for it: numbers, answers, and where what is told lies.
+//! A controller as a host in C calls it: numbers, answers, and where the reported values are.
 
 use super::PUMP;
 use configurator::plan_from_json;
@@ -7,7 +7,7 @@ use c_layout::Op;
 use rattle_std::alloc::Global;
 use uuid::Uuid;
 
-/// Units of time in a second: so long a request stands before it is sent again.
+/// Units of time in a second: after this time a request is sent again.
 const SECOND: u32 = 32000;
 
 /// The controller of the demo station's plan, whose first frame waits.
@@ -53,7 +53,7 @@ fn answer(port: &mut Port, what: u32) -> u32 {
     serve(port, &mut op, &[])
 }
 
-/// The kind of the next piece of work, which is taken.
+/// The kind of the next piece of work, which is handed out.
 fn next(port: &mut Port) -> u32 {
     let mut op = asked(7);
     let _ = serve(port, &mut op, &[]);

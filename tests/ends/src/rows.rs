@@ -1,4 +1,4 @@
-//! Start-ups, and what may come behind them.
+//! Start-ups, and what may follow them.
 
 use super::{
     BLANK, OTHER_MODULES, SET_DONE, SET_PUMP_1, START, TEXTS, joined, prints, prints_behind, shown,
@@ -32,7 +32,7 @@ fn a_start_up() {
     prints_behind(Global, "show\n", wanted.as_str())
 }
 
-// ResetToFactory of the communication, behind a Write of I&M1, which stays.
+// ResetToFactory of the communication, after a Write of I&M1, which stays.
 #[test]
 fn a_reset_ends_both_ends() {
     let alloc = Global;
@@ -63,7 +63,7 @@ fn a_reset_ends_both_ends() {
     prints_behind(alloc, lines.as_str(), wanted.as_str())
 }
 
-// ResetToFactory of a kind that there is not.
+// ResetToFactory of a kind that does not exist.
 #[test]
 fn a_reset_that_is_refused_ends_nothing() {
     let alloc = Global;
@@ -127,7 +127,7 @@ fn other_modules_end_the_controller() {
     prints(alloc, script.as_str(), wanted.as_str())
 }
 
-// An older frame is stale; behind three intervals without one both ends have sent two cyclic frames and an ERR, which wait.
+// An older frame is stale. After three intervals without a frame both ends have sent two cyclic frames and an ERR, which wait.
 #[test]
 fn data_hold_runs_out() {
     let alloc = Global;

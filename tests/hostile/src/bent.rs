@@ -66,7 +66,7 @@ fn are_no_alarm_acks(phase: Option<Phase>) {
     is_untouched(device, phase)
 }
 
-// Data of a controller is an AlarmAck, and nothing else; what follows the block in VarPartLen is none either.
+// Data of a controller is an AlarmAck, and nothing else. An AlarmAck with octets after its block in VarPartLen is refused too.
 #[test]
 fn data_that_is_no_alarm_ack() {
     for phase in PHASES {

@@ -80,7 +80,7 @@ const ENDS: [(usize, u8, [u8; 2]); 7] = [
     (391, 3, [2, 0x17]),
 ];
 
-// Both codes of a Connect whose blocks end behind so many octets.
+// Both codes of a Connect whose blocks end after this many octets.
 fn codes_of_connect(length: usize) -> [u8; 2] {
     let mut first: usize = 0;
     for (end, code, missing) in ENDS {
@@ -172,7 +172,7 @@ fn counts_alike() {
     is_as_it_was(&device)
 }
 
-// RecordDataLength: that of a Write has to be the record's own; a Read gives no more than so many octets of it.
+// RecordDataLength: that of a Write must be the record's own. A Read gives no more octets of the record than that.
 #[test]
 fn lengths_of_records() {
     let mut device = at(Some(Phase::Started));
@@ -214,7 +214,7 @@ fn offsets_of_blocks() {
     }
 }
 
-/// A call in this phase has a positive answer of so many octets, which repeats the ArgsMaximum of the call.
+/// A call in this phase has a positive answer of this many octets, which repeats the ArgsMaximum of the call.
 fn is_answered(phase: Option<Phase>, bytes: &Bytes, length: usize) {
     let mut device = at(phase);
     let mut outbox = Outbox::new();

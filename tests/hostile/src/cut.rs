@@ -7,7 +7,7 @@ use frame_codec::Bytes;
 use relations::Phase;
 use test_stations::{Station, octets, set};
 
-// None of the parts in front of the end of a frame is taken: from this length on this becomes of each, and shorter ones are faults.
+// No frame that is cut is accepted. From this length on each has this note; shorter ones are faults.
 fn are_cut(device: &mut Station, bytes: &Bytes, (from, note): (usize, Note)) {
     for length in 0..bytes.len() {
         let part = front(bytes.as_slice(), length);
@@ -16,7 +16,7 @@ fn are_cut(device: &mut Station, bytes: &Bytes, (from, note): (usize, Note)) {
     }
 }
 
-// What becomes of a cyclic frame that is too short: without a relation there is none that it could belong to.
+// The note of a cyclic frame that is too short. Without a relation it belongs to no relation.
 fn note_of_short(phase: Option<Phase>) -> Note {
     match phase {
         None => Note::NoRelation,
@@ -39,7 +39,7 @@ fn cyclic_frames_cut_short() {
     }
 }
 
-/// No part of a PDU is taken, with a tag or without, under either FrameID.
+/// No part of a PDU is accepted, with a tag or without, under either FrameID.
 fn is_whole_or_fault(device: &mut Station, bytes: &[u8]) {
     are_cut(device, &octets(bytes), (0, Note::Fault));
     are_cut(device, &untagged(bytes), (0, Note::Fault));
@@ -93,7 +93,7 @@ fn frames_of_another_station() {
     }
 }
 
-// A whole one belongs to no relation where there is none.
+// Without a relation a whole one belongs to no relation.
 #[test]
 fn frames_of_no_relation() {
     let mut device = at(None);

@@ -1,4 +1,4 @@
-//! Cyclic frames whose FrameID, CycleCounter or statuses are others, and what stands behind them.
+//! Cyclic frames with another FrameID, CycleCounter or status, and with other octets after it.
 
 use super::frames::{BLOCKS, OUTPUTS};
 use super::stations::{PHASES, asked_for, at, front, is_noted, is_untouched};
@@ -100,7 +100,7 @@ fn is_counted(device: &mut Station, counter: u16, note: Note) {
     is_noted(device, &bytes, note);
 }
 
-// A first CycleCounter, two with which a frame behind it is stale, and one with which it is newer.
+// A first CycleCounter, two with which the next frame is stale, and one with which it is newer.
 const COUNTERS: [(u16, [u16; 2], u16); 3] = [
     (0, [0, 65_535], 1),
     (1, [1, 0], 61_441),
@@ -127,7 +127,7 @@ fn first_cycle_counters() {
     }
 }
 
-/// The cyclic frame, filled up to so many octets.
+/// The cyclic frame, filled up to this many octets.
 fn filled(length: usize) -> Bytes {
     let mut bytes = octets(&OUTPUTS);
     for _ in 64..length {
@@ -137,7 +137,7 @@ fn filled(length: usize) -> Bytes {
     bytes
 }
 
-/// The cyclic frame is taken, filled up to so many octets, and then only a newer one.
+/// The cyclic frame, filled up to this many octets, is accepted, and after it only a newer one.
 fn is_taken(length: usize) {
     let mut device = at(Some(Phase::Exchanging));
     is_noted(&mut device, &filled(length), Note::Done);

@@ -78,7 +78,7 @@ pub(crate) fn call(operation: u8, sequence: u16, blocks: &[u8]) -> Bytes {
     test_stations::call(operation, 7, sequence, blocks)
 }
 
-/// A frame with another number of so many octets at a place.
+/// A frame with another number, of this many octets, at a place.
 pub(crate) fn bent(bytes: &[u8], place: usize, size: usize, (front, last): (u8, u8)) -> Bytes {
     let mut bent = octets(bytes);
     let end = place.wrapping_add(size);

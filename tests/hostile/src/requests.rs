@@ -53,8 +53,8 @@ fn fates(alloc: Global, text: &[u8]) -> Vec<Fate> {
     fates
 }
 
-/// The first block of some data, by Option, Suboption and contents, and what is behind it. Behind an odd Length stands a
-/// byte of padding, which may be missing at the end.
+/// The first block of some data, by Option, Suboption and contents, and the rest. A block of odd Length is followed by a byte of
+/// padding, which may be missing at the end.
 fn first_block(data: &[u8]) -> Option<((u8, u8, &[u8]), &[u8])> {
     let [option, suboption, high, low, behind @ ..] = data else {
         return None;
@@ -68,8 +68,8 @@ fn first_block(data: &[u8]) -> Option<((u8, u8, &[u8]), &[u8])> {
     Some(((*option, *suboption, contents), behind))
 }
 
-/// How many blocks some data has, and whether the station has the value of each. None where the data cannot be read: a
-/// block is not whole or has less than so many bytes, or there are more than sixteen.
+/// How many blocks some data has, and whether the station has the value of each. `None` if the data cannot be
+/// read: a block is not whole or has less than `least` bytes, or there are more than sixteen.
 fn blocks(data: &[u8], least: usize) -> Option<(usize, bool)> {
     let mut rest = data;
     let mut are_all_known = true;
@@ -89,7 +89,7 @@ fn blocks(data: &[u8], least: usize) -> Option<(usize, bool)> {
     None
 }
 
-/// What has to become of what stands behind a FrameID: ServiceID, ServiceType, Xid, ResponseDelay, DCPDataLength, data.
+/// The fate that the octets after a FrameID must have: ServiceID, ServiceType, Xid, ResponseDelay, DCPDataLength, data.
 fn fate_of_request(is_identify: bool, body: &[u8]) -> Fate {
     let [service, kind, _, _, _, _, _, _, high, low, rest @ ..] = body else {
         return Fault;
@@ -150,7 +150,7 @@ fn hand_in(alloc: Global, frames: &str, wanted: &[Fate], sample: &Sample) {
     );
 }
 
-/// How many bytes of a sample are needed for what becomes of it, where so many stand in front of what is behind its FrameID.
+/// How many bytes of a sample decide its fate. The first `head` bytes end with its FrameID.
 fn needed((_, _, data, fate): &Sample, head: usize) -> usize {
     if *fate == NotMine {
         head
@@ -187,8 +187,8 @@ fn hand_in_cut(alloc: Global, sample: &Sample, (tag, head): (&str, usize)) {
     hand_in(alloc, script.as_str(), wanted.as_slice(), sample)
 }
 
-// A frame that ends before its FrameID does is a fault; behind that it is judged by where it goes; and a request that ends
-// before its data does is a fault. What is behind the data is padding.
+// A frame that ends before its FrameID does is a fault. A longer one is judged by its destination. A request that ends before its
+// data does is a fault. What follows the data is padding.
 #[test]
 fn cut_short() {
     let alloc = Global;
@@ -198,7 +198,7 @@ fn cut_short() {
     }
 }
 
-/// Where the lengths of a frame stand, of which the first, DCPDataLength, stands at `place`. A Get has no other.
+/// The places of the lengths in a frame. The first is DCPDataLength, at `place`. A Get has no other.
 fn lengths(alloc: Global, frame: &[u8], place: usize, is_get: bool) -> Vec<usize> {
     let mut places = Vec::new(alloc);
     places.push(place).unwrap();
@@ -267,7 +267,7 @@ fn put_wrong(
     }
 }
 
-/// Hands a sample in with other lengths, with this tag. The first of its lengths stands at `place`.
+/// Hands a sample in with other lengths, with this tag. The first of its lengths is at `place`.
 fn hand_in_wrong(alloc: Global, sample: &Sample, (tag, place): (&str, usize)) {
     let good = frame(alloc, sample, tag);
     assert_eq!(fate_of(good.as_slice()), sample.3, "{sample:?}");
@@ -288,7 +288,7 @@ fn wrong_lengths() {
     }
 }
 
-/// A frame with this tag may have so many bytes, and no more.
+/// A frame with this tag may have this many bytes, and no more.
 fn hand_in_long(alloc: Global, (tag, longest): (&str, usize)) {
     let sample = &SAMPLES[0];
     let mut bytes = frame(alloc, sample, tag);

@@ -84,7 +84,7 @@ fn served(device: &mut Station, bytes: &Bytes) -> (usize, [u8; 4]) {
     }
 }
 
-/// The one answer to a call has so many octets, and this status.
+/// The one answer to a call has this many octets, and this status.
 pub(crate) fn is_served(device: &mut Station, bytes: &Bytes, (length, status): (usize, [u8; 4])) {
     assert_eq!(served(device, bytes), (length, status));
 }
@@ -97,7 +97,7 @@ fn are_sent_alike(outbox: &Outbox, wanted: &Outbox) {
     }
 }
 
-/// Two stations answer an event alike, and show the same behind it.
+/// Two stations answer an event alike, and show the same after it.
 fn is_alike((device, other): (&mut Station, &mut Station), event: &Event) {
     let (mut outbox, mut wanted) = (Outbox::new(), Outbox::new());
     let note = step(device, event, &mut outbox);

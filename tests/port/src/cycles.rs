@@ -17,7 +17,7 @@ fn take_all(port: &mut Port) {
     }
 }
 
-// A port with a relation, whose work is taken.
+// A port with a relation. All its work was handed out.
 fn connected(alloc: Global) -> Port {
     let mut port = booted();
     for text in OPENING {
@@ -26,7 +26,7 @@ fn connected(alloc: Global) -> Port {
     port
 }
 
-// A frame comes, and all work of it is taken.
+// A frame comes, and all work of it is handed out.
 fn hear(alloc: Global, port: &mut Port, text: &str) {
     let octets = hex::decode(alloc, text.as_bytes()).unwrap();
     let _ = calls::frame(port, octets.as_slice());

@@ -1,4 +1,4 @@
-//! Tests of a device as a host drives it: each call once where it is taken, and once for each number that it is refused with.
+//! Tests of a device as a host drives it: each call once if it is accepted, and once for each number that it is refused with.
 //!
 //! The numbers of refusals are those of `include/nandutable.h`, and the octets those of other programs.
 #![cfg(test)]

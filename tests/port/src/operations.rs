@@ -1,4 +1,4 @@
-//! Operations as a host in C asks for them: numbers, answers, and where what is told lies.
+//! Operations as a host in C calls them: numbers, answers, and where the reported values are.
 use crate::stations::{booted, busy, lost, made};
 use device_abi::{Port, serve};
 use c_layout::Op;
@@ -62,7 +62,7 @@ fn work_is_told() {
     let mut op = asked(3);
     assert_eq!(serve(&mut port, &mut op, &SET), 0);
     assert_eq!(op.note, 0);
-    // The first base: its sector is erased, its 437 octets are programmed behind its gate's, and the gate is closed.
+    // The first base: its sector is erased, its 437 octets are programmed after its gate's, and the gate is closed.
     for (work, length) in [(2, 0), (1, 437), (1, 1), (3, 60), (0, 0)] {
         let mut op = asked(7);
         assert_eq!(serve(&mut port, &mut op, &[]), 0);

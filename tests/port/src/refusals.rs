@@ -32,7 +32,7 @@ fn no_event(port: &mut Port, wanted: u32) {
     assert_eq!(alarm(port, 0, 1, &[1]), wanted);
 }
 
-// Nothing is told, and this number says why.
+// Nothing is reported, and this number says why.
 fn nothing_told(port: &Port, wanted: u32) {
     assert_eq!(work(port), wanted);
     assert_eq!(running(port), wanted);

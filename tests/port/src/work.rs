@@ -5,7 +5,7 @@ use device_core::Note;
 use device_abi::{Port, Stage, Work};
 use test_stations::{DONE, IDENTIFY, is_filled};
 
-// The kind of the work that is next, which is then taken.
+// The kind of the next work, which is handed out.
 fn takes(port: &mut Port, wanted: u32) {
     assert_eq!(kind(port), wanted);
     port.advance();

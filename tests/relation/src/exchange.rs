@@ -46,7 +46,7 @@ const SILENT: [u8; 36] =
     *b"\x02\x00\x00\x00\x00\x02\x02\x00\x00\x00\x00\x01\x81\x00\xa0\x00\x88\x92\xfe\x01\
     \x00\x01\x00\x01\x14\x01\xff\xff\xff\xfe\x00\x04\xcf\x81\xfd\x05";
 
-// The ERR of a device whose alarm nobody acknowledges: one alarm was sent, and none was taken.
+// The ERR of a device whose alarm is not acknowledged: one alarm was sent, and none was accepted.
 const SPENT: [u8; 36] =
     *b"\x02\x00\x00\x00\x00\x02\x02\x00\x00\x00\x00\x01\x81\x00\xa0\x00\x88\x92\xfe\x01\
     \x00\x01\x00\x01\x14\x01\xff\xff\xff\xfe\x00\x04\xcf\x81\xfd\x0d";
@@ -57,7 +57,7 @@ fn alarm(bytes: &[u8]) -> Event {
 }
 
 impl Tried {
-    /// The first interval of a relation: behind its last unit one frame is sent, which holds this input.
+    /// The first interval of a relation: with its last unit one frame is sent, which holds this input.
     pub(crate) fn sends_interval(&mut self, value: [u8; 2]) {
         self.passes(31, 0);
         let mut wanted = INPUTS;
@@ -70,7 +70,7 @@ impl Tried {
         assert_eq!(self.station.output(2, 1), Some(value.as_slice()));
     }
 
-    // 3,200 units go by, with so many frames in all but the last of them, and in that one the alarm is sent again.
+    // 3,200 units go by, with `between` frames in all but the last of them. In the last the alarm is sent again.
     fn notifies_again(&mut self, between: usize, with_inputs: bool) {
         self.passes(3199, between);
         self.notes(&Event::Tick, Note::Done);
@@ -129,8 +129,8 @@ fn is_notified_again(outbox: &Outbox, with_inputs: bool) -> bool {
     }
 }
 
-// An alarm that is raised so many units behind the Connect and that nobody acknowledges: it is sent again three times, each 3,200
-// units behind the one before, with so many frames of inputs between, and the fourth time ends the relation, with nothing beside the ERR.
+// An alarm is raised `first` units after the Connect, and is not acknowledged. It is sent again three times, each 3,200 units after the
+// one before, with `between` frames of inputs in between. The fourth time ends the relation, and only the ERR is sent.
 fn is_spent(first: u32, between: usize) {
     let mut device = Tried::new(patient());
     device.passes(first, 0);
@@ -162,7 +162,7 @@ pub(crate) fn outputs(counter: u16, [first, second]: [u8; 2]) -> Event {
     Event::Frame(bytes)
 }
 
-// Cyclic frames by their CycleCounter and their output, what becomes of each, and the output behind it.
+// Cyclic frames by their CycleCounter and their output, the note of each, and the output after it.
 const NEWER_AND_OLDER: [(u16, [u8; 2], Note, [u8; 2]); 6] = [
     (65_520, [1, 0], Note::Done, [1, 0]),
     (16, [0, 2], Note::Done, [0, 2]),

@@ -36,7 +36,7 @@ impl Tried {
         assert_eq!(step(&mut self.station, event, &mut self.last), note);
     }
 
-    /// An event is taken, and one frame is sent: these octets, filled up.
+    /// An event is accepted, and one frame is sent: these octets, filled up.
     fn sends(&mut self, event: &Event, octets: &[u8]) {
         self.notes(event, Note::Done);
         assert!(is_padded(&self.last, octets));
@@ -48,12 +48,12 @@ impl Tried {
         assert_eq!(self.last.len(), 0);
     }
 
-    /// So many frames are sent in so many units of time.
+    /// This many frames are sent in this many units of time.
     fn passes(&mut self, units: u32, frames: usize) {
         assert_eq!(requests::sent_in(&mut self.station, units), frames);
     }
 
-    /// Its relation waits for this, or there is none.
+    /// Its relation waits for this. `None`: it has no relation.
     fn is_at(&self, phase: Option<Phase>) {
         assert_eq!(self.station.phase(), phase);
     }

@@ -38,7 +38,7 @@ fn three() -> Bytes {
     call(CONNECT, 7, 0, connect(0x11, 600, THREE).as_slice())
 }
 
-// The one answer to a Connect is of so many octets and has these blocks.
+// The one answer to a Connect has this many octets and these blocks.
 fn is_made(bytes: &Bytes, length: usize, blocks: &[&[u8]]) {
     let mut device = Tried::new(fresh());
     device.notes(&frame(bytes.as_slice()), Note::Done);
@@ -53,7 +53,7 @@ fn is_made(bytes: &Bytes, length: usize, blocks: &[&[u8]]) {
     device.is_at(Some(Phase::Started));
 }
 
-// A block stands at this place of a frame.
+// A block is at this place of a frame.
 fn stands_at(sent: &Frame, place: usize, block: &[u8]) {
     let rest = sent.as_slice().get(place..).unwrap_or(&[]);
     assert!(rest.starts_with(block));
@@ -118,7 +118,7 @@ fn a_connect_that_is_cut_is_none() {
     device.is_at(None);
 }
 
-// The status by which a Connect with other octets at some places is refused, where the relation of this ARUUID stands.
+// The status by which a Connect with other octets at some places is refused. It asks for the relation of this ARUUID.
 fn refused(device: &mut Station, octet: u8, changes: &[(usize, u8)]) -> (usize, usize, [u8; 4]) {
     let mut bytes = call(CONNECT, 9, 5, connect(octet, 600, THREE).as_slice());
     for (place, octet) in changes {
@@ -127,7 +127,7 @@ fn refused(device: &mut Station, octet: u8, changes: &[(usize, u8)]) -> (usize, 
     served(device, &bytes)
 }
 
-// What is sent to such a Connect where there is no relation, and then is none.
+// What is sent to such a Connect if the device has no relation, and has none after it.
 fn sent_to(changes: &[(usize, u8)]) -> Option<(usize, usize, [u8; 4])> {
     let mut device = fresh()?;
     let sent = refused(&mut device, 0x11, changes);
@@ -152,7 +152,7 @@ fn a_connect_with_a_fault_is_refused() {
     is_none(&[(253, 0xFF), (254, 0xFF)], [0xDB, 0x81, 2, 1]);
 }
 
-// The checksum of UDP is the one that Scapy computes, and then one more; and a representation that there is not.
+// The checksum of UDP is the one that Scapy computes, and then one more; and a representation that does not exist.
 #[test]
 fn a_connect_that_can_not_be_read_is_a_fault() {
     let mut device = Tried::new(fresh());
@@ -171,7 +171,7 @@ fn a_connect_that_can_not_be_read_is_a_fault() {
 const CHECKSUM: [u8; 2] = [0x30, 0x24];
 
 impl Tried {
-    // A Connect for the relation of this ARUUID gets this status where a relation stands.
+    // A Connect for the relation of this ARUUID gets this status while a relation is active.
     fn refuses(&mut self, octet: u8, status: [u8; 4]) {
         let sent = refused(&mut self.station, octet, &[]);
         assert_eq!(sent, (1, 142, status));

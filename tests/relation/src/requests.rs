@@ -66,7 +66,7 @@ pub(crate) fn exchanging_by(blocks: &[u8]) -> Option<Station> {
     Some(device)
 }
 
-/// Lets so many units of time go by, and says how many frames are sent.
+/// Lets this many units of time go by. Returns how many frames are sent.
 pub(crate) fn sent_in(device: &mut Station, units: u32) -> usize {
     let mut outbox = Outbox::new();
     let mut sent: usize = 0;

@@ -40,7 +40,7 @@ fn alarmed() -> DeviceAlarms {
     alarms
 }
 
-/// What is sent of the alarm that stands.
+/// What is sent of the pending alarm.
 fn sent(alarms: &DeviceAlarms) -> ArrayVec<u8, 72> {
     let mut octets = ArrayVec::new();
     if let Some(alarm) = alarms.standing() {
@@ -80,7 +80,7 @@ fn raise(alarms: &mut DeviceAlarms) -> Result<(), RaiseFault> {
     alarms.raise(&alarm_of(&[]))
 }
 
-/// Whether an alarm stands.
+/// Whether an alarm is pending.
 fn stands(alarms: &DeviceAlarms) -> bool {
     alarms.standing().is_some()
 }
@@ -266,7 +266,7 @@ fn relation_is_ended() {
         ];
         assert_eq!(ended(reason).as_slice(), octets.as_slice());
         assert_eq!(fault_of(&octets), None);
-        // with fewer than four octets behind the header
+        // with fewer than four octets after the header
         assert_eq!(fault_with(&octets, 11, 3), Some(AlarmFault::Cause));
     }
 }
@@ -289,7 +289,7 @@ fn told(alarm: &AlarmNotification) -> Told {
     (alarm.alarm_specifier, octet)
 }
 
-/// What may happen between both ends: what each sends stands at a place from then on, and comes whenever a move says so.
+/// What may happen between both ends: what each sends has a place from then on, and comes when a move says so.
 #[derive(Clone, Copy)]
 enum Move {
     /// The device raises an alarm with this octet of data.
@@ -328,7 +328,7 @@ impl Ends {
         }
     }
 
-    /// Raises an alarm, which is refused where one stands.
+    /// Raises an alarm. It is refused while another one is pending.
     fn raise(&mut self, octet: u8) {
         if self.device.raise(&alarm_of(&[octet])).is_err() {
             return;
@@ -341,7 +341,7 @@ impl Ends {
         }
     }
 
-    /// Confirms an alarm that was taken, and is not confirmed yet.
+    /// Confirms an alarm that was accepted, and is not confirmed yet.
     fn confirm(&mut self) {
         if self.confirms.len() < self.taken.len() {
             self.controller.confirm(CONFIRMED);
@@ -396,20 +396,20 @@ impl Ends {
 fn alarms_come_in_order_over_a_network_that_repeats_them() {
     let moves = [
         Move::Raise(0xAA),
-        // refused: one stands
+        // refused: one is pending
         Move::Raise(0xCC),
         Move::AlarmComes(0),
         Move::AlarmComes(0),
         Move::AckComes(1),
         Move::Confirm,
-        // refused: one alarm was taken
+        // refused: one alarm was accepted
         Move::Confirm,
         Move::ConfirmComes(0),
         Move::ConfirmComes(0),
         Move::Raise(0xBB),
         Move::AlarmComes(0),
         Move::AlarmComes(1),
-        // refused: a later one was taken, and the NACK ends nothing
+        // refused: a later one was accepted, and the NACK ends nothing
         Move::AlarmComes(0),
         Move::NackComes,
         Move::Raise(0xDD),

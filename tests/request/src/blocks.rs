@@ -63,7 +63,7 @@ pub(super) const EXPECTED_2: [u8; 36] = [
     0x00, 0x02, 0x01, 0x01,
 ];
 
-/// Blocks, one behind the other.
+/// Blocks, one after another.
 pub(super) fn joined(parts: &[&[u8]]) -> Blocks {
     let mut blocks = ArrayVec::new();
     for part in parts {

@@ -8,7 +8,7 @@ use rpc_core::{
     read_response, write_request, write_response,
 };
 
-/// A Read Implicit of a record, as it stands in the datagram.
+/// A Read Implicit of a record, as it is in the datagram.
 const CALL: [u8; 164] = [
     0x04, 0x00, 0x20, 0x00, 0x00, 0x00, 0x00, 0x00, 0xDE, 0xA0, 0x00, 0x00, 0x6C, 0x97, 0x11, 0xD1,
     0x82, 0x71, 0x00, 0x01, 0x04, 0x56, 0x01, 0x23, 0xDE, 0xA0, 0x00, 0x01, 0x6C, 0x97, 0x11, 0xD1,
@@ -105,7 +105,7 @@ fn seen<const N: usize>(cache: &CallCache<N>, activity: u8, sequence: u32) -> u8
     }
 }
 
-/// Whether a call was read, and has this header, so many octets of blocks, and the first of them.
+/// Whether a call was read, and has this header, this many octets of blocks, and this first block.
 fn is_read(bytes: &[u8], header: &CallHeader, carried: usize) -> bool {
     match read_call(Interface::Device, bytes) {
         Ok(call) => match call.blocks {

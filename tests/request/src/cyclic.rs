@@ -1,4 +1,4 @@
-//! Cyclic data: worked layouts, each fault, and the order of faults; images, and which frames are due and taken.
+//! Cyclic data: worked layouts, each fault, and the order of faults; images, and which frames are due and accepted.
 
 use arrayvec::ArrayVec;
 use connect_blocks::{IoObject, IoObjects, IocrType};

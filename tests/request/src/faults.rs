@@ -94,7 +94,7 @@ fn blocks_that_are_missing() {
             fault(&[&AR, &OUTPUT, &ALARM, &EXPECTED_0]),
             CallFault::IocrMissing,
         ),
-        // before the layouts, which are none
+        // before the layouts, which do not exist
         (
             fault(&[&AR, &INPUT, &OUTPUT, &EXPECTED_0]),
             CallFault::AlarmCrMissing,
@@ -173,7 +173,7 @@ fn layouts_that_are_none() {
     }
 }
 
-/// By what these blocks are refused while the relation of this ARUUID stands.
+/// Why these blocks are refused while the relation of this ARUUID is active.
 fn refused(standing: &Uuid, blocks: &[u8]) -> CallFault {
     refuse(standing, blocks)
 }
@@ -193,7 +193,7 @@ fn a_relation_that_stands() {
         refused(&other, all().as_slice()),
         CallFault::OtherRelationExists
     );
-    // before any fault of a later block, and behind those of its own
+    // before any fault of a later block, and after those of its own
     assert_eq!(
         refused(&standing, joined(&[&AR, &AR]).as_slice()),
         CallFault::RelationExists

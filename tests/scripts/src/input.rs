@@ -69,7 +69,7 @@ impl Write for Narrow {
     }
 }
 
-/// A script of so many of this byte ends in this way, and whether it prints that the device started.
+/// How a script ends that repeats this byte this many times, and whether it prints that the device started.
 fn reads_long(alloc: Global, (byte, left): (u8, u64), wanted: Result<(), RunFault>, starts: bool) {
     let mut reader = Repeated {
         byte,

@@ -83,8 +83,8 @@ const WORDS: [(&str, &str); 8] = [
     ("is refused", SET_REFUSED),
 ];
 
-/// What a line stands for that is no word of the table, by the word that it begins with: a Set or a Get with these data, or the
-/// answer to one; or what `show` prints. Any other line is itself.
+/// What a line means that is not a word of the table, by its first word: a Set or a Get with these data, or the answer to one, or
+/// what `show` prints. Any other line is itself.
 fn line_of(alloc: Global, line: &str) -> Result<String, AllocError> {
     match line.split_once(' ') {
         Some(("set", data)) => request(alloc, "fefd0400", data),
@@ -97,7 +97,7 @@ fn line_of(alloc: Global, line: &str) -> Result<String, AllocError> {
 }
 
 /// What `show` prints of a name that runs and is stored, without an address or with `SUITE`, of a name that only runs, or of a lamp
-/// that flashes for so many units.
+/// that flashes for this many units.
 fn shown_as(alloc: Global, kind: &str, what: &str, line: &str) -> Result<String, AllocError> {
     match kind {
         "named" => shown(alloc, (what, NO_SUITE), (what, NO_SUITE), "0"),
@@ -108,7 +108,7 @@ fn shown_as(alloc: Global, kind: &str, what: &str, line: &str) -> Result<String,
     }
 }
 
-/// The line that a word of the table stands for.
+/// The line that a word of the table means.
 fn word_of(line: &str) -> Option<&'static str> {
     for (word, text) in WORDS {
         if line == word {
@@ -147,7 +147,7 @@ const SUITE: &str = "192.168.0.2 255.255.255.0 0.0.0.0";
 /// Name and IP suite of a device that has none.
 const NOTHING: (&str, &str) = ("-", NO_SUITE);
 
-/// What `show` prints of these running and stored settings, where the texts are blank and the lamp flashes for so many units.
+/// What `show` prints of these running and stored settings, with blank texts and a lamp that flashes for this many units.
 fn shown(
     alloc: Global,
     running: (&str, &str),
@@ -166,7 +166,7 @@ fn request(alloc: Global, head: &str, data: &str) -> Result<String, AllocError> 
     format!(in alloc; "frame 0200000000010200000000028892{head}000000020000{length:04x}{data}")
 }
 
-/// How long the hex of a frame of 60 octets is behind `out `.
+/// The length of the hex of a frame of 60 octets after `out `.
 const LEAST: usize = 124;
 
 /// What is printed where this DCP answer is sent, filled up to 60 octets, and all is done.

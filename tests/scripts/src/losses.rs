@@ -11,7 +11,7 @@ const SETS: u32 = 40;
 const CALLS: u32 = 83;
 
 /// How many the Set of this number makes: three for a base, as the sector that does not count is erased, written and its gate
-/// opened, and two for each of the fourteen slots behind it, as the slot is written and its gate opened.
+/// opened, and two for each of the fourteen slots that follow, as the slot is written and its gate opened.
 fn calls_of(number: u32) -> u32 {
     if number % 15 == 1 { 3 } else { 2 }
 }
@@ -36,7 +36,7 @@ fn sets(alloc: Global) -> Result<String, AllocError> {
     Ok(script)
 }
 
-/// The name of this number. There is none before the first.
+/// The name of this number. It is empty before the first.
 fn name(alloc: Global, number: u32) -> Result<String, AllocError> {
     if number == 0 {
         String::from_str(alloc, "-")
@@ -52,8 +52,8 @@ fn named(alloc: Global, number: u32) -> Result<String, AllocError> {
     shown(alloc, settings, settings, "0")
 }
 
-/// An order that strikes a flash call, what is printed of the Set that is struck and of each one behind it, the mask, and whether
-/// a gate is open behind a call that the order strikes so.
+/// An order that strikes a flash call, what is printed of the Set that is struck and of each one after it, the mask, and whether a
+/// gate is open after a call that the order strikes in this way.
 struct Strike {
     order: &'static str,
     struck: &'static str,
@@ -73,7 +73,7 @@ fn cut(mask: &'static str, opens_gate: bool) -> Strike {
     }
 }
 
-/// That call alone fails: its Set, and each one behind it, is answered with error 5.
+/// That call alone fails: its Set, and each one after it, is answered with error 5.
 fn fault(mask: &'static str, opens_gate: bool) -> Strike {
     Strike {
         order: "fault",
@@ -85,13 +85,13 @@ fn fault(mask: &'static str, opens_gate: bool) -> Strike {
 }
 
 impl Strike {
-    /// The script in which the call behind so many is struck.
+    /// The script in which the call after this many is struck.
     fn script(&self, alloc: Global, sets: &str, calls: u32) -> Result<String, AllocError> {
         let (order, mask) = (self.order, self.mask);
         format!(in alloc; "{order} {calls} {mask}\n{sets}restart\nshow\n")
     }
 
-    /// What is printed of the Set of this number, where so many are answered 'done' and a flash call of the next one is struck.
+    /// What is printed of the Set of this number, if this many are answered 'done' and a flash call of the next one is struck.
     fn answer(&self, number: u32, answered: u32) -> &'static str {
         if number <= answered {
             SET_DONE
@@ -113,7 +113,7 @@ impl Strike {
         Ok(text)
     }
 
-    /// Where the call behind so many is struck, so many Sets are answered 'done', and the name of this number is kept.
+    /// If the call after this many is struck, this many Sets are answered 'done', and the name of this number is kept.
     fn keeps(&self, alloc: Global, sets: &str, calls: u32, (answered, kept): (u32, u32)) {
         let script = self.script(alloc, sets, calls).unwrap();
         let mut wanted = self.answers(alloc, answered).unwrap();
@@ -124,11 +124,11 @@ impl Strike {
         prints(alloc, script.as_str(), wanted.as_str());
     }
 
-    /// Each flash call of the Set of this number is struck, the first of them behind so many calls.
+    /// Each flash call of the Set of this number is struck. `before` calls come before the first of them.
     ///
-    /// The name that is kept is the new one only where the last call opened the gate: its one byte was FF and is to be 00, so the
-    /// mask's first byte has to be FF. An erase or a write that was cut short is in a slot or a sector that does not count, or
-    /// counts as older than the other.
+    /// The new name is kept only if the last call opened the gate: its one byte was FF and must become 00, so the mask's first byte
+    /// must be FF. An erase or a write that was cut short is in a slot or a sector that does not count, or counts as older than the
+    /// other.
     fn each_call(&self, alloc: Global, sets: &str, before: u32, number: u32) {
         let answered = number.saturating_sub(1);
         let last = calls_of(number).saturating_sub(1);
@@ -187,7 +187,7 @@ fn a_fault_changes_no_bit_every_other_or_each() {
     }
 }
 
-// An order for a call behind the last strikes none, not by the restart either.
+// An order for a call after the last strikes no call, not by the restart either.
 #[test]
 fn no_call_is_left_to_strike() {
     let sets = sets(Global).unwrap();

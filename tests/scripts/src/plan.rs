@@ -94,7 +94,7 @@ fn few_bytes_at_a_time() {
     assert_eq!(writer.taken.as_slice(), LAYOUTS.as_bytes());
 }
 
-/// A catalogue of so many spaces has this fault.
+/// A catalogue of this many spaces has this fault.
 fn has_fault(alloc: Global, left: u64, fault: RunFault) {
     let mut reader = Repeated {
         byte: b' ',

@@ -20,7 +20,7 @@ fn a_temporary_name_runs_until_the_restart_and_empties_the_stored_one() {
     means(Global, script, wanted)
 }
 
-// A suite whose mask has a hole is refused beside a name that is taken.
+// A suite whose mask has a hole is refused, while the name beside it is accepted.
 #[test]
 fn blocks_are_carried_out_each_by_itself() {
     let script =
@@ -33,7 +33,7 @@ fn blocks_are_carried_out_each_by_itself() {
 /// The blocks of a name and a suite, which are set in one frame by two commits, of three flash calls and of two.
 const BOTH: &str = "02020008000170756d702d310102000e0001c0a80002ffffff0000000000";
 
-/// Power is lost behind so many calls, at this mask.
+/// Power is lost after this many calls, at this mask.
 fn loss(alloc: Global, calls: usize, mask: &str) -> Result<String, AllocError> {
     format!(in alloc; "cut {calls} {mask}\nset {BOTH}\nshow\nrestart\nshow")
 }

@@ -57,7 +57,7 @@ impl Image {
     }
 }
 
-/// A flash in whose sectors these lie.
+/// A flash whose sectors are these.
 #[inline(never)]
 fn flash_of(first: Image, second: Image) -> MemoryFlash<SIZE> {
     MemoryFlash::from_sectors(first.bytes(), second.bytes())
@@ -308,7 +308,7 @@ fn version_1_is_read_and_not_written() {
     has_im4(&again, b'4');
 }
 
-/// The move from version 1 is cut short in the flash call behind `after` further ones: this name is left.
+/// The move from version 1 is cut short in the flash call after `after` further ones: this name remains.
 fn outlives_a_move(after: u32, byte: u8, name: &[u8]) {
     let mut flash = flash_of(Base(OLD, 0), All(0xFF));
     let mut journal = start(&mut flash).unwrap();

@@ -59,7 +59,7 @@ fn has_no_room_for<const S: usize>(journal: &mut Stored<'_, S>, command: &Comman
     ));
 }
 
-/// Whether a commit of this command is stopped by a loss of power in the flash call behind `after` further ones.
+/// Whether a commit of this command is stopped by a loss of power in the flash call after `after` further ones.
 fn is_cut<const S: usize>(
     journal: &mut Stored<'_, S>,
     (after, mask): (u32, [u8; 8]),

@@ -46,7 +46,7 @@ fn thirty_names_fill_both_sectors() {
     }
 }
 
-/// In a flash that is erased first, a commit behind the names that fill both sectors is cut short: this name is left.
+/// In a flash that is erased first, a commit after the names that fill both sectors is cut short: this name remains.
 fn outlives(
     alloc: Global,
     flash: &mut MemoryFlash<SIZE>,
@@ -63,7 +63,7 @@ fn outlives(
     finds(flash, name)
 }
 
-/// A flash call of the commit behind the thirtieth name that is cut short, its mask, and the name that is left.
+/// A flash call of the commit after the thirtieth name that is cut short, its mask, and the name that remains.
 const CUTS: [(u32, [u8; 8], &[u8]); 9] = [
     (0, [0x00; 8], b"n30"),
     (0, [0x55; 8], b"n30"),
@@ -188,7 +188,7 @@ fn a_full_sector_of_the_last_generation_has_no_room() {
     }
 }
 
-// 100 generations are left of 65,535, each with a base and a slot, and a slot of this one: so many commits there are, and no
+// 100 of 65,535 generations remain, each with a base and a slot, and one slot of this generation. There are that many commits and no
 // more, with a start before each of them.
 #[test]
 fn each_generation_has_a_base_and_its_slots() {
@@ -208,7 +208,7 @@ fn each_generation_has_a_base_and_its_slots() {
     is_named(&journal, b"pump-2");
 }
 
-/// A commit behind so many others changes the sector `here` and not the one `there`: of a slot's commit, that slot alone.
+/// A commit after this many others changes the sector `here` and not the one `there`. A slot's commit changes that slot alone.
 fn leaves_the_rest(
     alloc: Global,
     flash: &mut MemoryFlash<SIZE>,

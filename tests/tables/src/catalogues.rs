@@ -51,7 +51,7 @@ fn row(catalogue: &str) -> String {
     }
 }
 
-/// At which key the fault of a catalogue is told, if it is that of one key.
+/// The key at which the fault of a catalogue is reported, if it is the fault of one key.
 fn place(catalogue: &str) -> String {
     let mut room = [0xFF; 128];
     match show(Global, catalogue.as_bytes(), &mut room) {

@@ -2,14 +2,17 @@
 #![cfg(test)]
 
 mod otherwise;
+mod played;
 
 use controller_core::{Cause, State};
 use pn_values::demo_identity;
 use network_world::{End, Move};
 use rattle_std::alloc::{AllocError, Global};
 use relations::Phase;
+use table_world::kind::Kind;
+use table_world::station::{Net, fresh_world};
+use table_world::told::Told;
 use test_stations::octets;
-use test_worlds::{Kind, Net, Told, fresh_world};
 
 /// The catalogue of the demo station, with no records.
 const PUMP: &str = r#"{"DeviceIdentity":{"VendorID":291,"DeviceID":1110},"DeviceAccessPointItem":{"ModuleIdentNumber":1,"PhysicalSlots":[0,1,2,3],"DNS_CompatibleName":"pn-demo","MinDeviceInterval":32,"VirtualSubmoduleItem":[{"Subslot":1,"SubmoduleIdentNumber":1},{"Subslot":32768,"SubmoduleIdentNumber":2},{"Subslot":32769,"SubmoduleIdentNumber":3}],"ModuleItemRef":[{"ModuleItemTarget":"IN2","AllowedInSlots":[1,2,3]},{"ModuleItemTarget":"OUT2","AllowedInSlots":[1,2,3]}]},"ModuleItem":[{"ID":"IN2","ModuleIdentNumber":16,"VirtualSubmoduleItem":[{"Subslot":1,"SubmoduleIdentNumber":16,"IOData":{"Input":[{"DataType":"Unsigned16"}]}}]},{"ID":"OUT2","ModuleIdentNumber":32,"VirtualSubmoduleItem":[{"Subslot":1,"SubmoduleIdentNumber":32,"IOData":{"Output":[{"DataType":"Unsigned16"}]}}]}],"Project":{"NameOfStation":"pump-1","IPAddress":"192.168.0.2","SubnetMask":"255.255.255.0","Gateway":"0.0.0.0","Controller":{"NameOfStation":"plc","MAC":"02-00-00-00-00-02","IPAddress":"192.168.0.1"},"SendClockFactor":32,"ReductionRatio":1,"DataHoldFactor":3,"Slots":[{"Slot":1,"ModuleItemTarget":"IN2"},{"Slot":2,"ModuleItemTarget":"OUT2"}]}}"#;
@@ -69,7 +72,7 @@ fn kind_of(net: &Net, number: usize) -> Option<Kind> {
     }
 }
 
-/// Whether so many frames were sent.
+/// Whether this many frames were sent.
 fn are_sent(net: &Net, count: usize) -> bool {
     count != 0 && net.sent(count - 1).is_some() && net.sent(count).is_none()
 }
@@ -124,7 +127,7 @@ fn a_world_begins_as_the_laws_ask() {
     assert_eq!(net.device().taken().len(), 0);
 }
 
-// How far both are behind each part of a start-up, and what was sent.
+// The state of both ends after each part of a start-up, and what was sent.
 #[test]
 fn a_start_up_as_moves() {
     let mut net = world(Global);

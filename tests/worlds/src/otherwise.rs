@@ -1,6 +1,6 @@
 //! Worlds whose device is not what the plan says: a record of another length or of none, a module that is not plugged, another module. How
-//! a start-up ends was worked out by hand, each frame by its kind; in schedules the laws of both ends are computed behind each move
-//! (`test_worlds`), and in none of them is data exchanged.
+//! a start-up ends was worked out by hand, each frame by its kind; in schedules the laws of both ends are computed after each move
+//! (`watch` of `table_world`), and in none of them is data exchanged.
 use arrayvec::ArrayVec;
 use configurator::plan_from_json;
 use controller_core::{Cause, Controller, State};
@@ -11,12 +11,15 @@ use frame_codec::Outbox;
 use network_world::World;
 use rattle_std::alloc::Global;
 use relations::Phase;
+use table_world::kind::Kind;
+use table_world::schedule::{Choice, Schedule};
+use table_world::station::Fresh;
+use table_world::watch::Watched;
 use test_stations::{Station, no_modules, set_pump, step};
-use test_worlds::{Choice, Fresh, Kind, Schedule, Watched};
 use uuid::Uuid;
 
 /// A station with an input in slot 1, which is given two records of four octets, and outputs in slots 2 and 3.
-const RECORDS: &str = r#"{"DeviceIdentity":{"VendorID":291,"DeviceID":1110},"DeviceAccessPointItem":{"ModuleIdentNumber":1,"PhysicalSlots":[0,1,2,3],"DNS_CompatibleName":"pn-demo","MinDeviceInterval":32,"VirtualSubmoduleItem":[{"Subslot":1,"SubmoduleIdentNumber":1},{"Subslot":32768,"SubmoduleIdentNumber":2},{"Subslot":32769,"SubmoduleIdentNumber":3}],"ModuleItemRef":[{"ModuleItemTarget":"IN2","AllowedInSlots":[1,2,3]},{"ModuleItemTarget":"OUT2","AllowedInSlots":[1,2,3]}]},"ModuleItem":[{"ID":"IN2","ModuleIdentNumber":16,"VirtualSubmoduleItem":[{"Subslot":1,"SubmoduleIdentNumber":16,"IOData":{"Input":[{"DataType":"Unsigned16"}]},"ParameterRecordDataItem":[{"Index":1,"Length":4},{"Index":2,"Length":4}]}]},{"ID":"OUT2","ModuleIdentNumber":32,"VirtualSubmoduleItem":[{"Subslot":1,"SubmoduleIdentNumber":32,"IOData":{"Output":[{"DataType":"Unsigned16"}]}}]}],"Project":{"NameOfStation":"pump-1","IPAddress":"192.168.0.2","SubnetMask":"255.255.255.0","Gateway":"0.0.0.0","Controller":{"NameOfStation":"plc","MAC":"02-00-00-00-00-02","IPAddress":"192.168.0.1"},"SendClockFactor":32,"ReductionRatio":1,"DataHoldFactor":3,"Slots":[{"Slot":1,"ModuleItemTarget":"IN2","Records":[{"Subslot":1,"Index":1,"Data":"00000064"},{"Subslot":1,"Index":2,"Data":"000000c8"}]},{"Slot":2,"ModuleItemTarget":"OUT2"},{"Slot":3,"ModuleItemTarget":"OUT2"}]}}"#;
+pub(crate) const RECORDS: &str = r#"{"DeviceIdentity":{"VendorID":291,"DeviceID":1110},"DeviceAccessPointItem":{"ModuleIdentNumber":1,"PhysicalSlots":[0,1,2,3],"DNS_CompatibleName":"pn-demo","MinDeviceInterval":32,"VirtualSubmoduleItem":[{"Subslot":1,"SubmoduleIdentNumber":1},{"Subslot":32768,"SubmoduleIdentNumber":2},{"Subslot":32769,"SubmoduleIdentNumber":3}],"ModuleItemRef":[{"ModuleItemTarget":"IN2","AllowedInSlots":[1,2,3]},{"ModuleItemTarget":"OUT2","AllowedInSlots":[1,2,3]}]},"ModuleItem":[{"ID":"IN2","ModuleIdentNumber":16,"VirtualSubmoduleItem":[{"Subslot":1,"SubmoduleIdentNumber":16,"IOData":{"Input":[{"DataType":"Unsigned16"}]},"ParameterRecordDataItem":[{"Index":1,"Length":4},{"Index":2,"Length":4}]}]},{"ID":"OUT2","ModuleIdentNumber":32,"VirtualSubmoduleItem":[{"Subslot":1,"SubmoduleIdentNumber":32,"IOData":{"Output":[{"DataType":"Unsigned16"}]}}]}],"Project":{"NameOfStation":"pump-1","IPAddress":"192.168.0.2","SubnetMask":"255.255.255.0","Gateway":"0.0.0.0","Controller":{"NameOfStation":"plc","MAC":"02-00-00-00-00-02","IPAddress":"192.168.0.1"},"SendClockFactor":32,"ReductionRatio":1,"DataHoldFactor":3,"Slots":[{"Slot":1,"ModuleItemTarget":"IN2","Records":[{"Subslot":1,"Index":1,"Data":"00000064"},{"Subslot":1,"Index":2,"Data":"000000c8"}]},{"Slot":2,"ModuleItemTarget":"OUT2"},{"Slot":3,"ModuleItemTarget":"OUT2"}]}}"#;
 
 /// How many schedules are played of each world, and how many moves each has.
 const SEEDS: u64 = 40;
@@ -69,19 +72,24 @@ fn plugged(records: &[(u16, u16)]) -> Real {
 }
 
 /// What the catalogue says.
-fn as_planned() -> Real {
+pub(crate) fn as_planned() -> Real {
     plugged(&[(1, 4), (2, 4)])
 }
 
-/// The station "pump-1" in which this is plugged, and a controller of the plan of the catalogue.
-fn world(real: Real) -> Watched {
+/// The station "pump-1" with these modules.
+pub(crate) fn station(real: Real) -> Station {
     let mut named: Station = Device::boot(demo_identity(), no_modules(), MemoryFlash::blank())
         .ok()
         .expect("a station");
     step(&mut named, &set_pump(b'1'), &mut Outbox::new());
-    let device: Station = Device::boot(demo_identity(), real, named.into_flash())
+    Device::boot(demo_identity(), real, named.into_flash())
         .ok()
-        .expect("a station");
+        .expect("a station")
+}
+
+/// The station "pump-1" in which this is plugged, and a controller of the plan of the catalogue.
+fn world(real: Real) -> Watched {
+    let device = station(real);
     let plan = plan_from_json(Global, RECORDS.as_bytes())
         .ok()
         .expect("a plan");
@@ -94,7 +102,7 @@ fn world(real: Real) -> Watched {
     Watched::new(Global, fresh).expect("memory")
 }
 
-/// A move is made, and all laws hold behind it.
+/// A move is made, and all laws hold after it.
 fn make(watched: &mut Watched, choice: Choice) {
     let broken = watched.make(choice).expect("memory");
     assert!(broken.is_none(), "{choice:?} breaks {broken:?}");
@@ -150,7 +158,7 @@ fn refuses_the_second(real: fn() -> Real) {
     never_exchanges(real, Cause::Refused);
 }
 
-/// A module differs: the device is told at once that its relation is not wanted.
+/// A module differs: the controller sends a Release at once.
 fn differs(real: fn() -> Real) {
     let mut watched = world(real());
     starts_up(&mut watched, &[Kind::Release, Kind::Positive]);
@@ -188,7 +196,7 @@ fn a_record_that_there_is_not_is_refused() {
     refuses_the_second(|| plugged(&[(1, 4), (3, 4)]));
 }
 
-// Not even the first one is taken, and the second is not written.
+// Not even the first one is accepted, and the second is not written.
 #[test]
 fn the_first_record_of_another_length_ends_it() {
     let real = || plugged(&[(1, 5), (2, 4)]);

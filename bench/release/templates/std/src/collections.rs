@@ -1,5 +1,5 @@
 //! Maps and sets in order, whose growth can fail. Rust's own have no call that answers when there is no memory; here the entries are in
-//! short lists, one behind another, all in the order of their keys. So a new entry moves few others, however many there are.
+//! short lists, one after another, all in the order of their keys. So a new entry moves few others, however many there are.
 
 use crate::alloc::{AllocFailed, Global};
 use core::borrow::Borrow;
@@ -15,7 +15,7 @@ pub struct BTreeMap<K, V> {
 }
 
 impl<K: Ord, V> BTreeMap<K, V> {
-    /// The empty map, and no memory taken.
+    /// The empty map. It allocates nothing.
     pub const fn new(_: Global) -> BTreeMap<K, V> {
         BTreeMap { lists: Vec::new() }
     }
@@ -83,7 +83,7 @@ impl<K: Ord, V> BTreeMap<K, V> {
                     Ok(None)
                 }
                 None => {
-                    // An empty list that was made for it alone is taken away.
+                    // An empty list that was made for it alone is removed.
                     self.lists.retain(|entries| !entries.is_empty());
                     Err(AllocFailed((key, value)))
                 }
@@ -116,7 +116,7 @@ pub struct BTreeSet<K> {
 }
 
 impl<K: Ord> BTreeSet<K> {
-    /// The empty set, and no memory taken.
+    /// The empty set. It allocates nothing.
     pub const fn new(alloc: Global) -> BTreeSet<K> {
         BTreeSet {
             map: BTreeMap::new(alloc),

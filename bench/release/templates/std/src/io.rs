@@ -42,7 +42,7 @@ pub struct BufWriter<W: Write> {
 }
 
 impl<W: Write> BufWriter<W> {
-    /// Collects what is written to this writer, and hands on so many bytes at a time.
+    /// Collects what is written to this writer, and hands on this many bytes at a time.
     pub fn with_capacity(_: Global, capacity: usize, writer: W) -> Result<BufWriter<W>> {
         Ok(BufWriter {
             writer: rust::io::BufWriter::with_capacity(capacity, writer),

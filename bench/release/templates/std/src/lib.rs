@@ -1,6 +1,6 @@
 //! What the proved sources ask of their standard library beyond Rust's own. There each call that takes memory is given the
 //! allocator and can fail, and what is outside the program is reached by a handle. Here the allocator is Rust's global one, a
-//! marker stands for it, and a failure is what `try_reserve` says.
+//! marker represents it, and a failure is what `try_reserve` says.
 #![no_std]
 #![forbid(unsafe_code)]
 

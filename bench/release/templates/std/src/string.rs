@@ -5,14 +5,14 @@ use core::borrow::Borrow;
 use core::fmt;
 use core::ops::Deref;
 
-/// A text: Rust's own, but for calls that take memory, which answer when there is none.
+/// A text: Rust's own, but for calls that allocate, which return an error if there is no memory.
 #[derive(Debug, PartialEq, Eq, PartialOrd, Ord)]
 pub struct String {
     text: memory::string::String,
 }
 
 impl String {
-    /// The empty text, and no memory taken.
+    /// The empty text. It allocates nothing.
     pub const fn new(_: Global) -> String {
         String {
             text: memory::string::String::new(),

@@ -3,21 +3,21 @@
 use crate::alloc::{AllocError, AllocFailed, Global};
 use core::ops::{Deref, DerefMut};
 
-/// A vector: Rust's own, but for calls that take memory, which answer when there is none.
+/// A vector: Rust's own, but for calls that allocate, which return an error if there is no memory.
 #[derive(Debug, PartialEq, Eq)]
 pub struct Vec<T> {
     items: memory::vec::Vec<T>,
 }
 
 impl<T> Vec<T> {
-    /// None, and no memory taken.
+    /// An empty vector. It allocates nothing.
     pub const fn new(_: Global) -> Vec<T> {
         Vec {
             items: memory::vec::Vec::new(),
         }
     }
 
-    /// None, with room for so many.
+    /// An empty vector with room for this many items.
     pub fn with_capacity(_: Global, capacity: usize) -> Result<Vec<T>, AllocError> {
         let mut items = memory::vec::Vec::new();
         items.try_reserve_exact(capacity)?;
@@ -29,12 +29,12 @@ impl<T> Vec<T> {
         self.items.capacity()
     }
 
-    /// Makes room for so many more, and for a few beside.
+    /// Makes room for this many more items, and for a few beside.
     pub fn reserve(&mut self, additional: usize) -> Result<(), AllocError> {
         Ok(self.items.try_reserve(additional)?)
     }
 
-    /// Makes room for so many more.
+    /// Makes room for this many more items.
     pub fn reserve_exact(&mut self, additional: usize) -> Result<(), AllocError> {
         Ok(self.items.try_reserve_exact(additional)?)
     }
@@ -60,7 +60,7 @@ impl<T> Vec<T> {
         self.items.clear();
     }
 
-    /// Keeps the first ones, at most so many.
+    /// Keeps the first items, at most this many.
     pub fn truncate(&mut self, len: usize) {
         self.items.truncate(len);
     }

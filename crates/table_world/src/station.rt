@@ -2,23 +2,30 @@
 ghost use Rattle.std.specs.Prelude.{◌≡◌, IfSome};
 ghost use Rattle.pn_values.specs.demo.Demo.{demo};
 ghost use Rattle.startup_law.specs.Played.{Begins};
-ghost use Rattle.test_worlds.specs.Lawful.{IsLawful};
+ghost use Rattle.table_world.specs.Lawful.{IsLawful};
 
 use arrayvec::ArrayVec;
 use configurator::plan_from_json;
 use controller_frames::Setup;
-use device_core::Device;
+use device_core::{Device, Event, Note};
 use flash_model::{MemoryFlash, Order};
-use frame_codec::Outbox;
+use frame_codec::{Bytes, Outbox};
 use network_world::{Move, World};
 use plans::Plan;
 use pn_values::{ParameterRecord, Real, RealModule, RealSubmodule, demo_identity};
 use startup_law::{begin_world, can_meet};
 use std::alloc::{AllocError, Global};
-use test_stations::{Station, no_modules, set_pump, step};
 use uuid::Uuid;
 
-/// The type of the world: over the smallest flash.
+/// A device over the smallest flash.
+type Station = Device<MemoryFlash<768>, 768>;
+
+/// The permanent Set of the station name "pump-1".
+const SET: [u8; 38] =
+    *b"\x02\x00\x00\x00\x00\x01\x02\x00\x00\x00\x00\x02\x88\x92\xfe\xfd\x04\x00\x00\x00\x00\x02\x00\x00\x00\x0c\
+    \x02\x02\x00\x08\x00\x01pump-1";
+
+/// The world: over the smallest flash.
 pub type Net = World<MemoryFlash<768>, 768>;
 
 /// A world in which nothing has happened yet.
@@ -27,6 +34,13 @@ pub struct Fresh {
     pub net: Net,
     /// The number of records that its controller writes.
     pub records: usize,
+}
+
+/// The first of these octets, as many as there is room for.
+pub(crate) fn octets(bytes: &[u8]) -> Bytes {
+    let mut octets = Bytes::new();
+    let _ = octets.try_extend_from_slice(bytes);
+    octets
 }
 
 fn copied_parameters(parameters: &[ParameterRecord]) -> ArrayVec<ParameterRecord, 2> {
@@ -51,7 +65,14 @@ fn copied_submodules(submodules: &[RealSubmodule]) -> ArrayVec<RealSubmodule, 4>
     copied
 }
 
-/// A copy of the modules.
+/// Nothing is plugged.
+fn no_modules() -> Real {
+    Real {
+        modules: ArrayVec::new(),
+    }
+}
+
+/// The same modules.
 fn copied(real: &Real) -> Real {
     let mut modules = ArrayVec::new();
     for module in real.modules.as_slice() {
@@ -70,6 +91,11 @@ fn plan_of(alloc: Global, catalogue: &str) -> Option<Plan> {
     plan_from_json(alloc, catalogue.as_bytes()).ok()
 }
 
+/// What a station makes of an event. It has no contract: what a step promises is read here alone.
+fn step(device: &mut Station, event: &Event, outbox: &mut Outbox) -> Note {
+    device.step(event, outbox)
+}
+
 /// A flash that keeps the station name "pump-1".
 fn named_flash() -> Option<MemoryFlash<768>> {
     let mut device: Station = Device::boot(
@@ -77,7 +103,7 @@ fn named_flash() -> Option<MemoryFlash<768>> {
         no_modules(),
         MemoryFlash::blank(),
     ).ok()?;
-    let _ = step(&mut device, &set_pump(b'1'), &mut Outbox::new());
+    let _ = step(&mut device, &Event::Frame(octets(&SET)), &mut Outbox::new());
     Some(device.into_flash())
 }
 

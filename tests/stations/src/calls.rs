@@ -17,8 +17,8 @@ pub const WRITE: u8 = 3;
 /// That of Control.
 pub const CONTROL: u8 = 4;
 
-/// The headers of a call from 192.168.0.1, up to its blocks; what each call sets is zero here, and so is the UDP checksum:
-/// there is none.
+/// The headers of a call from 192.168.0.1, up to its blocks. What each call sets is zero here. The UDP checksum is zero: it is not
+/// used.
 const HEADERS: [u8; 142] = *b"\x02\x00\x00\x00\x00\x01\x02\x00\x00\x00\x00\x02\x08\x00\
     \x45\x00\x00\x00\x00\x00\x40\x00\x40\x11\x00\x00\xc0\xa8\x00\x01\xc0\xa8\x00\x02\
     \x88\x94\x88\x94\x00\x00\x00\x00\
@@ -60,7 +60,7 @@ pub fn mend(bytes: &mut Bytes) {
     set_number(bytes, 24, !sum);
 }
 
-/// The first octets of a call, with what IPv4, UDP and RPC count, ArgsLength and ActualCount lowered to what is there.
+/// The first octets of a call. The lengths of IPv4, UDP and RPC, ArgsLength and ActualCount are lowered to the octets that are there.
 pub fn shortened(bytes: &[u8], length: usize) -> Bytes {
     let mut part = Bytes::new();
     let _ = part.try_extend_from_slice(bytes.get(..length).unwrap_or(&[]));
@@ -72,7 +72,7 @@ pub fn shortened(bytes: &[u8], length: usize) -> Bytes {
     part
 }
 
-/// A call of the activity whose octets are all this one, with these blocks.
+/// A call with these blocks. All octets of its activity UUID are `activity`.
 pub fn call(operation: u8, activity: u8, sequence: u16, blocks: &[u8]) -> Bytes {
     let mut bytes = octets(&HEADERS);
     let _ = bytes.try_extend_from_slice(blocks);
@@ -85,7 +85,7 @@ pub fn call(operation: u8, activity: u8, sequence: u16, blocks: &[u8]) -> Bytes 
     shortened(bytes.as_slice(), length)
 }
 
-/// The answer to ApplicationReady, which is of the activity of the ARUUID and of the sequence number 0.
+/// The answer to ApplicationReady: its activity is the ARUUID, its sequence number 0.
 pub fn response() -> Bytes {
     let mut bytes = call(CONTROL, 0x11, 0, &READY);
     set(&mut bytes, 43, 2);

@@ -1,5 +1,4 @@
-//! What crates of tests share: the station that they try, frames for it, and the calls of a controller.
-#![tactic(auto)]
+//! What the tests share: the station that they try, frames for it, and the calls of a controller.
 
 mod calls;
 mod stations;

@@ -127,12 +127,7 @@ impl Watched {
         Ok(watched)
     }
 
-    /// The world.
-    pub fn net(&self) -> &Net {
-        &self.net
-    }
-
-    /// The values that both ends report.
+    /// What both ends tell.
     pub fn told(&self) -> Told {
         self.told
     }
@@ -152,12 +147,7 @@ impl Watched {
         self.records
     }
 
-    /// The number of relations that the device made.
-    pub fn relations(&self) -> u32 {
-        self.relations
-    }
-
-    /// The counts that show how much the laws were exercised.
+    /// How often something was at stake.
     pub fn tally(&self) -> Tally {
         self.tally
     }

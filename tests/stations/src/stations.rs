@@ -12,7 +12,7 @@ pub type Station = Device<MemoryFlash<768>, 768>;
 pub const IDENTIFY: [u8; 30] =
     *b"\x01\x0e\xcf\x00\x00\x00\x02\x00\x00\x00\x00\x02\x88\x92\xfe\xfe\x05\x00\x00\x00\x00\x01\x00\x01\x00\x04\xff\xff\x00\x00";
 
-/// Its answer by a station without a name.
+/// The answer of a station without a name.
 pub const UNNAMED: [u8; 120] =
     *b"\x02\x00\x00\x00\x00\x02\x02\x00\x00\x00\x00\x01\x88\x92\xfe\xff\x05\x01\x00\x00\x00\x01\x00\x00\x00\x5e\
     \x02\x01\x00\x09\x00\x00pn-demo\x00\x02\x02\x00\x02\x00\x00\x02\x03\x00\x06\x00\x00\x01\x23\x04\x56\x02\x04\x00\x04\x00\x00\x01\x00\
@@ -40,7 +40,7 @@ const SET_ADDRESS: [u8; 44] =
     *b"\x02\x00\x00\x00\x00\x01\x02\x00\x00\x00\x00\x02\x88\x92\xfe\xfd\x04\x00\x00\x00\x00\x02\x00\x00\x00\x12\
     \x01\x02\x00\x0e\x00\x01\xc0\xa8\x00\x02\xff\xff\xff\x00\x00\x00\x00\x00";
 
-/// Nothing is plugged.
+/// No module is plugged.
 pub fn no_modules() -> Real {
     Real {
         modules: ArrayVec::new(),
@@ -75,7 +75,7 @@ pub fn plugged() -> Real {
     real
 }
 
-/// A station with an address in which this is plugged.
+/// A station with an address. These modules are plugged in it.
 pub fn station(real: Real, flash: MemoryFlash<768>) -> Option<Station> {
     let mut device = Device::boot(demo_identity(), real, flash).ok()?;
     let _ = device.step(&set_address(), &mut Outbox::new());
@@ -106,7 +106,7 @@ pub fn restart(device: Station) -> Option<Station> {
     start(flash)
 }
 
-/// So many octets as there is room for.
+/// The first of these octets, as many as there is room for.
 pub fn octets(bytes: &[u8]) -> Bytes {
     let mut octets = Bytes::new();
     let _ = octets.try_extend_from_slice(bytes);
@@ -132,7 +132,7 @@ pub fn is_filled(sent: &Frame, bytes: &[u8]) -> bool {
         && sent.as_slice().iter().skip(bytes.len()).all(|x| *x == 0)
 }
 
-/// The one frame in a box is these bytes, filled up so.
+/// The outbox has one frame: these bytes, filled up in the same way.
 pub fn is_padded(outbox: &Outbox, bytes: &[u8]) -> bool {
     match outbox.as_slice() {
         [sent] => is_filled(sent, bytes),
@@ -140,8 +140,8 @@ pub fn is_padded(outbox: &Outbox, bytes: &[u8]) -> bool {
     }
 }
 
-/// The last generation in the first sector, in a version of the layout: a base with the name "pump-1" and an IP suite, and its
-/// slot open with a reset of the texts.
+/// Writes the last generation into the first sector, in a version of the layout: a base with the name "pump-1" and an IP suite, and one
+/// open slot with a reset of the texts.
 pub fn write_last(
     flash: &mut MemoryFlash<768>,
     version: u8,
@@ -157,7 +157,7 @@ pub fn write_last(
     flash.program(Sector::First, 767, &[0])
 }
 
-/// What a station makes of an event. It has no contract, so that what a step promises is read here, and not again in each test.
+/// What a station makes of an event.
 pub fn step(device: &mut Station, event: &Event, outbox: &mut Outbox) -> Note {
     device.step(event, outbox)
 }

@@ -1,6 +1,6 @@
-//! The moves that are possible next, and schedules from a seed.
+//! What may happen next, and schedules from a seed.
+use crate::station::octets;
 use network_world::{End, Move};
-use test_stations::octets;
 
 /// A move, without the data structures of the world.
 #[derive(Clone, Copy, Debug, PartialEq, Eq)]

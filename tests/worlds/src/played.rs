@@ -1,0 +1,202 @@
+//! Worlds that are begun and played in one call (`play_both_ends`), over a network that loses frames. Each frame has its number among all
+//! that were sent; a frame that is not delivered is lost. What both ends must show was worked out by hand.
+use crate::otherwise::{RECORDS, as_planned, station};
+use alarms_law::play_both_ends;
+use configurator::plan_from_json;
+use controller_core::State;
+use controller_frames::Setup;
+use pn_values::demo_identity;
+use network_world::{End, Move};
+use rattle_std::alloc::Global;
+use relations::Phase;
+use table_world::kind::Kind;
+use table_world::station::Net;
+use test_stations::octets;
+use uuid::Uuid;
+use startup_law::can_meet;
+
+/// Units of time after which the controller sends a request again: one second.
+const AGAIN: usize = 32_000;
+
+/// Units of time of an interval: one millisecond.
+const INTERVAL: usize = 32;
+
+fn setup() -> Setup {
+    let plan = plan_from_json(Global, RECORDS.as_bytes())
+        .ok()
+        .expect("a plan");
+    Setup {
+        plan,
+        ar: Uuid::from_bytes([1; 16]),
+        activity: Uuid::from_bytes([2; 16]),
+    }
+}
+
+/// What comes of these moves, at the station as planned and a controller of its plan.
+fn played(moves: &[Move]) -> Net {
+    let (device, setup) = (station(as_planned()), setup());
+    assert!(can_meet(&setup, &demo_identity()));
+    let (world, result) = play_both_ends(Global, device, setup, &demo_identity(), moves);
+    assert!(result.is_ok());
+    world
+}
+
+fn to_device(number: usize) -> Move {
+    Move::Deliver(End::Device, number)
+}
+
+fn to_controller(number: usize) -> Move {
+    Move::Deliver(End::Controller, number)
+}
+
+/// So many units of time at the controller.
+fn wait(moves: &mut Vec<Move>, units: usize) {
+    moves.extend((0..units).map(|_| Move::Tick(End::Controller)));
+}
+
+/// These frames were sent, in this order, and no other.
+fn are_sent(world: &Net, wanted: &[Kind]) {
+    let frames = (0..).map_while(|number| world.sent(number));
+    let kinds: Vec<Kind> = frames.map(|frame| Kind::of(frame.as_slice())).collect();
+    assert_eq!(kinds, wanted);
+}
+
+/// The records that the device took: the two of the plan, in its order.
+fn are_taken(world: &Net) {
+    let taken: Vec<(u16, &[u8])> = world
+        .device()
+        .taken()
+        .iter()
+        .map(|record| (record.index, record.value.as_slice()))
+        .collect();
+    assert_eq!(
+        taken,
+        [
+            (1, [0, 0, 0, 100].as_slice()),
+            (2, [0, 0, 0, 200].as_slice())
+        ]
+    );
+}
+
+/// What a start-up sends that loses the first Identify, the first Set and the answer to the first Connect.
+const START_UP: [Kind; 18] = [
+    Kind::Identify,
+    Kind::Identify,
+    Kind::Found,
+    Kind::Set,
+    Kind::Set,
+    Kind::SetDone,
+    Kind::Connect,
+    Kind::Positive,
+    Kind::Connect,
+    Kind::Positive,
+    Kind::Write,
+    Kind::Positive,
+    Kind::Write,
+    Kind::Positive,
+    Kind::PrmEnd,
+    Kind::Positive,
+    Kind::Ready,
+    Kind::Confirm,
+];
+
+/// The moves of that start-up up to its ApplicationReady, frame 16, which the controller answers with frame 17.
+fn start_up() -> Vec<Move> {
+    let mut moves = Vec::new();
+    // Frame 0, the Identify, is lost, and sent again as frame 1.
+    wait(&mut moves, AGAIN);
+    moves.extend([to_device(1), to_controller(2)]);
+    // Frame 3, the Set, is lost, and sent again as frame 4.
+    wait(&mut moves, AGAIN);
+    moves.extend([to_device(4), to_controller(5), to_device(6)]);
+    // Frame 7, the answer to the Connect, is lost. The Connect is sent again as frame 8, and answered again.
+    wait(&mut moves, AGAIN);
+    moves.extend([to_device(8), to_controller(9)]);
+    moves.extend([to_device(10), to_controller(11)]);
+    moves.extend([to_device(12), to_controller(13)]);
+    moves.extend([to_device(14), to_controller(15), to_controller(16)]);
+    moves
+}
+
+// Three requests and an answer are lost and sent again. Both ends exchange data, and the device took each record once.
+#[test]
+fn a_start_up_over_a_network_that_loses_frames() {
+    let mut moves = start_up();
+    moves.push(to_device(17));
+    let world = played(&moves);
+    are_sent(&world, &START_UP);
+    assert_eq!(world.controller().state(), State::Exchanging);
+    assert_eq!(world.device().phase(), Some(Phase::Exchanging));
+    are_taken(&world);
+    assert_eq!(world.device().output(2, 1), Some([0, 0].as_slice()));
+    assert!(world.controller().alarm().is_none());
+}
+
+// The answer to ApplicationReady is lost: the controller exchanges data, and the device does not yet.
+#[test]
+fn the_device_does_not_exchange_before_its_answer_came() {
+    let world = played(&start_up());
+    are_sent(&world, &START_UP);
+    assert_eq!(world.controller().state(), State::Exchanging);
+    assert_eq!(world.device().phase(), Some(Phase::Awaiting));
+    are_taken(&world);
+}
+
+// Nothing that the device sends arrives: the controller looks for it, and never exchanges data.
+#[test]
+fn a_start_up_whose_answers_are_lost() {
+    let mut moves = Vec::new();
+    for number in [0, 2, 4] {
+        moves.push(to_device(number));
+        wait(&mut moves, AGAIN);
+    }
+    let world = played(&moves);
+    let round = [Kind::Identify, Kind::Found];
+    are_sent(&world, &[&round.repeat(3)[..], &[Kind::Identify]].concat());
+    assert_eq!(world.controller().state(), State::Looking);
+    assert_eq!(world.device().phase(), None);
+    assert!(world.device().taken().is_empty());
+}
+
+// Of three frames of outputs the first and the last are lost: the device shows those of the second. Of two alarms the second is lost.
+// The controller ends a relation in which no inputs arrive for three intervals, so those of one interval are delivered.
+#[test]
+fn outputs_and_alarms_over_a_network_that_loses_frames() {
+    let mut moves = start_up();
+    moves.push(to_device(17));
+    // Frames 18, 19 and 21 are outputs, frame 20 is inputs.
+    moves.push(Move::Give(2, 1, octets(&[7, 9])));
+    wait(&mut moves, INTERVAL);
+    moves.push(Move::Give(2, 1, octets(&[1, 2])));
+    wait(&mut moves, INTERVAL);
+    moves.push(to_device(19));
+    moves.extend((0..INTERVAL).map(|_| Move::Tick(End::Device)));
+    moves.push(to_controller(20));
+    moves.push(Move::Give(3, 1, octets(&[3, 4])));
+    wait(&mut moves, INTERVAL);
+    // Frame 22 is an alarm, 23 its ACK, 24 its AlarmAck and 25 the ACK of that.
+    moves.push(Move::Alarm(1, 1, octets(&[0xAA, 0x01])));
+    moves.extend([to_controller(22), to_device(23), to_device(24)]);
+    // Frame 26, the next alarm, is lost.
+    moves.push(Move::Alarm(1, 1, octets(&[0xAA, 0x02])));
+    let world = played(&moves);
+    let rest = [
+        Kind::Outputs,
+        Kind::Outputs,
+        Kind::Inputs,
+        Kind::Outputs,
+        Kind::Alarm,
+        Kind::Ack,
+        Kind::AlarmAck,
+        Kind::Ack,
+        Kind::Alarm,
+    ];
+    are_sent(&world, &[&START_UP[..], &rest].concat());
+    assert_eq!(world.controller().state(), State::Exchanging);
+    assert_eq!(world.device().phase(), Some(Phase::Exchanging));
+    assert_eq!(world.device().output(2, 1), Some([1, 2].as_slice()));
+    assert_eq!(world.device().output(3, 1), Some([0, 0].as_slice()));
+    let alarm = world.controller().alarm().expect("an alarm");
+    assert_eq!(alarm.slot_number, 1);
+    assert_eq!(alarm.alarm_data.octets(), [0xAA, 0x01]);
+}
