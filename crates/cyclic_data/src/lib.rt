@@ -13,7 +13,7 @@ mod received;
 mod status;
 mod tail;
 mod timing;
-mod zeros;
+mod zero_octets;
 
 pub use fault::LayoutFault;
 pub use image::Image;
@@ -23,4 +23,4 @@ pub use received::ReceivedImage;
 pub use status::{DataStatus, GOOD};
 pub use tail::{CyclicTail, ShortFrame, put_cyclic, read_cyclic};
 pub use timing::{Consumer, Provider};
-pub use zeros::zeros;
+pub use zero_octets::zeros;

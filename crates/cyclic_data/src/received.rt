@@ -8,7 +8,7 @@ use crate::layout::Layout;
 use crate::octets::write_at;
 use crate::place::PlaceKind;
 use crate::status::GOOD;
-use crate::zeros::zeros;
+use crate::zero_octets::zeros;
 use std::marker::Model;
 
 /// The content of the last accepted frame of a layout: the data and the status at each place. It is separate from the

@@ -1,6 +1,6 @@
 //! A device whose flash calls are carried out by a host. The calls that a step makes to the flash are recorded, and the
 //! host carries them out on its own chip before it sends the frames of that step.
 
-mod step;
+mod recorded_step;
 
-pub use step::step;
+pub use recorded_step::step;

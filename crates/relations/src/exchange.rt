@@ -7,11 +7,11 @@
 
 mod alarms;
 mod cyclic;
-mod data;
+mod data_exchange;
 mod laws;
 mod opening;
 
 pub use alarms::OWN_REFERENCE;
 pub use cyclic_exchange::{Received, Route, Tick};
-pub use data::DataExchange;
+pub use data_exchange::DataExchange;
 pub use laws::exchange_is_kept;

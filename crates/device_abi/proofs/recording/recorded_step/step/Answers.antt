@@ -6,7 +6,7 @@ use Rattle.device_frames.specs.Heard.{heard_of}
 use Rattle.settings_store.specs.Carries.{OneByOne, Stretch}
 use Rattle.device_abi.proofs.RecordingOneStep.{step_records}
 use Rattle.device_abi.proofs.RecordingPlaced.{as_recorded}
-use Rattle.device_abi.proofs.recording.step.step.Goals as goal
+use Rattle.device_abi.proofs.recording.recorded_step.step.Goals as goal
 
 pub returns-clause-records : goal.returns-clause-records
 returns-clause-records g c =
