@@ -53,6 +53,14 @@ fn places_are_given_by_their_numbers() {
     assert_eq!(data_object(&IOCR, 2), None);
 }
 
+#[test]
+fn a_list_of_one_place_is_not_empty() {
+    let mut list = ArrayVec::new();
+    assert!(IoObjects::lent(&list).is_empty());
+    list.push(place(1, 1, 0));
+    assert!(!IoObjects::lent(&list).is_empty());
+}
+
 /// The block of IOCR, of lists that are lent.
 fn input<'a>(io_data_objects: IoObjects<'a>, iocs: IoObjects<'a>) -> Block<'a> {
     Block::IocrBlockReq(IocrBlockReq {

@@ -185,6 +185,27 @@ fn reads_without_a_checksum() {
     reads(&octets, Err(FrameFault::UdpChecksum));
 }
 
+// A datagram with other flags and another fragment offset, each with the right checksum of its header. Only a whole one is read: neither
+// 'more fragments' is set nor an offset.
+#[test]
+fn reads_no_fragment() {
+    let with = |flags: [u8; 2], checksum: [u8; 2]| {
+        let mut octets = UNSUMMED;
+        octets[20..22].copy_from_slice(&flags);
+        octets[24..26].copy_from_slice(&checksum);
+        octets
+    };
+    let body = [0, 1, 2, 3, 4, 5, 6, 7, 8, 9];
+    reads(&with([0x00, 0x00], [0xF9, 0x73]), Ok(datagram(None, &body)));
+    for fragment in [
+        with([0x20, 0x00], [0xD9, 0x73]),
+        with([0x00, 0x01], [0xF9, 0x72]),
+        with([0x40, 0x01], [0xB9, 0x72]),
+    ] {
+        reads(&fragment, Err(FrameFault::IpHeader));
+    }
+}
+
 /// The sum of these octets is this one.
 fn sums(octets: &[u8], sum: u16) {
     assert_eq!(ones_sum(octets), sum, "{octets:?}");

@@ -107,6 +107,17 @@ fn one_alarm_stands_at_a_time() {
     assert_eq!(device.last.len(), 1);
 }
 
+// The alarm of a port names its own slot, subslot and ident numbers.
+#[test]
+fn an_alarm_of_another_submodule() {
+    let mut device = Tried::new(exchanging());
+    let mut notified = NOTIFIED;
+    notified[44..48].copy_from_slice(&[0x00, 0x00, 0x80, 0x00]);
+    notified[48..56].copy_from_slice(&[0, 0, 0, 1, 0, 0, 0, 2]);
+    let raised = Event::Alarm(0, 0x8000, octets(&[0xAA, 0xBB]));
+    device.sends(&raised, &notified);
+}
+
 // A station whose controller may be silent for 7,427 intervals, by DataHoldFactor of both IOCRs.
 fn patient() -> Option<Station> {
     let mut blocks = connect(0x11, 600, THREE);
