@@ -1,5 +1,5 @@
 -- Submodules of the catalogue, with their data and their parameter records.
-use Rattle.std.specs.Prelude.{◌+◌, ◌||◌, ◌==◌, ℕ, suc, min, codes, List, Bool, Option, Some, None, ok_or, Result, Ok, Err, if◌then◌else◌}
+use Rattle.std.specs.Prelude.{◌+◌, ◌||◌, ◌==◌, ℕ, suc, min, codes, List, [], ◌∷◌, Bool, Option, Some, None, option_map, ok_or, Result, Ok, Err, if◌then◌else◌}
 use Rattle.std.specs.List.{list_any}
 use Rattle.std.specs.Str.{bytes_eq}
 use Rattle.serde_json.specs.Data.{Data, Items, no_items, item}
@@ -82,6 +82,15 @@ has_index index items = list_any (λ other. other.index == index) items
 -- one of them has this subslot
 abbrev pub has_subslot : ℕ → List Submodule → Bool
 has_subslot subslot submodules = list_any (λ other. other.subslot == subslot) submodules
+
+-- where the first is that passes a test, counted from 0
+abbrev pub place_where : {A : Type 0} → (A → Bool) → List A → Option ℕ
+place_where test [] = None
+place_where test (entry ∷ entries) = if test entry then Some 0 else option_map suc (place_where test entries)
+
+-- where the submodule with this subslot is among them
+abbrev pub place_of : ℕ → List Submodule → Option ℕ
+place_of subslot submodules = place_where (λ other. other.subslot == subslot) submodules
 
 -- what is new, or a fault of the number at its key
 abbrev pub unless : {A : Type 0} → Key → Bool → Result A PlacedFault → Result A PlacedFault

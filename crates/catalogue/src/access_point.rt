@@ -6,8 +6,9 @@ ghost use Rattle.catalogue.specs.Reader.{Reads, number, whole};
 ghost use Rattle.catalogue.specs.AccessPoints.{AccessPoint, Reference, slots_in, slots_at, reference, access_point};
 
 use crate::entry::{Entry, each_of, list};
+use crate::submodules::submodules_at;
 use crate::tree::{items_at, long_at, number_in, string, whole};
-use crate::{Key, PlacedFault, Step, SubmoduleItem};
+use crate::{Key, PlacedFault, Step, SubmoduleTable};
 use serde_json::Value;
 use std::alloc::Global;
 use std::marker::Model;
@@ -40,7 +41,7 @@ pub struct AccessPoint {
     pub station_type: String,
     /// In units of 31.25 microseconds.
     pub least_interval: u32,
-    pub submodules: Vec<SubmoduleItem>,
+    pub submodules: SubmoduleTable,
     pub references: Vec<ModuleReference>,
 }
 
@@ -53,7 +54,7 @@ impl Model for AccessPoint {
       station_type = string_bytes
           item.station_type;
       least_interval = item.least_interval;
-      submodules = item.submodules.items;
+      submodules = item.submodules;
       references = item.references.items;
     } };
 }
@@ -140,7 +141,7 @@ pub(crate) fn access_point(alloc: Global, tree: &Value) -> Result<AccessPoint, P
     let physical_slots = slots_at(alloc, tree, Key::PhysicalSlots)?;
     let station_type = string(alloc, tree, Key::StationType)?;
     let least_interval = long_at(tree, Key::MinDeviceInterval, 1, 65_536)?;
-    let submodules = list(alloc, &(), tree, Key::VirtualSubmoduleItem)?;
+    let submodules = submodules_at(alloc, tree, Key::VirtualSubmoduleItem)?;
     let references = list(alloc, &(), tree, Key::ModuleItemRef)?;
     Ok(AccessPoint {
         ident,

@@ -6,9 +6,9 @@ ghost use Rattle.serde_json.specs.View.{view, items_view};
 ghost use Rattle.catalogue.specs.Reader.{Reads, each, list_at};
 ghost use Rattle.catalogue.specs.Modules.{Module, has_id, module_item, place_of, submodules_of};
 
-use crate::entry::list;
+use crate::submodules::submodules_at;
 use crate::tree::{items_at, long_at, string};
-use crate::{CatalogueFault, Key, PlacedFault, Step, SubmoduleItem};
+use crate::{CatalogueFault, Key, PlacedFault, Step, SubmoduleTable};
 use serde_json::Value;
 use std::alloc::{AllocError, Global};
 use std::collections::BTreeMap;
@@ -20,13 +20,13 @@ pub struct ModuleItem {
     /// What slots name it by.
     pub id: String,
     pub ident: u32,
-    pub submodules: Vec<SubmoduleItem>,
+    pub submodules: SubmoduleTable,
 }
 
 impl Model for ModuleItem {
     ghost Value = { Module };
 
-    ghost view = { λ item. record { id = string_bytes item.id; ident = item.ident; submodules = item.submodules.items } };
+    ghost view = { λ item. record { id = string_bytes item.id; ident = item.ident; submodules = item.submodules } };
 }
 
 /// Modules, and by its ID where each is, so that one is found in a few steps however many there are.
@@ -50,12 +50,12 @@ impl Model for ModuleTable {
 
 impl ModuleTable {
     /// The submodules of the module with this ID.
-    pub(crate) fn submodules(&self, id: &str) -> Option<&Vec<SubmoduleItem>>
-        ensures some { IfSome result (λ found. found.now.items ≡ submodules_of id.now self.now) }
+    pub(crate) fn submodules(&self, id: &str) -> Option<&SubmoduleTable>
+        ensures some { IfSome result (λ found. found.now ≡ submodules_of id.now self.now) }
         ensures none { IfNone result (submodules_of id.now self.now ≡ []) }
     {
         let place = self.places.get(id).copied();
-        submodules_at(self.items.as_slice(), place)
+        submodules_in(self.items.as_slice(), place)
     }
 
     /// The modules.
@@ -67,9 +67,9 @@ impl ModuleTable {
 }
 
 /// The submodules of the module at a place, if it is the place of one.
-#[tactic(auto, using(crate::proofs::Ids::at_place, crate::proofs::Ids::is_there, crate::proofs::Ids::no_place))]
-fn submodules_at(modules: &[ModuleItem], place: Option<usize>) -> Option<&Vec<SubmoduleItem>>
-    ensures some { (id : List ℕ) → place ≡ place_of id modules.now → IfSome result (λ found. found.now.items ≡ submodules_of id modules.now) }
+#[tactic(auto, using(crate::proofs::Places::at_place, crate::proofs::Places::module_there, crate::proofs::Places::no_place))]
+fn submodules_in(modules: &[ModuleItem], place: Option<usize>) -> Option<&SubmoduleTable>
+    ensures some { (id : List ℕ) → place ≡ place_of id modules.now → IfSome result (λ found. found.now ≡ submodules_of id modules.now) }
     ensures none { (id : List ℕ) → place ≡ place_of id modules.now → IfNone result (submodules_of id modules.now ≡ []) }
 {
     match place {
@@ -137,7 +137,7 @@ fn module_of(
     }
     put_place(alloc, places, id.as_str(), before.len())?;
     let ident = long_at(tree, Key::ModuleIdentNumber, 1, 0xFFFF_FFFF)?;
-    let submodules = list(alloc, &(), tree, Key::VirtualSubmoduleItem)?;
+    let submodules = submodules_at(alloc, tree, Key::VirtualSubmoduleItem)?;
     Ok(ModuleItem {
         id,
         ident,

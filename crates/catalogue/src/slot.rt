@@ -1,17 +1,17 @@
 //! What a project puts into its slots, and the records that it writes.
-ghost use Rattle.std.specs.Prelude.{◌≡◌, List, [], Option, option_map, string_bytes};
+ghost use Rattle.std.specs.Prelude.{◌≡◌, List, [], string_bytes};
 ghost use Rattle.serde_json.specs.View.{view, items_view};
 ghost use Rattle.hex.specs.Hex.{decode_of};
 ghost use Rattle.catalogue.specs.Placed.{placed};
 ghost use Rattle.catalogue.specs.Reader.{Reads, each};
 ghost use Rattle.catalogue.specs.Submodules.{Submodule};
 ghost use Rattle.catalogue.specs.Modules.{submodules_of};
-ghost use Rattle.catalogue.specs.Slots.{Record, Slot, record_item, slot_item, records_of, hex_or_fault, octets_at, length_of, parameters_of};
+ghost use Rattle.catalogue.specs.Slots.{Record, Slot, record_item, slot_item, records_of, hex_or_fault, octets_at};
 
 use crate::entry::{Entry, each_of};
 use crate::module::ModuleTable;
 use crate::tree::{items_at, string, text, whole_at, word_at};
-use crate::{CatalogueFault, Key, ParameterItem, PlacedFault, Step, SubmoduleItem};
+use crate::{CatalogueFault, Key, PlacedFault, Step, SubmoduleTable};
 use hex::FromHexError;
 use serde_json::Value;
 use std::alloc::Global;
@@ -68,47 +68,23 @@ fn octets_at(alloc: Global, tree: &Value, key: Key) -> Result<Vec<u8>, PlacedFau
     }
 }
 
-/// The parameter records of the submodule with this subslot.
-fn parameters_of(submodules: &Vec<SubmoduleItem>, subslot: u16) -> Option<&[ParameterItem]>
-    ensures { option_map (λ parameters. parameters.now) result ≡ parameters_of subslot submodules.now.items }
-{
-    for submodule in submodules {
-        if submodule.subslot == subslot {
-            return Some(submodule.parameters.as_slice());
-        }
-    }
-    None
-}
-
-/// The length of the parameter record with this index.
-fn length_of(parameters: &[ParameterItem], index: u16) -> Option<u16>
-    ensures { result ≡ length_of index parameters.now }
-{
-    for parameter in parameters {
-        if parameter.index == index {
-            return Some(parameter.length);
-        }
-    }
-    None
-}
-
-impl Entry<Vec<SubmoduleItem>> for RecordItem {
-    ghost reader = { λ submodules _ tree. record_item submodules.items tree };
+impl Entry<SubmoduleTable> for RecordItem {
+    ghost reader = { λ submodules _ tree. record_item submodules tree };
 
     #[tactic(auto, unfolding(crate::specs::Slots::record_item))]
     fn read(
         alloc: Global,
-        context: &Vec<SubmoduleItem>,
+        context: &SubmoduleTable,
         _before: &[RecordItem],
         tree: &Value,
     ) -> Result<RecordItem, PlacedFault> {
         let subslot = word_at(tree, Key::Subslot, 1, 36_863)?;
-        let parameters = match parameters_of(context, subslot) {
+        let parameters = match context.parameters(subslot) {
             Some(parameters) => parameters,
             None => return Err(PlacedFault::at(Key::Subslot, CatalogueFault::Number)),
         };
         let index = word_at(tree, Key::Index, 0, 32_767)?;
-        let length = match length_of(parameters, index) {
+        let length = match parameters.length(index) {
             Some(length) => length,
             None => return Err(PlacedFault::at(Key::Index, CatalogueFault::Number)),
         };
@@ -137,7 +113,7 @@ fn records_in(
     match modules.submodules(target) {
         Some(submodules) => each_of(alloc, submodules, trees),
         None => {
-            let none = Vec::new(alloc);
+            let none = SubmoduleTable::new(alloc);
             each_of(alloc, &none, trees)
         }
     }

@@ -2,15 +2,12 @@
 ghost use Rattle.std.specs.Prelude.{◌≡◌, List, Some, None, ℕ};
 ghost use Rattle.wire.specs.Codec.{Gives};
 ghost use Rattle.serde_json.specs.View.{view, items_view};
-ghost use Rattle.catalogue.specs.Reader.{Reads};
 ghost use Rattle.catalogue.specs.Submodules.{Submodule, is_octet_type, is_word_type, is_long_type, size_of_type, item_of_type, data_item, octets_in};
-ghost use Rattle.catalogue.specs.Submodules.{octets_at, io_in, io_of, has_index, has_subslot, parameter, submodule};
+ghost use Rattle.catalogue.specs.Submodules.{octets_at, io_in, io_of};
 
-use crate::entry::{Entry, list};
-use crate::tree::{items_at, long_at, member_at, text, word_at};
-use crate::{CatalogueFault, Key, PlacedFault, Step};
+use crate::tree::{items_at, text, word_at};
+use crate::{CatalogueFault, Key, ParameterTable, PlacedFault, Step};
 use serde_json::Value;
-use std::alloc::Global;
 use std::marker::Model;
 
 /// A parameter record that a submodule takes.
@@ -30,7 +27,7 @@ pub struct SubmoduleItem {
     pub input: u16,
     /// Octets of output data, likewise.
     pub output: u16,
-    pub parameters: Vec<ParameterItem>,
+    pub parameters: ParameterTable,
 }
 
 impl Model for SubmoduleItem {
@@ -41,8 +38,7 @@ impl Model for SubmoduleItem {
       ident = item.ident;
       input = item.input;
       output = item.output;
-      parameters =
-          item.parameters.items;
+      parameters = item.parameters;
     } };
 }
 
@@ -148,7 +144,7 @@ fn io_in(tree: &Value) -> Result<(u16, u16), PlacedFault>
 
 /// The octets of input and of output of a submodule: none if it says nothing of them.
 #[tactic(auto, unfolding(crate::specs::Submodules::io_of))]
-fn io_at(tree: &Value) -> Result<(u16, u16), PlacedFault>
+pub(crate) fn io_at(tree: &Value) -> Result<(u16, u16), PlacedFault>
     ensures { Gives (λ io. io) result (io_of (view tree.now)) }
 {
     match tree.get(Key::IoData.name()) {
@@ -157,65 +153,5 @@ fn io_at(tree: &Value) -> Result<(u16, u16), PlacedFault>
             Ok(octets) => Ok(octets),
             Err(found) => Err(found.further(Step::At(Key::IoData))),
         },
-    }
-}
-
-/// Whether a parameter record with this index stands before.
-fn has_index(before: &[ParameterItem], index: u16) -> bool
-    ensures { result ≡ has_index index before.now }
-{
-    before.iter().any(|item| item.index == index)
-}
-
-/// Whether a submodule with this subslot stands before.
-fn has_subslot(before: &[SubmoduleItem], subslot: u16) -> bool
-    ensures { result ≡ has_subslot subslot before.now }
-{
-    before.iter().any(|item| item.subslot == subslot)
-}
-
-impl Entry<()> for ParameterItem {
-    ghost reader = { λ _ before tree. parameter before tree };
-
-    #[tactic(auto, unfolding(crate::specs::Submodules::parameter))]
-    fn read(
-        _alloc: Global,
-        _context: &(),
-        before: &[ParameterItem],
-        tree: &Value,
-    ) -> Result<ParameterItem, PlacedFault> {
-        let index = word_at(tree, Key::Index, 0, 32_767)?;
-        if has_index(before, index) {
-            return Err(PlacedFault::at(Key::Index, CatalogueFault::Number));
-        }
-        let length = word_at(tree, Key::Length, 1, 64)?;
-        Ok(ParameterItem { index, length })
-    }
-}
-
-impl Entry<()> for SubmoduleItem {
-    ghost reader = { λ _ before tree. submodule before tree };
-
-    #[tactic(auto, unfolding(crate::specs::Submodules::submodule))]
-    fn read(
-        alloc: Global,
-        _context: &(),
-        before: &[SubmoduleItem],
-        tree: &Value,
-    ) -> Result<SubmoduleItem, PlacedFault> {
-        let subslot = word_at(tree, Key::Subslot, 1, 36_863)?;
-        if has_subslot(before, subslot) {
-            return Err(PlacedFault::at(Key::Subslot, CatalogueFault::Number));
-        }
-        let ident = long_at(tree, Key::SubmoduleIdentNumber, 0, 0xFFFF_FFFF)?;
-        let (input, output) = io_at(tree)?;
-        let parameters = list(alloc, &(), tree, Key::ParameterRecordDataItem)?;
-        Ok(SubmoduleItem {
-            subslot,
-            ident,
-            input,
-            output,
-            parameters,
-        })
     }
 }

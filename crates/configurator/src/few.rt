@@ -12,7 +12,7 @@ fn have_few_parameters(submodules: &[SubmoduleItem]) -> bool
     ensures { result ≡ list_all (λ entry. nat_le (length entry.parameters) 2) submodules.now }
 {
     for submodule in submodules {
-        if submodule.parameters.len() > 2 {
+        if submodule.parameters.as_slice().len() > 2 {
             return false;
         }
     }

@@ -1,7 +1,7 @@
 use Rattle.std.proofs.Common.{◌≡◌, ◌∙◌, refl, sym, ap, false, cond, Some, length, string_bytes}
 use Rattle.std.specs.Str.{bytes_eq}
 use Rattle.std.proofs.lemmas.Bool.{not-true}
-use Rattle.catalogue.proofs.Ids.{place_behind}
+use Rattle.catalogue.proofs.Places.{id_behind}
 use Rattle.catalogue.specs.Modules.{has_id, module_item}
 use Rattle.catalogue.proofs.module.module_of.Goals as goal
 
@@ -19,4 +19,4 @@ returns-clause-places c = λ id.
     let put = c.in_ok-put_place.ensures id in
     (rw c.as_str-2.ensures.value at put)
     ∙ ap (cond (bytes_eq (string_bytes c.in_ok-id.id) id) (Some (length c.args.before.now))) (c.requires id)
-    ∙ sym (place_behind c.args.before.now _ id new)
+    ∙ sym (id_behind c.args.before.now _ id new)
