@@ -1,12 +1,13 @@
 //! Whether each module may stand in its slot.
 ghost use Rattle.std.specs.Prelude.{◌≡◌, ◌&&◌, IfOk};
 ghost use Rattle.std.specs.List.{list_all};
-ghost use Rattle.configurator.specs.Allowed.{are_allowed, are_once, is_in, uses_of};
+ghost use Rattle.configurator.specs.Allowed.{are_allowed, are_once, is_in};
 ghost use Rattle.configurator.specs.Known.{fixed_by, is_fixed_open, is_no_other, is_open, number_in, physical_in, stands_well, taken_by};
 
 use crate::known::Known;
 use catalogue::{Catalogue, ModuleReference, SlotItem};
 use std::alloc::{AllocError, Global};
+use std::collections::BTreeSet;
 
 /// Whether one of these slots is this one.
 pub(crate) fn is_in(slots: &[u64], slot: u64) -> bool
@@ -95,39 +96,39 @@ fn do_all_stand(known: &Known, slots: &[SlotItem]) -> bool
     true
 }
 
-/// How often a slot is named.
-fn uses_of(slots: &[SlotItem], slot: u64) -> usize
-    ensures { result ≡ uses_of slot slots.now }
-{
-    let mut uses = 0;
-    for entry in slots {
-        if entry.slot == slot {
-            uses += 1;
-        }
-    }
-    uses
-}
-
 /// Whether each slot is named once.
-fn are_once(slots: &[SlotItem]) -> bool
-    ensures { result ≡ are_once slots.now }
+fn are_once(alloc: Global, slots: &[SlotItem]) -> Result<bool, AllocError>
+    ensures { IfOk result (λ once. once ≡ are_once slots.now) }
 {
+    let mut seen = BTreeSet::new(alloc);
     for entry in slots {
-        // Also where both say the same: which records would be written then, and in what order, nobody said.
-        if uses_of(slots, entry.slot) != 1 {
-            return false;
+        // Also if both entries say the same: the order in which their records would be written is not defined.
+        let is_new = seen.insert(entry.slot)?;
+        if !is_new {
+            return Ok(false);
         }
     }
-    true
+    Ok(true)
 }
 
 /// Whether the fixed modules stand in open slots, those that are put into slots stand well, and each slot is named once.
-fn is_allowed(known: &Known, references: &[ModuleReference], slots: &[SlotItem]) -> bool
-    ensures { result ≡ (list_all (is_fixed_open (physical_in known.now) (fixed_by known.now) (number_in known.now)) references.now
+fn is_allowed(
+    alloc: Global,
+    known: &Known,
+    references: &[ModuleReference],
+    slots: &[SlotItem],
+) -> Result<bool, AllocError>
+    ensures { IfOk result (λ allowed. allowed ≡ (list_all (is_fixed_open (physical_in known.now) (fixed_by known.now) (number_in known.now)) references.now
         && list_all (stands_well (physical_in known.now) (fixed_by known.now) (taken_by known.now) (number_in known.now)) slots.now
-        && are_once slots.now) }
+        && are_once slots.now)) }
 {
-    are_fixed_open(known, references) && do_all_stand(known, slots) && are_once(slots)
+    if !are_fixed_open(known, references) {
+        return Ok(false);
+    }
+    if !do_all_stand(known, slots) {
+        return Ok(false);
+    }
+    are_once(alloc, slots)
 }
 
 /// Whether each module may stand in its slot.
@@ -137,5 +138,5 @@ pub(crate) fn are_allowed(alloc: Global, catalogue: &Catalogue) -> Result<bool, 
     let known = Known::of(alloc, catalogue)?;
     let references = catalogue.access_point.references.as_slice();
     let slots = catalogue.project.slots.as_slice();
-    Ok(is_allowed(&known, references, slots))
+    is_allowed(alloc, &known, references, slots)
 }
