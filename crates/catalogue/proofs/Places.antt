@@ -1,4 +1,4 @@
--- The first of a list that passes a test: where it is, and what is kept of it.
+-- The first entry of a list that passes a test: its place, and a value of it.
 use Rattle.std.proofs.Common.{if◌then◌else◌, ◌≡◌, ◌==◌, ◌∙◌, ◌++◌, ◌||◌, ℕ, zero, suc, refl, sym, ap, subst, Bool, true, false, cond, is_some, Option, Some, None, option_map, List, [], ◌∷◌, length, get_or, ◌<◌, arith}
 use Rattle.std.specs.List.{list_any}
 use Rattle.std.specs.Str.{bytes_eq}
@@ -18,7 +18,7 @@ use Rattle.catalogue.specs.Slots.{length_of, parameters_of}
 pred_is : (m n : ℕ) → Some (suc m) ≡ Some (suc n) → Some m ≡ Some n
 pred_is m n e = cc
 
--- one passes exactly if one is the first
+-- an entry passes exactly if there is a place
 pub placed : {A : Type 0} (test : A → Bool) (xs : List A) → is_some (place_where test xs) ≡ list_any test xs
 placed test [] = refl
 placed test (x ∷ xs) = first (test x) (place_where test xs) (list_any test xs) (placed test xs)
@@ -28,7 +28,7 @@ placed test (x ∷ xs) = first (test x) (place_where test xs) (list_any test xs)
     first false None has e = e
     first false (Some n) has e = e
 
--- a place is one of the list
+-- the place is less than the length
 pub is_there : {A : Type 0} (test : A → Bool) (xs : List A) (place : ℕ) → Some place ≡ place_where test xs → place < length xs
 is_there test [] place is = absurd cc
 is_there test (x ∷ xs) place is = first (test x) (place_where test xs) (length xs) place (λ n e. is_there test xs n (sym e)) is
@@ -48,7 +48,7 @@ first_not : (c has : Bool) → c ≡ true → (c || has) ≡ false → ⊥
 first_not true has is none = absurd cc
 first_not false has is none = absurd cc
 
--- where the first is, if one more stands after all: one that passes only if none before it does
+-- the place if one more entry is appended, which passes only if no entry before it does
 pub place_behind : {A : Type 0} (test : A → Bool) (before : List A) (entry : A) → (test entry ≡ true → list_any test before ≡ false)
     → place_where test (before ++ entry ∷ []) ≡ cond (test entry) (Some (length before)) (place_where test before)
 place_behind test [] entry new = refl
@@ -63,7 +63,7 @@ place_behind test (x ∷ xs) entry new =
     first false true n rest more apart e = ap (option_map suc) e
     first false false n rest more apart e = ap (option_map suc) e
 
--- what is kept of the one at a place, and of none
+-- the value of the entry at the place, and the value if there is no place
 at_first : {A C : Type 0} (kept : A → C) (b : Bool) (x : A) (xs : List A) (rest : Option ℕ) (others : C) (place : ℕ) (d : A)
     → ((n : ℕ) → rest ≡ Some n → kept (get_or xs n d) ≡ others)
     → Some place ≡ (if b then Some 0 else option_map suc rest) → kept (get_or (x ∷ xs) place d) ≡ (if b then kept x else others)
@@ -83,7 +83,7 @@ none_first false (Some n) one others none next is = absurd cc
 pub placed_id : (id : List ℕ) (entries : List Module) → is_some (modules.place_of id entries) ≡ has_id id entries
 placed_id id entries = placed (λ (other : Module). bytes_eq other.id id) entries
 
--- a new module after others is at the place after theirs
+-- a module with a new ID is at the place after the others
 pub id_behind : (before : List Module) (entry : Module) (id : List ℕ) → has_id entry.id before ≡ false
     → modules.place_of id (before ++ entry ∷ []) ≡ cond (bytes_eq entry.id id) (Some (length before)) (modules.place_of id before)
 id_behind before entry id new =
@@ -106,7 +106,7 @@ module_there id entries place is = is_there (λ (other : Module). bytes_eq other
 pub subslotted : (subslot : ℕ) (entries : List Submodule) → is_some (place_of subslot entries) ≡ has_subslot subslot entries
 subslotted subslot entries = placed (λ (other : Submodule). other.subslot == subslot) entries
 
--- a new submodule after others is at the place after theirs
+-- a submodule with a new subslot is at the place after the others
 pub subslot_behind : (before : List Submodule) (entry : Submodule) (subslot : ℕ) → has_subslot entry.subslot before ≡ false
     → place_of subslot (before ++ entry ∷ []) ≡ cond (entry.subslot == subslot) (Some (length before)) (place_of subslot before)
 subslot_behind before entry subslot new =
@@ -127,7 +127,7 @@ part_there subslot entries place is = is_there (λ (other : Submodule). other.su
 
 -- ---- parameter records by their indexes
 
--- one has an index exactly if it has a length there
+-- a record has an index exactly if there is a length for that
 pub indexed : (index : ℕ) (items : List ParameterItem) → is_some (length_of index items) ≡ has_index index items
 indexed index [] = refl
 indexed index (item ∷ items) = first (item.index == index) (length_of index items) (has_index index items) (indexed index items)
@@ -136,7 +136,7 @@ indexed index (item ∷ items) = first (item.index == index) (length_of index it
     first true found has e = refl
     first false found has e = e
 
--- a new parameter record after others has its length
+-- a parameter record with a new index has its length
 pub length_behind : (before : List ParameterItem) (entry : ParameterItem) (index : ℕ) → has_index entry.index before ≡ false
     → length_of index (before ++ entry ∷ []) ≡ cond (entry.index == index) (Some entry.length) (length_of index before)
 length_behind before entry index new = behind before (λ t. subst (λ (one : ℕ). has_index one before ≡ false) (eqb-true entry.index index t) new)
@@ -159,7 +159,7 @@ length_behind before entry index new = behind before (λ t. subst (λ (one : ℕ
 cmp_is : (x y : ℕ) → is_eq (nat_cmp x y) ≡ (x == y)
 cmp_is x y = grind (arith, nat_tests)
 
--- a map with one more number
+-- a map to which one number was added
 pub put_at : (old new : BTreeMap ℕ ℕ) (number value : ℕ) → Updates nat_cmp old new number (Some value) → (other : ℕ)
     → get nat_cmp new other ≡ cond (number == other) (Some value) (get nat_cmp old other)
 put_at old new number value updates other = updates.0 other ∙ ap (λ (b : Bool). cond b (Some value) (get nat_cmp old other)) (cmp_is number other)

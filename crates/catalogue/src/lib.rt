@@ -1,4 +1,4 @@
-//! The catalogue of a station in JSON, with the names of GSDML, read to structs.
+//! Reads the catalogue of a station, which is JSON with the names of GSDML, to structs.
 #![tactic(auto)]
 
 mod access_point;

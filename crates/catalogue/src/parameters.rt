@@ -14,11 +14,11 @@ use std::alloc::{AllocError, Global};
 use std::collections::BTreeMap;
 use std::marker::Model;
 
-/// The parameter records that a submodule takes, in the order of the text, and the length of each by its index.
+/// The parameter records of a submodule, in the order of the text, and the length of each by its index.
 #[derive(Drop)]
 pub struct ParameterTable {
     items: Vec<ParameterItem>,
-    /// In octets. One is found in a few steps, however many there are.
+    /// In octets.
     lengths: BTreeMap<u16, u16>,
 }
 
@@ -44,7 +44,7 @@ impl ParameterTable {
         self.items.as_slice()
     }
 
-    /// The length in octets of the parameter record with this index.
+    /// The length in octets of the parameter record with this index. `None` if no record has it.
     pub(crate) fn length(&self, index: u16) -> Option<u16>
         ensures { result ≡ length_of index self.now }
     {
@@ -52,7 +52,7 @@ impl ParameterTable {
     }
 }
 
-/// Whether one of the parameter records has an index: these are their lengths.
+/// Whether one of the parameter records has an index. `lengths` has the length of each of them.
 fn has_index(lengths: &BTreeMap<u16, u16>, before: &[ParameterItem], index: u16) -> bool
     requires { (other : ℕ) → get nat_cmp lengths.now other ≡ length_of other before.now }
     ensures { result ≡ has_index index before.now }
@@ -60,7 +60,7 @@ fn has_index(lengths: &BTreeMap<u16, u16>, before: &[ParameterItem], index: u16)
     lengths.contains_key(&index)
 }
 
-/// Keeps the length of the parameter record with an index.
+/// Sets the length in octets of the parameter record with an index.
 #[tactic(auto, using(crate::proofs::Places::put_at))]
 fn put_length(lengths: &mut BTreeMap<u16, u16>, index: u16, length: u16) -> Result<(), AllocError>
     ensures { OnOk result ((other : ℕ) → get nat_cmp lengths.new other
@@ -70,7 +70,8 @@ fn put_length(lengths: &mut BTreeMap<u16, u16>, index: u16, length: u16) -> Resu
     Ok(())
 }
 
-/// A parameter record after others, whose lengths these are: its index is new, and then its length is one of them.
+/// Reads a parameter record from a JSON value, given the records before it and their lengths. An index that one of them has is the fault
+/// `Number`. Adds the record's length.
 #[tactic(auto, unfolding(crate::specs::Submodules::parameter))]
 fn parameter_of(
     lengths: &mut BTreeMap<u16, u16>,
@@ -91,7 +92,7 @@ fn parameter_of(
     Ok(ParameterItem { index, length })
 }
 
-/// The parameter records that these trees are.
+/// Reads a parameter record from each of these JSON values.
 fn parameters_of(alloc: Global, trees: &[Value]) -> Result<ParameterTable, PlacedFault>
     ensures { Reads (λ found. found) result (each parameter [] (items_view trees.now)) }
 {
@@ -109,7 +110,7 @@ fn parameters_of(alloc: Global, trees: &[Value]) -> Result<ParameterTable, Place
     })
 }
 
-/// The parameter records at a key.
+/// Reads the parameter records at a key. An empty table if the key is absent.
 #[tactic(auto, unfolding(crate::specs::Reader::list_at))]
 pub(crate) fn parameters_at(
     alloc: Global,

@@ -1,4 +1,4 @@
-//! What a project puts into its slots, and the records that it writes.
+//! The modules that a project puts into slots, and the records that are written to them.
 ghost use Rattle.std.specs.Prelude.{◌≡◌, List, [], string_bytes};
 ghost use Rattle.serde_json.specs.View.{view, items_view};
 ghost use Rattle.hex.specs.Hex.{decode_of};
@@ -17,7 +17,7 @@ use serde_json::Value;
 use std::alloc::Global;
 use std::marker::Model;
 
-/// A parameter record and what is written to it.
+/// A parameter record and the octets that are written to it.
 #[derive(Drop)]
 pub struct RecordItem {
     pub subslot: u16,
@@ -31,11 +31,11 @@ impl Model for RecordItem {
     ghost view = { λ item. record { subslot = item.subslot; index = item.index; octets = item.octets.items } };
 }
 
-/// What stands in a slot.
+/// A slot, the module in it, and the records that are written to that.
 #[derive(Drop)]
 pub struct SlotItem {
     pub slot: u64,
-    /// The ID of the module.
+    /// The module's ID.
     pub target: String,
     pub records: Vec<RecordItem>,
 }
@@ -46,7 +46,7 @@ impl Model for SlotItem {
     ghost view = { λ item. record { slot = item.slot; target = string_bytes item.target; records = item.records.items } };
 }
 
-/// The octets that a text at a key is in hex.
+/// The octets of a text in hex. The fault is `WrongKind`, at this key, if it is not hex.
 fn decoded(alloc: Global, text: &str, key: Key) -> Result<Vec<u8>, PlacedFault>
     ensures { Reads (λ octets. octets.items) result (placed key (hex_or_fault (decode_of text.now))) }
 {
@@ -57,7 +57,7 @@ fn decoded(alloc: Global, text: &str, key: Key) -> Result<Vec<u8>, PlacedFault>
     }
 }
 
-/// The octets that the text at a key is in hex.
+/// The octets of the text in hex at a key.
 #[tactic(auto, unfolding(crate::specs::Slots::octets_at))]
 fn octets_at(alloc: Global, tree: &Value, key: Key) -> Result<Vec<u8>, PlacedFault>
     ensures { Reads (λ octets. octets.items) result (octets_at key (view tree.now)) }
@@ -100,7 +100,7 @@ impl Entry<SubmoduleTable> for RecordItem {
     }
 }
 
-/// The records that these trees are, of the module with this ID.
+/// Reads a record from each of these JSON values. The module with this ID must take them.
 fn records_in(
     alloc: Global,
     trees: &[Value],
@@ -119,7 +119,7 @@ fn records_in(
     }
 }
 
-/// The records of a slot, of a module with these submodules. Where there are none, no module is looked for.
+/// Reads the records of a slot in which the module with this ID is. An ID that no module has is a fault only if there are records.
 #[tactic(auto, unfolding(crate::specs::Reader::list_at))]
 fn records_of(
     alloc: Global,

@@ -1,4 +1,4 @@
-//! Submodules of the catalogue, with their data and their parameter records.
+//! A submodule of the catalogue: its cyclic data and its parameter records.
 ghost use Rattle.std.specs.Prelude.{◌≡◌, List, Some, None, ℕ};
 ghost use Rattle.wire.specs.Codec.{Gives};
 ghost use Rattle.serde_json.specs.View.{view, items_view};
@@ -14,18 +14,18 @@ use std::marker::Model;
 #[derive(Clone, Copy, Drop)]
 pub struct ParameterItem {
     pub index: u16,
-    /// In octets.
+    /// In octets, 1 to 64.
     pub length: u16,
 }
 
-/// A submodule that is built into its module.
+/// A submodule that is fixed in its module.
 #[derive(Drop)]
 pub struct SubmoduleItem {
     pub subslot: u16,
     pub ident: u32,
-    /// Octets of input data, 65,535 where they are more.
+    /// Octets of input data: 65,535 if there are more.
     pub input: u16,
-    /// Octets of output data, likewise.
+    /// Octets of output data: 65,535 if there are more.
     pub output: u16,
     pub parameters: ParameterTable,
 }
@@ -42,7 +42,7 @@ impl Model for SubmoduleItem {
     } };
 }
 
-/// Whether a type of data takes one octet.
+/// Whether a data type has one octet.
 #[tactic(auto, unfolding(crate::specs::Submodules::is_octet_type))]
 fn is_octet_type(name: &str) -> bool
     ensures { result ≡ is_octet_type name.now }
@@ -50,7 +50,7 @@ fn is_octet_type(name: &str) -> bool
     name == "Unsigned8" || name == "Integer8"
 }
 
-/// Whether a type of data takes two octets.
+/// Whether a data type has two octets.
 #[tactic(auto, unfolding(crate::specs::Submodules::is_word_type))]
 fn is_word_type(name: &str) -> bool
     ensures { result ≡ is_word_type name.now }
@@ -58,7 +58,7 @@ fn is_word_type(name: &str) -> bool
     name == "Unsigned16" || name == "Integer16"
 }
 
-/// Whether a type of data takes four octets.
+/// Whether a data type has four octets.
 #[tactic(auto, unfolding(crate::specs::Submodules::is_long_type))]
 fn is_long_type(name: &str) -> bool
     ensures { result ≡ is_long_type name.now }
@@ -66,7 +66,7 @@ fn is_long_type(name: &str) -> bool
     name == "Unsigned32" || name == "Integer32" || name == "Float32"
 }
 
-/// The octets of a type of data that says its size.
+/// The octets of a data type that has a fixed length. `None` for any other name.
 fn size_of_type(name: &str) -> Option<u16>
     ensures { result ≡ size_of_type name.now }
 {
@@ -82,7 +82,7 @@ fn size_of_type(name: &str) -> Option<u16>
     None
 }
 
-/// The octets of an item of this type.
+/// The octets of a data item of this type. An `OctetString` has its own `Length`.
 fn item_of_type(tree: &Value, name: &str) -> Result<u16, PlacedFault>
     ensures { Gives (λ octets. octets) result (item_of_type (view tree.now) name.now) }
 {
@@ -95,7 +95,7 @@ fn item_of_type(tree: &Value, name: &str) -> Result<u16, PlacedFault>
     }
 }
 
-/// The octets of one item of data.
+/// The octets of one data item.
 #[tactic(auto, unfolding(crate::specs::Submodules::data_item))]
 fn data_item(tree: &Value) -> Result<u16, PlacedFault>
     ensures { Gives (λ octets. octets) result (data_item (view tree.now)) }
@@ -106,7 +106,7 @@ fn data_item(tree: &Value) -> Result<u16, PlacedFault>
     }
 }
 
-/// The octets of items of data together, at most 65,535.
+/// The sum of the octets of data items: 65,535 if it is greater.
 fn octets_of(trees: &[Value]) -> Result<u16, PlacedFault>
     ensures { Gives (λ octets. octets) result (octets_in 0 0 (items_view trees.now)) }
 {
@@ -120,7 +120,7 @@ fn octets_of(trees: &[Value]) -> Result<u16, PlacedFault>
     Ok(octets)
 }
 
-/// The octets of the items of data at a key.
+/// The sum of the octets of the data items at a key. 0 if the key is absent.
 #[tactic(auto, unfolding(crate::specs::Submodules::octets_at))]
 fn octets_at(tree: &Value, key: Key) -> Result<u16, PlacedFault>
     ensures { Gives (λ octets. octets) result (octets_at key (view tree.now)) }
@@ -132,7 +132,7 @@ fn octets_at(tree: &Value, key: Key) -> Result<u16, PlacedFault>
     }
 }
 
-/// The octets of input and of output.
+/// The octets of input and of output, from the object at `IOData`.
 #[tactic(auto, unfolding(crate::specs::Submodules::io_in))]
 fn io_in(tree: &Value) -> Result<(u16, u16), PlacedFault>
     ensures { Gives (λ io. io) result (io_in (view tree.now)) }
@@ -142,7 +142,7 @@ fn io_in(tree: &Value) -> Result<(u16, u16), PlacedFault>
     Ok((input, output))
 }
 
-/// The octets of input and of output of a submodule: none if it says nothing of them.
+/// The octets of input and of output of a submodule. Both are 0 if it has no `IOData`.
 #[tactic(auto, unfolding(crate::specs::Submodules::io_of))]
 pub(crate) fn io_at(tree: &Value) -> Result<(u16, u16), PlacedFault>
     ensures { Gives (λ io. io) result (io_of (view tree.now)) }

@@ -16,11 +16,11 @@ use std::alloc::{AllocError, Global};
 use std::collections::BTreeMap;
 use std::marker::Model;
 
-/// The submodules of a module, in the order of the text, and by its subslot where each is.
+/// The submodules of a module, in the order of the text, and the place of each by its subslot.
 #[derive(Drop)]
 pub struct SubmoduleTable {
     items: Vec<SubmoduleItem>,
-    /// One is found in a few steps, however many there are.
+    /// Counted from 0.
     places: BTreeMap<u16, usize>,
 }
 
@@ -55,7 +55,7 @@ impl SubmoduleTable {
         self.items.as_slice()
     }
 
-    /// The parameter records of the submodule with this subslot.
+    /// The parameter records of the submodule with this subslot. `None` if no submodule has it.
     pub(crate) fn parameters(&self, subslot: u16) -> Option<&ParameterTable>
         ensures { option_map (λ parameters. parameters.now) result ≡ parameters_of subslot self.now }
     {
@@ -64,7 +64,7 @@ impl SubmoduleTable {
     }
 }
 
-/// The parameter records of the submodule at a place, if it is the place of one.
+/// The parameter records of the submodule at a place. `None` if there is no submodule at it.
 #[tactic(auto, using(crate::proofs::Places::part_there, crate::proofs::Places::part_at, crate::proofs::Places::no_part))]
 fn parameters_in(submodules: &[SubmoduleItem], place: Option<usize>) -> Option<&ParameterTable>
     ensures { (subslot : ℕ) → place ≡ place_of subslot submodules.now → option_map (λ parameters. parameters.now) result ≡ parameters_of subslot submodules.now }
@@ -82,7 +82,7 @@ fn parameters_in(submodules: &[SubmoduleItem], place: Option<usize>) -> Option<&
     }
 }
 
-/// Whether one of the submodules has a subslot: this is where they are.
+/// Whether one of the submodules has a subslot. `places` has the place of each of them.
 fn has_subslot(places: &BTreeMap<u16, usize>, before: &[SubmoduleItem], subslot: u16) -> bool
     requires { (other : ℕ) → get nat_cmp places.now other ≡ place_of other before.now }
     ensures { result ≡ has_subslot subslot before.now }
@@ -90,7 +90,7 @@ fn has_subslot(places: &BTreeMap<u16, usize>, before: &[SubmoduleItem], subslot:
     places.contains_key(&subslot)
 }
 
-/// Keeps where the submodule with a subslot is.
+/// Sets the place of the submodule with a subslot.
 #[tactic(auto, using(crate::proofs::Places::put_at))]
 fn put_place(
     places: &mut BTreeMap<u16, usize>,
@@ -104,7 +104,8 @@ fn put_place(
     Ok(())
 }
 
-/// A submodule after others, of which these are the places: its subslot is new, and then it is one of them.
+/// Reads a submodule from a JSON value, given the submodules before it and their places. A subslot that one of them has is the fault
+/// `Number`. Adds the submodule's place.
 #[tactic(auto, unfolding(crate::specs::Submodules::submodule))]
 fn submodule_of(
     alloc: Global,
@@ -134,7 +135,7 @@ fn submodule_of(
     })
 }
 
-/// The submodules that these trees are.
+/// Reads a submodule from each of these JSON values.
 fn submodules_of(alloc: Global, trees: &[Value]) -> Result<SubmoduleTable, PlacedFault>
     ensures { Reads (λ found. found) result (each submodule [] (items_view trees.now)) }
 {
@@ -152,7 +153,7 @@ fn submodules_of(alloc: Global, trees: &[Value]) -> Result<SubmoduleTable, Place
     })
 }
 
-/// The submodules at a key.
+/// Reads the submodules at a key. An empty table if the key is absent.
 #[tactic(auto, unfolding(crate::specs::Reader::list_at))]
 pub(crate) fn submodules_at(
     alloc: Global,

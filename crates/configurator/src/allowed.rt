@@ -1,4 +1,4 @@
-//! Whether each module may stand in its slot.
+//! Whether each module may be in its slot.
 ghost use Rattle.std.specs.Prelude.{◌≡◌, ◌&&◌, IfOk};
 ghost use Rattle.std.specs.List.{list_all};
 ghost use Rattle.configurator.specs.Allowed.{are_allowed, are_once, is_in};
@@ -9,14 +9,14 @@ use catalogue::{Catalogue, ModuleReference, SlotItem};
 use std::alloc::{AllocError, Global};
 use std::collections::BTreeSet;
 
-/// Whether one of these slots is this one.
+/// Whether a slot is one of these.
 pub(crate) fn is_in(slots: &[u64], slot: u64) -> bool
     ensures { result ≡ is_in slot slots.now }
 {
     slots.iter().any(|other| *other == slot)
 }
 
-/// Whether no other module is fixed in a slot.
+/// Whether no module but the one with this number is fixed in a slot. `fixed` is the number of the module that is fixed there.
 fn is_no_other(fixed: Option<usize>, number: usize) -> bool
     ensures { result ≡ is_no_other number fixed }
 {
@@ -26,7 +26,7 @@ fn is_no_other(fixed: Option<usize>, number: usize) -> bool
     }
 }
 
-/// Whether the device has a slot, it is not that of the access point, and no other module is fixed there.
+/// Whether the device has a slot, the slot is not that of the access point, and no other module is fixed in it.
 fn is_open(known: &Known, number: usize, slot: u64) -> bool
     ensures { result ≡ is_open (physical_in known.now) (fixed_by known.now) number slot }
 {
@@ -35,7 +35,7 @@ fn is_open(known: &Known, number: usize, slot: u64) -> bool
         && is_no_other(known.fixed.get(&slot).copied(), number)
 }
 
-/// The same of slots.
+/// Whether this is true of each of these slots.
 fn are_all_open(known: &Known, number: usize, slots: &[u64]) -> bool
     ensures { result ≡ list_all (is_open (physical_in known.now) (fixed_by known.now) number) slots.now }
 {
@@ -47,19 +47,19 @@ fn are_all_open(known: &Known, number: usize, slots: &[u64]) -> bool
     true
 }
 
-/// Whether a module may stand where it is fixed.
+/// Whether a module may be in each slot in which it is fixed.
 fn is_fixed_open(known: &Known, reference: &ModuleReference) -> bool
     ensures { result ≡ is_fixed_open (physical_in known.now) (fixed_by known.now) (number_in known.now) reference.now }
 {
     let slots = reference.fixed_in.as_slice();
     match known.number(reference.target.as_str()) {
         Some(number) => are_all_open(known, number, slots),
-        // A module that the catalogue does not have can stand nowhere, so it may be named only where it is fixed in no slot.
+        // A module that the catalogue does not have may be in no slot, so a reference to it must have no fixed slots.
         None => slots.is_empty(),
     }
 }
 
-/// Whether all modules may stand where they are fixed.
+/// Whether each module may be in each slot in which it is fixed.
 fn are_fixed_open(known: &Known, references: &[ModuleReference]) -> bool
     ensures { result ≡ list_all (is_fixed_open (physical_in known.now) (fixed_by known.now) (number_in known.now)) references.now }
 {
@@ -71,7 +71,7 @@ fn are_fixed_open(known: &Known, references: &[ModuleReference]) -> bool
     true
 }
 
-/// Whether a module may stand in the slot into which it is put.
+/// Whether a module may be in the slot into which the project puts it.
 fn stands_well(known: &Known, entry: &SlotItem) -> bool
     ensures { result ≡ stands_well (physical_in known.now) (fixed_by known.now) (taken_by known.now) (number_in known.now) entry.now }
 {
@@ -83,7 +83,7 @@ fn stands_well(known: &Known, entry: &SlotItem) -> bool
     }
 }
 
-/// Whether all may.
+/// Whether this is true of each module that the project puts into a slot.
 fn do_all_stand(known: &Known, slots: &[SlotItem]) -> bool
     ensures { result ≡ list_all (stands_well (physical_in known.now) (fixed_by known.now) (taken_by known.now) (number_in known.now))
         slots.now }
@@ -96,7 +96,7 @@ fn do_all_stand(known: &Known, slots: &[SlotItem]) -> bool
     true
 }
 
-/// Whether each slot is named once.
+/// Whether no two entries name the same slot. `AllocError` if there was not enough memory.
 fn are_once(alloc: Global, slots: &[SlotItem]) -> Result<bool, AllocError>
     ensures { IfOk result (λ once. once ≡ are_once slots.now) }
 {
@@ -111,7 +111,8 @@ fn are_once(alloc: Global, slots: &[SlotItem]) -> Result<bool, AllocError>
     Ok(true)
 }
 
-/// Whether the fixed modules stand in open slots, those that are put into slots stand well, and each slot is named once.
+/// Whether each module may be in the slots in which it is fixed, each module may be in the slot into which the project puts it, and no two
+/// entries name the same slot.
 fn is_allowed(
     alloc: Global,
     known: &Known,
@@ -131,7 +132,7 @@ fn is_allowed(
     are_once(alloc, slots)
 }
 
-/// Whether each module may stand in its slot.
+/// Whether each module may be in its slot.
 pub(crate) fn are_allowed(alloc: Global, catalogue: &Catalogue) -> Result<bool, AllocError>
     ensures { IfOk result (λ allowed. allowed ≡ are_allowed catalogue.now) }
 {

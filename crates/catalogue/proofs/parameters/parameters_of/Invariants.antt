@@ -7,7 +7,7 @@ use Rattle.catalogue.specs.Submodules.{parameter}
 use Rattle.catalogue.specs.Slots.{length_of}
 use Rattle.catalogue.proofs.parameters.parameters_of.Given as goal
 
--- all are read as the rest is after those found, whose lengths are in the map
+-- reading all is reading the rest after those found, whose lengths are in the map
 abbrev pub invariant-loop-tree : goal.invariant-loop-tree
 invariant-loop-tree l = record {
   read : each parameter [] (items_view l.trees) ≡ each parameter l.found.items (items_view (drop l.tree-index l.trees));

@@ -6,7 +6,7 @@ use Rattle.catalogue.specs.Reader.{each}
 use Rattle.catalogue.specs.Submodules.{place_of, submodule}
 use Rattle.catalogue.proofs.submodules.submodules_of.Given as goal
 
--- all are read as the rest is after those found, whose places are in the map
+-- reading all is reading the rest after those found, whose places are in the map
 abbrev pub invariant-loop-tree : goal.invariant-loop-tree
 invariant-loop-tree l = record {
   read : each submodule [] (items_view l.trees) ≡ each submodule l.found.items (items_view (drop l.tree-index l.trees));

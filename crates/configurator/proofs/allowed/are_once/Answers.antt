@@ -6,7 +6,7 @@ use Rattle.configurator.specs.Allowed.{uses_of}
 use Rattle.configurator.proofs.Once.{all_once, at_most_once}
 use Rattle.configurator.proofs.allowed.are_once.Goals as goal
 
--- in the end no entry is left
+-- at the end no entry remains
 pub returns : goal.returns
 returns c =
     sym (all_once c.args.slots.now (λ slot.
