@@ -1,9 +1,11 @@
 #!/usr/bin/env python3
 """Counts the instructions of making the plan of a catalogue, for each octet of its text, at three sizes and kinds of text that are long in
-one thing each: modules as a maker writes them, modules of two keys, the lists by which modules are let into slots, what is put into slots
-with its records, and what nobody reads. What the program does at an empty text is subtracted. Its status is 1 if a figure passes its bound.
+one thing each: modules as a maker writes them, modules of two keys, submodules of one module, parameter records of one submodule, the lists
+by which modules are let into slots, what is put into slots with its records, and what nobody reads. Kinds that have all numbers of their
+range, as all subslots of a module, are also counted at 2 MiB, where they have them. What the program does at an empty text is subtracted. The
+status is 1 if a figure is greater than its bound.
 
-Needs valgrind. Use: bench/figures/plans.py [PROGRAM] [OCTETS]   (the proved program if left out; OCTETS: one size in place of the three, as
+Needs valgrind. Use: bench/figures/plans.py [PROGRAM] [OCTETS]   (the proved program if left out; OCTETS: one size in place of all, as
 16777216, the longest text that the program reads: minutes a kind)
 """
 
@@ -17,6 +19,9 @@ sys.path.insert(0, os.path.join(os.path.dirname(os.path.realpath(__file__)), "..
 from program import TOP, answer_help, need, proved, refuse
 
 SIZES = (4_096, 16_384, 65_536)
+# A text of this length has room for each number of a range: subslots, indexes, slots.
+FULL = 2_097_152
+SUBSLOTS, INDEXES, SLOTS = 36_863, 32_768, 32_768
 # Instructions an octet.
 BOUND = 600
 
@@ -47,11 +52,20 @@ def reference(catalogue, number):
 
 
 def with_parameters(catalogue, number):
-    """Of a module that is in no slot: there they are not too many."""
-    if number == 0:
+    """As many in a submodule as there are indexes, and then in another one; of a module that stands in no slot: there they are not too many."""
+    index = number % INDEXES
+    if index == 0:
         part = {"Subslot": 1, "SubmoduleIdentNumber": 1, "ParameterRecordDataItem": []}
-        catalogue["ModuleItem"].append({"ID": "LONG", "ModuleIdentNumber": 1, "VirtualSubmoduleItem": [part]})
-    catalogue["ModuleItem"][-1]["VirtualSubmoduleItem"][0]["ParameterRecordDataItem"].append({"Index": number, "Length": 1})
+        catalogue["ModuleItem"].append({"ID": f"LONG{number}", "ModuleIdentNumber": 1, "VirtualSubmoduleItem": [part]})
+    catalogue["ModuleItem"][-1]["VirtualSubmoduleItem"][0]["ParameterRecordDataItem"].append({"Index": index, "Length": 1})
+
+
+def with_submodules(catalogue, number):
+    """As many in a module as there are subslots, and then in another one; the modules stand in no slot."""
+    subslot = number % SUBSLOTS
+    if subslot == 0:
+        catalogue["ModuleItem"].append({"ID": f"WIDE{number}", "ModuleIdentNumber": 1, "VirtualSubmoduleItem": []})
+    catalogue["ModuleItem"][-1]["VirtualSubmoduleItem"].append({"Subslot": subslot + 1, "SubmoduleIdentNumber": 1})
 
 
 def with_slots(catalogue, number):
@@ -75,10 +89,11 @@ def with_references(catalogue, number):
 
 
 def with_entries(catalogue, number):
-    """As many slots as entries: there are too many."""
-    slot = number + 3
-    catalogue["DeviceAccessPointItem"]["PhysicalSlots"].append(slot)
-    reference(catalogue, 0)["AllowedInSlots"].append(slot)
+    """As many slots as entries: there are too many. Past the last slot that there is, entries name that again."""
+    slot = min(number + 3, SLOTS - 1)
+    if slot == number + 3:
+        catalogue["DeviceAccessPointItem"]["PhysicalSlots"].append(slot)
+        reference(catalogue, 0)["AllowedInSlots"].append(slot)
     catalogue["Project"]["Slots"].append({"Slot": slot, "ModuleItemTarget": "IN2"})
 
 
@@ -94,6 +109,30 @@ def with_records(catalogue, number):
     catalogue["Project"]["Slots"].append({"Slot": number + 3, "ModuleItemTarget": f"m{number}", "Records": [{"Subslot": 1, "Index": 1, "Data": "00"}]})
 
 
+def with_submodule_records(catalogue, number):
+    """Submodules of one module and records, as many as submodules, each of the submodule before it; past the last subslot, of that."""
+    subslot = min(number + 1, SUBSLOTS)
+    if number == 0:
+        catalogue["ModuleItem"].append({"ID": "WIDE", "ModuleIdentNumber": 1, "VirtualSubmoduleItem": []})
+        catalogue["Project"]["Slots"].append({"Slot": 3, "ModuleItemTarget": "WIDE", "Records": []})
+    if subslot == number + 1:
+        parameters = [{"Index": 1, "Length": 1}]
+        catalogue["ModuleItem"][-1]["VirtualSubmoduleItem"].append({"Subslot": subslot, "SubmoduleIdentNumber": 1, "ParameterRecordDataItem": parameters})
+    catalogue["Project"]["Slots"][-1]["Records"].append({"Subslot": subslot, "Index": 1, "Data": "00"})
+
+
+def with_parameter_records(catalogue, number):
+    """The same of the parameter records of one submodule."""
+    index = min(number, INDEXES - 1)
+    if number == 0:
+        part = {"Subslot": 1, "SubmoduleIdentNumber": 1, "ParameterRecordDataItem": []}
+        catalogue["ModuleItem"].append({"ID": "LONG", "ModuleIdentNumber": 1, "VirtualSubmoduleItem": [part]})
+        catalogue["Project"]["Slots"].append({"Slot": 3, "ModuleItemTarget": "LONG", "Records": []})
+    if index == number:
+        catalogue["ModuleItem"][-1]["VirtualSubmoduleItem"][0]["ParameterRecordDataItem"].append({"Index": index, "Length": 1})
+    catalogue["Project"]["Slots"][-1]["Records"].append({"Subslot": 1, "Index": index, "Data": "00"})
+
+
 def with_words(catalogue, number):
     catalogue[f"Text-{number}"] = "what a tool may keep of a device \u2014 and nobody reads"
 
@@ -102,12 +141,14 @@ def with_keys(catalogue, number):
     catalogue[f"{number}"] = 0
 
 
-# What each is long in, and the status.
-KINDS = [("modules of a maker", with_modules(whole_module), 0), ("modules of two keys", with_modules(short_module), 0),
-         ("parameter records", with_parameters, 0), ("slots in a list", with_slots, 0), ("fixed slots of many", with_physical, 0),
-         ("fixed slots of two", with_fixed, 0), ("references", with_references, 0), ("slots that are used", with_entries, 5),
-         ("physical slots", with_long_list, 0), ("records of many slots", with_records, 5),
-         ("other keys", with_words, 0), ("short keys", with_keys, 0)]
+# What each is long in, the status, and whether it is counted at the full length too.
+KINDS = [("modules of a maker", with_modules(whole_module), 0, False), ("modules of two keys", with_modules(short_module), 0, False),
+         ("submodules of a module", with_submodules, 0, True), ("parameter records of a submodule", with_parameters, 0, True),
+         ("slots in a list", with_slots, 0, False), ("fixed slots of many", with_physical, 0, False),
+         ("fixed slots of two", with_fixed, 0, False), ("references", with_references, 0, False), ("slots that are used", with_entries, 5, True),
+         ("physical slots", with_long_list, 0, False), ("records of many slots", with_records, 5, False),
+         ("records of many submodules", with_submodule_records, 5, True), ("records of many parameter records", with_parameter_records, 5, True),
+         ("other keys", with_words, 0, False), ("short keys", with_keys, 0, False)]
 
 
 def text_of(add, size):
@@ -144,8 +185,8 @@ def main(words):
     program = words[0] if words else proved()
     sizes = (int(words[1]),) if len(words) == 2 else SIZES
     nothing, wrong = total(program, b"", 5), 0
-    for name, add, status in KINDS:
-        for size in sizes:
+    for name, add, status, is_full in KINDS:
+        for size in (*sizes, FULL) if is_full and len(sizes) > 1 else sizes:
             figure = (total(program, text_of(add, size), status) - nothing) / size
             wrong += figure > BOUND
             print(f"plan, {name}, {size:,} octets: {figure:.0f} instructions an octet (at most {BOUND})")

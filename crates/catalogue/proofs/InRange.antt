@@ -1,4 +1,4 @@
--- A catalogue that is read is in its ranges.
+-- A catalogue that was read is in its ranges.
 use Rattle.std.proofs.Common.{subst, if◌then◌else◌, ◌≡◌, ◌≢◌, ◌≤◌, ◌∙◌, ◌++◌, ◌==◌, ◌||◌, ℕ, refl, sym, ap, List, [], ◌∷◌, length, Bool, true, false, cond, Option, Some, None, Result, Ok, Err, IfOk}
 use Rattle.std.specs.List.{AllByRecursion, list_any}
 use Rattle.std.specs.Str.{bytes_eq}
@@ -32,7 +32,7 @@ parameter_short before value tree e =
     let c = bind_ok (number_at key.Length 1 64 tree) _ value b.1 in
     subst (λ (item : ParameterItem). item.length ≤ 64) (ok_is {F = PlacedFault} _ value c.2) (number_within key.Length 1 64 tree c.0 c.1).1
 
--- the subslot of a submodule is new, and its parameter records are short
+-- no submodule before has its subslot, and each of its parameter records has at most 64 octets
 record IsRead (before : List Submodule) (value : Submodule) : Type 0 where
   new : has_subslot value.subslot before ≡ false
   short : AllByRecursion (λ item. item.length ≤ 64) value.parameters
@@ -50,7 +50,7 @@ submodule_read before value tree e =
       short = list_of parameter (λ item. item.length ≤ 64) parameter_short key.ParameterRecordDataItem tree f.0 f.1;
     })
 
--- a submodule behind others that is apart of them
+-- one more submodule, whose subslot the others do not have
 apart_behind : (before : List Submodule) (value : Submodule) → AreApart before → has_subslot value.subslot before ≡ false → AreApart (before ++ value ∷ [])
 apart_behind [] value apart new = (tt, tt)
 apart_behind (entry ∷ entries) value apart new =
@@ -61,7 +61,7 @@ apart_behind (entry ∷ entries) value apart new =
     neither true b e = absurd cc
     neither false b e = (refl, e)
 
--- the submodules at a key are apart
+-- no two submodules at a key have the same subslot
 pub submodules_apart : (tree : Data) (found : List Submodule) → list_at key.VirtualSubmoduleItem submodule tree ≡ Ok found → AreApart found
 submodules_apart tree found e =
     list_keeps submodule AreApart (λ before value tree kept e. apart_behind before value kept (submodule_read before value tree e).new) key.VirtualSubmoduleItem tree found tt e

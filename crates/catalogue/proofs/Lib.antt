@@ -1,4 +1,4 @@
 pub mod Chains
-pub mod Ids
 pub mod InRange
+pub mod Places
 pub mod Within

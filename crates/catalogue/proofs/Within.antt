@@ -1,4 +1,4 @@
--- What is read is in its range.
+-- What was read is in its range.
 use Rattle.std.proofs.Common.{subst, if◌then◌else◌, ◌≡◌, ◌≢◌, ◌≤◌, ◌∙◌, ◌++◌, ◌&&◌, ℕ, refl, sym, ap, List, [], ◌∷◌, length, Bool, true, false, cond, Option, Some, None, Result, Ok, Err, nat_le, nat_lt}
 use Rattle.std.specs.List.{AllByRecursion, list_any}
 use Rattle.std.specs.Str.{bytes_eq}
@@ -15,22 +15,22 @@ use Rattle.catalogue.specs.declared.fault.Step.TheVariants.{At, Entry}
 use Rattle.catalogue.specs.Placed.{behind, placed}
 use Rattle.catalogue.specs.Reader.{◌>>=◌, Reader, each, whole, within, number, number_at, member, list_at, items_of}
 
--- what a test let through
+-- a value that passed a test
 pub passed : {F A : Type 0} (b : Bool) (fault : F) (x y : A) → cond b (Ok x) (Err fault) ≡ Ok y → (b ≡ true) × (x ≡ y)
 passed true fault x y e = (refl, ok_is x y e)
 passed false fault x y e = absurd cc
 
--- what a test did not stop
+-- the reading after a test that found no fault
 pub went_on : {F A : Type 0} (b : Bool) (fault : F) (r : Result A F) (y : A) → cond b (Err fault) r ≡ Ok y → (b ≡ false) × (r ≡ Ok y)
 went_on true fault r y e = absurd cc
 went_on false fault r y e = (refl, e)
 
--- what was there
+-- a value that exists
 pub there : {F A : Type 0} (o : Option A) (fault : F) (y : A) → ok_or o fault ≡ Ok y → o ≡ Some y
 there None fault y e = absurd cc
 there (Some x) fault y e = cc
 
--- what was read has no fault, and so no place
+-- a reading without a fault has no place
 pub placed_ok : {A : Type 0} (key : Key) (r : Result A CatalogueFault) (y : A) → placed key r ≡ Ok y → r ≡ Ok y
 placed_ok key (Ok x) y e = ap Ok (ok_is x y e)
 placed_ok key (Err fault) y e = absurd cc
@@ -58,7 +58,7 @@ number_within key least greatest tree n e =
     let a = bind_ok (member key tree) (λ value. placed key (number least greatest value)) n e in
     in_range least greatest a.0 n (placed_ok key (number least greatest a.0) n a.2)
 
--- what each entry keeps of those before it, the list has
+-- what holds after each entry, if it held before it, holds of the whole list
 pub each_keeps : {A : Type 0} (reader : List A → Reader A) (P : List A → Type 0)
     → ((before : List A) (value : A) (tree : Data) → P before → reader before tree ≡ Ok value → P (before ++ value ∷ []))
     → (before : List A) (trees : Items) (found : List A) → P before → each reader before trees ≡ Ok found → P found
@@ -67,7 +67,7 @@ each_keeps reader P step before (item tree trees) found kept e =
     let a = bind_ok (behind (Entry (length before)) (reader before tree)) (λ value. each reader (before ++ value ∷ []) trees) found e in
     each_keeps reader P step (before ++ a.0 ∷ []) trees found (step before a.0 tree kept (behind_ok (Entry (length before)) (reader before tree) a.0 a.1)) a.2
 
--- the same of the list at a key
+-- the same for the list at a key
 pub list_keeps : {A : Type 0} (reader : List A → Reader A) (P : List A → Type 0)
     → ((before : List A) (value : A) (tree : Data) → P before → reader before tree ≡ Ok value → P (before ++ value ∷ []))
     → (key : Key) (tree : Data) (found : List A) → P [] → list_at key reader tree ≡ Ok found → P found
@@ -82,7 +82,7 @@ pub all_behind : {A : Type 0} (P : A → Type 0) (xs : List A) (x : A) → AllBy
 all_behind P [] x all one = (one, tt)
 all_behind P (y ∷ ys) x all one = (all.0, all_behind P ys x all.1 one)
 
--- what each entry is, all are
+-- what holds of each entry holds of all
 pub list_of : {A : Type 0} (reader : List A → Reader A) (P : A → Type 0)
     → ((before : List A) (value : A) (tree : Data) → reader before tree ≡ Ok value → P value)
     → (key : Key) (tree : Data) (found : List A) → list_at key reader tree ≡ Ok found → AllByRecursion P found

@@ -1,4 +1,4 @@
--- The access point of a device, and which modules it takes where.
+-- The device access point: what the device is, and which modules may be in which slots.
 use Rattle.std.specs.Prelude.{ℕ, List, [], Result, Ok}
 use Rattle.serde_json.specs.Data.{Items}
 use Rattle.catalogue.specs.declared.fault.PlacedFault.{PlacedFault}
@@ -9,13 +9,13 @@ use Rattle.catalogue.specs.Placed.{bare, behind}
 use Rattle.catalogue.specs.Reader.{◌>>=◌, Reader, each, items_of, whole, number, number_at, text_at, list_at}
 use Rattle.catalogue.specs.Submodules.{Submodule, submodule}
 
--- Where a module may stand.
+-- The slots in which a module may be.
 pub record Reference : Type 0 where
   pub target : List ℕ
   pub allowed_in : List ℕ
   pub fixed_in : List ℕ
 
--- What stands in slot 0, and what the device is.
+-- The device access point: the module in slot 0, and what the device is.
 pub record AccessPoint : Type 0 where
   pub ident : ℕ
   pub physical_slots : List ℕ
@@ -24,15 +24,15 @@ pub record AccessPoint : Type 0 where
   pub submodules : List Submodule
   pub references : List Reference
 
--- slots: first each is a whole number, then each is within its range
+-- slot numbers: an entry that is not a whole number is reported before one that is out of its range
 abbrev pub slots_in : Items → Result (List ℕ) PlacedFault
 slots_in trees = each (λ _ tree. bare (whole tree)) [] trees >>= λ _. each (λ _ tree. bare (number 0 32767 tree)) [] trees
 
--- the slots at a key
+-- the slot numbers at a key
 unfoldable pub slots_at : Key → Reader (List ℕ)
 slots_at key tree = items_of key tree >>= λ trees. behind (At key) (slots_in trees)
 
--- where a module may stand
+-- the slots in which a module may be
 unfoldable pub reference : Reader Reference
 reference tree =
     text_at key.ModuleItemTarget tree >>= λ target.
@@ -40,7 +40,7 @@ reference tree =
     list_at key.FixedInSlots (λ _ entry. bare (whole entry)) tree >>= λ fixed_in.
     Ok (record { target = target; allowed_in = allowed_in; fixed_in = fixed_in })
 
--- an access point
+-- a device access point
 unfoldable pub access_point : Reader AccessPoint
 access_point tree =
     number_at key.ModuleIdentNumber 1 4294967295 tree >>= λ ident.

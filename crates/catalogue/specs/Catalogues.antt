@@ -13,21 +13,21 @@ use Rattle.catalogue.specs.AccessPoints.{AccessPoint, access_point}
 use Rattle.catalogue.specs.Modules.{Module, module_item}
 use Rattle.catalogue.specs.Projects.{Project, project}
 
--- A catalogue: a device, the modules that it takes, and what a project wants of it.
+-- A catalogue: a device, the modules that it can have, and the project that is configured with it.
 pub record Catalogue : Type 0 where
   pub identity : DeviceIdentity
   pub access_point : AccessPoint
   pub modules : List Module
   pub project : Project
 
--- what the device says it is
+-- VendorID and DeviceID
 unfoldable pub identity : Reader DeviceIdentity
 identity tree =
     number_at key.VendorId 0 65535 tree >>= λ vendor_id.
     number_at key.DeviceId 0 65535 tree >>= λ device_id.
     Ok (record { vendor_id = vendor_id; device_id = device_id })
 
--- the three objects at their keys
+-- the objects at their keys
 unfoldable pub identity_in : Reader DeviceIdentity
 identity_in tree = member key.DeviceIdentity tree >>= λ entry. behind (At key.DeviceIdentity) (identity entry)
 
@@ -46,15 +46,16 @@ catalogue tree =
     project_in access_point.least_interval modules tree >>= λ project.
     Ok (record { identity = identity; access_point = access_point; modules = modules; project = project })
 
--- a text is JSON of this tree
+-- a text is JSON, and this tree is its value
 abbrev pub IsReading : List ℕ → Data → Type 0
 IsReading text tree = IsUtf8 text × (read text ≡ Some tree)
 
--- a text is JSON of a tree that is this catalogue
+-- a text is JSON, and its value is this catalogue
 abbrev pub Found : List ℕ → Catalogue → Type 0
 Found text found = (tree : Data) × IsReading text tree × (catalogue tree ≡ Ok found)
 
--- memory was refused; or a text is no JSON, and only then is the fault Json; or it is JSON of a tree with this first fault at this place
+-- there was not enough memory; or the text is not JSON, and only then is the fault Json; or it is JSON, and its value has this first fault at
+-- this place
 abbrev pub Refuses : List ℕ → PlacedFault → Type 0
 Refuses text found =
     (found.fault ≡ OutOfMemory)

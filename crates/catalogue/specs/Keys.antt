@@ -1,9 +1,9 @@
--- The keys of a catalogue, and ways of keys into one.
+-- The keys of a catalogue.
 use Rattle.std.specs.Prelude.{ℕ, codes, List}
 use Rattle.catalogue.specs.declared.key.Key.{Key}
 use Rattle.catalogue.specs.declared.key.Key.TheVariants as key
 
--- as a catalogue has it: the names of GSDML
+-- the text of each key: the names of GSDML
 unfoldable pub name_of : Key → List ℕ
 name_of key.DeviceIdentity = codes "DeviceIdentity"
 name_of key.VendorId = codes "VendorID"

@@ -1,4 +1,4 @@
--- What a project wants of a station.
+-- The project: what a controller wants of a station.
 use Rattle.std.specs.Prelude.{◌*◌, ℕ, List, Result, Ok, Err, nat_lt, if◌then◌else◌}
 use Rattle.catalogue.specs.declared.fault.PlacedFault.{PlacedFault}
 use Rattle.catalogue.specs.declared.fault.CatalogueFault.TheVariants.{Number}
@@ -9,20 +9,20 @@ use Rattle.catalogue.specs.Reader.{◌>>=◌, Reader, member, number_at, text_at
 use Rattle.catalogue.specs.Modules.{Module}
 use Rattle.catalogue.specs.Slots.{Slot, slot_item}
 
--- The station's name and IP suite, as texts.
+-- The station's name and IP suite, as the catalogue's texts.
 pub record Station : Type 0 where
   pub name : List ℕ
   pub address : List ℕ
   pub mask : List ℕ
   pub gateway : List ℕ
 
--- The controller, as texts.
+-- The controller, as the catalogue's texts.
 pub record Controller : Type 0 where
   pub name : List ℕ
   pub mac : List ℕ
   pub address : List ℕ
 
--- What is wanted of a station.
+-- A project.
 pub record Project : Type 0 where
   pub station : Station
   pub controller : Controller
@@ -52,7 +52,7 @@ controller tree =
 unfoldable pub controller_in : Reader Controller
 controller_in tree = member key.Controller tree >>= λ entry. behind (At key.Controller) (controller entry)
 
--- a ReductionRatio whose interval is not below the device's least
+-- a ReductionRatio, if its interval is not shorter than the device's shortest
 abbrev pub kept_by : ℕ → ℕ → ℕ → Result ℕ PlacedFault
 kept_by send_clock least_interval ratio = if nat_lt (send_clock * ratio) least_interval then Err (at_key key.ReductionRatio Number) else Ok ratio
 
@@ -60,7 +60,7 @@ kept_by send_clock least_interval ratio = if nat_lt (send_clock * ratio) least_i
 unfoldable pub reduction : ℕ → ℕ → Reader ℕ
 reduction send_clock least_interval tree = number_at key.ReductionRatio 1 512 tree >>= kept_by send_clock least_interval
 
--- a project, of a device with this least interval and these modules
+-- a project, of a device with this shortest interval and these modules
 unfoldable pub project : ℕ → List Module → Reader Project
 project least_interval modules tree =
     station tree >>= λ station.

@@ -1,4 +1,4 @@
--- Reading a tree of JSON: a function of the tree, so that of several faults one is the first, and its place is known.
+-- Reading a value of JSON: a function of the value, so that of several faults the first is defined, and its place.
 use Rattle.std.specs.Prelude.{◌≡◌, ◌⊎◌, ◌&&◌, ◌++◌, ℕ, List, [], ◌∷◌, length, Option, Some, None, is_some, option_and_then, ok_or, Result, Ok, Err, nat_le, if◌then◌else◌}
 pub use Rattle.wire.specs.Codec.{◌>>=◌, Gives}
 use Rattle.serde_json.specs.Data.{Data, Items, no_items, item}
@@ -11,29 +11,29 @@ use Rattle.catalogue.specs.declared.fault.Step.TheVariants.{At, Entry}
 use Rattle.catalogue.specs.Keys.{name_of}
 use Rattle.catalogue.specs.Placed.{at_key, behind, here, placed}
 
--- What is read of a tree, or its first fault and the place of that.
+-- What is read from a value, or its first fault and the place of that.
 abbrev pub Reader : Type 0 → Type 0
 Reader A = Data → Result A PlacedFault
 
--- What is read of one value, whose place its reader knows.
+-- What is read from one value, or its fault. The caller knows the place.
 abbrev pub ValueReader : Type 0 → Type 0
 ValueReader A = Data → Result A CatalogueFault
 
--- What the code returned, seen by view, is what is read, or memory was refused.
+-- What the code returned, by its view, is what is read; or there was not enough memory.
 abbrev pub Reads : {A B : Type 0} → (A → B) → Result A PlacedFault → Result B PlacedFault → Type 0
 Reads view (Ok value) read = read ≡ Ok (view value)
 Reads view (Err found) read = (found.fault ≡ OutOfMemory) ⊎ (read ≡ Err found)
 
--- what is at a key that must be there
+-- the value at a required key
 unfoldable pub member : Key → Reader Data
 member key tree = if is_some (as_object tree) then ok_or (get (name_of key) tree) (at_key key MissingKey) else Err (here WrongKind)
 
--- the list at a key
+-- the list that is at a key, or an empty list if nothing is
 abbrev pub items_within : Key → Option Data → Result Items PlacedFault
 items_within key None = Ok no_items
 items_within key (Some tree) = ok_or (as_array tree) (at_key key WrongKind)
 
--- the list at a key, and an empty one where the key is absent
+-- the list at a key of an object: an empty list if the key is absent
 unfoldable pub items_of : Key → Reader Items
 items_of key tree = if is_some (as_object tree) then items_within key (get (name_of key) tree) else Err (here WrongKind)
 
@@ -61,7 +61,7 @@ number_at key least greatest tree = member key tree >>= λ value. placed key (nu
 unfoldable pub text_at : Key → Reader (List ℕ)
 text_at key tree = member key tree >>= λ value. ok_or (as_str value) (at_key key WrongKind)
 
--- one item after another, each behind those before it
+-- one entry after another, each given those before it
 abbrev pub each : {A : Type 0} → (List A → Reader A) → List A → Items → Result (List A) PlacedFault
 each reader before no_items = Ok before
 each reader before (item tree trees) = behind (Entry (length before)) (reader before tree) >>= λ value. each reader (before ++ value ∷ []) trees

@@ -1,4 +1,4 @@
--- What a project puts into its slots, and the records that it writes.
+-- The modules that a project puts into slots, and the records that are written to them.
 use Rattle.std.specs.Prelude.{◌==◌, ℕ, List, [], ◌∷◌, length, Option, Some, None, ok_or, Result, Ok, Err, if◌then◌else◌}
 use Rattle.hex.specs.Hex.{decode_of}
 use Rattle.hex.specs.declared.error.FromHexError.{FromHexError}
@@ -13,43 +13,43 @@ use Rattle.catalogue.specs.Reader.{◌>>=◌, Reader, whole_at, number_at, text_
 use Rattle.catalogue.specs.Submodules.{Submodule}
 use Rattle.catalogue.specs.Modules.{Module, submodules_of}
 
--- A parameter record and what is written to it.
+-- A parameter record and the octets that are written to it.
 pub record Record : Type 0 where
   pub subslot : ℕ
   pub index : ℕ
   pub octets : List ℕ
 
--- What stands in a slot.
+-- A slot, the module in it, and the records that are written to that.
 pub record Slot : Type 0 where
   pub slot : ℕ
   -- the ID of the module
   pub target : List ℕ
   pub records : List Record
 
--- octets, or no hex
+-- octets, or the fault of a text that is not hex
 abbrev pub hex_or_fault : Result (List ℕ) FromHexError → Result (List ℕ) CatalogueFault
 hex_or_fault (Ok octets) = Ok octets
 hex_or_fault (Err _) = Err WrongKind
 
--- the octets that the text at a key is in hex
+-- the octets of the text in hex at a key
 unfoldable pub octets_at : Key → Reader (List ℕ)
 octets_at key tree = text_at key tree >>= λ text. placed key (hex_or_fault (decode_of text))
 
--- the parameter records of the submodule with this subslot
+-- the parameter records of the first submodule with this subslot
 abbrev pub parameters_of : ℕ → List Submodule → Option (List ParameterItem)
 parameters_of subslot [] = None
 parameters_of subslot (entry ∷ entries) = if entry.subslot == subslot then Some entry.parameters else parameters_of subslot entries
 
--- the length of the parameter record with this index
+-- the length of the first parameter record with this index
 abbrev pub length_of : ℕ → List ParameterItem → Option ℕ
 length_of index [] = None
 length_of index (entry ∷ entries) = if entry.index == index then Some entry.length else length_of index entries
 
--- octets of this length
+-- octets, if they have this length
 abbrev pub of_length : ℕ → List ℕ → Result (List ℕ) PlacedFault
 of_length size octets = if length octets == size then Ok octets else Err (at_key key.Data Number)
 
--- a record that the submodules of its module have, with its length
+-- a record: a submodule of its module has it, with its length
 unfoldable pub record_item : List Submodule → Reader Record
 record_item submodules tree =
     number_at key.Subslot 1 36863 tree >>= λ subslot.
@@ -59,11 +59,11 @@ record_item submodules tree =
     octets_at key.Data tree >>= of_length size >>= λ octets.
     Ok (record { subslot = subslot; index = index; octets = octets })
 
--- the records of a slot with this module
+-- the records of a slot in which this module is
 abbrev pub records_of : List Module → List ℕ → Reader (List Record)
 records_of modules target tree = list_at key.Records (λ _ entry. record_item (submodules_of target modules) entry) tree
 
--- what stands in a slot
+-- a slot, the module in it and its records
 unfoldable pub slot_item : List Module → Reader Slot
 slot_item modules tree =
     whole_at key.Slot tree >>= λ slot.

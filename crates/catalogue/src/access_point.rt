@@ -1,4 +1,4 @@
-//! The access point of a device, and which modules it takes where.
+//! The device access point: what the device is, and which modules may be in which slots.
 ghost use Rattle.std.specs.Prelude.{◌≡◌, List, string_bytes};
 ghost use Rattle.serde_json.specs.View.{view, items_view};
 ghost use Rattle.catalogue.specs.Placed.{bare};
@@ -6,16 +6,17 @@ ghost use Rattle.catalogue.specs.Reader.{Reads, number, whole};
 ghost use Rattle.catalogue.specs.AccessPoints.{AccessPoint, Reference, slots_in, slots_at, reference, access_point};
 
 use crate::entry::{Entry, each_of, list};
+use crate::submodules::submodules_at;
 use crate::tree::{items_at, long_at, number_in, string, whole};
-use crate::{Key, PlacedFault, Step, SubmoduleItem};
+use crate::{Key, PlacedFault, Step, SubmoduleTable};
 use serde_json::Value;
 use std::alloc::Global;
 use std::marker::Model;
 
-/// Where a module may stand.
+/// The slots in which a module may be.
 #[derive(Drop)]
 pub struct ModuleReference {
-    /// The ID of the module.
+    /// The module's ID.
     pub target: String,
     pub allowed_in: Vec<u64>,
     pub fixed_in: Vec<u64>,
@@ -31,16 +32,16 @@ impl Model for ModuleReference {
     } };
 }
 
-/// The access point: what stands in slot 0, and what the device is.
+/// The device access point: the module in slot 0, and what the device is.
 #[derive(Drop)]
 pub struct AccessPoint {
     pub ident: u32,
     pub physical_slots: Vec<u16>,
-    /// The type of station that the device answers Identify with.
+    /// The type of station (DNS_CompatibleName) that the device sends in its response to an Identify request.
     pub station_type: String,
-    /// In units of 31.25 microseconds.
+    /// The shortest interval of cyclic frames, in units of 31.25 microseconds (MinDeviceInterval).
     pub least_interval: u32,
-    pub submodules: Vec<SubmoduleItem>,
+    pub submodules: SubmoduleTable,
     pub references: Vec<ModuleReference>,
 }
 
@@ -53,7 +54,7 @@ impl Model for AccessPoint {
       station_type = string_bytes
           item.station_type;
       least_interval = item.least_interval;
-      submodules = item.submodules.items;
+      submodules = item.submodules;
       references = item.references.items;
     } };
 }
@@ -90,7 +91,7 @@ impl Entry<()> for u64 {
     }
 }
 
-/// Slots: first each is a whole number, then each is within its range.
+/// The slot numbers that these values are. An entry that is not a whole number is reported before one that is out of its range.
 fn slots_of(alloc: Global, trees: &[Value]) -> Result<Vec<u16>, PlacedFault>
     ensures { Reads (λ slots. slots.items) result (slots_in (items_view trees.now)) }
 {
@@ -98,7 +99,7 @@ fn slots_of(alloc: Global, trees: &[Value]) -> Result<Vec<u16>, PlacedFault>
     each_of(alloc, &(), trees)
 }
 
-/// The slots at a key.
+/// The list of slot numbers at a key. An empty list if the key is absent.
 #[tactic(auto, unfolding(crate::specs::AccessPoints::slots_at))]
 fn slots_at(alloc: Global, tree: &Value, key: Key) -> Result<Vec<u16>, PlacedFault>
     ensures { Reads (λ slots. slots.items) result (slots_at key (view tree.now)) }
@@ -131,7 +132,7 @@ impl Entry<()> for ModuleReference {
     }
 }
 
-/// The access point that a tree is.
+/// Reads the device access point from its JSON object. Returns the first fault and its place.
 #[tactic(auto, unfolding(crate::specs::AccessPoints::access_point))]
 pub(crate) fn access_point(alloc: Global, tree: &Value) -> Result<AccessPoint, PlacedFault>
     ensures { Reads (λ found. found) result (access_point (view tree.now)) }
@@ -140,7 +141,7 @@ pub(crate) fn access_point(alloc: Global, tree: &Value) -> Result<AccessPoint, P
     let physical_slots = slots_at(alloc, tree, Key::PhysicalSlots)?;
     let station_type = string(alloc, tree, Key::StationType)?;
     let least_interval = long_at(tree, Key::MinDeviceInterval, 1, 65_536)?;
-    let submodules = list(alloc, &(), tree, Key::VirtualSubmoduleItem)?;
+    let submodules = submodules_at(alloc, tree, Key::VirtualSubmoduleItem)?;
     let references = list(alloc, &(), tree, Key::ModuleItemRef)?;
     Ok(AccessPoint {
         ident,

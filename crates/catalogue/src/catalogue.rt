@@ -1,4 +1,4 @@
-//! The whole catalogue.
+//! Reads a whole catalogue.
 ghost use Rattle.std.specs.Prelude.{◌≡◌, IfOk, IfErr, List};
 ghost use Rattle.serde_json.specs.View.{view};
 ghost use Rattle.catalogue.specs.Reader.{Reads};
@@ -15,14 +15,14 @@ use serde_json::Value;
 use std::alloc::Global;
 use std::marker::Model;
 
-/// What the device says it is.
+/// The device's identity: VendorID and DeviceID.
 #[derive(Clone, Copy, Drop)]
 pub struct DeviceIdentity {
     pub vendor_id: u16,
     pub device_id: u16,
 }
 
-/// A catalogue: a device, the modules that it takes, and what a project wants of it.
+/// A catalogue: a device, the modules that it can have, and the project that is configured with it.
 #[derive(Drop)]
 pub struct Catalogue {
     pub identity: DeviceIdentity,
@@ -43,7 +43,7 @@ impl Model for Catalogue {
     } };
 }
 
-/// The identity of the device.
+/// Reads the device's identity from its JSON object.
 #[tactic(auto, unfolding(crate::specs::Catalogues::identity))]
 fn identity(tree: &Value) -> Result<DeviceIdentity, PlacedFault>
     ensures { Reads (λ found. found) result (identity (view tree.now)) }
@@ -56,7 +56,7 @@ fn identity(tree: &Value) -> Result<DeviceIdentity, PlacedFault>
     })
 }
 
-/// The same, at its key.
+/// Reads the device's identity from the object at `DeviceIdentity`.
 #[tactic(auto, unfolding(crate::specs::Catalogues::identity_in))]
 fn identity_in(tree: &Value) -> Result<DeviceIdentity, PlacedFault>
     ensures { Reads (λ found. found) result (identity_in (view tree.now)) }
@@ -68,7 +68,7 @@ fn identity_in(tree: &Value) -> Result<DeviceIdentity, PlacedFault>
     }
 }
 
-/// The access point, at its key.
+/// Reads the access point from the object at `DeviceAccessPointItem`.
 #[tactic(auto, unfolding(crate::specs::Catalogues::access_point_in))]
 fn access_point_in(alloc: Global, tree: &Value) -> Result<AccessPoint, PlacedFault>
     ensures { Reads (λ found. found) result (access_point_in (view tree.now)) }
@@ -80,7 +80,7 @@ fn access_point_in(alloc: Global, tree: &Value) -> Result<AccessPoint, PlacedFau
     }
 }
 
-/// The project, at its key.
+/// Reads the project from the object at `Project`. `least_interval` is that of the device, in units of 31.25 microseconds.
 #[tactic(auto, unfolding(crate::specs::Catalogues::project_in))]
 fn project_in(
     alloc: Global,
@@ -97,14 +97,14 @@ fn project_in(
     }
 }
 
-/// The least interval of the device.
+/// The shortest interval of the device, in units of 31.25 microseconds.
 fn least_interval(access_point: &AccessPoint) -> u32
     ensures { result ≡ access_point.now.least_interval }
 {
     access_point.least_interval
 }
 
-/// The catalogue that a tree is.
+/// Reads a catalogue from a JSON value. Returns the first fault in the order of the keys and its place; or `OutOfMemory`.
 #[tactic(auto, unfolding(crate::specs::Catalogues::catalogue))]
 pub fn read_tree(alloc: Global, tree: &Value) -> Result<Catalogue, PlacedFault>
     ensures { Reads (λ found. found) result (catalogue (view tree.now)) }
@@ -122,7 +122,8 @@ pub fn read_tree(alloc: Global, tree: &Value) -> Result<Catalogue, PlacedFault>
     })
 }
 
-/// Reads a catalogue. The first fault in the order of keys counts, and its place is told.
+/// Reads a catalogue from JSON text. Returns the first fault in the order of the keys and its place: `Json` if the text is not JSON; or
+/// `OutOfMemory`.
 pub fn read(alloc: Global, text: &[u8]) -> Result<Catalogue, PlacedFault>
     ensures found { IfOk result (Found text.now) }
     ensures kept { IfOk result IsInRange }

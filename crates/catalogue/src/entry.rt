@@ -1,4 +1,4 @@
-//! Lists of objects, each entry judged by those before it.
+//! Lists of values. Whether an entry is valid may depend on the entries before it.
 ghost use Rattle.std.specs.Prelude.{◌≡◌, List, [], Result};
 ghost use Rattle.serde_json.specs.Data.{Data};
 ghost use Rattle.serde_json.specs.View.{view, items_view};
@@ -10,17 +10,17 @@ use crate::{Key, PlacedFault, Step};
 use serde_json::Value;
 use std::alloc::Global;
 
-/// An entry of a list in a context.
+/// An entry of a list, read in a context.
 pub(crate) trait Entry<C>: Drop {
-    /// What an entry is, in a context and behind these.
+    /// The entry that is read from a JSON value, or its fault, given the context and the entries before it.
     ghost reader: { C → List Self → Data → Result Self PlacedFault };
 
-    /// The entry that a tree is.
+    /// Reads an entry from a JSON value. `before` has the entries before it.
     fn read(alloc: Global, context: &C, before: &[Self], tree: &Value) -> Result<Self, PlacedFault>
         ensures { Reads (λ entry. entry) result (reader context.now before.now (view tree.now)) };
 }
 
-/// The entries that these trees are.
+/// Reads an entry from each of these JSON values. Returns the first fault, with the number of its entry in its place.
 pub(crate) fn each_of<C, E: Entry<C>>(
     alloc: Global,
     context: &C,
@@ -38,7 +38,7 @@ pub(crate) fn each_of<C, E: Entry<C>>(
     Ok(found)
 }
 
-/// The entries of the list at a key.
+/// Reads the entries of the list at a key. An empty list if the key is absent.
 #[tactic(auto, unfolding(crate::specs::Reader::list_at))]
 pub(crate) fn list<C, E: Entry<C>>(
     alloc: Global,

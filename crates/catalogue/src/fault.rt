@@ -1,4 +1,4 @@
-//! Why a catalogue is not read, and where.
+//! The faults of a catalogue and their places.
 ghost use Rattle.std.specs.Prelude.{◌≡◌, [], ◌∷◌};
 ghost use Rattle.catalogue.specs.declared.fault.CatalogueFault.TheVariants.{OutOfMemory};
 ghost use Rattle.catalogue.specs.Placed.{at_key, further, here};
@@ -7,25 +7,25 @@ use crate::Key;
 use arrayvec::ArrayVec;
 use std::alloc::{AllocError, AllocFailed};
 
-/// Why a text is no catalogue: the first fault in the order of its keys.
+/// Why a text is not a catalogue.
 #[derive(Debug, Clone, Copy, PartialEq, Eq, Drop)]
 pub enum CatalogueFault {
-    /// The text is no JSON.
+    /// The text is not JSON.
     Json,
-    /// A key that must be there is absent.
+    /// A required key is absent.
     MissingKey,
-    /// A value is not of the kind that its key wants.
+    /// A value is not of the kind that its key requires.
     WrongKind,
-    /// A number is out of its range, or what it names is not there or there twice.
+    /// A number is out of its range, or what a number or an ID names does not exist or exists twice.
     Number,
-    /// Memory was refused.
+    /// There was not enough memory.
     OutOfMemory,
 }
 
-/// One step into a catalogue.
+/// One step on the way from the whole catalogue to a value.
 #[derive(Debug, Clone, Copy, PartialEq, Eq, Drop)]
 pub enum Step {
-    /// To what is at a key of an object.
+    /// To the value at a key of an object.
     At(Key),
     /// To an entry of a list, counted from 0.
     Entry(usize),
@@ -37,16 +37,16 @@ impl Default for Step {
     }
 }
 
-/// A fault and the place where it was found: the steps from the whole catalogue to the value, or to the key that is missing.
+/// A fault and its place: the steps from the whole catalogue to the value, or to the missing key.
 #[derive(Drop)]
 pub struct PlacedFault {
     pub fault: CatalogueFault,
-    /// No key of a catalogue is more than eight steps from the whole. If memory was refused, the place has no meaning.
+    /// At most eight steps, since no key of a catalogue is further in. If the fault is `OutOfMemory`, the place has no meaning.
     pub place: ArrayVec<Step, 8>,
 }
 
 impl PlacedFault {
-    /// A fault of the value that is read.
+    /// A fault of the value itself: its place has no steps.
     pub(crate) fn here(fault: CatalogueFault) -> PlacedFault
         ensures { result ≡ here fault }
     {
@@ -56,7 +56,7 @@ impl PlacedFault {
         }
     }
 
-    /// A fault of what is at a key.
+    /// A fault of the value at a key: its place has one step.
     pub(crate) fn at(key: Key, fault: CatalogueFault) -> PlacedFault
         ensures { result ≡ at_key key fault }
     {
@@ -65,7 +65,7 @@ impl PlacedFault {
         PlacedFault { fault, place }
     }
 
-    /// The same fault, seen from one step further out.
+    /// The same fault with one more step before its place. Of nine steps the innermost is dropped.
     pub(crate) fn further(self, step: Step) -> PlacedFault
         ensures { result ≡ further step self }
     {

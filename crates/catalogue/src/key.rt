@@ -1,4 +1,4 @@
-//! The keys of a catalogue: the names of GSDML.
+//! The keys of a catalogue. They have the names that GSDML has.
 ghost use Rattle.std.specs.Prelude.{◌≡◌};
 ghost use Rattle.catalogue.specs.Keys.{name_of};
 
@@ -46,7 +46,7 @@ pub enum Key {
 }
 
 impl Key {
-    /// As a catalogue has it.
+    /// The key's text in a catalogue.
     #[tactic(auto, unfolding(crate::specs::Keys::name_of))]
     pub fn name(self) -> &'static str
         ensures { result.now ≡ name_of self }

@@ -1,4 +1,4 @@
-//! Modules of the catalogue.
+//! The modules of a catalogue.
 ghost use Rattle.std.specs.Prelude.{◌≡◌, ◌++◌, ℕ, not, cond, is_some, List, [], ◌∷◌, IfOk, IfSome, IfNone, OnOk, string_bytes};
 ghost use Rattle.std.specs.BTreeMap.{get_by_text};
 ghost use Rattle.std.specs.Str.{bytes_eq};
@@ -6,9 +6,9 @@ ghost use Rattle.serde_json.specs.View.{view, items_view};
 ghost use Rattle.catalogue.specs.Reader.{Reads, each, list_at};
 ghost use Rattle.catalogue.specs.Modules.{Module, has_id, module_item, place_of, submodules_of};
 
-use crate::entry::list;
+use crate::submodules::submodules_at;
 use crate::tree::{items_at, long_at, string};
-use crate::{CatalogueFault, Key, PlacedFault, Step, SubmoduleItem};
+use crate::{CatalogueFault, Key, PlacedFault, Step, SubmoduleTable};
 use serde_json::Value;
 use std::alloc::{AllocError, Global};
 use std::collections::BTreeMap;
@@ -17,19 +17,19 @@ use std::marker::Model;
 /// A module that can be put into a slot.
 #[derive(Drop)]
 pub struct ModuleItem {
-    /// What slots name it by.
+    /// The ID by which slots and references name the module.
     pub id: String,
     pub ident: u32,
-    pub submodules: Vec<SubmoduleItem>,
+    pub submodules: SubmoduleTable,
 }
 
 impl Model for ModuleItem {
     ghost Value = { Module };
 
-    ghost view = { λ item. record { id = string_bytes item.id; ident = item.ident; submodules = item.submodules.items } };
+    ghost view = { λ item. record { id = string_bytes item.id; ident = item.ident; submodules = item.submodules } };
 }
 
-/// Modules, and by its ID where each is, so that one is found in a few steps however many there are.
+/// The modules of a catalogue, in the order of the text, and the place of each by its ID.
 #[derive(Drop)]
 pub(crate) struct ModuleTable {
     items: Vec<ModuleItem>,
@@ -49,16 +49,16 @@ impl Model for ModuleTable {
 }
 
 impl ModuleTable {
-    /// The submodules of the module with this ID.
-    pub(crate) fn submodules(&self, id: &str) -> Option<&Vec<SubmoduleItem>>
-        ensures some { IfSome result (λ found. found.now.items ≡ submodules_of id.now self.now) }
+    /// The submodules of the module with this ID. `None` if no module has it.
+    pub(crate) fn submodules(&self, id: &str) -> Option<&SubmoduleTable>
+        ensures some { IfSome result (λ found. found.now ≡ submodules_of id.now self.now) }
         ensures none { IfNone result (submodules_of id.now self.now ≡ []) }
     {
         let place = self.places.get(id).copied();
-        submodules_at(self.items.as_slice(), place)
+        submodules_in(self.items.as_slice(), place)
     }
 
-    /// The modules.
+    /// The modules, in the order of the text.
     pub(crate) fn into_items(self) -> Vec<ModuleItem>
         ensures { result.items ≡ self }
     {
@@ -66,10 +66,10 @@ impl ModuleTable {
     }
 }
 
-/// The submodules of the module at a place, if it is the place of one.
-#[tactic(auto, using(crate::proofs::Ids::at_place, crate::proofs::Ids::is_there, crate::proofs::Ids::no_place))]
-fn submodules_at(modules: &[ModuleItem], place: Option<usize>) -> Option<&Vec<SubmoduleItem>>
-    ensures some { (id : List ℕ) → place ≡ place_of id modules.now → IfSome result (λ found. found.now.items ≡ submodules_of id modules.now) }
+/// The submodules of the module at a place. `None` if there is no module at it.
+#[tactic(auto, using(crate::proofs::Places::at_place, crate::proofs::Places::module_there, crate::proofs::Places::no_place))]
+fn submodules_in(modules: &[ModuleItem], place: Option<usize>) -> Option<&SubmoduleTable>
+    ensures some { (id : List ℕ) → place ≡ place_of id modules.now → IfSome result (λ found. found.now ≡ submodules_of id modules.now) }
     ensures none { (id : List ℕ) → place ≡ place_of id modules.now → IfNone result (submodules_of id modules.now ≡ []) }
 {
     match place {
@@ -85,7 +85,7 @@ fn submodules_at(modules: &[ModuleItem], place: Option<usize>) -> Option<&Vec<Su
     }
 }
 
-/// Whether a map has no place for an ID.
+/// Whether the map has no place for an ID.
 fn has_no_place(places: &BTreeMap<String, usize>, id: &str) -> bool
     ensures { result ≡ not (is_some (get_by_text places.now id.now)) }
 {
@@ -95,7 +95,7 @@ fn has_no_place(places: &BTreeMap<String, usize>, id: &str) -> bool
     }
 }
 
-/// Whether none of these modules has an ID: this is where they are.
+/// Whether none of the modules has an ID. `places` has the place of each of them.
 fn is_new(places: &BTreeMap<String, usize>, before: &[ModuleItem], id: &str) -> bool
     requires { (other : List ℕ) → get_by_text places.now other ≡ place_of other before.now }
     ensures { result ≡ not (has_id id.now before.now) }
@@ -103,7 +103,7 @@ fn is_new(places: &BTreeMap<String, usize>, before: &[ModuleItem], id: &str) -> 
     has_no_place(places, id)
 }
 
-/// Keeps where the module with an ID is.
+/// Sets the place of the module with an ID.
 fn put_place(
     alloc: Global,
     places: &mut BTreeMap<String, usize>,
@@ -118,7 +118,8 @@ fn put_place(
     Ok(())
 }
 
-/// A module behind others, of which these are the places: its ID is new, and then it is one of them.
+/// Reads a module from a JSON value, given the modules before it and their places. An ID that one of them has is the fault `Number`. Adds
+/// the module's place.
 #[tactic(auto, unfolding(crate::specs::Modules::module_item))]
 fn module_of(
     alloc: Global,
@@ -137,7 +138,7 @@ fn module_of(
     }
     put_place(alloc, places, id.as_str(), before.len())?;
     let ident = long_at(tree, Key::ModuleIdentNumber, 1, 0xFFFF_FFFF)?;
-    let submodules = list(alloc, &(), tree, Key::VirtualSubmoduleItem)?;
+    let submodules = submodules_at(alloc, tree, Key::VirtualSubmoduleItem)?;
     Ok(ModuleItem {
         id,
         ident,
@@ -145,7 +146,7 @@ fn module_of(
     })
 }
 
-/// The modules that these trees are.
+/// Reads a module from each of these JSON values.
 fn modules_of(alloc: Global, trees: &[Value]) -> Result<ModuleTable, PlacedFault>
     ensures { Reads (λ found. found) result (each module_item [] (items_view trees.now)) }
 {
@@ -163,7 +164,7 @@ fn modules_of(alloc: Global, trees: &[Value]) -> Result<ModuleTable, PlacedFault
     })
 }
 
-/// The modules of a catalogue.
+/// Reads the modules at a key. An empty table if the key is absent.
 #[tactic(auto, unfolding(crate::specs::Reader::list_at))]
 pub(crate) fn modules_at(alloc: Global, tree: &Value, key: Key) -> Result<ModuleTable, PlacedFault>
     ensures { Reads (λ found. found) result (list_at key module_item (view tree.now)) }

@@ -1,4 +1,4 @@
-//! What a project wants of a station: names, addresses, times and what stands in its slots.
+//! The project: names, addresses and times, and which module is in which slot.
 ghost use Rattle.std.specs.Prelude.{◌≡◌, List, string_bytes};
 ghost use Rattle.wire.specs.Codec.{Gives};
 ghost use Rattle.serde_json.specs.View.{view};
@@ -14,7 +14,7 @@ use serde_json::Value;
 use std::alloc::Global;
 use std::marker::Model;
 
-/// The controller's texts.
+/// The controller's station name, Ethernet address and IP address, as the catalogue's texts.
 #[derive(Drop)]
 pub struct ControllerItem {
     pub name: String,
@@ -28,7 +28,7 @@ impl Model for ControllerItem {
     ghost view = { λ item. record { name = string_bytes item.name; mac = string_bytes item.mac; address = string_bytes item.address } };
 }
 
-/// The station's name and IP suite, as texts.
+/// The station's name and IP suite, as the catalogue's texts.
 #[derive(Drop)]
 pub struct StationItem {
     pub name: String,
@@ -48,7 +48,7 @@ impl Model for StationItem {
     } };
 }
 
-/// What is wanted of a station.
+/// The project: what a controller wants of a station.
 #[derive(Drop)]
 pub struct Project {
     pub station: StationItem,
@@ -72,7 +72,7 @@ impl Model for Project {
     } };
 }
 
-/// The station's name and IP suite.
+/// Reads the station's name and IP suite from the project's JSON object.
 #[tactic(auto, unfolding(crate::specs::Projects::station))]
 fn station(alloc: Global, tree: &Value) -> Result<StationItem, PlacedFault>
     ensures { Reads (λ found. found) result (station (view tree.now)) }
@@ -89,7 +89,7 @@ fn station(alloc: Global, tree: &Value) -> Result<StationItem, PlacedFault>
     })
 }
 
-/// The controller.
+/// Reads the controller from its JSON object.
 #[tactic(auto, unfolding(crate::specs::Projects::controller))]
 fn controller(alloc: Global, tree: &Value) -> Result<ControllerItem, PlacedFault>
     ensures { Reads (λ found. found) result (controller (view tree.now)) }
@@ -100,7 +100,7 @@ fn controller(alloc: Global, tree: &Value) -> Result<ControllerItem, PlacedFault
     Ok(ControllerItem { name, mac, address })
 }
 
-/// The controller of a project.
+/// Reads the controller from the object at `Controller`.
 #[tactic(auto, unfolding(crate::specs::Projects::controller_in))]
 fn controller_in(alloc: Global, tree: &Value) -> Result<ControllerItem, PlacedFault>
     ensures { Reads (λ found. found) result (controller_in (view tree.now)) }
@@ -112,7 +112,8 @@ fn controller_in(alloc: Global, tree: &Value) -> Result<ControllerItem, PlacedFa
     }
 }
 
-/// The ReductionRatio, which makes an interval that the device can keep.
+/// Reads the ReductionRatio. The fault is `Number` if the interval is shorter than the device's shortest (`least_interval`, in units of 31.25
+/// microseconds).
 #[tactic(auto, unfolding(crate::specs::Projects::reduction))]
 fn reduction(tree: &Value, send_clock: u16, least_interval: u32) -> Result<u16, PlacedFault>
     ensures { Gives (λ n. n) result (reduction send_clock least_interval (view tree.now)) }
@@ -124,7 +125,8 @@ fn reduction(tree: &Value, send_clock: u16, least_interval: u32) -> Result<u16, 
     Ok(reduction)
 }
 
-/// The project that a tree is, of a device with this least interval and these modules.
+/// Reads the project from its JSON object. `least_interval` is the device's shortest interval in units of 31.25 microseconds; `modules` are
+/// those of the catalogue.
 #[tactic(auto, unfolding(crate::specs::Projects::project))]
 pub(crate) fn project_of(
     alloc: Global,

@@ -1,23 +1,23 @@
-//! What a project puts into its slots, and the records that it writes.
-ghost use Rattle.std.specs.Prelude.{◌≡◌, List, [], Option, option_map, string_bytes};
+//! The modules that a project puts into slots, and the records that are written to them.
+ghost use Rattle.std.specs.Prelude.{◌≡◌, List, [], string_bytes};
 ghost use Rattle.serde_json.specs.View.{view, items_view};
 ghost use Rattle.hex.specs.Hex.{decode_of};
 ghost use Rattle.catalogue.specs.Placed.{placed};
 ghost use Rattle.catalogue.specs.Reader.{Reads, each};
 ghost use Rattle.catalogue.specs.Submodules.{Submodule};
 ghost use Rattle.catalogue.specs.Modules.{submodules_of};
-ghost use Rattle.catalogue.specs.Slots.{Record, Slot, record_item, slot_item, records_of, hex_or_fault, octets_at, length_of, parameters_of};
+ghost use Rattle.catalogue.specs.Slots.{Record, Slot, record_item, slot_item, records_of, hex_or_fault, octets_at};
 
 use crate::entry::{Entry, each_of};
 use crate::module::ModuleTable;
 use crate::tree::{items_at, string, text, whole_at, word_at};
-use crate::{CatalogueFault, Key, ParameterItem, PlacedFault, Step, SubmoduleItem};
+use crate::{CatalogueFault, Key, PlacedFault, Step, SubmoduleTable};
 use hex::FromHexError;
 use serde_json::Value;
 use std::alloc::Global;
 use std::marker::Model;
 
-/// A parameter record and what is written to it.
+/// A parameter record and the octets that are written to it.
 #[derive(Drop)]
 pub struct RecordItem {
     pub subslot: u16,
@@ -31,11 +31,11 @@ impl Model for RecordItem {
     ghost view = { λ item. record { subslot = item.subslot; index = item.index; octets = item.octets.items } };
 }
 
-/// What stands in a slot.
+/// A slot, the module in it, and the records that are written to that.
 #[derive(Drop)]
 pub struct SlotItem {
     pub slot: u64,
-    /// The ID of the module.
+    /// The module's ID.
     pub target: String,
     pub records: Vec<RecordItem>,
 }
@@ -46,7 +46,7 @@ impl Model for SlotItem {
     ghost view = { λ item. record { slot = item.slot; target = string_bytes item.target; records = item.records.items } };
 }
 
-/// The octets that a text at a key is in hex.
+/// The octets of a text in hex. The fault is `WrongKind`, at this key, if it is not hex.
 fn decoded(alloc: Global, text: &str, key: Key) -> Result<Vec<u8>, PlacedFault>
     ensures { Reads (λ octets. octets.items) result (placed key (hex_or_fault (decode_of text.now))) }
 {
@@ -57,7 +57,7 @@ fn decoded(alloc: Global, text: &str, key: Key) -> Result<Vec<u8>, PlacedFault>
     }
 }
 
-/// The octets that the text at a key is in hex.
+/// The octets of the text in hex at a key.
 #[tactic(auto, unfolding(crate::specs::Slots::octets_at))]
 fn octets_at(alloc: Global, tree: &Value, key: Key) -> Result<Vec<u8>, PlacedFault>
     ensures { Reads (λ octets. octets.items) result (octets_at key (view tree.now)) }
@@ -68,47 +68,23 @@ fn octets_at(alloc: Global, tree: &Value, key: Key) -> Result<Vec<u8>, PlacedFau
     }
 }
 
-/// The parameter records of the submodule with this subslot.
-fn parameters_of(submodules: &Vec<SubmoduleItem>, subslot: u16) -> Option<&[ParameterItem]>
-    ensures { option_map (λ parameters. parameters.now) result ≡ parameters_of subslot submodules.now.items }
-{
-    for submodule in submodules {
-        if submodule.subslot == subslot {
-            return Some(submodule.parameters.as_slice());
-        }
-    }
-    None
-}
-
-/// The length of the parameter record with this index.
-fn length_of(parameters: &[ParameterItem], index: u16) -> Option<u16>
-    ensures { result ≡ length_of index parameters.now }
-{
-    for parameter in parameters {
-        if parameter.index == index {
-            return Some(parameter.length);
-        }
-    }
-    None
-}
-
-impl Entry<Vec<SubmoduleItem>> for RecordItem {
-    ghost reader = { λ submodules _ tree. record_item submodules.items tree };
+impl Entry<SubmoduleTable> for RecordItem {
+    ghost reader = { λ submodules _ tree. record_item submodules tree };
 
     #[tactic(auto, unfolding(crate::specs::Slots::record_item))]
     fn read(
         alloc: Global,
-        context: &Vec<SubmoduleItem>,
+        context: &SubmoduleTable,
         _before: &[RecordItem],
         tree: &Value,
     ) -> Result<RecordItem, PlacedFault> {
         let subslot = word_at(tree, Key::Subslot, 1, 36_863)?;
-        let parameters = match parameters_of(context, subslot) {
+        let parameters = match context.parameters(subslot) {
             Some(parameters) => parameters,
             None => return Err(PlacedFault::at(Key::Subslot, CatalogueFault::Number)),
         };
         let index = word_at(tree, Key::Index, 0, 32_767)?;
-        let length = match length_of(parameters, index) {
+        let length = match parameters.length(index) {
             Some(length) => length,
             None => return Err(PlacedFault::at(Key::Index, CatalogueFault::Number)),
         };
@@ -124,7 +100,7 @@ impl Entry<Vec<SubmoduleItem>> for RecordItem {
     }
 }
 
-/// The records that these trees are, of the module with this ID.
+/// Reads a record from each of these JSON values. The module with this ID must take them.
 fn records_in(
     alloc: Global,
     trees: &[Value],
@@ -137,13 +113,13 @@ fn records_in(
     match modules.submodules(target) {
         Some(submodules) => each_of(alloc, submodules, trees),
         None => {
-            let none = Vec::new(alloc);
+            let none = SubmoduleTable::new(alloc);
             each_of(alloc, &none, trees)
         }
     }
 }
 
-/// The records of a slot, of a module with these submodules. Where there are none, no module is looked for.
+/// Reads the records of a slot in which the module with this ID is. An ID that no module has is a fault only if there are records.
 #[tactic(auto, unfolding(crate::specs::Reader::list_at))]
 fn records_of(
     alloc: Global,

@@ -1,36 +1,33 @@
-//! Submodules of the catalogue, with their data and their parameter records.
+//! A submodule of the catalogue: its cyclic data and its parameter records.
 ghost use Rattle.std.specs.Prelude.{◌≡◌, List, Some, None, ℕ};
 ghost use Rattle.wire.specs.Codec.{Gives};
 ghost use Rattle.serde_json.specs.View.{view, items_view};
-ghost use Rattle.catalogue.specs.Reader.{Reads};
 ghost use Rattle.catalogue.specs.Submodules.{Submodule, is_octet_type, is_word_type, is_long_type, size_of_type, item_of_type, data_item, octets_in};
-ghost use Rattle.catalogue.specs.Submodules.{octets_at, io_in, io_of, has_index, has_subslot, parameter, submodule};
+ghost use Rattle.catalogue.specs.Submodules.{octets_at, io_in, io_of};
 
-use crate::entry::{Entry, list};
-use crate::tree::{items_at, long_at, member_at, text, word_at};
-use crate::{CatalogueFault, Key, PlacedFault, Step};
+use crate::tree::{items_at, text, word_at};
+use crate::{CatalogueFault, Key, ParameterTable, PlacedFault, Step};
 use serde_json::Value;
-use std::alloc::Global;
 use std::marker::Model;
 
 /// A parameter record that a submodule takes.
 #[derive(Clone, Copy, Drop)]
 pub struct ParameterItem {
     pub index: u16,
-    /// In octets.
+    /// In octets, 1 to 64.
     pub length: u16,
 }
 
-/// A submodule that is built into its module.
+/// A submodule that is fixed in its module.
 #[derive(Drop)]
 pub struct SubmoduleItem {
     pub subslot: u16,
     pub ident: u32,
-    /// Octets of input data, 65,535 where they are more.
+    /// Octets of input data: 65,535 if there are more.
     pub input: u16,
-    /// Octets of output data, likewise.
+    /// Octets of output data: 65,535 if there are more.
     pub output: u16,
-    pub parameters: Vec<ParameterItem>,
+    pub parameters: ParameterTable,
 }
 
 impl Model for SubmoduleItem {
@@ -41,12 +38,11 @@ impl Model for SubmoduleItem {
       ident = item.ident;
       input = item.input;
       output = item.output;
-      parameters =
-          item.parameters.items;
+      parameters = item.parameters;
     } };
 }
 
-/// Whether a type of data takes one octet.
+/// Whether a data type has one octet.
 #[tactic(auto, unfolding(crate::specs::Submodules::is_octet_type))]
 fn is_octet_type(name: &str) -> bool
     ensures { result ≡ is_octet_type name.now }
@@ -54,7 +50,7 @@ fn is_octet_type(name: &str) -> bool
     name == "Unsigned8" || name == "Integer8"
 }
 
-/// Whether a type of data takes two octets.
+/// Whether a data type has two octets.
 #[tactic(auto, unfolding(crate::specs::Submodules::is_word_type))]
 fn is_word_type(name: &str) -> bool
     ensures { result ≡ is_word_type name.now }
@@ -62,7 +58,7 @@ fn is_word_type(name: &str) -> bool
     name == "Unsigned16" || name == "Integer16"
 }
 
-/// Whether a type of data takes four octets.
+/// Whether a data type has four octets.
 #[tactic(auto, unfolding(crate::specs::Submodules::is_long_type))]
 fn is_long_type(name: &str) -> bool
     ensures { result ≡ is_long_type name.now }
@@ -70,7 +66,7 @@ fn is_long_type(name: &str) -> bool
     name == "Unsigned32" || name == "Integer32" || name == "Float32"
 }
 
-/// The octets of a type of data that says its size.
+/// The octets of a data type that has a fixed length. `None` for any other name.
 fn size_of_type(name: &str) -> Option<u16>
     ensures { result ≡ size_of_type name.now }
 {
@@ -86,7 +82,7 @@ fn size_of_type(name: &str) -> Option<u16>
     None
 }
 
-/// The octets of an item of this type.
+/// The octets of a data item of this type. An `OctetString` has its own `Length`.
 fn item_of_type(tree: &Value, name: &str) -> Result<u16, PlacedFault>
     ensures { Gives (λ octets. octets) result (item_of_type (view tree.now) name.now) }
 {
@@ -99,7 +95,7 @@ fn item_of_type(tree: &Value, name: &str) -> Result<u16, PlacedFault>
     }
 }
 
-/// The octets of one item of data.
+/// The octets of one data item.
 #[tactic(auto, unfolding(crate::specs::Submodules::data_item))]
 fn data_item(tree: &Value) -> Result<u16, PlacedFault>
     ensures { Gives (λ octets. octets) result (data_item (view tree.now)) }
@@ -110,7 +106,7 @@ fn data_item(tree: &Value) -> Result<u16, PlacedFault>
     }
 }
 
-/// The octets of items of data together, at most 65,535.
+/// The sum of the octets of data items: 65,535 if it is greater.
 fn octets_of(trees: &[Value]) -> Result<u16, PlacedFault>
     ensures { Gives (λ octets. octets) result (octets_in 0 0 (items_view trees.now)) }
 {
@@ -124,7 +120,7 @@ fn octets_of(trees: &[Value]) -> Result<u16, PlacedFault>
     Ok(octets)
 }
 
-/// The octets of the items of data at a key.
+/// The sum of the octets of the data items at a key. 0 if the key is absent.
 #[tactic(auto, unfolding(crate::specs::Submodules::octets_at))]
 fn octets_at(tree: &Value, key: Key) -> Result<u16, PlacedFault>
     ensures { Gives (λ octets. octets) result (octets_at key (view tree.now)) }
@@ -136,7 +132,7 @@ fn octets_at(tree: &Value, key: Key) -> Result<u16, PlacedFault>
     }
 }
 
-/// The octets of input and of output.
+/// The octets of input and of output, from the object at `IOData`.
 #[tactic(auto, unfolding(crate::specs::Submodules::io_in))]
 fn io_in(tree: &Value) -> Result<(u16, u16), PlacedFault>
     ensures { Gives (λ io. io) result (io_in (view tree.now)) }
@@ -146,9 +142,9 @@ fn io_in(tree: &Value) -> Result<(u16, u16), PlacedFault>
     Ok((input, output))
 }
 
-/// The octets of input and of output of a submodule: none if it says nothing of them.
+/// The octets of input and of output of a submodule. Both are 0 if it has no `IOData`.
 #[tactic(auto, unfolding(crate::specs::Submodules::io_of))]
-fn io_at(tree: &Value) -> Result<(u16, u16), PlacedFault>
+pub(crate) fn io_at(tree: &Value) -> Result<(u16, u16), PlacedFault>
     ensures { Gives (λ io. io) result (io_of (view tree.now)) }
 {
     match tree.get(Key::IoData.name()) {
@@ -157,65 +153,5 @@ fn io_at(tree: &Value) -> Result<(u16, u16), PlacedFault>
             Ok(octets) => Ok(octets),
             Err(found) => Err(found.further(Step::At(Key::IoData))),
         },
-    }
-}
-
-/// Whether a parameter record with this index stands before.
-fn has_index(before: &[ParameterItem], index: u16) -> bool
-    ensures { result ≡ has_index index before.now }
-{
-    before.iter().any(|item| item.index == index)
-}
-
-/// Whether a submodule with this subslot stands before.
-fn has_subslot(before: &[SubmoduleItem], subslot: u16) -> bool
-    ensures { result ≡ has_subslot subslot before.now }
-{
-    before.iter().any(|item| item.subslot == subslot)
-}
-
-impl Entry<()> for ParameterItem {
-    ghost reader = { λ _ before tree. parameter before tree };
-
-    #[tactic(auto, unfolding(crate::specs::Submodules::parameter))]
-    fn read(
-        _alloc: Global,
-        _context: &(),
-        before: &[ParameterItem],
-        tree: &Value,
-    ) -> Result<ParameterItem, PlacedFault> {
-        let index = word_at(tree, Key::Index, 0, 32_767)?;
-        if has_index(before, index) {
-            return Err(PlacedFault::at(Key::Index, CatalogueFault::Number));
-        }
-        let length = word_at(tree, Key::Length, 1, 64)?;
-        Ok(ParameterItem { index, length })
-    }
-}
-
-impl Entry<()> for SubmoduleItem {
-    ghost reader = { λ _ before tree. submodule before tree };
-
-    #[tactic(auto, unfolding(crate::specs::Submodules::submodule))]
-    fn read(
-        alloc: Global,
-        _context: &(),
-        before: &[SubmoduleItem],
-        tree: &Value,
-    ) -> Result<SubmoduleItem, PlacedFault> {
-        let subslot = word_at(tree, Key::Subslot, 1, 36_863)?;
-        if has_subslot(before, subslot) {
-            return Err(PlacedFault::at(Key::Subslot, CatalogueFault::Number));
-        }
-        let ident = long_at(tree, Key::SubmoduleIdentNumber, 0, 0xFFFF_FFFF)?;
-        let (input, output) = io_at(tree)?;
-        let parameters = list(alloc, &(), tree, Key::ParameterRecordDataItem)?;
-        Ok(SubmoduleItem {
-            subslot,
-            ident,
-            input,
-            output,
-            parameters,
-        })
     }
 }

@@ -1,4 +1,4 @@
-//! What is at a key of an object.
+//! Reads values at the keys of a JSON object.
 ghost use Rattle.std.specs.Prelude.{◌≡◌, ◌≤◌, ◌^◌, ◌<◌, ◌+◌, IfOk, string_bytes};
 ghost use Rattle.wire.specs.Codec.{Gives};
 ghost use Rattle.serde_json.specs.View.{view, items_view};
@@ -8,7 +8,7 @@ use crate::{CatalogueFault, Key, PlacedFault};
 use serde_json::Value;
 use std::alloc::Global;
 
-/// What is at a key that must be there.
+/// The value at a required key. The fault is `WrongKind` if `tree` is not an object, and `MissingKey` if the key is absent.
 #[tactic(auto, unfolding(crate::specs::Reader::member))]
 pub(crate) fn member_at<'a>(tree: &'a Value, key: Key) -> Result<&'a Value, PlacedFault>
     ensures { Gives (λ value. view value.now) result (member key (view tree.now)) }
@@ -22,7 +22,7 @@ pub(crate) fn member_at<'a>(tree: &'a Value, key: Key) -> Result<&'a Value, Plac
     }
 }
 
-/// The list at a key, and an empty one where the key is absent.
+/// The list at a key. An empty list if the key is absent. The fault is `WrongKind` if `tree` is not an object or the value is not a list.
 #[tactic(auto, unfolding(crate::specs::Reader::items_of))]
 pub(crate) fn items_at<'a>(tree: &'a Value, key: Key) -> Result<&'a [Value], PlacedFault>
     ensures { Gives (λ values. items_view values.now) result (items_of key (view tree.now)) }
@@ -39,7 +39,7 @@ pub(crate) fn items_at<'a>(tree: &'a Value, key: Key) -> Result<&'a [Value], Pla
     }
 }
 
-/// A whole number.
+/// A whole number, 0 to 2^64 - 1. The fault is `WrongKind` if the value is not one.
 #[tactic(auto, unfolding(crate::specs::Reader::whole))]
 pub(crate) fn whole(tree: &Value) -> Result<u64, CatalogueFault>
     ensures { Gives (λ n. n) result (whole (view tree.now)) }
@@ -50,7 +50,7 @@ pub(crate) fn whole(tree: &Value) -> Result<u64, CatalogueFault>
     }
 }
 
-/// A whole number, at a key.
+/// The whole number at a required key.
 #[tactic(auto, unfolding(crate::specs::Reader::whole_at))]
 pub(crate) fn whole_at(tree: &Value, key: Key) -> Result<u64, PlacedFault>
     ensures { Gives (λ n. n) result (whole_at key (view tree.now)) }
@@ -62,7 +62,7 @@ pub(crate) fn whole_at(tree: &Value, key: Key) -> Result<u64, PlacedFault>
     }
 }
 
-/// A whole number within a range.
+/// A whole number within a range. The fault is `Number` if it is outside.
 #[tactic(auto, unfolding(crate::specs::Reader::number))]
 pub(crate) fn number_in(tree: &Value, least: u64, greatest: u64) -> Result<u64, CatalogueFault>
     ensures value { Gives (λ n. n) result (number least greatest (view tree.now)) }
@@ -76,7 +76,7 @@ pub(crate) fn number_in(tree: &Value, least: u64, greatest: u64) -> Result<u64, 
     }
 }
 
-/// A whole number of two octets within a range, at a key.
+/// The whole number at a required key, within a range of 16 bits.
 #[tactic(auto, unfolding(crate::specs::Reader::number_at))]
 pub(crate) fn word_at(tree: &Value, key: Key, least: u16, greatest: u16) -> Result<u16, PlacedFault>
     ensures { Gives (λ n. n) result (number_at key least greatest (view tree.now)) }
@@ -88,7 +88,7 @@ pub(crate) fn word_at(tree: &Value, key: Key, least: u16, greatest: u16) -> Resu
     }
 }
 
-/// A whole number of four octets within a range, at a key.
+/// The whole number at a required key, within a range of 32 bits.
 #[tactic(auto, unfolding(crate::specs::Reader::number_at))]
 pub(crate) fn long_at(tree: &Value, key: Key, least: u32, greatest: u32) -> Result<u32, PlacedFault>
     ensures { Gives (λ n. n) result (number_at key least greatest (view tree.now)) }
@@ -100,7 +100,7 @@ pub(crate) fn long_at(tree: &Value, key: Key, least: u32, greatest: u32) -> Resu
     }
 }
 
-/// The text at a key.
+/// The text at a required key.
 #[tactic(auto, unfolding(crate::specs::Reader::text_at))]
 pub(crate) fn text<'a>(tree: &'a Value, key: Key) -> Result<&'a str, PlacedFault>
     ensures { Gives (λ text. text.now) result (text_at key (view tree.now)) }
@@ -112,7 +112,7 @@ pub(crate) fn text<'a>(tree: &'a Value, key: Key) -> Result<&'a str, PlacedFault
     }
 }
 
-/// The text at a key, owned.
+/// A copy of the text at a required key.
 pub(crate) fn string(alloc: Global, tree: &Value, key: Key) -> Result<String, PlacedFault>
     ensures { Reads (λ text. string_bytes text) result (text_at key (view tree.now)) }
 {

@@ -1,4 +1,4 @@
--- What is judged by numbers is what is judged by texts.
+-- Checking by numbers gives the same as checking by IDs.
 use Rattle.std.proofs.Common.{if◌then◌else◌, ◌≡◌, ◌==◌, ◌&&◌, ◌||◌, ◌∙◌, ℕ, refl, sym, ap, subst, not, Bool, true, false, List, [], ◌∷◌, length, Option, Some, None, is_some, arith}
 use Rattle.std.specs.List.{AllByRecursion, list_any, list_all}
 use Rattle.std.specs.Option.{option_or}
@@ -14,7 +14,7 @@ use Rattle.configurator.specs.Known.{AreNumbers, IsKnown, are_open, does_stand, 
 
 -- ---- tests
 
--- two are one where each gives the other
+-- two Booleans are equal if each implies the other
 both : (a b : Bool) → (a ≡ true → b ≡ true) → (b ≡ true → a ≡ true) → a ≡ b
 both true true to from = refl
 both true false to from = sym (to refl)
@@ -37,7 +37,7 @@ all_map : {A : Type 0} (P Q : A → Type 0) → ((x : A) → P x → Q x) → (x
 all_map P Q step [] all = tt
 all_map P Q step (x ∷ xs) all = (step x all.0, all_map P Q step xs all.1)
 
--- what all pass, one of them passes
+-- if all slots pass a test, each one does
 all_in : (p : ℕ → Bool) (slot : ℕ) (xs : List ℕ) → list_all p xs ≡ true → is_in slot xs ≡ true → p slot ≡ true
 all_in p slot [] e inside = absurd cc
 all_in p slot (x ∷ xs) e inside = let a = and_parts (p x) (list_all p xs) e in either (x == slot) refl a.0 (λ there. all_in p slot xs a.1 there) inside
@@ -46,7 +46,7 @@ all_in p slot (x ∷ xs) e inside = let a = and_parts (p x) (list_all p xs) e in
     either true same one others inside = subst (λ (n : ℕ). p n ≡ true) (eqb-true x slot same) one
     either false same one others inside = others inside
 
--- what each of them passes that passes another, all pass
+-- if each slot that passes one test passes another, and all pass the first, all pass the second
 all_to : (p q : ℕ → Bool) (xs : List ℕ) → ((x : ℕ) → is_in x xs ≡ true → p x ≡ true → q x ≡ true) → list_all p xs ≡ true → list_all q xs ≡ true
 all_to p q [] step e = refl
 all_to p q (x ∷ xs) step e =
@@ -78,7 +78,7 @@ only_number : (n : ℕ) (o : Option ℕ) → is_some o ≡ true → is_no_other 
 only_number n None some e = absurd cc
 only_number n (Some other) some e = ap Some (eqb-true other n e)
 
--- a text is another exactly where it has its number
+-- two IDs are equal exactly if they have the same number
 number_is : (modules : List Module) (number : List ℕ → Option ℕ) → AreNumbers modules number → (text target : List ℕ) (n : ℕ) → number target ≡ Some n
     → bytes_eq text target ≡ is_number n (number text)
 number_is modules number numbers text target n is =
@@ -93,7 +93,7 @@ takes_is modules number numbers slot target n is entry =
 
 -- ---- what is fixed in a slot
 
--- another is found where another is fixed
+-- if the number found in a slot is another module's, another module is fixed there
 other_fixed : (modules : List Module) (number : List ℕ → Option ℕ) → AreNumbers modules number → (slot : ℕ) (target : List ℕ) (n : ℕ) → number target ≡ Some n
     → (entries : List Reference) → is_no_other n (fixer number slot entries) ≡ false → list_any (has_other slot target) entries ≡ true
 other_fixed modules number numbers slot target n is [] e = absurd (true≢false e)
@@ -110,7 +110,7 @@ other_fixed modules number numbers slot target n is (entry ∷ entries) e =
         (and_from (not (bytes_eq entry.target target)) (is_in slot entry.fixed_in)
         (not_from_false (bytes_eq entry.target target) (number_is modules number numbers entry.target target n is ∙ ap (is_number n) its ∙ e)) inside)
 
--- where a module of the catalogue is fixed, one is found
+-- if a module of the catalogue is fixed in a slot, one is found there
 fixer_some : (number : List ℕ → Option ℕ) (slot : ℕ) (entries : List Reference)
     → AllByRecursion (λ (entry : Reference). (k : ℕ) → is_in slot entry.fixed_in ≡ true → number entry.target ≡ Some k → is_some (fixer number slot entries) ≡ true) entries
 fixer_some number slot [] = tt
@@ -123,7 +123,7 @@ fixer_some number slot (entry ∷ entries) = (first, all_map _ _ (λ other found
     first : (k : ℕ) → is_in slot entry.fixed_in ≡ true → number entry.target ≡ Some k → is_some (option_or (if is_in slot entry.fixed_in then number entry.target else None) (fixer number slot entries)) ≡ true
     first k inside is = rw inside (rw is refl)
 
--- a module that is fixed in a slot has the number of what is found there
+-- a module that is fixed in a slot has the number that is found there
 abbrev pub IsFoundIn : (ℕ → Option ℕ) → (List ℕ → Option ℕ) → ℕ → Reference → Type 0
 IsFoundIn fixed number slot entry = is_in slot entry.fixed_in ≡ true → (k : ℕ) × (number entry.target ≡ Some k) × (fixed slot ≡ Some k)
 
@@ -143,7 +143,7 @@ all_found physical fixed number slot (entry ∷ entries) some e =
     let a = and_parts (is_fixed_open physical fixed number entry) (list_all (is_fixed_open physical fixed number) entries) e in
     (found_in physical fixed number slot entry some.0 (number entry.target) refl a.0, all_found physical fixed number slot entries some.1 a.1)
 
--- no other is fixed where this one is found, or none
+-- no other module is fixed in a slot if this one or none is found there
 no_other_fixed : (modules : List Module) (number : List ℕ → Option ℕ) → AreNumbers modules number → (fixed : ℕ → Option ℕ) (slot : ℕ) (target : List ℕ) (n : ℕ) → number target ≡ Some n
     → is_no_other n (fixed slot) ≡ true → (entries : List Reference) → AllByRecursion (IsFoundIn fixed number slot) entries → list_any (has_other slot target) entries ≡ false
 no_other_fixed modules number numbers fixed slot target n is e [] all = refl
@@ -159,7 +159,7 @@ no_other_fixed modules number numbers fixed slot target n is e (entry ∷ entrie
         and_left (not (bytes_eq entry.target target)) (is_in slot entry.fixed_in)
         (ap not (number_is modules number numbers entry.target target n is ∙ ap (is_number n) f.1 ∙ same))
 
--- a module is let into the slots in which it is fixed
+-- a module may be put into the slots in which it is fixed
 taken_there : (entries : List Reference) → AllByRecursion (λ (entry : Reference). (slot : ℕ) → is_in slot entry.fixed_in ≡ true → list_any (takes slot entry.target) entries ≡ true) entries
 taken_there [] = tt
 taken_there (entry ∷ entries) = (first, all_map _ _ (λ other taken slot inside. or_right (takes slot other.target entry) (list_any (takes slot other.target) entries) (taken slot inside)) entries (taken_there entries))
@@ -189,7 +189,7 @@ open_may found known is_known slot target n is all e taken =
     taken)
     (not_from_false other (no_other_fixed found.modules (number_in known) is_known.numbers (fixed_by known) slot target n is a.1 found.access_point.references all))
 
--- what is so of a module that may stand in a slot
+-- what is true of a module that may be in a slot
 record MayStand (found : Catalogue) (slot : ℕ) (target : List ℕ) : Type 0 where
   apart : not (slot == 0) ≡ true
   physical : is_in slot found.access_point.physical_slots ≡ true
@@ -263,7 +263,7 @@ all_open found known is_known (entry ∷ entries) e =
     (open_one found known is_known entry.target entry.fixed_in (number_in known entry.target) refl a.0)
     (all_open found known is_known entries a.1)
 
--- ---- what is put into slots
+-- ---- the modules that are put into slots
 
 stands_may : (found : Catalogue) (known : Known) → IsKnown found known
     → ((slot : ℕ) → AllByRecursion (IsFoundIn (fixed_by known) (number_in known) slot) found.access_point.references)
@@ -296,8 +296,8 @@ all_there found known is_known e slot =
     all_found (physical_in known) (fixed_by known) (number_in known) slot found.access_point.references
     (all_map _ _ (λ entry some k inside is. ap is_some (is_known.fixed slot) ∙ some k inside is) found.access_point.references (fixer_some (number_in known) slot found.access_point.references)) e
 
--- each module may stand in its slot exactly where the fixed ones stand in open slots, those that are put into slots stand well, and
--- each slot is named once
+-- each module may be in its slot exactly if each may be in the slots in which it is fixed, each may be in the slot into which it is put, and no
+-- two entries name the same slot
 pub handled_alike : (found : Catalogue) (known : Known) → IsKnown found known
     → (list_all (is_fixed_open (physical_in known) (fixed_by known) (number_in known)) found.access_point.references
     && list_all (stands_well (physical_in known) (fixed_by known) (taken_by known) (number_in known)) found.project.slots && are_once found.project.slots)

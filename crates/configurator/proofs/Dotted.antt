@@ -1,4 +1,4 @@
--- A text in dotted decimal is one address.
+-- A text in dotted decimal gives one address only.
 use Rattle.std.proofs.Common.{◌≡◌, ◌↔◌, ℕ, true, ap, sym, subst, List, slice_index, Option, Some, None, IsSome, IfNone}
 use Rattle.std.proofs.lemmas.Bool.{false≢true}
 use Rattle.std.specs.declared.net.ipv4_addr.Ipv4Addr.{Ipv4Addr}
@@ -17,7 +17,7 @@ address_of octets = record { octets = octets }
 dotted_unique : (text a b : List ℕ) → IsDotted text a → IsDotted text b → a ≡ b
 dotted_unique text a b one other = ap ipv4_octets (IsIpv4Text_unique text (address_of a) (address_of b) one other)
 
--- a suite that the texts of a station give is this one
+-- the texts of a station give one suite only
 suite_valid : (station : Station) (address mask gateway : List ℕ) → IsDotted station.address address → IsDotted station.mask mask → IsDotted station.gateway gateway
     → (suite : Suite) → IsSuiteOf station suite → IsSuite (record { address = address; mask = mask; gateway = gateway })
 suite_valid station address mask gateway one two three suite given =
@@ -27,7 +27,7 @@ suite_valid station address mask gateway one two three suite given =
     let same : suite ≡ record { address = address; mask = mask; gateway = gateway } = λ i. record { address = a i; mask = b i; gateway = c i } in
     subst IsSuite same given.valid
 
--- none of the texts may be none
+-- if one of the texts is not an address, the station has no suite
 pub no_address : (station : Station) (text : List ℕ) → text ≡ station.address → ((octets : List ℕ) → ¬ IsDotted text octets) → (suite : Suite) → ¬ IsSuiteOf station suite
 no_address station text is none suite given = none suite.address (subst (λ (t : List ℕ). IsDotted t suite.address) (sym is) given.address)
 
@@ -37,7 +37,7 @@ no_mask station text is none suite given = none suite.mask (subst (λ (t : List 
 pub no_gateway : (station : Station) (text : List ℕ) → text ≡ station.gateway → ((octets : List ℕ) → ¬ IsDotted text octets) → (suite : Suite) → ¬ IsSuiteOf station suite
 no_gateway station text is none suite given = none suite.gateway (subst (λ (t : List ℕ). IsDotted t suite.gateway) (sym is) given.gateway)
 
--- three addresses that are no suite
+-- three addresses that are not a valid suite
 pub no_suite : (station : Station) (ta tm tg address mask gateway : List ℕ) → ta ≡ station.address → tm ≡ station.mask → tg ≡ station.gateway
     → IsDotted ta address → IsDotted tm mask → IsDotted tg gateway
     → (o : Option Suite) → IsSome o ↔ IsSuite (record { address = address; mask = mask; gateway = gateway })
@@ -47,7 +47,7 @@ no_suite station ta tm tg address mask gateway one two three da dm dg None valid
     false≢true (valid.1 (suite_valid station address mask gateway (subst (λ (t : List ℕ). IsDotted t address) one da) (subst (λ (t : List ℕ). IsDotted t mask) two dm)
     (subst (λ (t : List ℕ). IsDotted t gateway) three dg) suite given))
 
--- an address of no host
+-- an address that is not that of a host
 pub host_is : (controller : Controller) (text address : List ℕ) → text ≡ controller.address → IsDotted text address → (other : List ℕ) → IsHostOf controller other
     → is_host (slice_index address 0) ≡ true
 host_is controller text address is one other given =
@@ -66,12 +66,12 @@ gone : {A : Type 0} (o : Option A) (P : Type 0) → o ≡ None → IfNone o P �
 gone None P e is = is
 gone (Some value) P e is = absurd cc
 
--- a project whose addresses are not found has none
+-- a project whose addresses are not found has no valid ones
 pub none_of : (project other : Project) (o : Option Addresses) → other ≡ project → o ≡ None → IfNone o ((found : Addresses) → ¬ AreAddresses other found) → (found : Addresses)
     → ¬ AreAddresses project found
 none_of project other o is e none = subst (λ (entry : Project). (found : Addresses) → ¬ AreAddresses entry found) is (gone o _ e none)
 
--- what is so, is so where nothing is
+-- a fact that holds, holds if there is no value
 pub if_none : {A : Type 0} (o : Option A) (P : Type 0) → P → IfNone o P
 if_none None P is = is
 if_none (Some value) P is = tt

@@ -28,14 +28,14 @@ or_updated true false c = refl
 or_updated false true c = refl
 or_updated false false c = refl
 
--- a set that has one more slot, and those that are left
+-- a set to which one slot was added, and the remaining slots
 pub slot_more : (old new : BTreeSet ℕ) (slot : ℕ) → sorted.Updates nat_cmp old new slot true → (slots : List ℕ) (other : ℕ)
     → (contains nat_cmp new other || is_in other slots) ≡ (contains nat_cmp old other || is_in other (slot ∷ slots))
 slot_more old new slot updates slots other =
     ap (λ (b : Bool). b || is_in other slots) (updates.0 other ∙ ap (λ (b : Bool). cond b true (contains nat_cmp old other)) (cmp_is slot other))
     ∙ or_updated (contains nat_cmp old other) (slot == other) (is_in other slots)
 
--- places into which a module is let
+-- the pairs of slots and a module
 place_updated : (a b c d : Bool) → (cond (b && c) true a || (c && d)) ≡ (a || (c && (b || d)))
 place_updated true true true d = refl
 place_updated true true false d = refl
@@ -59,7 +59,7 @@ absent : (o : Option ℕ) → is_some o ≡ false → o ≡ None
 absent None e = refl
 absent (Some x) e = absurd cc
 
--- a module is fixed in a slot in which none was
+-- a module is noted in a slot in which none was
 pub fixed_there : (old new : BTreeMap ℕ ℕ) (slot number : ℕ) → tree.Updates nat_cmp old new slot (Some number) → is_some (get nat_cmp old slot) ≡ false → (other : ℕ)
     → get nat_cmp new other ≡ option_or (get nat_cmp old other) (if slot == other then Some number else None)
 fixed_there old new slot number updates none other =
@@ -71,7 +71,7 @@ fixed_there old new slot number updates none other =
     either None false gone = refl
     either (Some x) false gone = refl
 
--- one was there
+-- one was noted already
 pub kept_there : (old : BTreeMap ℕ ℕ) (slot number : ℕ) → is_some (get nat_cmp old slot) ≡ true → (other : ℕ)
     → get nat_cmp old other ≡ option_or (get nat_cmp old other) (if slot == other then Some number else None)
 kept_there old slot number some other = either (get nat_cmp old other) (slot == other) (λ e. subst (λ (n : ℕ). is_some (get nat_cmp old n) ≡ true) (eqb-true slot other e) some)
@@ -81,7 +81,7 @@ kept_there old slot number some other = either (get nat_cmp old other) (slot == 
     either None true there = absurd (false≢true (there refl))
     either None false there = refl
 
--- one slot more, and those that are left
+-- one more slot, and the remaining ones
 pub fix_more : (o p : Option ℕ) (number slot other : ℕ) (slots : List ℕ) → p ≡ option_or o (if slot == other then Some number else None)
     → option_or p (if is_in other slots then Some number else None) ≡ option_or o (if is_in other (slot ∷ slots) then Some number else None)
 fix_more o p number slot other slots is = ap (λ (q : Option ℕ). option_or q (if is_in other slots then Some number else None)) is ∙ either o (slot == other) (is_in other slots)
@@ -114,7 +114,7 @@ option_or_nothing (Some x) = refl
 
 -- ---- numbers
 
--- those with numbers and those that are left are all modules; the numbers are below the next one
+-- the modules with numbers and the remaining ones are all; each number is less than the next one
 pub record AreNumbered (modules rest : List Module) (next : ℕ) (number : List ℕ → Option ℕ) : Type 0 where
   pub known : (id : List ℕ) → (is_some (number id) || has_id id rest) ≡ has_id id modules
   pub below : (id : List ℕ) (n : ℕ) → number id ≡ Some n → n < next
@@ -123,7 +123,7 @@ pub record AreNumbered (modules rest : List Module) (next : ℕ) (number : List 
 some_is : (m n : ℕ) → Some m ≡ Some n → m ≡ n
 some_is m n e = cc
 
--- one more has a number
+-- one more module has a number
 pub numbered_more : (modules rest : List Module) (entry : Module) (next : ℕ) (old new : List ℕ → Option ℕ)
     → AreNumbered modules (entry ∷ rest) next old → ((id : List ℕ) → new id ≡ cond (bytes_eq entry.id id) (Some next) (old id))
     → AreNumbered modules rest (next + 1) new

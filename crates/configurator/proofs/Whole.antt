@@ -1,4 +1,4 @@
--- What is judged over the whole.
+-- The faults of a whole catalogue.
 use Rattle.std.proofs.Common.{◌≡◌, ◌∙◌, ◌&&◌, refl, ℕ, List, Result, IfOk, IfErr, inr, ap, sym, subst, Bool, true, false, Ok, Err, if◌then◌else◌, not}
 use Rattle.std.specs.List.{list_all}
 use Rattle.plans.specs.declared.parts.Parts.{Parts}
@@ -39,7 +39,7 @@ pub handled_long : (found : Catalogue) (parts : Parts) (fault : TooLong) → Are
 handled_long found parts Frame made e = (parts, made, e)
 handled_long found parts Connect made e = (parts, made, e)
 
--- a text of this catalogue, as it is judged
+-- what is returned for a text, if the result of its catalogue is known
 pub planned : (text : List ℕ) (found : Catalogue) (result : Result Parts PlanFault) → Found text found → Handled found result → IfOk result (IsPlanOf text)
 planned text found (Ok parts) is_found handled = (found, is_found, handled)
 planned text found (Err fault) is_found handled = tt
@@ -48,7 +48,7 @@ pub refused : (text : List ℕ) (found : Catalogue) (result : Result Parts PlanF
 refused text found (Ok parts) is_found handled = tt
 refused text found (Err fault) is_found handled = inr (found, is_found, handled)
 
--- ---- what there are few of
+-- ---- the limits
 
 four : (a b c d : Bool) → (a && b && c && d) ≡ true → (a ≡ true) × (b ≡ true) × (c ≡ true) × (d ≡ true)
 four true true true true e = (refl, refl, refl, refl)

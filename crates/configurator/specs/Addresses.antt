@@ -8,12 +8,12 @@ use Rattle.pn_values.specs.IpSuite.{IsSuite, Suite, is_host}
 use Rattle.catalogue.specs.Projects.{Controller, Project, Station}
 use Rattle.configurator.specs.declared.addresses.Addresses.{Addresses}
 
--- both names are names of a station
+-- both names are valid station names
 pub record AreNamed (project : Project) : Type 0 where
   pub station : IsStationName project.station.name
   pub controller : IsStationName project.controller.name
 
--- six pairs of hex digits, parted by hyphens: how many octets, where the hyphens stand, and the digits
+-- six pairs of hex digits with hyphens between them: the length, the places of the hyphens, and the digits
 abbrev pub is_parted : List ℕ → Bool
 is_parted text =
     length text == 17
@@ -39,12 +39,12 @@ pub record IsSuiteOf (station : Station) (suite : Suite) : Type 0 where
   pub gateway : IsDotted station.gateway suite.gateway
   pub valid : IsSuite suite
 
--- an Ethernet address of one station: its first octet is even
+-- the Ethernet address of one station: its first octet is even
 pub record IsMacOf (controller : Controller) (octets : List ℕ) : Type 0 where
   pub spelled : mac_of controller.mac ≡ Some octets
   pub alone : slice_index octets 0 % 2 ≡ 0
 
--- an address of a host
+-- the IP address of a host
 pub record IsHostOf (controller : Controller) (address : List ℕ) : Type 0 where
   pub spelled : IsDotted controller.address address
   pub host : is_host (slice_index address 0) ≡ true

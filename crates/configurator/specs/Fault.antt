@@ -21,7 +21,7 @@ number_of Name = 9
 number_of Address = 10
 number_of OutOfMemory = 11
 
--- a fault of the reading
+-- a fault that is found while the text is read
 abbrev pub of_catalogue : CatalogueFault → PlanFault
 of_catalogue reading.Json = Json
 of_catalogue reading.MissingKey = MissingKey
@@ -29,7 +29,7 @@ of_catalogue reading.WrongKind = WrongKind
 of_catalogue reading.Number = Number
 of_catalogue reading.OutOfMemory = OutOfMemory
 
--- what is too long
+-- a frame or the Connect that is too long
 abbrev pub of_length : TooLong → PlanFault
 of_length long.Frame = FrameTooLong
 of_length long.Connect = ConnectTooLong

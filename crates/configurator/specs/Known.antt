@@ -1,5 +1,5 @@
--- What is known of modules and slots, so that a module is judged in a few steps however long the lists are: modules by numbers, and
--- what stands in which slot by slots.
+-- Maps and sets of a catalogue's modules and slots, so that checking a module does not search the lists: modules have numbers, and what is
+-- fixed in a slot is found by the slot.
 use Rattle.std.specs.Prelude.{◌≡◌, ◌==◌, ◌&&◌, ◌||◌, ℕ, Bool, true, false, not, List, [], ◌∷◌, length, Option, Some, None, is_some, if◌then◌else◌}
 use Rattle.std.specs.List.{list_any, list_all}
 use Rattle.std.specs.Option.{option_or}
@@ -14,12 +14,12 @@ use Rattle.catalogue.specs.Catalogues.{Catalogue}
 use Rattle.configurator.specs.declared.known.Known.{Known}
 use Rattle.configurator.specs.Allowed.{is_in}
 
--- a number for the ID of each module, and for no other; no two have the same
+-- each module's ID has a number, no other ID has one, and no two IDs have the same
 pub record AreNumbers (modules : List Module) (number : List ℕ → Option ℕ) : Type 0 where
   pub known : (id : List ℕ) → is_some (number id) ≡ has_id id modules
   pub apart : (one other : List ℕ) (n : ℕ) → number one ≡ Some n → number other ≡ Some n → one ≡ other
 
--- the number of the module that is fixed in a slot: of the first one, where there are several
+-- the number of the module that is fixed in a slot: if several are, that of the first reference
 abbrev pub fixes : (List ℕ → Option ℕ) → ℕ → Reference → Option ℕ
 fixes number slot entry = if is_in slot entry.fixed_in then number entry.target else None
 
@@ -32,20 +32,20 @@ abbrev pub is_number : ℕ → Option ℕ → Bool
 is_number n None = false
 is_number n (Some other) = other == n
 
--- it is no other number
+-- there is no number, or it is this one
 abbrev pub is_no_other : ℕ → Option ℕ → Bool
 is_no_other n None = true
 is_no_other n (Some other) = other == n
 
--- the module with this number may be put into the slot, or is fixed there
+-- the module with this number may be put into the slot or is fixed in it
 abbrev pub takes_by : (List ℕ → Option ℕ) → ℕ → ℕ → Reference → Bool
 takes_by number slot n entry = is_number n (number entry.target) && (is_in slot entry.allowed_in || is_in slot entry.fixed_in)
 
--- the device has the slot, it is not that of the access point, and no other module is fixed there
+-- the device has the slot, the slot is not that of the access point, and no other module is fixed in it
 abbrev pub is_open : (ℕ → Bool) → (ℕ → Option ℕ) → ℕ → ℕ → Bool
 is_open physical fixed n slot = not (slot == 0) && physical slot && is_no_other n (fixed slot)
 
--- so are slots in which a module is fixed: none, where it is not in the catalogue
+-- this is true of each slot in which a module is fixed; a module that the catalogue does not have must be fixed in no slot
 abbrev pub are_open : (ℕ → Bool) → (ℕ → Option ℕ) → Option ℕ → List ℕ → Bool
 are_open physical fixed None slots = length slots == 0
 are_open physical fixed (Some n) slots = list_all (is_open physical fixed n) slots
@@ -53,7 +53,7 @@ are_open physical fixed (Some n) slots = list_all (is_open physical fixed n) slo
 abbrev pub is_fixed_open : (ℕ → Bool) → (ℕ → Option ℕ) → (List ℕ → Option ℕ) → Reference → Bool
 is_fixed_open physical fixed number entry = are_open physical fixed (number entry.target) entry.fixed_in
 
--- a module that is put into a slot stands there well
+-- a module may be in the slot into which the project puts it
 abbrev pub does_stand : (ℕ → Bool) → (ℕ → Option ℕ) → (ℕ → ℕ → Bool) → ℕ → Option ℕ → Bool
 does_stand physical fixed taken slot None = false
 does_stand physical fixed taken slot (Some n) = is_open physical fixed n slot && taken slot n
@@ -61,7 +61,7 @@ does_stand physical fixed taken slot (Some n) = is_open physical fixed n slot &&
 abbrev pub stands_well : (ℕ → Bool) → (ℕ → Option ℕ) → (ℕ → ℕ → Bool) → (List ℕ → Option ℕ) → Slot → Bool
 stands_well physical fixed taken number entry = does_stand physical fixed taken entry.slot (number entry.target)
 
--- ---- as it is kept
+-- ---- as the code has it
 
 -- the order of places: by slot, and then by the number of the module
 abbrev pub place_cmp : ℕ × ℕ → ℕ × ℕ → Ordering
@@ -79,7 +79,7 @@ fixed_by known slot = get nat_cmp known.fixed slot
 abbrev pub taken_by : Known → ℕ → ℕ → Bool
 taken_by known slot n = contains place_cmp known.taken (slot, n)
 
--- what is kept is that of a catalogue
+-- the maps and sets are those of a catalogue
 pub record IsKnown (found : Catalogue) (known : Known) : Type 0 where
   pub physical : (slot : ℕ) → physical_in known slot ≡ is_in slot found.access_point.physical_slots
   pub numbers : AreNumbers found.modules (number_in known)

@@ -19,7 +19,7 @@ use Rattle.configurator.specs.Allowed.{are_allowed}
 use Rattle.configurator.specs.Few.{are_few}
 use Rattle.configurator.specs.Standing.{plugged}
 
--- a record that is written into a slot
+-- a record that is written to a slot
 abbrev pub record_at : ℕ → Record → PlanRecord
 record_at slot item = record { slot = slot; subslot = item.subslot; index = item.index; «data» = record { items = item.octets } }
 
@@ -27,7 +27,7 @@ record_at slot item = record { slot = slot; subslot = item.subslot; index = item
 abbrev pub records_of : List Slot → List PlanRecord
 records_of slots = flat_map (λ entry. map (record_at entry.slot) entry.records) slots
 
--- what a plan is made of
+-- the parts of which a plan is made
 abbrev pub parts_of : Catalogue → Addresses → Parts
 parts_of found addresses = record {
   station = record {
@@ -46,7 +46,7 @@ parts_of found addresses = record {
   records = record { items = records_of found.project.slots };
 }
 
--- ---- what is judged over the whole
+-- ---- the whole catalogue
 
 -- names and addresses are valid
 pub record IsAddressed (found : Catalogue) : Type 0 where
@@ -54,15 +54,15 @@ pub record IsAddressed (found : Catalogue) : Type 0 where
   pub addresses : Addresses
   pub addressed : AreAddresses found.project addresses
 
--- parts are those of a catalogue whose names, addresses, slots and numbers of things are valid
+-- the parts are those of a catalogue whose names and addresses are valid, whose modules may be in their slots, and which is within the limits
 pub record ArePartsOf (found : Catalogue) (parts : Parts) : Type 0 where
   pub addressed : IsAddressed found
   pub allowed : are_allowed found ≡ true
   pub few : are_few found ≡ true
   pub made : parts ≡ parts_of found addressed.addresses
 
--- the plan of a catalogue, or its first fault: a name, an address, a module that is not allowed in its slot, too many things, a
--- frame or the Connect too long; memory may be refused
+-- the plan of a catalogue, or its first fault: an invalid name, an invalid address, a module that is not allowed in its slot, too many slots,
+-- submodules or records, a frame or the Connect too long; or there was not enough memory
 abbrev pub Handled : Catalogue → Result Parts PlanFault → Type 0
 Handled found (Ok parts) = ArePartsOf found parts × (plan_of parts ≡ Ok parts)
 Handled found (Err Name) = ¬ AreNamed found.project
@@ -74,17 +74,17 @@ Handled found (Err ConnectTooLong) = (parts : Parts) × ArePartsOf found parts �
 Handled found (Err OutOfMemory) = Unit {0}
 Handled found (Err fault) = ⊥
 
--- a text is JSON of a tree that is a catalogue of this plan
+-- a text is a catalogue with this plan
 abbrev pub IsPlanOf : List ℕ → Parts → Type 0
 IsPlanOf text parts = (found : Catalogue) × Found text found × Handled found (Ok parts)
 
--- a text is refused as it is read; or it is a catalogue whose first fault over the whole is this
+-- a text is refused while it is read; or it is a catalogue, and this is the first fault of the whole
 abbrev pub IsRefused : List ℕ → PlanFault → Type 0
 IsRefused text fault =
     ((found : PlacedFault) × Refuses text found × (fault ≡ of_catalogue found.fault))
     ⊎ ((found : Catalogue) × Found text found × Handled found (Err fault))
 
--- the same, at the place of the fault
+-- the same, with the place of the fault
 abbrev pub IsRefusedAt : List ℕ → Refusal → Type 0
 IsRefusedAt text refusal =
     ((found : PlacedFault) × Refuses text found × (refusal.fault ≡ of_catalogue found.fault) × (refusal.place ≡ found.place))

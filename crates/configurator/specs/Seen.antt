@@ -1,4 +1,4 @@
--- What the code holds of a module that stands in a slot.
+-- The module in a slot, as the code has it.
 use Rattle.configurator.specs.declared.station.Standing.{Standing}
 use Rattle.configurator.specs.Standing.{Stands}
 

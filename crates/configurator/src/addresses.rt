@@ -9,10 +9,10 @@ use hex::FromHex;
 use pn_values::{IpSuite, Mac};
 use std::net::Ipv4Addr;
 
-/// The addresses of a project.
+/// The addresses of a project, as octets.
 #[derive(Clone, Copy)]
 pub(crate) struct Addresses {
-    /// The station's.
+    /// The station's IP suite.
     pub suite: IpSuite,
     /// The controller's Ethernet address.
     pub mac: Mac,
@@ -20,7 +20,7 @@ pub(crate) struct Addresses {
     pub address: [u8; 4],
 }
 
-/// The four octets of a text in dotted decimal.
+/// The four octets of an IP address in dotted decimal. `None` if the text is not one.
 fn octets_of(text: &str) -> Option<[u8; 4]>
     ensures some { IfSome result (λ octets. IsDotted text.now octets) }
     ensures none { IfNone result ((octets : List ℕ) → ¬ IsDotted text.now octets) }
@@ -31,7 +31,7 @@ fn octets_of(text: &str) -> Option<[u8; 4]>
     }
 }
 
-/// The IP suite of the station.
+/// The station's IP suite. `None` if one of the texts is not an address, or the three are not a valid suite.
 fn suite_of(station: &StationItem) -> Option<IpSuite>
     ensures some { IfSome result (λ suite. IsSuiteOf station.now suite) }
     ensures none { IfNone result ((suite : Suite) → ¬ IsSuiteOf station.now suite) }
@@ -42,7 +42,7 @@ fn suite_of(station: &StationItem) -> Option<IpSuite>
     IpSuite::new(address, mask, gateway)
 }
 
-/// Whether hyphens stand where they part six pairs.
+/// Whether a text has 17 octets and the five hyphens of an Ethernet address.
 fn is_parted(text: &[u8]) -> bool
     ensures { result ≡ is_parted text.now }
 {
@@ -54,7 +54,7 @@ fn is_parted(text: &[u8]) -> bool
         && text[14] == b'-'
 }
 
-/// The digits between these hyphens.
+/// The twelve digits between the hyphens.
 fn digits_of(text: &[u8]) -> [u8; 12]
     requires { is_parted text.now ≡ true }
     ensures { result ≡ digits_of text.now }
@@ -65,7 +65,7 @@ fn digits_of(text: &[u8]) -> [u8; 12]
     ]
 }
 
-/// The six octets of a text of six pairs of hex digits, parted by hyphens.
+/// The six octets of an Ethernet address: six pairs of hex digits, with hyphens between them. `None` if the text is not one.
 fn mac_of(text: &[u8]) -> Option<[u8; 6]>
     ensures { result ≡ mac_of text.now }
 {
@@ -80,13 +80,13 @@ fn mac_of(text: &[u8]) -> Option<[u8; 6]>
     }
 }
 
-/// The controller's Ethernet address, whose first octet is even.
+/// The controller's Ethernet address. `None` if the text is not one, or is the address of a group: its first octet is odd.
 fn station_mac_of(controller: &ControllerItem) -> Option<Mac>
     ensures some { IfSome result (λ mac. IsMacOf controller.now mac.octets) }
     ensures none { IfNone result ((octets : List ℕ) → ¬ IsMacOf controller.now octets) }
 {
     let octets = mac_of(controller.mac.as_bytes())?;
-    // An odd first octet is a group of stations, and no station sends under it.
+    // An odd first octet is the address of a group, which no station has as its own.
     if octets[0] % 2 == 0 {
         Some(Mac { octets })
     } else {
@@ -94,20 +94,20 @@ fn station_mac_of(controller: &ControllerItem) -> Option<Mac>
     }
 }
 
-/// Whether an address that begins with this octet is one of a host.
+/// Whether an IP address with this first octet is that of a host.
 fn is_host(octet: u8) -> bool
     ensures { result ≡ is_host octet }
 {
     (1 <= octet && octet <= 126) || (128 <= octet && octet <= 223)
 }
 
-/// The controller's IP address, which is one of a host.
+/// The controller's IP address. `None` if the text is not an address, or not that of a host.
 fn host_of(controller: &ControllerItem) -> Option<[u8; 4]>
     ensures some { IfSome result (λ address. IsHostOf controller.now address) }
     ensures none { IfNone result ((address : List ℕ) → ¬ IsHostOf controller.now address) }
 {
     let address = octets_of(controller.address.as_str())?;
-    // The networks 0 and 127 and those from 224 on are of no host on a wire.
+    // No host on a wire has an address of the networks 0 and 127 or of those from 224 on.
     if is_host(address[0]) {
         Some(address)
     } else {
@@ -115,7 +115,7 @@ fn host_of(controller: &ControllerItem) -> Option<[u8; 4]>
     }
 }
 
-/// The addresses of a project, if each is one.
+/// The addresses of a project. `None` if one of them is not valid.
 pub(crate) fn addresses_of(project: &Project) -> Option<Addresses>
     ensures some { IfSome result (λ found. AreAddresses project.now found) }
     ensures none { IfNone result ((found : Addresses) → ¬ AreAddresses project.now found) }

@@ -1,21 +1,22 @@
-//! Whether each module may stand in its slot.
+//! Whether each module may be in its slot.
 ghost use Rattle.std.specs.Prelude.{◌≡◌, ◌&&◌, IfOk};
 ghost use Rattle.std.specs.List.{list_all};
-ghost use Rattle.configurator.specs.Allowed.{are_allowed, are_once, is_in, uses_of};
+ghost use Rattle.configurator.specs.Allowed.{are_allowed, are_once, is_in};
 ghost use Rattle.configurator.specs.Known.{fixed_by, is_fixed_open, is_no_other, is_open, number_in, physical_in, stands_well, taken_by};
 
 use crate::known::Known;
 use catalogue::{Catalogue, ModuleReference, SlotItem};
 use std::alloc::{AllocError, Global};
+use std::collections::BTreeSet;
 
-/// Whether one of these slots is this one.
+/// Whether a slot is one of these.
 pub(crate) fn is_in(slots: &[u64], slot: u64) -> bool
     ensures { result ≡ is_in slot slots.now }
 {
     slots.iter().any(|other| *other == slot)
 }
 
-/// Whether no other module is fixed in a slot.
+/// Whether no module but the one with this number is fixed in a slot. `fixed` is the number of the module that is fixed there.
 fn is_no_other(fixed: Option<usize>, number: usize) -> bool
     ensures { result ≡ is_no_other number fixed }
 {
@@ -25,7 +26,7 @@ fn is_no_other(fixed: Option<usize>, number: usize) -> bool
     }
 }
 
-/// Whether the device has a slot, it is not that of the access point, and no other module is fixed there.
+/// Whether the device has a slot, the slot is not that of the access point, and no other module is fixed in it.
 fn is_open(known: &Known, number: usize, slot: u64) -> bool
     ensures { result ≡ is_open (physical_in known.now) (fixed_by known.now) number slot }
 {
@@ -34,7 +35,7 @@ fn is_open(known: &Known, number: usize, slot: u64) -> bool
         && is_no_other(known.fixed.get(&slot).copied(), number)
 }
 
-/// The same of slots.
+/// Whether this is true of each of these slots.
 fn are_all_open(known: &Known, number: usize, slots: &[u64]) -> bool
     ensures { result ≡ list_all (is_open (physical_in known.now) (fixed_by known.now) number) slots.now }
 {
@@ -46,19 +47,19 @@ fn are_all_open(known: &Known, number: usize, slots: &[u64]) -> bool
     true
 }
 
-/// Whether a module may stand where it is fixed.
+/// Whether a module may be in each slot in which it is fixed.
 fn is_fixed_open(known: &Known, reference: &ModuleReference) -> bool
     ensures { result ≡ is_fixed_open (physical_in known.now) (fixed_by known.now) (number_in known.now) reference.now }
 {
     let slots = reference.fixed_in.as_slice();
     match known.number(reference.target.as_str()) {
         Some(number) => are_all_open(known, number, slots),
-        // A module that the catalogue does not have can stand nowhere, so it may be named only where it is fixed in no slot.
+        // A module that the catalogue does not have may be in no slot, so a reference to it must have no fixed slots.
         None => slots.is_empty(),
     }
 }
 
-/// Whether all modules may stand where they are fixed.
+/// Whether each module may be in each slot in which it is fixed.
 fn are_fixed_open(known: &Known, references: &[ModuleReference]) -> bool
     ensures { result ≡ list_all (is_fixed_open (physical_in known.now) (fixed_by known.now) (number_in known.now)) references.now }
 {
@@ -70,7 +71,7 @@ fn are_fixed_open(known: &Known, references: &[ModuleReference]) -> bool
     true
 }
 
-/// Whether a module may stand in the slot into which it is put.
+/// Whether a module may be in the slot into which the project puts it.
 fn stands_well(known: &Known, entry: &SlotItem) -> bool
     ensures { result ≡ stands_well (physical_in known.now) (fixed_by known.now) (taken_by known.now) (number_in known.now) entry.now }
 {
@@ -82,7 +83,7 @@ fn stands_well(known: &Known, entry: &SlotItem) -> bool
     }
 }
 
-/// Whether all may.
+/// Whether this is true of each module that the project puts into a slot.
 fn do_all_stand(known: &Known, slots: &[SlotItem]) -> bool
     ensures { result ≡ list_all (stands_well (physical_in known.now) (fixed_by known.now) (taken_by known.now) (number_in known.now))
         slots.now }
@@ -95,47 +96,48 @@ fn do_all_stand(known: &Known, slots: &[SlotItem]) -> bool
     true
 }
 
-/// How often a slot is named.
-fn uses_of(slots: &[SlotItem], slot: u64) -> usize
-    ensures { result ≡ uses_of slot slots.now }
+/// Whether no two entries name the same slot. `AllocError` if there was not enough memory.
+fn are_once(alloc: Global, slots: &[SlotItem]) -> Result<bool, AllocError>
+    ensures { IfOk result (λ once. once ≡ are_once slots.now) }
 {
-    let mut uses = 0;
+    let mut seen = BTreeSet::new(alloc);
     for entry in slots {
-        if entry.slot == slot {
-            uses += 1;
+        // Also if both entries say the same: the order in which their records would be written is not defined.
+        let is_new = seen.insert(entry.slot)?;
+        if !is_new {
+            return Ok(false);
         }
     }
-    uses
+    Ok(true)
 }
 
-/// Whether each slot is named once.
-fn are_once(slots: &[SlotItem]) -> bool
-    ensures { result ≡ are_once slots.now }
-{
-    for entry in slots {
-        // Also where both say the same: which records would be written then, and in what order, nobody said.
-        if uses_of(slots, entry.slot) != 1 {
-            return false;
-        }
-    }
-    true
-}
-
-/// Whether the fixed modules stand in open slots, those that are put into slots stand well, and each slot is named once.
-fn is_allowed(known: &Known, references: &[ModuleReference], slots: &[SlotItem]) -> bool
-    ensures { result ≡ (list_all (is_fixed_open (physical_in known.now) (fixed_by known.now) (number_in known.now)) references.now
+/// Whether each module may be in the slots in which it is fixed, each module may be in the slot into which the project puts it, and no two
+/// entries name the same slot.
+fn is_allowed(
+    alloc: Global,
+    known: &Known,
+    references: &[ModuleReference],
+    slots: &[SlotItem],
+) -> Result<bool, AllocError>
+    ensures { IfOk result (λ allowed. allowed ≡ (list_all (is_fixed_open (physical_in known.now) (fixed_by known.now) (number_in known.now)) references.now
         && list_all (stands_well (physical_in known.now) (fixed_by known.now) (taken_by known.now) (number_in known.now)) slots.now
-        && are_once slots.now) }
+        && are_once slots.now)) }
 {
-    are_fixed_open(known, references) && do_all_stand(known, slots) && are_once(slots)
+    if !are_fixed_open(known, references) {
+        return Ok(false);
+    }
+    if !do_all_stand(known, slots) {
+        return Ok(false);
+    }
+    are_once(alloc, slots)
 }
 
-/// Whether each module may stand in its slot.
+/// Whether each module may be in its slot.
 pub(crate) fn are_allowed(alloc: Global, catalogue: &Catalogue) -> Result<bool, AllocError>
     ensures { IfOk result (λ allowed. allowed ≡ are_allowed catalogue.now) }
 {
     let known = Known::of(alloc, catalogue)?;
     let references = catalogue.access_point.references.as_slice();
     let slots = catalogue.project.slots.as_slice();
-    Ok(is_allowed(&known, references, slots))
+    is_allowed(alloc, &known, references, slots)
 }

@@ -1,4 +1,4 @@
-//! Why a text gives no plan.
+//! The faults of a text that gives no plan.
 ghost use Rattle.std.specs.Prelude.{◌≡◌};
 ghost use Rattle.configurator.specs.declared.fault.PlanFault.TheVariants.{OutOfMemory};
 ghost use Rattle.configurator.specs.Fault.{number_of, of_catalogue, of_length};
@@ -8,8 +8,8 @@ use plans::TooLong;
 use std::alloc::AllocError;
 use thiserror::Error;
 
-/// Why a text gives no plan. The first four are found in the order of the keys; then, over the whole, `Name` comes first, and
-/// `Address`, `NotAllowedInSlot`, `TooManySlots`, `FrameTooLong` and `ConnectTooLong` follow in this order.
+/// Why a text gives no plan. The first four are found while the text is read, in the order of the keys. The others are faults of the whole
+/// catalogue, checked in this order: `Name`, `Address`, `NotAllowedInSlot`, `TooManySlots`, `FrameTooLong`, `ConnectTooLong`.
 #[derive(Clone, Copy, Debug, PartialEq, Eq, Error)]
 pub enum PlanFault {
     #[error("the text is no JSON")]
@@ -37,7 +37,7 @@ pub enum PlanFault {
 }
 
 impl PlanFault {
-    /// Its number, 1 to 11.
+    /// The fault's number, 1 to 11.
     pub fn number(self) -> u8
         ensures { result ≡ number_of self }
     {

@@ -1,4 +1,4 @@
-//! Whether there are not too many slots, submodules and records.
+//! The limits on the numbers of slots, submodules and records.
 ghost use Rattle.std.specs.Prelude.{◌≡◌, nat_le, length};
 ghost use Rattle.std.specs.List.{list_all};
 ghost use Rattle.configurator.specs.Few.{are_few, are_low, are_records_few, are_slots_low, is_small, is_small_if};
@@ -12,7 +12,7 @@ fn have_few_parameters(submodules: &[SubmoduleItem]) -> bool
     ensures { result ≡ list_all (λ entry. nat_le (length entry.parameters) 2) submodules.now }
 {
     for submodule in submodules {
-        if submodule.parameters.len() > 2 {
+        if submodule.parameters.as_slice().len() > 2 {
             return false;
         }
     }
@@ -26,7 +26,7 @@ fn is_small(submodules: &[SubmoduleItem]) -> bool
     submodules.len() <= 4 && have_few_parameters(submodules)
 }
 
-/// Whether what stands in a slot is small.
+/// Whether a slot is empty or its module has at most four submodules, each with at most two parameter records.
 fn is_slot_small(catalogue: &Catalogue, slot: u16) -> bool
     ensures { result ≡ is_small_if (stands_in catalogue.now slot) }
 {
@@ -36,7 +36,7 @@ fn is_slot_small(catalogue: &Catalogue, slot: u16) -> bool
     }
 }
 
-/// Whether what stands in each of these slots is small.
+/// Whether this is true of each of these slots.
 fn are_slots_small(catalogue: &Catalogue, slots: &[u16]) -> bool
     ensures { result ≡ list_all (λ slot. is_small_if (stands_in catalogue.now slot)) slots.now }
 {
@@ -48,7 +48,7 @@ fn are_slots_small(catalogue: &Catalogue, slots: &[u16]) -> bool
     true
 }
 
-/// Whether all slots into which something is put are at most 15.
+/// Whether each slot into which the project puts a module is at most 15.
 fn are_slots_low(slots: &[SlotItem]) -> bool
     ensures { result ≡ are_slots_low slots.now }
 {
@@ -60,7 +60,7 @@ fn are_slots_low(slots: &[SlotItem]) -> bool
     true
 }
 
-/// Whether slots are at most 15.
+/// Whether each of these slots is at most 15.
 fn are_low(slots: &[u64]) -> bool
     ensures { result ≡ are_low slots.now }
 {
@@ -72,7 +72,7 @@ fn are_low(slots: &[u64]) -> bool
     true
 }
 
-/// The same of all slots in which modules are fixed.
+/// Whether each slot in which a module is fixed is at most 15.
 fn are_fixed_low(references: &[ModuleReference]) -> bool
     ensures { result ≡ list_all (λ entry. are_low entry.fixed_in) references.now }
 {
@@ -84,13 +84,13 @@ fn are_fixed_low(references: &[ModuleReference]) -> bool
     true
 }
 
-/// Whether there are at most 32 records.
+/// Whether the slots have at most 32 records together.
 fn are_records_few(slots: &[SlotItem]) -> bool
     ensures { result ≡ are_records_few slots.now }
 {
     let mut left = 32;
     for entry in slots {
-        // What is left is counted down, so that no sum can overflow.
+        // Counted down from 32, so that no sum can overflow.
         if entry.records.len() > left {
             return false;
         }
@@ -99,7 +99,8 @@ fn are_records_few(slots: &[SlotItem]) -> bool
     true
 }
 
-/// Whether there are not too many slots, submodules and records.
+/// Whether a catalogue is within the limits: slots 0 to 15, in each at most four submodules with at most two parameter records, and at most
+/// 32 records.
 #[tactic(auto, unfolding(crate::specs::Few::are_few))]
 pub(crate) fn are_few(catalogue: &Catalogue) -> bool
     ensures { result ≡ are_few catalogue.now }

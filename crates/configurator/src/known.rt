@@ -1,4 +1,4 @@
-//! What is known of modules and slots, so that a module is judged in a few steps however long the lists are.
+//! Maps and sets of a catalogue's modules and slots, so that checking a module does not search the lists.
 ghost use Rattle.std.specs.Prelude.{◌≡◌, ◌==◌, ◌&&◌, ◌||◌, ℕ, List, Some, None, IfOk, OnOk, cond, if◌then◌else◌};
 ghost use Rattle.std.specs.Str.{bytes_eq};
 ghost use Rattle.std.specs.List.{list_any};
@@ -13,16 +13,16 @@ use catalogue::{Catalogue, ModuleItem, ModuleReference};
 use std::alloc::{AllocError, Global};
 use std::collections::{BTreeMap, BTreeSet};
 
-/// What is known of the modules and slots of a catalogue.
+/// Maps and sets of the modules and slots of a catalogue.
 #[derive(Drop)]
 pub(crate) struct Known {
     /// The slots that the device has.
     pub(crate) physical: BTreeSet<u64>,
-    /// A number for each module, by its ID.
+    /// The number of each module, by its ID.
     pub(crate) numbers: BTreeMap<String, usize>,
-    /// By slot the module that is fixed there, the first where there are several.
+    /// The number of the module that is fixed in a slot, by the slot. If several are fixed there, that of the first reference.
     pub(crate) fixed: BTreeMap<u64, usize>,
-    /// Into which slot which module may be put, or where it is fixed.
+    /// The pairs of a slot and the number of a module that may be put into it or is fixed in it.
     pub(crate) taken: BTreeSet<(u64, usize)>,
 }
 
@@ -37,7 +37,7 @@ fn physical_of(alloc: Global, slots: &[u16]) -> Result<BTreeSet<u64>, AllocError
     Ok(found)
 }
 
-/// Gives a module a number, by its ID.
+/// Sets the number of the module with an ID.
 fn number_module(
     alloc: Global,
     numbers: &mut BTreeMap<String, usize>,
@@ -52,7 +52,7 @@ fn number_module(
     Ok(())
 }
 
-/// A number for each module.
+/// The numbers of the modules, by their IDs.
 fn numbers_of(alloc: Global, modules: &[ModuleItem]) -> Result<BTreeMap<String, usize>, AllocError>
     ensures { IfOk result (λ found. AreNumbers modules.now (get_by_text found)) }
 {
@@ -65,13 +65,13 @@ fn numbers_of(alloc: Global, modules: &[ModuleItem]) -> Result<BTreeMap<String, 
     Ok(found)
 }
 
-/// Fixes a module in a slot, if none is fixed there yet.
+/// Notes that a module is fixed in a slot, unless a module is noted there already.
 #[tactic(auto, using(crate::proofs::Steps::fixed_there, crate::proofs::Steps::kept_there))]
 fn fix_in(fixed: &mut BTreeMap<u64, usize>, slot: u64, number: usize) -> Result<(), AllocError>
     ensures { OnOk result ((other : ℕ) → get nat_cmp fixed.new other
         ≡ option_or (get nat_cmp fixed.old other) (if slot == other then Some number else None)) }
 {
-    // The first module that is fixed there counts; another one is then judged as not allowed.
+    // The first module is kept; any other module that is fixed there is then refused as not allowed.
     if fixed.contains_key(&slot) {
         return Ok(());
     }
@@ -79,7 +79,7 @@ fn fix_in(fixed: &mut BTreeMap<u64, usize>, slot: u64, number: usize) -> Result<
     Ok(())
 }
 
-/// Fixes a module in slots in which none is fixed yet.
+/// Notes that a module is fixed in each of these slots in which none is noted yet.
 fn fix(fixed: &mut BTreeMap<u64, usize>, slots: &[u64], number: usize) -> Result<(), AllocError>
     ensures { OnOk result ((slot : ℕ) → get nat_cmp fixed.new slot
         ≡ option_or (get nat_cmp fixed.old slot) (if is_in slot slots.now then Some number else None)) }
@@ -90,7 +90,7 @@ fn fix(fixed: &mut BTreeMap<u64, usize>, slots: &[u64], number: usize) -> Result
     Ok(())
 }
 
-/// Fixes a module of the catalogue where it is to be.
+/// Notes the fixed slots of a reference, if the catalogue has its module.
 fn fix_module(
     fixed: &mut BTreeMap<u64, usize>,
     numbers: &BTreeMap<String, usize>,
@@ -105,7 +105,7 @@ fn fix_module(
     }
 }
 
-/// Which module is fixed in which slot.
+/// The number of the module that is fixed in a slot, by the slot.
 #[tactic(auto, using(crate::proofs::Steps::option_or_updated))]
 fn fixed_of(
     alloc: Global,
@@ -121,7 +121,7 @@ fn fixed_of(
     Ok(found)
 }
 
-/// Lets a module into slots.
+/// Adds the pairs of these slots and a module.
 fn take(taken: &mut BTreeSet<(u64, usize)>, slots: &[u64], number: usize) -> Result<(), AllocError>
     ensures { OnOk result ((slot n : ℕ) → contains place_cmp taken.new (slot, n)
         ≡ (contains place_cmp taken.old (slot, n) || (number == n && is_in slot slots.now))) }
@@ -132,7 +132,7 @@ fn take(taken: &mut BTreeSet<(u64, usize)>, slots: &[u64], number: usize) -> Res
     Ok(())
 }
 
-/// Lets a module into the slots into which it may be put, and those in which it is fixed.
+/// Adds the pairs of a module and the slots into which it may be put or in which it is fixed.
 fn take_both(
     taken: &mut BTreeSet<(u64, usize)>,
     reference: &ModuleReference,
@@ -146,7 +146,7 @@ fn take_both(
     take(taken, reference.fixed_in.as_slice(), number)
 }
 
-/// The same of a module that is in the catalogue.
+/// Adds the pairs of a reference, if the catalogue has its module.
 fn take_module(
     taken: &mut BTreeSet<(u64, usize)>,
     numbers: &BTreeMap<String, usize>,
@@ -161,7 +161,7 @@ fn take_module(
     }
 }
 
-/// Which module may be put into which slot, or is fixed there.
+/// The pairs of a slot and the number of a module that may be put into it or is fixed in it.
 #[tactic(auto, using(crate::proofs::Steps::or_or_updated))]
 fn taken_of(
     alloc: Global,
@@ -179,7 +179,7 @@ fn taken_of(
 }
 
 impl Known {
-    /// What is known of a catalogue.
+    /// The maps and sets of a catalogue. `AllocError` if there was not enough memory.
     pub(crate) fn of(alloc: Global, catalogue: &Catalogue) -> Result<Known, AllocError>
         ensures { IfOk result (IsKnown catalogue.now) }
     {
@@ -197,7 +197,7 @@ impl Known {
         })
     }
 
-    /// The number of the module with this ID.
+    /// The number of the module with this ID. `None` if the catalogue does not have it.
     pub(crate) fn number(&self, id: &str) -> Option<usize>
         ensures { result ≡ number_in self.now id.now }
     {

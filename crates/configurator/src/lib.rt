@@ -1,5 +1,5 @@
-//! From the text of a catalogue to the plan of a station: what is judged of the whole, what is plugged in which slot, and the records
-//! that are written.
+//! Makes the plan of a station from the text of a catalogue: checks the whole catalogue, and says which module is plugged in which slot and
+//! which records are written.
 #![tactic(auto)]
 
 mod addresses;

@@ -7,14 +7,14 @@ use catalogue::Project;
 use pn_values::StationName;
 use station_names::check;
 
-/// The two names of a project.
+/// The two station names of a project.
 #[derive(Drop)]
 pub(crate) struct Names {
     pub station: StationName,
     pub controller: StationName,
 }
 
-/// The station name that a text is, if it is one.
+/// A text as a station name. `None` if it is not a valid one.
 fn name_of(text: &str) -> Option<StationName>
     ensures valid { IfSome result (λ name. IsStationName text.now) }
     ensures value { IfSome result (λ name. name ≡ text.now) }
@@ -26,7 +26,7 @@ fn name_of(text: &str) -> Option<StationName>
     }
 }
 
-/// The names of a project, if both are station names.
+/// The station names of a project. `None` if one of them is not valid.
 pub(crate) fn names_of(project: &Project) -> Option<Names>
     ensures valid { IfSome result (λ names. AreNamed project.now) }
     ensures station { IfSome result (λ names. names.station ≡ project.now.station.name) }

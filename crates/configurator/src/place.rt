@@ -1,4 +1,4 @@
-//! At which key a fault is.
+//! The places of faults.
 ghost use Rattle.std.specs.Prelude.{◌≡◌};
 ghost use Rattle.configurator.specs.Places.{name_place, place_of};
 
@@ -7,15 +7,15 @@ use arrayvec::ArrayVec;
 use catalogue::{Catalogue, Key, Project, Step};
 use station_names::check;
 
-/// Why a text gives no plan, and at which key.
+/// Why a text gives no plan, and the place of that fault.
 #[derive(Drop)]
 pub struct Refusal {
     pub fault: PlanFault,
-    /// The steps to the value of the fault, or to the key that is missing. None if the fault is not that of one key.
+    /// The steps to the value of the fault, or to the missing key. Empty if the fault is not at one key.
     pub place: ArrayVec<Step, 8>,
 }
 
-/// The place of the first name that is not valid: the controller's, if the station's is.
+/// The place of the first station name that is not valid: the controller's, if the station's is valid.
 fn name_place(project: &Project) -> ArrayVec<Step, 8>
     ensures { result.items ≡ name_place project.now }
 {
@@ -28,7 +28,7 @@ fn name_place(project: &Project) -> ArrayVec<Step, 8>
     place
 }
 
-/// The place of a fault over the whole.
+/// The place of a fault of the whole catalogue: only an invalid name has one.
 pub(crate) fn place_of(catalogue: &Catalogue, fault: PlanFault) -> ArrayVec<Step, 8>
     ensures { result.items ≡ place_of catalogue.now fault }
 {

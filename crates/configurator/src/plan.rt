@@ -1,4 +1,4 @@
-//! From a text to a plan.
+//! Makes a plan from a text.
 ghost use Rattle.std.specs.Prelude.{◌≡◌, true, IfOk, IfErr, Ok};
 ghost use Rattle.pn_values.specs.StationName.{IsStationName};
 ghost use Rattle.catalogue.specs.Catalogues.{Found};
@@ -20,7 +20,7 @@ use catalogue::{Catalogue, read};
 use plans::{Controller, Parts, Plan, Station, Times};
 use std::alloc::Global;
 
-/// What a plan is made of.
+/// The parts of which a plan is made.
 fn parts_of(catalogue: &Catalogue, names: Names, addresses: Addresses) -> Parts
     requires kept { IsInRange catalogue.now }
     requires station { names.station ≡ catalogue.now.project.station.name }
@@ -52,7 +52,7 @@ fn parts_of(catalogue: &Catalogue, names: Names, addresses: Addresses) -> Parts
     }
 }
 
-/// The plan of a catalogue whose names and addresses are valid, or its first fault over the rest.
+/// The plan of a catalogue whose names and addresses are valid, or the first of the other faults of the whole catalogue.
 fn planned(
     alloc: Global,
     catalogue: &Catalogue,
@@ -78,7 +78,7 @@ fn planned(
     }
 }
 
-/// The plan of a catalogue, or its first fault over the whole.
+/// The plan of a catalogue, or the first fault of the whole catalogue.
 fn plan_of(alloc: Global, catalogue: &Catalogue) -> Result<Plan, PlanFault>
     requires { IsInRange catalogue.now }
     ensures { Handled catalogue.now result }
@@ -94,7 +94,8 @@ fn plan_of(alloc: Global, catalogue: &Catalogue) -> Result<Plan, PlanFault>
     planned(alloc, catalogue, names, addresses)
 }
 
-/// The catalogue that a text of JSON is (the keys are GSDML's) and its plan, or the first fault and its place.
+/// Reads a catalogue, which is JSON with the keys of GSDML. Returns its plan and the catalogue, or the first fault and its place; the fault is
+/// `OutOfMemory` if there was not enough memory.
 pub fn plan_or_place(alloc: Global, text: &[u8]) -> Result<(Plan, Catalogue), Refusal>
     ensures found { IfOk result (λ both. Found text.now both.1) }
     ensures handled { IfOk result (λ both. Handled both.1 (Ok both.0)) }
@@ -119,7 +120,7 @@ pub fn plan_or_place(alloc: Global, text: &[u8]) -> Result<(Plan, Catalogue), Re
     }
 }
 
-/// The plan of the catalogue that a text of JSON is, or its first fault.
+/// Reads a catalogue, which is JSON with the keys of GSDML. Returns its plan or the first fault; `OutOfMemory` if there was not enough memory.
 pub fn plan_from_json(alloc: Global, text: &[u8]) -> Result<Plan, PlanFault>
     ensures planned { IfOk result (IsPlanOf text.now) }
     ensures refused { IfErr result (IsRefused text.now) }

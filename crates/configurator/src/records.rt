@@ -1,4 +1,4 @@
-//! The records that are written.
+//! The records that are written to the station.
 ghost use Rattle.std.specs.Prelude.{◌≡◌, ◌≤◌, ◌+◌, ◌++◌, true, length, map};
 ghost use Rattle.std.specs.List.{AllByRecursion};
 ghost use Rattle.arrayvec.specs.ArrayVec.{array_vec_len};
@@ -10,7 +10,7 @@ use arrayvec::ArrayVec;
 use catalogue::{RecordItem, SlotItem};
 use plans::PlanRecord;
 
-/// Octets in a buffer of their own. There must be at most 64.
+/// A copy of at most 64 octets.
 fn octets_of(octets: &[u8]) -> ArrayVec<u8, 64>
     requires { length octets.now ≤ 64 }
     ensures { result.items ≡ octets.now }
@@ -20,7 +20,7 @@ fn octets_of(octets: &[u8]) -> ArrayVec<u8, 64>
     copy
 }
 
-/// A record of a slot.
+/// A record that is written to a slot.
 fn record_at(slot: u16, item: &RecordItem) -> PlanRecord
     requires { length item.now.octets ≤ 64 }
     ensures { result ≡ record_at slot item.now }
@@ -33,7 +33,7 @@ fn record_at(slot: u16, item: &RecordItem) -> PlanRecord
     }
 }
 
-/// Appends the records of a slot. There must be room.
+/// Appends the records of a slot. The list must have room for them.
 fn push_records(records: &mut ArrayVec<PlanRecord, 32>, slot: u16, items: &[RecordItem])
     requires short { AllByRecursion (λ item. length item.octets ≤ 64) items.now }
     requires room { array_vec_len records.old + length items.now ≤ 32 }
@@ -45,7 +45,7 @@ fn push_records(records: &mut ArrayVec<PlanRecord, 32>, slot: u16, items: &[Reco
     }
 }
 
-/// All records, in the order of the text.
+/// All records, in the order of the text. There must be at most 32.
 pub(crate) fn records_of(slots: &[SlotItem]) -> ArrayVec<PlanRecord, 32>
     requires low { are_slots_low slots.now ≡ true }
     requires short { AreSlotsShort slots.now }

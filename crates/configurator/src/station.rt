@@ -1,4 +1,4 @@
-//! What stands in each slot.
+//! Which module is in each slot.
 ghost use Rattle.std.specs.Prelude.{◌≡◌, ◌+◌, ◌++◌, ◌≤◌, [], true, length, option_map};
 ghost use Rattle.std.specs.List.{cons_option, filter_map, list_all};
 ghost use Rattle.arrayvec.specs.ArrayVec.{array_vec_len};
@@ -16,14 +16,14 @@ use pn_values::{Real, RealModule};
 /// The slots that a device has.
 pub(crate) const ALL_SLOTS: [u16; 16] = [0, 1, 2, 3, 4, 5, 6, 7, 8, 9, 10, 11, 12, 13, 14, 15];
 
-/// A module that stands in a slot.
+/// A module that is in a slot.
 #[derive(Clone, Copy)]
 pub(crate) struct Standing<'a> {
     pub ident: u32,
     pub submodules: &'a [SubmoduleItem],
 }
 
-/// The ID of what is put into a slot.
+/// The ID of the module that the project puts into a slot. `None` if it puts none there.
 fn put_in(slots: &[SlotItem], slot: u64) -> Option<&str>
     ensures { option_map (λ target. target.now) result ≡ put_in slot slots.now }
 {
@@ -35,7 +35,7 @@ fn put_in(slots: &[SlotItem], slot: u64) -> Option<&str>
     None
 }
 
-/// The ID of what is fixed in a slot.
+/// The ID of the module that is fixed in a slot. `None` if none is.
 fn fixed_in(references: &[ModuleReference], slot: u64) -> Option<&str>
     ensures { option_map (λ target. target.now) result ≡ fixed_in slot references.now }
 {
@@ -47,7 +47,7 @@ fn fixed_in(references: &[ModuleReference], slot: u64) -> Option<&str>
     None
 }
 
-/// The module with this ID.
+/// The module with this ID. `None` if the catalogue does not have it.
 fn module_with<'a>(modules: &'a [ModuleItem], target: &str) -> Option<Standing<'a>>
     ensures { option_map seen result ≡ module_with target.now modules.now }
 {
@@ -62,7 +62,7 @@ fn module_with<'a>(modules: &'a [ModuleItem], target: &str) -> Option<Standing<'
     None
 }
 
-/// The ID of what stands in a slot: what is put into it, or else what is fixed there.
+/// The ID of the module in a slot: the module that the project puts there, or else the one that is fixed there.
 fn target_in(catalogue: &Catalogue, slot: u64) -> Option<&str>
     ensures { option_map (λ target. target.now) result ≡ target_in catalogue.now slot }
 {
@@ -72,7 +72,7 @@ fn target_in(catalogue: &Catalogue, slot: u64) -> Option<&str>
     }
 }
 
-/// What stands in a slot: the access point in slot 0.
+/// The module in a slot: the access point in slot 0. `None` if the slot is empty.
 #[tactic(auto, unfolding(crate::specs::Standing::stands_in))]
 pub(crate) fn standing_in(catalogue: &Catalogue, slot: u16) -> Option<Standing<'_>>
     ensures { option_map seen result ≡ stands_in catalogue.now slot }
@@ -89,7 +89,7 @@ pub(crate) fn standing_in(catalogue: &Catalogue, slot: u16) -> Option<Standing<'
     }
 }
 
-/// Appends what stands in a slot, if something does. There must be room.
+/// Appends the module in a slot, unless the slot is empty. The list must have room for it.
 fn push_module(modules: &mut ArrayVec<RealModule, 16>, catalogue: &Catalogue, slot: u16)
     requires room { array_vec_len modules.old ≤ 15 }
     requires small { is_small_if (stands_in catalogue.now slot) ≡ true }
@@ -101,7 +101,7 @@ fn push_module(modules: &mut ArrayVec<RealModule, 16>, catalogue: &Catalogue, sl
     }
 }
 
-/// Appends what stands in these slots. There must be room.
+/// Appends the modules in these slots. The list must have room for them.
 fn push_modules(modules: &mut ArrayVec<RealModule, 16>, catalogue: &Catalogue, slots: &[u16])
     requires room { array_vec_len modules.old + length slots.now ≤ 16 }
     requires small { list_all (λ slot. is_small_if (stands_in catalogue.now slot)) slots.now ≡ true }
@@ -112,7 +112,7 @@ fn push_modules(modules: &mut ArrayVec<RealModule, 16>, catalogue: &Catalogue, s
     }
 }
 
-/// What is plugged, in the order of the slots.
+/// The modules that are plugged, in the order of the slots.
 pub(crate) fn real_of(catalogue: &Catalogue) -> Real
     requires { list_all (λ slot. is_small_if (stands_in catalogue.now slot)) all_slots ≡ true }
     ensures { result.modules.items ≡ plugged catalogue.now }

@@ -1,4 +1,4 @@
--- What lies at the front of a room is what was laid there.
+-- The items at the start of a room are those that were written there.
 use Rattle.std.proofs.Common.{◌≡◌, ◌∙◌, ◌++◌, ◌+◌, ◌<◌, ◌≤◌, ℕ, zero, suc, refl, sym, ap, List, [], ◌∷◌, length, map, take, drop, set, get_or, arith}
 use Rattle.pn_values.specs.declared.real.ParameterRecord.{ParameterRecord}
 use Rattle.pn_values.specs.declared.real.RealModule.{RealModule}
@@ -9,7 +9,7 @@ use Rattle.c_layout.specs.Modules.{module_of, parameter_of, submodule_of}
 use Rattle.controller_abi.specs.Plans.{record_of}
 use Rattle.plan_abi.specs.Readings.{no_module, no_parameters, no_submodules, over, written_module, written_parameter, written_record, written_submodule}
 
--- one more item is laid
+-- one more item is written
 pub laid_more : {A B : Type 0} (f : A → B) (given : List A) (room : List B) (i : ℕ) (x : B) (d : A) → i < length given → length given ≤ length room → x ≡ f (get_or given i d)
     → set (map f (take i given) ++ drop i room) i x ≡ map f (take (suc i) given) ++ drop (suc i) room
 laid_more f [] room i x d below few is = absurd (omega arith)
@@ -21,7 +21,7 @@ taken : {A : Type 0} (xs rest : List A) → take (length xs) (xs ++ rest) ≡ xs
 taken [] rest = refl
 taken (x ∷ xs) rest = ap (λ ys. x ∷ ys) (taken xs rest)
 
--- the front of a room
+-- the start of a room
 pub front : {A : Type 0} (room xs : List A) → take (length xs) (over room xs) ≡ xs
 front room xs = taken xs (drop (length xs) room)
 
@@ -33,7 +33,7 @@ map_back : {A B : Type 0} (f : A → B) (g : B → A) (back : (x : A) → g (f x
 map_back f g back [] = refl
 map_back f g back (x ∷ xs) = ap (λ y. y ∷ map g (map f xs)) (back x) ∙ ap (λ ys. x ∷ ys) (map_back f g back xs)
 
--- the front of a room, as it is read back
+-- the start of a room, as it is read back
 pub read_back : {A B : Type 0} (f : A → B) (g : B → A) (back : (x : A) → g (f x) ≡ x) (room : List B) (xs : List A)
     → map g (take (length xs) (over room (map f xs))) ≡ xs
 read_back f g back room xs = ap (map g) (taken_map f xs (drop (length (map f xs)) room)) ∙ map_back f g back xs

@@ -1,4 +1,4 @@
--- The place of a fault, as a host is told it.
+-- The place of a fault, as it is reported to a host.
 use Rattle.std.specs.Prelude.{◌≡◌, ◌≢◌, ◌+◌, ◌-◌, ◌++◌, ℕ, Bool, true, false, codes, decimal, min, List, [], ◌∷◌, length, take, drop, flat_map}
 use Rattle.catalogue.specs.declared.fault.Step.{Step}
 use Rattle.catalogue.specs.declared.fault.Step.TheVariants.{At, Entry}
@@ -8,20 +8,20 @@ use Rattle.configurator.specs.declared.fault.PlanFault.TheVariants.{OutOfMemory}
 use Rattle.configurator.specs.declared.place.Refusal.{Refusal}
 use Rattle.configurator.specs.Planned.{IsRefusedAt}
 
--- a step: a key behind a point, the number of an entry in brackets
+-- a step: a dot and a key, or the number of an entry in brackets
 unfoldable pub shown : Step → List ℕ
 shown (At key) = codes "." ++ name_of key
 shown (Entry index) = codes "[" ++ decimal index ++ codes "]"
 
--- the steps one behind another
+-- the steps, one after another
 abbrev pub spelled_behind : List Step → List ℕ
 spelled_behind steps = flat_map shown steps
 
--- without the point before the first key: `Project.Slots[1].Slot`
+-- without the dot before the first key: `Project.Slots[1].Slot`
 abbrev pub spelled : List Step → List ℕ
 spelled steps = drop 1 (spelled_behind steps)
 
--- a text in a room as far as it fits, a zero behind it, and what else was in the room
+-- a text at the start of a room, as much as fits, a zero after it, and then what was in the room
 abbrev pub ended : List ℕ → List ℕ → List ℕ
 ended text room =
     let count = min (length text) (length room - 1) in

@@ -1,4 +1,4 @@
--- What a host is answered where it asks for the plan of a catalogue.
+-- What is returned to a host that asks for the plan of a catalogue.
 use Rattle.std.specs.Prelude.{◌≡◌, ◌≤◌, ◌<◌, ◌++◌, ℕ, List, [], ◌∷◌, length, map, drop, min, nat_le, replicate, Ok, if◌then◌else◌}
 use Rattle.pn_values.specs.declared.real.ParameterRecord.{ParameterRecord}
 use Rattle.pn_values.specs.declared.real.RealModule.{RealModule}
@@ -16,15 +16,15 @@ use Rattle.controller_abi.specs.declared.plan.WrittenPlan.{WrittenPlan}
 use Rattle.controller_abi.specs.declared.plan.WrittenRecord.{WrittenRecord}
 use Rattle.controller_abi.specs.Plans.{parts_of}
 
--- a number is that of a fault for which a text is refused
+-- the number is that of a fault for which the text is refused
 pub record IsFault (text : List ℕ) (answer : ℕ) : Type 0 where
   pub fault : PlanFault
   pub refused : IsRefused text fault
   pub number : answer ≡ number_of fault
 
--- ---- how what is plugged and a record lie in the host's memory
+-- ---- modules and records in the host's memory
 
--- items at the front of a room, and behind them what was there
+-- items at the start of a room, and then what was there
 abbrev pub over : {A : Type 0} → List A → List A → List A
 over room items = items ++ drop (length items) room
 
@@ -78,7 +78,7 @@ no_record = record { slot = 0; subslot = 0; index = 0; length = 0; octets = repl
 
 -- ---- a whole plan
 
--- a plan of nothing: all of it is zero
+-- a plan that is all zero
 pub record IsBlank (written : WrittenPlan) : Type 0 where
   pub name : written.name ≡ replicate 240 0
   pub controller_name : written.controller_name ≡ replicate 240 0
@@ -101,11 +101,11 @@ pub record IsBlank (written : WrittenPlan) : Type 0 where
   pub modules : written.modules ≡ replicate 16 no_module
   pub records : written.records ≡ replicate 32 no_record
 
--- the octets of a type of station: none of one that is too long
+-- the octets of a type of station: none if it has more than 28
 abbrev pub type_of : List ℕ → List ℕ
 type_of octets = if nat_le (length octets) 28 then octets else []
 
--- a plan of these parts and this type of station: whatever no list of it holds is zero
+-- a plan of these parts and this type of station: each place that a list does not use is zero
 pub record IsFilled (parts : Parts) (station_type : List ℕ) (written : WrittenPlan) : Type 0 where
   pub whole : parts_of written ≡ parts
   pub name : written.name ≡ over (replicate 240 0) parts.station.name
@@ -119,7 +119,7 @@ pub record IsFilled (parts : Parts) (station_type : List ℕ) (written : Written
   pub modules : written.modules ≡ over (replicate 16 no_module) (map written_module parts.real.modules.items)
   pub records : written.records ≡ over (replicate 32 no_record) (map written_record parts.records.items)
 
--- what is written is the plan of the catalogue that a text is, with its type of station
+-- what was written is the plan of the text's catalogue, with its type of station
 pub record IsWritten (text : List ℕ) (written : WrittenPlan) : Type 0 where
   pub found : Catalogue
   pub reading : Found text found

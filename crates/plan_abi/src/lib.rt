@@ -1,5 +1,4 @@
-//! The plan of a station for a host: it is read from a catalogue and lies as the host's memory has it. If a catalogue has a fault, its
-//! key is told.
+//! Reads the plan of a station from a catalogue into a struct of the host's memory, and writes the place of a catalogue's first fault as text.
 #![tactic(auto)]
 
 mod place;

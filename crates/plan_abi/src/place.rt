@@ -1,4 +1,4 @@
-//! At which key of a catalogue its first fault is, for a message.
+//! The place of a catalogue's first fault, as text for a message.
 ghost use Rattle.std.specs.Prelude.{◌≡◌, ◌≢◌, ◌≤◌, Bool, length, not, if◌then◌else◌};
 ghost use Rattle.configurator.specs.declared.fault.PlanFault.TheVariants.{OutOfMemory};
 ghost use Rattle.configurator.specs.Planned.{IsRefusedAt};
@@ -9,8 +9,9 @@ use catalogue::Step;
 use configurator::{PlanFault, Refusal, plan_or_place};
 use std::alloc::Global;
 
-/// Writes at which key the first fault of a catalogue is, with a zero behind it, as far as there is room. 1 if it wrote a place. Else 0
-/// and nothing is written: the catalogue has a plan, its fault is at no one key, there is no room, or memory was refused.
+/// Writes the place of a catalogue's first fault, with a zero octet after it. A place that is too long for the room is cut off. Returns 1 if it
+/// wrote a place. Returns 0 and writes nothing if the catalogue has a plan, its fault is not at one key, the room has no octets, or there was
+/// not enough memory.
 pub fn show(alloc: Global, text: &[u8], room: &mut [u8]) -> u32
     ensures length { length room.new ≡ length room.old }
     ensures kept { result ≡ 0 → room.new ≡ room.old }
@@ -23,7 +24,7 @@ pub fn show(alloc: Global, text: &[u8], room: &mut [u8]) -> u32
     }
 }
 
-// Whether memory was refused: then the place has no meaning.
+// Whether there was not enough memory: then the place has no meaning.
 fn is_memory(fault: PlanFault) -> bool
     ensures { result ≡ is_memory fault }
 {
@@ -33,7 +34,7 @@ fn is_memory(fault: PlanFault) -> bool
     }
 }
 
-// Writes the place of a refusal, if it has one.
+// Writes the place of a refusal, if it has one. Returns 1 if it wrote a place, else 0.
 fn tell(alloc: Global, refusal: &Refusal, room: &mut [u8]) -> u32
     ensures length { length room.new ≡ length room.old }
     ensures kept { result ≡ 0 → room.new ≡ room.old }
@@ -47,7 +48,7 @@ fn tell(alloc: Global, refusal: &Refusal, room: &mut [u8]) -> u32
     tell_place(alloc, refusal.place.as_slice(), room)
 }
 
-// Writes a place.
+// Writes a place. Returns 1 if it wrote it, else 0.
 fn tell_place(alloc: Global, place: &[Step], room: &mut [u8]) -> u32
     ensures length { length room.new ≡ length room.old }
     ensures kept { result ≡ 0 → room.new ≡ room.old }
@@ -59,7 +60,7 @@ fn tell_place(alloc: Global, place: &[Step], room: &mut [u8]) -> u32
     }
     match spelled(alloc, place) {
         Ok(text) => match text.as_slice().split_first() {
-            // The point before the first key is left out.
+            // Without the dot before the first key.
             Some((_, shown)) => {
                 put(shown, room);
                 1
@@ -70,7 +71,7 @@ fn tell_place(alloc: Global, place: &[Step], room: &mut [u8]) -> u32
     }
 }
 
-// Writes what there is room for, and a zero behind it.
+// Writes as many octets as there is room for, and a zero octet after them.
 fn put(shown: &[u8], room: &mut [u8])
     requires { 1 ≤ length room.old }
     ensures length { length room.new ≡ length room.old }

@@ -1,4 +1,4 @@
-//! A catalogue read into a plan.
+//! Reads a catalogue into a plan.
 ghost use Rattle.std.specs.Prelude.{◌≡◌, ◌≢◌};
 ghost use Rattle.configurator.specs.Planned.{IsPlanOf};
 ghost use Rattle.plan_abi.specs.Readings.{IsBlank, IsFault, IsWritten};
@@ -9,11 +9,11 @@ use configurator::plan_or_place;
 use controller_abi::WrittenPlan;
 use std::alloc::Global;
 
-/// Octets of a plan.
+/// The size of a plan in octets.
 const PLAN: usize = 4272;
 
-/// Reads a catalogue into a plan of that many octets: 0, or the number of its first fault; then all of the plan is zero. A plan of
-/// another size is left as it is, and answered with 12.
+/// Reads a catalogue into a plan. Returns 0, or the number of the catalogue's first fault: then all of the plan is zero. `size` is the size of
+/// a plan in octets as the host has it: if it is not 4,272, the function returns 12 and the plan stays as it was.
 pub fn read(alloc: Global, text: &[u8], size: usize, plan: &mut WrittenPlan) -> u32
     ensures planned { result ≡ 0 → IsPlanOf text.now (parts_of plan.new) }
     ensures written { result ≡ 0 → IsWritten text.now plan.new }

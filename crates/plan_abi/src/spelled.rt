@@ -1,4 +1,4 @@
-//! A place in a catalogue as a text: `Project.Slots[1].Slot`.
+//! A place in a catalogue as text, as `Project.Slots[1].Slot`.
 ghost use Rattle.std.specs.Prelude.{◌≡◌, ◌++◌, IfOk, OnOk, flat_map};
 ghost use Rattle.plan_abi.specs.Places.{spelled_behind, shown};
 
@@ -6,7 +6,7 @@ use catalogue::Step;
 use itoa::Buffer;
 use std::alloc::{AllocError, Global};
 
-/// Appends a step: a key behind a point, an entry in brackets.
+/// Appends a step: a dot and a key, or the number of an entry in brackets.
 #[tactic(auto, unfolding(crate::specs::Places::shown))]
 fn push_step(text: &mut Vec<u8>, step: Step) -> Result<(), AllocError>
     ensures { OnOk result (text.new.items ≡ text.old.items ++ shown step) }
@@ -27,7 +27,7 @@ fn push_step(text: &mut Vec<u8>, step: Step) -> Result<(), AllocError>
     }
 }
 
-/// The steps of a place one behind another, the first key behind a point too.
+/// The steps of a place, one after another. There is a dot before the first key too.
 pub(crate) fn spelled(alloc: Global, steps: &[Step]) -> Result<Vec<u8>, AllocError>
     ensures { IfOk result (λ text. text.items ≡ spelled_behind steps.now) }
 {

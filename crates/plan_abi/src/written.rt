@@ -1,4 +1,4 @@
-//! A plan as it lies in the memory of the host.
+//! Writes a plan into a struct of the host's memory.
 ghost use Rattle.std.specs.Prelude.{◌≡◌, ◌≤◌, ◌<◌, length, map, min, replicate, take};
 ghost use Rattle.plans.specs.Plan.{AreShort};
 ghost use Rattle.c_layout.specs.Modules.{module_of, parameter_of, submodule_of};
@@ -11,7 +11,7 @@ use controller_abi::{WrittenPlan, WrittenRecord};
 use plans::{Plan, PlanRecord};
 use pn_values::{ParameterRecord, RealModule, RealSubmodule};
 
-/// Makes it a plan of nothing.
+/// Sets all of a plan to zero.
 pub fn clear(written: &mut WrittenPlan)
     ensures { IsBlank written.new }
 {
@@ -55,7 +55,7 @@ fn clear_records(places: &mut [WrittenRecord])
     }
 }
 
-/// Fills a plan of nothing in with a plan and the type of a station: of one that is too long only its length.
+/// Fills a plan that is all zero from a plan and a type of station. Of a type of more than 28 octets only the length is written.
 pub fn put(written: &mut WrittenPlan, plan: &Plan, station_type: &[u8])
     requires { IsBlank written.old }
     ensures whole { parts_of written.new ≡ plan.now }
@@ -89,7 +89,7 @@ pub fn put(written: &mut WrittenPlan, plan: &Plan, station_type: &[u8])
     put_octets(&mut written.station_type, type_of(station_type));
 }
 
-// The octets of a type of station: none of one that is too long.
+// The octets of a type of station: none if it has more than 28.
 fn type_of(station_type: &[u8]) -> &[u8]
     ensures value { result.now ≡ type_of station_type.now }
     ensures short { length result.now ≤ 28 }
@@ -101,7 +101,7 @@ fn type_of(station_type: &[u8]) -> &[u8]
     }
 }
 
-// How long a type of station is: one that is too long for 32 bits stays too long.
+// The length of a type of station, at most 2^32 - 1.
 fn length_of(station_type: &[u8]) -> u32
     ensures { result ≡ min (length station_type.now) 4294967295 }
 {
@@ -164,7 +164,7 @@ fn put_records(places: &mut [WrittenRecord], given: &[PlanRecord])
     }
 }
 
-// ---- what is plugged in
+// ---- the modules that are plugged
 
 fn parameter_in(entry: &ParameterRecord) -> Parameter
     ensures { result ≡ written_parameter entry.now }

@@ -53,7 +53,7 @@ iocr_accepted parts direction good short = record {
 pub alarm_accepted : IsAlarmCrBlockReq alarm_block
 alarm_accepted = record { timeout = omega arith; retries_least = omega arith; retries_greatest = omega arith; data_least = omega arith; data_greatest = omega arith }
 
--- ---- what submodules have is not too long
+-- ---- the cyclic data of submodules is not too long
 
 short_input : (input output : Option ℕ) → unwrap_or (option_map (λ (size : ℕ). size + 1) (input_of input output)) 0 ≤ 1440 → IfSome input (λ octets. octets ≤ 1440)
 short_input None output below = tt

@@ -1,4 +1,4 @@
--- The submodules of modules that stand in order are in different subslots.
+-- The submodules of modules that are in order are in different subslots.
 use Rattle.std.proofs.Common.{◌≡◌, ℕ, ◌<◌, ◌==◌, false, List, [], ◌∷◌, ◌++◌, map, arith}
 use Rattle.std.specs.List.{AllByRecursion}
 use Rattle.std.proofs.lemmas.Bool.{and_parts, eqb-true, false_from_ne_true}
@@ -51,7 +51,7 @@ other_subslot one other below = false_from_ne_true (is_at other.slot other.subsl
     let e = eqb-true one.subslot other.subslot (and_parts (one.slot == other.slot) (one.subslot == other.subslot) t).1 in
     absurd (omega (arith, e, below)))
 
--- the submodules in a slot, and those of later slots behind them
+-- the submodules in a slot, and those of later slots after them
 in_slot : (slot : ℕ) (parts : List RealSubmodule) (behind : List ExpectedData) → IsRising (map (λ part. part.subslot) parts)
     → AllByRecursion (λ other. slot < other.slot) behind → AreElsewhere behind → AreElsewhere (data_in_slot slot parts ++ behind)
 in_slot slot [] behind rising later apart = apart

@@ -20,11 +20,11 @@ use Rattle.plans.proofs.Distinct.{AreElsewhere, IsElsewhere, all_also, all_so, a
 
 -- ---- which submodule is found
 
--- what the submodule in a subslot has
+-- the cyclic data of the submodule in a subslot
 abbrev io_at : ℕ → ℕ → ℕ → List ExpectedData → Option SubmoduleData
 io_at slot subslot index subs = option_map (λ (found : ℕ × SubmoduleData). found.1) (found_from slot subslot index subs)
 
--- the number from which it is counted does not matter
+-- it does not depend on the number from which submodules are counted
 io_counted : (slot subslot one other : ℕ) (subs : List ExpectedData) → io_at slot subslot one subs ≡ io_at slot subslot other subs
 io_counted slot subslot one other [] = refl
 io_counted slot subslot one other (sub ∷ subs) =
@@ -39,13 +39,13 @@ taken_is : (direction : IocrType) (kind : PlaceKind) (found : Option (ℕ × Sub
 taken_is direction kind None = refl
 taken_is direction kind (Some x) = refl
 
--- how many octets are expected at a place, by what the submodule there has
+-- the octets that are expected at a place, from the cyclic data of the submodule there
 taken_by : (direction : IocrType) (kind : PlaceKind) (slot subslot : ℕ) (subs : List ExpectedData) (io : Option SubmoduleData)
     → io_at slot subslot 0 subs ≡ io → taken_at direction subs kind slot subslot ≡ option_and_then (taken direction kind) io
 taken_by direction kind slot subslot subs io e =
     taken_is direction kind (found_from slot subslot 0 subs) ∙ ap (λ (x : Option SubmoduleData). option_and_then (taken direction kind) x) e
 
--- it is found by its slot and subslot
+-- a submodule is found by its slot and subslot
 abbrev IsFound : List ExpectedData → ExpectedData → Type 0
 IsFound all sub = io_at sub.slot sub.subslot 0 all ≡ Some sub.io_data
 
@@ -58,7 +58,7 @@ first_found sub subs = rw (same_place sub) refl
 later_found : (one : ExpectedData) (subs : List ExpectedData) (sub : ExpectedData) → IsElsewhere one sub → IsFound subs sub → IsFound (one ∷ subs) sub
 later_found one subs sub other found = rw other (io_counted sub.slot sub.subslot 1 0 subs ∙ found)
 
--- and so is each of them
+-- each submodule is found by its slot and subslot
 each_found : (subs : List ExpectedData) → AreElsewhere subs → AllByRecursion (IsFound subs) subs
 each_found [] apart = tt
 each_found (sub ∷ subs) apart =
@@ -94,7 +94,7 @@ mapped_twice : (direction : IocrType) (all : List ExpectedData) (kind : PlaceKin
 mapped_twice direction all kind [] = refl
 mapped_twice direction all kind (place ∷ places) = ap (λ (ps : List Place). place_of direction all kind (object_of place) ∷ ps) (mapped_twice direction all kind places)
 
--- what a plan asks for are its packed places
+-- the places that a plan asks for are the packed places
 pub asked_packed : (direction : IocrType) (subs : List ExpectedData) → AreElsewhere subs
     → asked direction subs (map object_of (packed direction Data 0 subs)) (map object_of (packed direction Iocs (octets_of direction Data subs) subs))
     ≡ packed_places direction subs
@@ -109,7 +109,7 @@ asked_packed direction subs apart =
 
 -- ---- inside and apart
 
--- places one behind the other, from an offset on to an end
+-- places one after another, from an offset to an end
 abbrev Chain : ℕ → ℕ → List Place → Type 0
 Chain offset end [] = offset ≤ end
 Chain offset end (place ∷ places) = (offset ≤ place.offset) × Chain (place.offset + place.size) end places
@@ -182,7 +182,7 @@ module _ (kind : PlaceKind) (slot subslot : ℕ) where
   listed_both [] ys = omega arith
   listed_both (x ∷ xs) ys = let rest = listed_both xs ys in omega (arith, rest)
 
-  -- none is of another subslot
+  -- a place of another subslot is not listed
   listed_other : (offset : ℕ) (of : PlaceKind) (sub : ExpectedData) (size : Option ℕ) → is_at slot subslot sub ≡ false → listed (place_at of offset sub size) ≡ 0
   listed_other offset of sub None other = refl
   listed_other offset of sub (Some size) other = rw other (grind arith)
@@ -196,7 +196,7 @@ module _ (kind : PlaceKind) (slot subslot : ℕ) where
       let both = listed_both (place_at of offset sub (taken direction of sub.io_data)) (packed direction of (offset + octets_in direction of sub) subs) in
       omega (arith, here, rest, both)
 
-  -- the one that is, where it takes any octets and is of the kind
+  -- a place of this subslot is listed once, if it has octets and is of the kind
   listed_here : (offset : ℕ) (of : PlaceKind) (sub : ExpectedData) (size : Option ℕ) → is_at slot subslot sub ≡ true
       → listed (place_at of offset sub size) ≡ cond (is_same_kind kind of && is_some size) 1 0
   listed_here offset of sub None here = none_more (is_same_kind kind of)
@@ -210,7 +210,7 @@ module _ (kind : PlaceKind) (slot subslot : ℕ) where
       let u : sub.subslot ≡ other.subslot = eqb-true sub.subslot subslot mine.1 ∙ sym (eqb-true other.subslot subslot its.1) in
       absurd (false≢true (sym elsewhere ∙ rw (s, u) (same_place other))))
 
-  -- how often a submodule is listed
+  -- the number of times that a submodule is listed
   exact_of : (direction : IocrType) (of : PlaceKind) (offset : ℕ) (subs : List ExpectedData) → AreElsewhere subs
       → listed (packed direction of offset subs)
       ≡ cond (is_same_kind kind of && is_some (option_and_then (taken direction of) (io_at slot subslot 0 subs))) 1 0
@@ -255,7 +255,7 @@ packed_good direction subs most apart below =
       exact = exact direction subs apart;
     }
 
--- what a plan asks for is a layout
+-- the places that a plan asks for are a layout
 pub asked_good : (direction : IocrType) (subs : List ExpectedData) (most : ℕ) → AreElsewhere subs → frame_octets direction subs ≤ most
     → IsLayout most direction subs
     (asked direction subs (map object_of (packed direction Data 0 subs)) (map object_of (packed direction Iocs (octets_of direction Data subs) subs)))
@@ -265,7 +265,7 @@ asked_good direction subs most apart below =
 below_max : (octets : ℕ) → octets ≤ max 40 octets
 below_max octets = le-max_right 40 octets
 
--- the same as the code has it: lists that are those
+-- the same for the lists of the code, which are equal to these
 pub good_as : (direction : IocrType) (modules : List RealModule) (most : ℕ) (objects iocs : List IoObject) (one other slice : List ExpectedData)
     → AreOrdered modules → one ≡ data_of modules → other ≡ data_of modules → slice ≡ data_of modules
     → most ≡ max 40 (frame_octets direction other)

@@ -1,4 +1,4 @@
--- How long a Connect is.
+-- The length of a Connect.
 use Rattle.std.proofs.Common.{◌≡◌, inl, inr, ℕ, ◌+◌, ◌-◌, ◌≤◌, true, List, [], ◌∷◌, length, nat_le, Some, None, is_some, refl, arith}
 use Rattle.std.proofs.lemmas.Bool.{cases_Bool, leb-true}
 use Rattle.block_fields.specs.Fields.{body, version}
@@ -10,12 +10,12 @@ use Rattle.block_codec.specs.Block.{block_size, fields_of}
 use Rattle.plans.specs.declared.parts.Parts.{Parts}
 use Rattle.plans.specs.Connect.{alarm_block, ar_block, blocks_of, does_connect_fit, expected_blocks, iocr_block, left_behind, size_of, some_uuid}
 
--- nothing is left behind nothing
+-- if there are too few octets, none remain after any blocks
 none_left : (blocks : List Block) → left_behind None blocks ≡ None
 none_left [] = refl
 none_left (block ∷ blocks) = none_left blocks
 
--- something is left where the blocks are no longer than what there was
+-- octets remain if the blocks are not longer than they were
 pub left_fits : (left : ℕ) (blocks : List Block) → is_some (left_behind (Some left) blocks) ≡ nat_le (size_of blocks) left
 left_fits left [] = grind arith
 left_fits left (block ∷ blocks) =
@@ -24,7 +24,7 @@ left_fits left (block ∷ blocks) =
       | inr f ↦ let none = none_left blocks in rw (f, none) (grind (arith, f))
     ]
 
--- how long the ARBlockReq is hangs on the length of the ARUUID alone
+-- the length of the ARBlockReq depends only on the length of the ARUUID
 ar_size : (parts : Parts) (ar : List ℕ) → length ar ≡ 16 → block_size (is.ArBlockReq (ar_block parts ar)) ≡ block_size (is.ArBlockReq (ar_block parts some_uuid))
 unfolding block_size fields_of body version ar_block_req ar_uuid initiator_mac
 ar_size parts ar sixteen = rw sixteen refl
@@ -35,7 +35,7 @@ not_above n most h = leb-true n most h
 with_other : (one other rest most : ℕ) → one ≡ other → other + rest ≤ most → one + rest ≤ most
 with_other one other rest most same below = omega (arith, same, below)
 
--- so the Connect of a plan fits with any
+-- so the Connect of a plan fits with any ARUUID
 pub connect_room : (parts : Parts) (ar : List ℕ) → length ar ≡ 16 → does_connect_fit parts ≡ true
     → block_size (is.ArBlockReq (ar_block parts ar))
     + (block_size (is.IocrBlockReq (iocr_block parts Input))

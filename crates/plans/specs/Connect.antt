@@ -1,4 +1,4 @@
--- The Connect of a plan (IEC 61158-6-10, 5.2.4.1 to 5.2.4.7): its blocks, and whether they fit a frame.
+-- The Connect of a plan (IEC 61158-6-10, 5.2.4.1 to 5.2.4.7): its blocks, and whether they fit into a frame.
 use Rattle.std.specs.Prelude.{◌≡◌, ◌+◌, ◌-◌, ℕ, Bool, List, [], ◌∷◌, ◌++◌, map, nat_le, replicate, Option, Some, None, if◌then◌else◌}
 use Rattle.pn_values.specs.declared.real.RealModule.{RealModule}
 use Rattle.connect_blocks.specs.declared.iocr.IocrType.{IocrType}
@@ -17,8 +17,8 @@ use Rattle.plans.specs.Numbers.{activity_factor, alarm_endpoint, alarm_factor, a
 use Rattle.plans.specs.Packed.{layout_in, object_of, octets_of, packed}
 use Rattle.plans.specs.Parts.{data_of, module_of, submodule_of}
 
--- ARProperties 0x11: the relation is active, and the controller gives the parameters. The object is the controller's own, with
--- instance 1 and no DeviceID or VendorID
+-- ARProperties 0x11: the relation is active, and the controller sends the parameters. The object is the controller's own, with instance 1,
+-- DeviceID 0 and VendorID 0
 abbrev pub initiator_object : List ℕ
 initiator_object = 0xDE ∷ 0xA0 ∷ 0x00 ∷ 0x00 ∷ 0x6C ∷ 0x97 ∷ 0x11 ∷ 0xD1 ∷ 0x82 ∷ 0x71 ∷ 0x00 ∷ 0x01 ∷ 0x00 ∷ 0x00 ∷ 0x00 ∷ 0x00 ∷ []
 
@@ -34,7 +34,7 @@ ar_block parts ar = record {
   cm_initiator_station_name = record { items = parts.controller.name };
 }
 
--- the reference and the FrameID of a direction: the device chooses that of outputs
+-- the IOCRReference and the FrameID of a direction: the device chooses the FrameID of outputs
 abbrev pub reference_of : IocrType → ℕ
 reference_of Input = 1
 reference_of Output = 2
@@ -43,7 +43,7 @@ abbrev pub asked_id : IocrType → ℕ
 asked_id Input = input_frame_id
 asked_id Output = 0xFFFF
 
--- the communication relation of a direction: of class 1, phase 1, any time in its phase
+-- the communication relation of a direction: RT_CLASS_1, Phase 1, at any time in the phase
 abbrev pub iocr_block : Parts → IocrType → IocrBlockReq
 iocr_block parts direction = record {
   iocr_type = direction;
@@ -76,17 +76,17 @@ alarm_block = record {
   tag_header_low = low_tag;
 }
 
--- what is expected in a slot
+-- the module that is expected in a slot
 abbrev pub expected_block : RealModule → ExpectedSubmoduleBlockReq
 expected_block entry = record {
   modules = record { modules = module_of entry ∷ []; submodules = map submodule_of entry.submodules.items };
 }
 
--- the same of each slot
+-- the modules that are expected in all slots
 abbrev pub expected_blocks : List RealModule → List Block
 expected_blocks modules = map (λ entry. is.ExpectedSubmoduleBlockReq (expected_block entry)) modules
 
--- the blocks
+-- the blocks of the Connect, with this ARUUID
 abbrev pub blocks_of : Parts → List ℕ → List Block
 blocks_of parts ar =
     is.ArBlockReq (ar_block parts ar)
@@ -95,7 +95,7 @@ blocks_of parts ar =
     ∷ is.AlarmCrBlockReq alarm_block
     ∷ expected_blocks parts.real.modules.items
 
--- the octets of blocks, one behind the other, and how many they are
+-- the octets of blocks, one after another, and their number
 abbrev pub bytes_of : List Block → List ℕ
 bytes_of [] = []
 bytes_of (block ∷ blocks) = block_bytes block ++ bytes_of blocks
@@ -108,26 +108,26 @@ size_of (block ∷ blocks) = block_size block + size_of blocks
 abbrev pub connect_of : Parts → List ℕ → List ℕ
 connect_of parts ar = bytes_of (blocks_of parts ar)
 
--- what is written of a block is read as it, whatever is behind it
+-- reading a block's octets gives the block, for any octets after them
 abbrev pub IsRead : Block → Type 0
 IsRead block = (rest : List ℕ) → block_of (block_bytes block ++ rest) ≡ front block rest
 
 -- ---- how long it is
 
--- an ARUUID: how many octets a Connect has does not hang on it
+-- an ARUUID: the length of a Connect does not depend on it
 abbrev pub some_uuid : List ℕ
 some_uuid = replicate 16 0
 
--- the blocks of the Connect are at most 1,372 octets
+-- the blocks of the Connect have at most 1,372 octets
 abbrev pub does_connect_fit : Parts → Bool
 does_connect_fit parts = nat_le (size_of (blocks_of parts some_uuid)) 1372
 
--- what is left of so many octets, if there are as many
+-- the remaining octets after that many, if there are enough
 abbrev pub less : Option ℕ → ℕ → Option ℕ
 less None octets = None
 less (Some left) octets = if nat_le octets left then Some (left - octets) else None
 
--- what is left behind blocks
+-- the remaining octets after blocks
 abbrev pub left_behind : Option ℕ → List Block → Option ℕ
 left_behind left [] = left
 left_behind left (block ∷ blocks) = left_behind (less left (block_size block)) blocks

@@ -1,11 +1,11 @@
--- The numbers of every plan's Connect (IEC 61158-6-10, 5.2.4): what it asks for, and by which both ends go then.
+-- The numbers that the Connect of every plan has (IEC 61158-6-10, 5.2.4). Both ends use them.
 use Rattle.std.specs.Prelude.{ℕ}
 
 -- SessionKey of the relation
 abbrev pub session_number : ℕ
 session_number = 1
 
--- CMInitiatorActivityTimeoutFactor: the device waits 60 s for what is to come next
+-- CMInitiatorActivityTimeoutFactor: the device waits 60 s for the next call
 abbrev pub activity_factor : ℕ
 activity_factor = 600
 
@@ -21,7 +21,7 @@ high_tag = 0xC000
 abbrev pub low_tag : ℕ
 low_tag = 0xA000
 
--- RTATimeoutFactor and RTARetries: an alarm is sent again after 100 ms, three times
+-- RTATimeoutFactor and RTARetries: an alarm is sent again after 100 ms, at most three times
 abbrev pub alarm_factor : ℕ
 alarm_factor = 1
 

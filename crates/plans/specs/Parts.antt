@@ -1,4 +1,4 @@
--- What a plan is made of.
+-- The parts of a plan.
 use Rattle.std.specs.Prelude.{◌≡◌, ◌≤◌, ◌<◌, ◌%◌, ◌==◌, ℕ, List, [], ◌∷◌, ◌++◌, map, length, slice_index, Option, Some, None, if◌then◌else◌}
 use Rattle.std.specs.List.{AllByRecursion}
 use Rattle.pn_values.specs.StationName.{IsStationName}
@@ -23,7 +23,7 @@ slots_of modules = map (λ entry. entry.slot) modules
 abbrev pub subslots_of : RealModule → List ℕ
 subslots_of entry = map (λ part. part.subslot) entry.submodules.items
 
--- the modules stand in the order of their slots, 0 to 15, and the submodules of each in the order of their subslots
+-- the modules are in the order of their slots, 0 to 15, and the submodules of each in the order of their subslots
 pub record AreOrdered (modules : List RealModule) : Type 0 where
   pub slots : IsRising (slots_of modules)
   pub few : AllByRecursion (λ entry. entry.slot ≤ 15) modules
@@ -49,14 +49,14 @@ pub record AreParts (parts : Parts) : Type 0 where
 abbrev pub some_octets : ℕ → Option ℕ
 some_octets octets = if octets == 0 then None else Some octets
 
--- what a submodule has in cyclic frames
+-- the cyclic data of a submodule
 abbrev pub io_data_of : RealSubmodule → SubmoduleData
 io_data_of part = record { input = some_octets part.input; output = some_octets part.output }
 
 abbrev pub data_in_slot : ℕ → List RealSubmodule → List ExpectedData
 data_in_slot slot parts = map (λ part. record { slot = slot; subslot = part.subslot; io_data = io_data_of part }) parts
 
--- the same of all submodules, in the order of slots and subslots
+-- the cyclic data of all submodules, in the order of slots and subslots
 abbrev pub data_of : List RealModule → List ExpectedData
 data_of [] = []
 data_of (entry ∷ modules) = data_in_slot entry.slot entry.submodules.items ++ data_of modules

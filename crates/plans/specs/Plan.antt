@@ -1,4 +1,4 @@
--- What a plan is.
+-- The plan of a station.
 use Rattle.std.specs.Prelude.{◌≡◌, ◌≤◌, ◌&&◌, Bool, true, not, List, length, nat_le, Result, Ok, Err, if◌then◌else◌}
 use Rattle.std.specs.List.{AllByRecursion}
 use Rattle.connect_blocks.specs.declared.iocr.IocrType.TheVariants.{Input, Output}
@@ -10,7 +10,7 @@ use Rattle.plans.specs.Packed.{frame_octets}
 use Rattle.plans.specs.Parts.{AreParts, data_of}
 use Rattle.plans.specs.Connect.{does_connect_fit}
 
--- the frames of each direction hold at most 1,440 octets
+-- the data of the frames of each direction has at most 1,440 octets
 abbrev pub do_frames_fit : Parts → Bool
 do_frames_fit parts =
     nat_le (frame_octets Input (data_of parts.real.modules.items)) 1440 && nat_le (frame_octets Output (data_of parts.real.modules.items)) 1440
@@ -19,8 +19,8 @@ do_frames_fit parts =
 abbrev pub AreShort : List PlanRecord → Type 0
 AreShort records = AllByRecursion (λ entry. length entry.data.items ≤ 64) records
 
--- a plan: each part is in its range, there are at most 16 modules with 64 submodules and at most 32 records, and neither the frames
--- nor the Connect are too long
+-- a plan: each part is in its range, there are at most 16 modules with 64 submodules and at most 32 records, and neither the frames nor the
+-- Connect are too long
 pub record IsPlan (parts : Parts) : Type 0 where
   pub good : AreParts parts
   pub few_modules : length parts.real.modules.items ≤ 16
@@ -31,7 +31,7 @@ pub record IsPlan (parts : Parts) : Type 0 where
   pub output : frame_octets Output (data_of parts.real.modules.items) ≤ 1440
   pub connect : does_connect_fit parts ≡ true
 
--- the plan that parts are, or what is too long: first the frames
+-- the plan of parts, or what is too long: Frame is checked before Connect
 abbrev pub plan_of : Parts → Result Parts TooLong
 plan_of parts =
     if not (do_frames_fit parts) then Err Frame

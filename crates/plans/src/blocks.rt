@@ -34,7 +34,7 @@ const INITIATOR_OBJECT: [u8; 16] = [
     0xDE, 0xA0, 0x00, 0x00, 0x6C, 0x97, 0x11, 0xD1, 0x82, 0x71, 0x00, 0x01, 0x00, 0x00, 0x00, 0x00,
 ];
 
-/// The bytes of a name in a buffer of their own.
+/// A copy of a station name, as a block has it.
 fn text_of(name: &StationName) -> ArrayVec<u8, 240>
     ensures { result.items ≡ name.now }
 {
@@ -43,7 +43,7 @@ fn text_of(name: &StationName) -> ArrayVec<u8, 240>
     text
 }
 
-/// The application relation of this ARUUID.
+/// ARBlockReq: the application relation with this ARUUID.
 pub(crate) fn ar_block(parts: &Parts, ar: &Uuid) -> ArBlockReq
     ensures { result ≡ ar_block parts.now ar.now }
 {
@@ -59,7 +59,7 @@ pub(crate) fn ar_block(parts: &Parts, ar: &Uuid) -> ArBlockReq
     }
 }
 
-/// IOCRReference of a direction.
+/// The IOCRReference of a direction.
 fn reference_of(direction: IocrType) -> u16
     ensures { result ≡ reference_of direction }
 {
@@ -69,7 +69,7 @@ fn reference_of(direction: IocrType) -> u16
     }
 }
 
-/// The FrameID that is asked for: the device chooses that of outputs.
+/// The FrameID that the Connect asks for. The device chooses that of outputs.
 fn asked_id(direction: IocrType) -> u16
     ensures { result ≡ asked_id direction }
 {
@@ -79,7 +79,7 @@ fn asked_id(direction: IocrType) -> u16
     }
 }
 
-/// The communication relation of a direction.
+/// IOCRBlockReq: the communication relation of a direction.
 pub(crate) fn iocr_block<'a>(
     parts: &Parts,
     direction: IocrType,
@@ -113,7 +113,7 @@ pub(crate) fn iocr_block<'a>(
     }
 }
 
-/// The communication relation of alarms.
+/// AlarmCRBlockReq: the communication relation of alarms.
 pub(crate) fn alarm_block() -> AlarmCrBlockReq
     ensures { result ≡ alarm_block }
 {
@@ -128,7 +128,7 @@ pub(crate) fn alarm_block() -> AlarmCrBlockReq
     }
 }
 
-/// Appends what is expected in a slot. There must be room.
+/// Appends the ExpectedSubmoduleBlockReq of a slot. The buffer must have room for it.
 fn write_expected(out: &mut ArrayVec<u8, 1372>, entry: &RealModule)
     requires { array_vec_len out.old + block_size (Block.ExpectedSubmoduleBlockReq (expected_block entry.now)) ≤ 1372 }
     ensures exact { out.new.items ≡ out.old.items ++ block_bytes (Block.ExpectedSubmoduleBlockReq (expected_block entry.now)) }
@@ -144,7 +144,7 @@ fn write_expected(out: &mut ArrayVec<u8, 1372>, entry: &RealModule)
     write_block(out, &Block::ExpectedSubmoduleBlockReq(block));
 }
 
-/// How many octets that takes.
+/// The number of octets of that block.
 fn expected_len(entry: &RealModule) -> usize
     ensures { result ≡ block_size (Block.ExpectedSubmoduleBlockReq (expected_block entry.now)) }
 {
@@ -156,7 +156,7 @@ fn expected_len(entry: &RealModule) -> usize
     block_len(&Block::ExpectedSubmoduleBlockReq(block))
 }
 
-/// A list of one module.
+/// A list with one module.
 fn one(entry: ExpectedModule) -> ArrayVec<ExpectedModule, 1>
     ensures { result.items ≡ entry ∷ [] }
 {
@@ -165,7 +165,7 @@ fn one(entry: ExpectedModule) -> ArrayVec<ExpectedModule, 1>
     modules
 }
 
-/// Appends what is expected in each slot. There must be room.
+/// Appends the ExpectedSubmoduleBlockReq of each slot. The buffer must have room for them.
 pub(crate) fn write_all_expected(out: &mut ArrayVec<u8, 1372>, modules: &[RealModule])
     requires { array_vec_len out.old + size_of (expected_blocks modules.now) ≤ 1372 }
     ensures exact { out.new.items ≡ out.old.items ++ bytes_of (expected_blocks modules.now) }
@@ -177,7 +177,7 @@ pub(crate) fn write_all_expected(out: &mut ArrayVec<u8, 1372>, modules: &[RealMo
     }
 }
 
-/// Appends the communication relation of a direction. There must be room.
+/// Appends the IOCRBlockReq of a direction. The buffer must have room for it.
 pub(crate) fn write_iocr(out: &mut ArrayVec<u8, 1372>, parts: &Parts, direction: IocrType)
     requires short { frame_octets direction (data_of parts.now.real.modules.items) ≤ 1440 }
     requires room { array_vec_len out.old + block_size (Block.IocrBlockReq (iocr_block parts.now direction)) ≤ 1372 }
@@ -191,7 +191,7 @@ pub(crate) fn write_iocr(out: &mut ArrayVec<u8, 1372>, parts: &Parts, direction:
     write_block(out, &Block::IocrBlockReq(block));
 }
 
-/// How many octets that takes.
+/// The number of octets of that block.
 fn iocr_len(parts: &Parts, direction: IocrType) -> usize
     requires { frame_octets direction (data_of parts.now.real.modules.items) ≤ 1440 }
     ensures { result ≡ block_size (Block.IocrBlockReq (iocr_block parts.now direction)) }
@@ -202,7 +202,7 @@ fn iocr_len(parts: &Parts, direction: IocrType) -> usize
     block_len(&Block::IocrBlockReq(block))
 }
 
-/// Appends the application relation. There must be room.
+/// Appends the ARBlockReq. The buffer must have room for it.
 pub(crate) fn write_ar(out: &mut ArrayVec<u8, 1372>, parts: &Parts, ar: &Uuid)
     requires { array_vec_len out.old + block_size (Block.ArBlockReq (ar_block parts.now ar.now)) ≤ 1372 }
     ensures exact { out.new.items ≡ out.old.items ++ block_bytes (Block.ArBlockReq (ar_block parts.now ar.now)) }
@@ -212,7 +212,7 @@ pub(crate) fn write_ar(out: &mut ArrayVec<u8, 1372>, parts: &Parts, ar: &Uuid)
     write_block(out, &Block::ArBlockReq(ar_block(parts, ar)));
 }
 
-/// Appends the communication relation of alarms. There must be room.
+/// Appends the AlarmCRBlockReq. The buffer must have room for it.
 pub(crate) fn write_alarm(out: &mut ArrayVec<u8, 1372>)
     requires { array_vec_len out.old + block_size (Block.AlarmCrBlockReq alarm_block) ≤ 1372 }
     ensures exact { out.new.items ≡ out.old.items ++ block_bytes (Block.AlarmCrBlockReq alarm_block) }
@@ -222,7 +222,7 @@ pub(crate) fn write_alarm(out: &mut ArrayVec<u8, 1372>)
     write_block(out, &Block::AlarmCrBlockReq(alarm_block()));
 }
 
-/// What is left of so many octets, if there are as many.
+/// The remaining octets after a block of that many. `None` if fewer remain.
 fn less(left: Option<usize>, octets: usize) -> Option<usize>
     ensures { result ≡ less left octets }
 {
@@ -232,7 +232,7 @@ fn less(left: Option<usize>, octets: usize) -> Option<usize>
     }
 }
 
-/// What is left where the modules of a plan are expected.
+/// The remaining octets after the ExpectedSubmoduleBlockReq of each module. `None` if they do not fit.
 fn left_behind(left: Option<usize>, modules: &[RealModule]) -> Option<usize>
     ensures { result ≡ left_behind left (expected_blocks modules.now) }
 {
@@ -243,7 +243,7 @@ fn left_behind(left: Option<usize>, modules: &[RealModule]) -> Option<usize>
     left
 }
 
-/// Whether the blocks of the Connect are at most 1,372 octets.
+/// Whether the blocks of the Connect have at most 1,372 octets.
 pub(crate) fn does_connect_fit(parts: &Parts) -> bool
     requires input { frame_octets Input (data_of parts.now.real.modules.items) ≤ 1440 }
     requires output { frame_octets Output (data_of parts.now.real.modules.items) ≤ 1440 }

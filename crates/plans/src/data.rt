@@ -1,4 +1,4 @@
-//! What submodules have in cyclic frames, and as what they are expected.
+//! The cyclic data of submodules, and the modules as a Connect expects them.
 ghost use Rattle.std.specs.Prelude.{◌≡◌, ◌+◌, ◌≤◌, ◌++◌, [], length, map};
 ghost use Rattle.arrayvec.specs.ArrayVec.{array_vec_len};
 ghost use Rattle.plans.specs.Parts.{data_in_slot, data_of, io_data_of, module_of, some_octets, submodule_of};
@@ -8,14 +8,14 @@ use block_codec::{ExpectedModule, ExpectedSubmodule, SubmoduleData};
 use cyclic_data::ExpectedData;
 use pn_values::{Real, RealModule, RealSubmodule};
 
-/// A length, if it is not 0.
+/// A length in octets. `None` if it is 0.
 fn some_octets(octets: u16) -> Option<u16>
     ensures { result ≡ some_octets octets }
 {
     if octets == 0 { None } else { Some(octets) }
 }
 
-/// What a submodule has in cyclic frames.
+/// The cyclic data of a submodule.
 fn io_data_of(part: &RealSubmodule) -> SubmoduleData
     ensures { result ≡ io_data_of part.now }
 {
@@ -25,7 +25,7 @@ fn io_data_of(part: &RealSubmodule) -> SubmoduleData
     }
 }
 
-/// Appends what the submodules of a module have. There must be room.
+/// Appends the cyclic data of a module's submodules. The list must have room for them.
 fn push_data(subs: &mut ArrayVec<ExpectedData, 64>, entry: &RealModule)
     requires { array_vec_len subs.old ≤ 60 }
     ensures items { subs.new.items ≡ subs.old.items ++ data_in_slot entry.now.slot entry.now.submodules.items }
@@ -40,7 +40,7 @@ fn push_data(subs: &mut ArrayVec<ExpectedData, 64>, entry: &RealModule)
     }
 }
 
-/// What all submodules have, in the order of the modules and of their submodules.
+/// The cyclic data of all submodules, in the order of the modules and of their submodules.
 pub(crate) fn data_of(real: &Real) -> ArrayVec<ExpectedData, 64>
     ensures { result.items ≡ data_of real.now.modules.items }
 {
@@ -63,7 +63,7 @@ pub(crate) fn module_of(entry: &RealModule) -> ExpectedModule
     }
 }
 
-/// Its submodules.
+/// The submodules of a module, as a Connect expects them.
 pub(crate) fn submodules_of(entry: &RealModule) -> ArrayVec<ExpectedSubmodule, 4>
     ensures { result.items ≡ map submodule_of entry.now.submodules.items }
 {

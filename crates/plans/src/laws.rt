@@ -1,4 +1,4 @@
-//! What holds of the packed places of submodules.
+//! A law of the packed places of submodules.
 ghost use Rattle.std.specs.Prelude.{◌≡◌, List, map};
 ghost use Rattle.pn_values.specs.declared.real.RealModule.{RealModule};
 ghost use Rattle.connect_blocks.specs.declared.iocr.IocrType.{IocrType};
@@ -8,7 +8,8 @@ ghost use Rattle.cyclic_data.specs.Layout.{IsLayout};
 ghost use Rattle.plans.specs.Packed.{layout_in, object_of, octets_of, packed, packed_places};
 ghost use Rattle.plans.specs.Parts.{AreOrdered, data_of};
 
-/// How places are packed: a law of the definitions by which `Plan::layout` and `Plan::connect` are stated, and no code.
+/// The packed places are those that the Connect asks for, and they are a layout. This is a law of the definitions of `Plan::layout` and
+/// `Plan::connect`; the function does nothing.
 #[tactic(auto, using(crate::proofs::Packed::modules_asked, crate::proofs::Packed::modules_good))]
 pub fn packed_places_are_asked()
     // What the Connect asks for in a direction are the packed places,

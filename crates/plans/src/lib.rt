@@ -1,5 +1,5 @@
-//! The plan of a station: what is plugged in which slot of a device, the records that it is given, and the Connect with which a
-//! controller asks it for a relation (IEC 61158-6-10, 5.2.4). It takes no memory.
+//! The plan of a station: which module is plugged in which slot of a device, the records that are written to it, and the Connect by which a
+//! controller asks it for an application relation (IEC 61158-6-10, 5.2.4). Nothing is allocated.
 #![tactic(auto)]
 
 mod blocks;

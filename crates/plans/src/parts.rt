@@ -1,11 +1,11 @@
-//! What a plan is made of.
+//! The parts of a plan.
 use arrayvec::ArrayVec;
 use pn_values::{IpSuite, Mac, Real, StationName};
 
-/// The device: what it is to be named and addressed as, and what it has to be.
+/// The device: its name and IP suite, and the VendorID and DeviceID that it must have.
 #[derive(Drop)]
 pub struct Station {
-    /// NameOfStation.
+    /// The NameOfStation.
     pub name: StationName,
     pub suite: IpSuite,
     pub vendor_id: u16,
@@ -23,7 +23,7 @@ pub struct Controller {
     pub address: [u8; 4],
 }
 
-/// How often cyclic frames are sent, and for how long their values hold.
+/// How often cyclic frames are sent, and for how long their values are valid.
 #[derive(Clone, Copy)]
 pub struct Times {
     /// SendClockFactor, 1 to 128, in units of 31.25 microseconds.
@@ -34,7 +34,7 @@ pub struct Times {
     pub data_hold_factor: u16,
 }
 
-/// A parameter record that a submodule is given at start-up.
+/// A parameter record that is written to a submodule at start-up.
 #[derive(Default, Drop)]
 pub struct PlanRecord {
     /// SlotNumber.
@@ -43,18 +43,18 @@ pub struct PlanRecord {
     pub subslot: u16,
     /// Index.
     pub index: u16,
-    /// What is written.
+    /// The octets that are written.
     pub data: ArrayVec<u8, 64>,
 }
 
-/// What a plan is made of.
+/// The parts of a plan.
 #[derive(Drop)]
 pub struct Parts {
     pub station: Station,
     pub controller: Controller,
     pub times: Times,
-    /// What is plugged in the device: the modules in the order of their slots, the submodules of each in the order of their
-    /// subslots, with the parameter records that each submodule takes.
+    /// The modules that are plugged in the device, in the order of their slots, and the submodules of each in the order of their subslots, each
+    /// with its parameter records.
     pub real: Real,
     /// The records, in the order in which they are written.
     pub records: ArrayVec<PlanRecord, 32>,

@@ -9,7 +9,7 @@ use arrayvec::ArrayVec;
 use block_codec::{IoObject, IocrType};
 use cyclic_data::{ExpectedData, PlaceKind};
 
-/// How many octets a submodule takes in the frames of a direction; 0 where it takes none.
+/// The octets of a submodule in the frames of a direction, as data or as an IOCS. 0 if it has none.
 fn octets_in(direction: IocrType, kind: PlaceKind, sub: &ExpectedData) -> u32
     ensures value { result ≡ octets_in direction kind sub.now }
     ensures few { result ≤ 65536 }
@@ -20,7 +20,7 @@ fn octets_in(direction: IocrType, kind: PlaceKind, sub: &ExpectedData) -> u32
     }
 }
 
-/// The same of submodules, at most 64.
+/// The sum for at most 64 submodules.
 fn octets_of(direction: IocrType, kind: PlaceKind, subs: &[ExpectedData]) -> u32
     requires { length subs.now ≤ 64 }
     ensures value { result ≡ octets_of direction kind subs.now }
@@ -33,7 +33,7 @@ fn octets_of(direction: IocrType, kind: PlaceKind, subs: &[ExpectedData]) -> u32
     sum
 }
 
-/// And of both kinds.
+/// The sum for data and IOCS together.
 pub(crate) fn frame_octets(direction: IocrType, subs: &[ExpectedData]) -> u32
     requires { length subs.now ≤ 64 }
     ensures value { result ≡ frame_octets direction subs.now }
@@ -42,7 +42,7 @@ pub(crate) fn frame_octets(direction: IocrType, subs: &[ExpectedData]) -> u32
     octets_of(direction, PlaceKind::Data, subs) + octets_of(direction, PlaceKind::Iocs, subs)
 }
 
-/// DataLength: what the places take, and at least 40.
+/// DataLength: the octets of the places, at least 40.
 pub(crate) fn data_length(direction: IocrType, subs: &[ExpectedData]) -> u16
     requires few { length subs.now ≤ 64 }
     requires short { frame_octets direction subs.now ≤ 1440 }
@@ -51,16 +51,16 @@ pub(crate) fn data_length(direction: IocrType, subs: &[ExpectedData]) -> u16
     (frame_octets(direction, subs) as u16).max(40)
 }
 
-/// Where the submodules have their places in the frames of a direction.
+/// The places of submodules in the frames of a direction.
 #[derive(Drop)]
 pub(crate) struct Places {
-    /// Of their data.
+    /// The places of the data objects.
     pub(crate) io_data_objects: ArrayVec<IoObject, 256>,
-    /// Of the IOCS.
+    /// The places of the IOCS.
     pub(crate) iocs: ArrayVec<IoObject, 256>,
 }
 
-/// Appends the place of a submodule at an offset, if it has one, and gives the offset behind it. There must be room.
+/// Appends the place of a submodule at an offset, if it has one. Returns the offset after it. The list must have room for it.
 fn push_place(
     objects: &mut ArrayVec<IoObject, 256>,
     offset: u16,
@@ -88,7 +88,7 @@ fn push_place(
     }
 }
 
-/// Appends the places of submodules to an empty list, one behind the other from an offset on, and gives the offset behind them.
+/// Appends the places of submodules to an empty list, one after another from an offset on. Returns the offset after them.
 fn pack(
     objects: &mut ArrayVec<IoObject, 256>,
     start: u16,
@@ -110,7 +110,7 @@ fn pack(
 }
 
 impl Places {
-    /// The places of submodules, at most 64: those of the data from 0 on, and those of the IOCS behind them.
+    /// The places of at most 64 submodules: the data objects from offset 0 on, and the IOCS after them.
     pub(crate) fn of(direction: IocrType, subs: &[ExpectedData]) -> Places
         requires few { length subs.now ≤ 64 }
         requires short { frame_octets direction subs.now ≤ 1440 }

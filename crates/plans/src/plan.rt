@@ -21,8 +21,7 @@ use cyclic_data::Layout;
 use pn_values::Real;
 use std::marker::Model;
 
-/// The plan of a station: parts of which each is in its range, whose frames and whose Connect are not too long. A clause sees the
-/// parts.
+/// The plan of a station: parts that are in their ranges, and whose frames and Connect are not too long. A clause sees the parts.
 #[derive(Drop)]
 pub struct Plan {
     parts: Parts,
@@ -39,25 +38,25 @@ impl Model for Plan {
     ghost invariant = { λ plan. IsPlan plan.parts };
 }
 
-/// Why parts are no plan.
+/// Why parts do not make a plan.
 #[derive(Clone, Copy, Debug, PartialEq, Eq)]
 pub enum TooLong {
-    /// The cyclic frames of a direction would hold more than 1,440 octets.
+    /// The data of the cyclic frames of a direction would have more than 1,440 octets.
     Frame,
-    /// The blocks of the Connect would be more than 1,372 octets.
+    /// The blocks of the Connect would have more than 1,372 octets.
     Connect,
 }
 
-/// The layouts of a plan.
+/// The layouts of both directions.
 #[derive(Drop)]
 pub struct Layouts {
-    /// Of the frames from the device to the controller.
+    /// The layout of the frames from the device to the controller.
     pub input: Layout,
-    /// Of the frames from the controller to the device.
+    /// The layout of the frames from the controller to the device.
     pub output: Layout,
 }
 
-/// Whether the frames of each direction hold at most 1,440 octets.
+/// Whether the data of the frames of each direction has at most 1,440 octets.
 fn do_frames_fit(parts: &Parts) -> bool
     ensures value { result ≡ do_frames_fit parts.now }
     ensures few { length (data_of parts.now.real.modules.items) ≤ 64 }
@@ -67,17 +66,17 @@ fn do_frames_fit(parts: &Parts) -> bool
         && frame_octets(IocrType::Output, subs.as_slice()) <= 1440
 }
 
-/// Each record has at most 64 octets: so many has a list of them room for.
+/// Each record has at most 64 octets, the capacity of its buffer. The function does nothing.
 fn are_short(records: &[PlanRecord])
     ensures { AreShort records.now }
 {
     for entry in records {
-        // A list has no more octets than it has room for, which its slice says.
+        // The slice's clause says that the length is at most the capacity.
         let _octets = entry.data.as_slice();
     }
 }
 
-/// The layout of a direction for what submodules have.
+/// The layout of a direction for the cyclic data of submodules.
 fn layout_in(direction: IocrType, parts: &Parts) -> Layout
     requires short { frame_octets direction (data_of parts.now.real.modules.items) ≤ 1440 }
     requires ordered { AreOrdered parts.now.real.modules.items }
@@ -99,12 +98,12 @@ fn layout_in(direction: IocrType, parts: &Parts) -> Layout
 }
 
 impl Plan {
-    /// The plan that parts are, each of which is in its range, or what is too long: first the frames, then the Connect.
+    /// The plan of parts that are in their ranges. Returns what is too long: `Frame` is checked before `Connect`.
     pub fn new(parts: Parts) -> Result<Plan, TooLong>
         requires { AreParts parts }
         ensures { Gives (λ plan. plan) result (plan_of parts) }
     {
-        // The same of the list of modules: at most 16.
+        // The list of modules has at most 16, its capacity.
         let _modules = parts.real.modules.as_slice();
         are_short(parts.records.as_slice());
         if !do_frames_fit(&parts) {
@@ -132,7 +131,7 @@ impl Plan {
         &self.parts.controller
     }
 
-    /// How often cyclic frames are sent, and for how long their values hold.
+    /// How often cyclic frames are sent, and for how long their values are valid.
     pub fn times(&self) -> Times
         ensures value { result ≡ self.now.times }
         ensures valid { IsPlan self.now }
@@ -140,7 +139,7 @@ impl Plan {
         self.parts.times
     }
 
-    /// What is plugged in the device.
+    /// The modules that are plugged in the device.
     pub fn real(&self) -> &Real
         ensures value { result.now ≡ self.now.real }
         ensures valid { IsPlan self.now }
@@ -148,7 +147,7 @@ impl Plan {
         &self.parts.real
     }
 
-    /// The records, in the order in which they are written: at most 32, each of at most 64 octets.
+    /// The records, in the order in which they are written: at most 32, each with at most 64 octets.
     pub fn records(&self) -> &[PlanRecord]
         ensures value { result.now ≡ self.now.records.items }
         ensures few { length result.now ≤ 32 }
@@ -157,14 +156,14 @@ impl Plan {
         self.parts.records.as_slice()
     }
 
-    /// Where the submodules have their places in the frames of a direction.
+    /// The places of the submodules in the frames of a direction.
     pub fn layout(&self, direction: IocrType) -> Layout
         ensures { result ≡ layout_in direction (data_of self.now.real.modules.items) }
     {
         layout_in(direction, &self.parts)
     }
 
-    /// The same of both directions.
+    /// The places of the submodules in the frames of both directions.
     pub fn layouts(&self) -> Layouts
         ensures input { result.input ≡ layout_in Input (data_of self.now.real.modules.items) }
         ensures output { result.output ≡ layout_in Output (data_of self.now.real.modules.items) }
@@ -175,14 +174,14 @@ impl Plan {
         }
     }
 
-    /// The blocks of the Connect, with this ARUUID: they fit a frame.
+    /// The blocks of the Connect with this ARUUID, at most 1,372 octets: they fit into a frame.
     #[tactic(auto, using(crate::proofs::Sizes::connect_room))]
     pub fn connect(&self, ar: &Uuid) -> ArrayVec<u8, 1372>
         ensures exact { result.items ≡ connect_of self.now ar.now }
-        // Each block is read as it, whatever is behind it, where the ARUUID is not zero.
+        // If the ARUUID is not zero, reading each block's octets gives the block, for any octets after them.
         ensures read { is_some_uuid ar.now ≡ true → AllByRecursion IsRead (blocks_of self.now ar.now) }
     {
-        // That it has 16 octets, which the sizes of the blocks count.
+        // Its clause says that the ARUUID has 16 octets, which the sizes of the blocks count.
         let _octets = ar.into_bytes();
         let mut out = ArrayVec::new();
         write_ar(&mut out, &self.parts, ar);

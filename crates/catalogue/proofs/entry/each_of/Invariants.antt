@@ -3,6 +3,6 @@ use Rattle.serde_json.specs.View.{items_view}
 use Rattle.catalogue.specs.Reader.{each}
 use Rattle.catalogue.proofs.entry.each_of.Given as goal
 
--- all are read as what is left is behind those found
+-- reading all is reading the rest after those found
 abbrev pub invariant-loop-tree : goal.invariant-loop-tree
 invariant-loop-tree g l = each (g.E.Entry.reader l.context) [] (items_view l.trees) ≡ each (g.E.Entry.reader l.context) l.found.items (items_view (drop l.tree-index l.trees))

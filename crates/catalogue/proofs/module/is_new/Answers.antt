@@ -1,5 +1,5 @@
 use Rattle.std.proofs.Common.{◌≡◌, ◌∙◌, ap, not, is_some, Option, ℕ}
-use Rattle.catalogue.proofs.Ids.{placed_id}
+use Rattle.catalogue.proofs.Places.{placed_id}
 use Rattle.catalogue.proofs.module.is_new.Goals as goal
 
 pub returns : goal.returns

@@ -5,7 +5,7 @@ use Rattle.catalogue.specs.Reader.{each}
 use Rattle.catalogue.specs.Modules.{module_item, place_of}
 use Rattle.catalogue.proofs.module.modules_of.Given as goal
 
--- all are read as what is left is behind those found, whose places are in the map
+-- reading all is reading the rest after those found, whose places are in the map
 abbrev pub invariant-loop-tree : goal.invariant-loop-tree
 invariant-loop-tree l = record {
   read : each module_item [] (items_view l.trees) ≡ each module_item l.found.items (items_view (drop l.tree-index l.trees));

@@ -1,8 +1,9 @@
-use Rattle.std.proofs.Common.{◌≡◌, ◌==◌, drop}
-use Rattle.configurator.specs.Allowed.{are_once, uses_of}
-use Rattle.std.specs.List.{list_all}
+use Rattle.std.proofs.Common.{if◌then◌else◌, ◌≡◌, ◌+◌, ℕ, drop}
+use Rattle.std.specs.Ordering.{nat_cmp}
+use Rattle.std.specs.BTreeSet.{contains}
+use Rattle.configurator.specs.Allowed.{uses_of}
 use Rattle.configurator.proofs.allowed.are_once.Given as goal
 
--- what is judged of all is judged of what is left
+-- the number of entries that name a slot: one if it is in the set, and those of the rest
 abbrev pub invariant-loop-entry : goal.invariant-loop-entry
-invariant-loop-entry l = are_once l.slots ≡ list_all (λ entry. uses_of entry.slot l.slots == 1) (drop l.entry-index l.slots)
+invariant-loop-entry l = (slot : ℕ) → uses_of slot l.slots ≡ (if contains nat_cmp l.seen slot then 1 else 0) + uses_of slot (drop l.entry-index l.slots)

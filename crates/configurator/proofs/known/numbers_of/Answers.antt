@@ -6,7 +6,7 @@ use Rattle.catalogue.specs.Modules.{Module}
 use Rattle.configurator.proofs.Steps.{AreNumbered, numbered_more}
 use Rattle.configurator.proofs.known.numbers_of.Goals as goal
 
--- the module of this turn has the next number
+-- the module of this iteration has the next number
 pub loop-module-preserved : goal.loop-module-preserved
 loop-module-preserved c =
     let i = c.loop-module.module-index in

@@ -3,7 +3,7 @@ use Rattle.std.specs.BTreeMap.{get_by_text}
 use Rattle.configurator.proofs.Steps.{AreNumbered}
 use Rattle.configurator.proofs.known.numbers_of.Given as goal
 
--- the modules so far have their numbers, all below the next one
+-- the modules so far have their numbers, each less than the next one
 abbrev pub invariant-loop-module : goal.invariant-loop-module
 invariant-loop-module l = record {
   next : l.next ≡ l.module-index;

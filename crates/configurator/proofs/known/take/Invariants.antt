@@ -4,7 +4,7 @@ use Rattle.configurator.specs.Allowed.{is_in}
 use Rattle.configurator.specs.Known.{place_cmp}
 use Rattle.configurator.proofs.known.take.Given as goal
 
--- a place is taken in the end where it is so far, or is one of the module in what is left
+-- a pair is in the set at the end if it is so far, or is one of the module and a remaining slot
 abbrev pub invariant-loop-slot : goal.invariant-loop-slot
 invariant-loop-slot l =
     (other n : ℕ) → (contains place_cmp l.taken (other, n) || (l.number == n && is_in other (drop l.slot-index l.slots)))

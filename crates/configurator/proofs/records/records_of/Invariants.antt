@@ -4,7 +4,7 @@ use Rattle.configurator.specs.Few.{are_slots_low}
 use Rattle.configurator.specs.Planned.{records_of}
 use Rattle.configurator.proofs.records.records_of.Given as goal
 
--- the records so far, and what is so of the slots that are left
+-- the records so far, and what is true of the remaining slots
 abbrev pub invariant-loop-entry : goal.invariant-loop-entry
 invariant-loop-entry l = record {
   items : l.records.items ++ records_of (drop l.entry-index l.slots) ≡ records_of l.slots;

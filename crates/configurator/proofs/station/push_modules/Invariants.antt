@@ -4,7 +4,7 @@ use Rattle.configurator.specs.Standing.{plugged_in, stands_in}
 use Rattle.std.specs.List.{filter_map, list_all}
 use Rattle.configurator.proofs.station.push_modules.Given as goal
 
--- what is plugged so far, of how many slots, and that what is left is small
+-- the modules so far, from how many slots, and that the remaining ones are within the limits
 abbrev pub invariant-loop-slot : goal.invariant-loop-slot
 invariant-loop-slot l = record {
   items : l.modules.items ++ filter_map (plugged_in l.catalogue) (drop l.slot-index l.slots) ≡ l.initial.modules.items ++ filter_map (plugged_in l.catalogue) l.slots;

@@ -1,4 +1,4 @@
--- the steps so far are spelled
+-- the text has the steps so far
 use Rattle.std.proofs.Common.{◌≡◌, take}
 use Rattle.plan_abi.specs.Places.{spelled_behind}
 use Rattle.plan_abi.proofs.spelled.spelled.Given as goal

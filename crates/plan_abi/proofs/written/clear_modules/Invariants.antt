@@ -1,4 +1,4 @@
--- the places so far are empty, and none is lost
+-- the places so far are zero, and the length is as it was
 use Rattle.std.proofs.Common.{◌≡◌, length, take, replicate}
 use Rattle.plan_abi.specs.Readings.{no_module}
 use Rattle.plan_abi.proofs.written.clear_modules.Given as goal

@@ -5,7 +5,7 @@ use Rattle.plan_abi.specs.Readings.{written_module}
 use Rattle.plan_abi.proofs.Laid.{laid_more, read_back, module_back}
 use Rattle.plan_abi.proofs.written.put_modules.Goals as goal
 
--- the item of this turn is laid behind those before it
+-- the item of this iteration is written after those before it
 pub loop-index-preserved : goal.loop-index-preserved
 loop-index-preserved c = record {
   items = rw (c.loop-index.invariant.items, add-one) (laid_more written_module c.args.given.now c.args.places.now c.loop-index.index c.module_in.result c.index-given-index.result c.loop-index-test.true c.requires (c.module_in.ensures ∙ ap written_module c.index-given-index.is));

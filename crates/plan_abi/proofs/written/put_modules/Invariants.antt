@@ -1,4 +1,4 @@
--- the places so far are what is given, and the others as they were
+-- the places so far have the given items, and the others are as they were
 use Rattle.std.proofs.Common.{◌≡◌, ◌++◌, length, map, take, drop}
 use Rattle.plan_abi.specs.Readings.{written_module}
 use Rattle.plan_abi.proofs.written.put_modules.Given as goal

@@ -1,4 +1,4 @@
--- What is left behind each block.
+-- The octets that remain after each block.
 use Rattle.plans.specs.Connect.{blocks_of, some_uuid}
 use Rattle.plans.proofs.Sizes.{left_fits}
 use Rattle.plans.proofs.blocks.does_connect_fit.Goals as goal

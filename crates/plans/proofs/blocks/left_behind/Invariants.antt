@@ -1,4 +1,4 @@
--- what is left behind the modules that are left
+-- the octets that remain after the remaining modules
 use Rattle.std.proofs.Common.{◌≡◌, drop}
 use Rattle.plans.specs.Connect.{expected_blocks, left_behind}
 use Rattle.plans.proofs.blocks.left_behind.Given as goal

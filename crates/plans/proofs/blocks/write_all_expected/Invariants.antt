@@ -1,4 +1,4 @@
--- the octets so far, and those of the modules that are left
+-- the octets so far, and those of the remaining modules
 use Rattle.std.proofs.Common.{◌≡◌, ◌+◌, ◌≤◌, ◌++◌, drop, length, take}
 use Rattle.std.specs.List.{AllByRecursion}
 use Rattle.module_blocks.specs.Expected.{IsExpectedSubmoduleBlockReq}

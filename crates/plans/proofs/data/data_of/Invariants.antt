@@ -1,4 +1,4 @@
--- what the submodules of the modules so far have, at most four of each
+-- the cyclic data of the submodules of the modules so far, at most four for each
 use Rattle.std.proofs.Common.{◌≡◌, ◌*◌, ◌≤◌, ◌++◌, length, drop}
 use Rattle.plans.specs.Parts.{data_of}
 use Rattle.plans.proofs.data.data_of.Given as goal

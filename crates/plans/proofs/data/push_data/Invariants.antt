@@ -1,4 +1,4 @@
--- what the submodules so far have, and how many they are
+-- the cyclic data of the submodules so far, and their number
 use Rattle.std.proofs.Common.{◌≡◌, ◌+◌, ◌++◌, length, drop}
 use Rattle.plans.specs.Parts.{data_in_slot}
 use Rattle.plans.proofs.data.push_data.Given as goal

@@ -1,4 +1,4 @@
--- what the submodules so far take, and those that are left
+-- the octets of the submodules so far, and those of the rest
 use Rattle.std.proofs.Common.{◌≡◌, ◌+◌, ◌*◌, ◌≤◌, drop}
 use Rattle.plans.specs.Packed.{octets_of}
 use Rattle.plans.proofs.places.octets_of.Given as goal

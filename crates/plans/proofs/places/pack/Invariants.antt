@@ -1,4 +1,4 @@
--- the places so far, and those of the submodules that are left
+-- the places so far, and those of the remaining submodules
 use Rattle.std.proofs.Common.{◌≡◌, ◌+◌, ◌≤◌, ◌++◌, drop, length, map}
 use Rattle.plans.specs.Packed.{object_of, octets_of, packed}
 use Rattle.plans.proofs.places.pack.Given as goal

@@ -1,4 +1,4 @@
--- each of those so far
+-- each record so far
 use Rattle.std.proofs.Common.{take}
 use Rattle.plans.specs.Plan.{AreShort}
 use Rattle.plans.proofs.plan.are_short.Given as goal

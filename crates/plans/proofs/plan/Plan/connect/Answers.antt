@@ -1,4 +1,4 @@
--- Each block is read as it.
+-- Reading each block's octets gives the block.
 use Rattle.std.proofs.Common.{List, subst}
 use Rattle.std.specs.List.{AllByRecursion}
 use Rattle.pn_values.specs.declared.real.RealModule.{RealModule}
