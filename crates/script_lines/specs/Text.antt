@@ -48,5 +48,5 @@ unfoldable pub note_line : Note → List ℕ
 note_line note = printed (codes "note " ++ note_word note)
 
 -- The number of frames handed to the device, and the number handed to the controller.
-unfoldable pub updated_line : ℕ → ℕ → List ℕ
-updated_line to_device to_controller = printed (codes "updated " ++ decimal to_device ++ codes " " ++ decimal to_controller)
+unfoldable pub moved_line : ℕ → ℕ → List ℕ
+moved_line to_device to_controller = printed (codes "moved " ++ decimal to_device ++ codes " " ++ decimal to_controller)

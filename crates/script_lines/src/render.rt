@@ -1,7 +1,7 @@
 //! The lines that are printed. Each function appends one of them to a text.
 ghost use Rattle.std.specs.Prelude.{◌≡◌, ◌≤◌, ◌++◌, length, OnOk, decimal, map};
 ghost use Rattle.hex.specs.Hex.{encode_lower};
-ghost use Rattle.script_lines.specs.Text.{boot_line, out_line, updated_line, out_lines, note_line};
+ghost use Rattle.script_lines.specs.Text.{boot_line, out_line, moved_line, out_lines, note_line};
 
 use crate::digits;
 use device_frames::Note;
@@ -77,9 +77,9 @@ fn line_of(note: Note) -> &'static [u8]
 }
 
 /// The number of frames that were handed to the device, and the number handed to the controller.
-#[tactic(auto, unfolding(crate::specs::Text::updated_line))]
-pub fn updated(to_device: usize, to_controller: usize, text: &mut Vec<u8>) -> Result<(), AllocError>
-    ensures { OnOk result (text.new.items ≡ text.old.items ++ updated_line to_device to_controller) }
+#[tactic(auto, unfolding(crate::specs::Text::moved_line))]
+pub fn moved(to_device: usize, to_controller: usize, text: &mut Vec<u8>) -> Result<(), AllocError>
+    ensures { OnOk result (text.new.items ≡ text.old.items ++ moved_line to_device to_controller) }
 {
     text.extend_from_slice(b"moved ")?;
     count(to_device, text)?;

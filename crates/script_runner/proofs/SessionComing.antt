@@ -13,7 +13,7 @@ use Rattle.device_frames.specs.declared.event.Event.TheVariants as event
 use Rattle.controller_core.specs.declared.event.Event.{Event as ControllerEvent}
 use Rattle.controller_core.specs.State.{Controlling}
 use Rattle.script_lines.specs.Show.{controller_shown}
-use Rattle.script_lines.specs.Text.{updated_line, note_line, printed}
+use Rattle.script_lines.specs.Text.{moved_line, note_line, printed}
 use Rattle.script_runner.specs.declared.session.power.Power.{Power}
 use Rattle.script_runner.specs.declared.session.power.Power.TheVariants.{On}
 use Rattle.script_runner.specs.session.Ends.{Hears, IsRightFor, Network, Other, Starts, arrived_at, device_run, frames_for_device, printed_for, ticked_by, with_ends, with_plan, with_sent}
@@ -104,22 +104,22 @@ deliver_answered network far held before now same some obeyed = deliver_some net
 pub delivered : (network : Network) (device : State (MemoryFlash 4096)) (far between after : Other) (to_device to_controller : ℕ) (before middle now : List ℕ) → far ≡ network.other
     → IsHandedOver (device_run network.station (frames_for_device far.to_device)) device far between to_device
     → to_controller ≡ length between.to_controller → after ≡ arrived_at between.controller between
-    → middle ≡ before ++ updated_line to_device to_controller → now ≡ middle ++ controller_shown after.controller
+    → middle ≡ before ++ moved_line to_device to_controller → now ≡ middle ++ controller_shown after.controller
     → IsDone (deliver_answer network) device after before now
 delivered network device far between after to_device to_controller before middle now same over count arrived line shown =
     let run = device_run network.station (frames_for_device network.other.to_device) in
     let same_run : device_run network.station (frames_for_device far.to_device) ≡ run = ap (λ o. device_run network.station (frames_for_device o.to_device)) same in
     let between_is : between ≡ handed_over network.other run = over.waits ∙ ap (λ o. handed_over o (device_run network.station (frames_for_device o.to_device))) same in
     let after_is : after ≡ arrived_at network.other.controller (handed_over network.other run) = arrived ∙ ap (λ o. arrived_at o.controller o) between_is in
-    let updated = ap (λ o. updated_line (length o.to_device) to_controller) same in
+    let delivered = ap (λ o. moved_line (length o.to_device) to_controller) same in
     record {
       runs = subst (λ r. IsRunning r.station (On device)) same_run over.runs;
       waits = after_is;
       text = shown ∙ ap (λ t. t ++ controller_shown after.controller) line ∙ append_assoc before _ _
-          ∙ ap (λ n. before ++ (updated_line n to_controller ++ controller_shown after.controller)) over.updated_is
-          ∙ ap (λ o. before ++ (updated_line (length o.to_device) to_controller ++ controller_shown after.controller)) same
-          ∙ ap (λ n. before ++ (updated_line (length network.other.to_device) n ++ controller_shown after.controller)) (count ∙ ap (λ o. length o.to_controller) between_is)
-          ∙ ap (λ o. before ++ (updated_line (length network.other.to_device) (length (handed_over network.other run).to_controller) ++ controller_shown o.controller)) after_is;
+          ∙ ap (λ n. before ++ (moved_line n to_controller ++ controller_shown after.controller)) over.delivered_is
+          ∙ ap (λ o. before ++ (moved_line (length o.to_device) to_controller ++ controller_shown after.controller)) same
+          ∙ ap (λ n. before ++ (moved_line (length network.other.to_device) n ++ controller_shown after.controller)) (count ∙ ap (λ o. length o.to_controller) between_is)
+          ∙ ap (λ o. before ++ (moved_line (length network.other.to_device) (length (handed_over network.other run).to_controller) ++ controller_shown o.controller)) after_is;
     }
 
 -- ---- units of time

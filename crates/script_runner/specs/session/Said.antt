@@ -20,7 +20,7 @@ use Rattle.script_runner.specs.session.Demo.{demo_device}
 use Rattle.script_runner.specs.session.Ends.{Station, turned_to, Other, Network, DeviceRun, with_ends, arrived_at, cleared, device_run, frames_for_device, nobody, printed_for, ticked_by, with_fresh, with_plan, with_run, with_sent}
 use Rattle.script_lines.specs.Line.{Command, Frame, Restart, Tick, Show, Arm, Input, Alarm, Config, Start, Give, Stop, Deliver, Line, Unfit, Skipped, Asks, Unknown}
 use Rattle.script_lines.specs.Show.{shown, outputs_shown, controller_shown}
-use Rattle.script_lines.specs.Text.{boot_line, updated_line, note_line, printed}
+use Rattle.script_lines.specs.Text.{boot_line, moved_line, note_line, printed}
 
 -- The demo device, started from these settings.
 abbrev pub demo_started : Settings → ℕ → Station
@@ -113,7 +113,7 @@ deliver_answer network =
     let after = arrived_at network.other.controller between in
     record {
       network = with_ends run.station after;
-      text = updated_line (length network.other.to_device) (length between.to_controller) ++ controller_shown after.controller;
+      text = moved_line (length network.other.to_device) (length between.to_controller) ++ controller_shown after.controller;
     }
 
 abbrev pub deliver_outcome : Network → Option Controlling → Outcome

@@ -73,10 +73,10 @@ pub record IsHandedTo (run : DeviceRun) (device : State (MemoryFlash 4096)) (bef
   pub waits : octets_of now ≡ octets_of before ++ run.frames
 
 -- All frames that waited for the device were handed to it.
-pub record IsHandedOver (run : DeviceRun) (device : State (MemoryFlash 4096)) (far other : Other) (updated : ℕ) : Type 0 where
+pub record IsHandedOver (run : DeviceRun) (device : State (MemoryFlash 4096)) (far other : Other) (delivered : ℕ) : Type 0 where
   pub runs : Runs run.station device
   pub waits : other ≡ handed_over far run
-  pub updated_is : updated ≡ length far.to_device
+  pub delivered_is : delivered ≡ length far.to_device
 
 -- The device carried this out: it runs on, the other end is as the answer says, and its text is rendered.
 pub record IsDone (answer : Answer) (device : State (MemoryFlash 4096)) (other : Other) (before now : List ℕ) : Type 0 where

@@ -105,6 +105,6 @@ pub(crate) fn exchange(
         return lost(text);
     }
     let to_controller = other.deliver()?;
-    render::updated(to_device, to_controller, text)?;
+    render::moved(to_device, to_controller, text)?;
     other.show(text)
 }

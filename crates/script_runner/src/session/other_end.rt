@@ -143,12 +143,12 @@ impl OtherEnd {
         outbox: &mut Outbox,
     ) -> Result<usize, AllocError>
         ensures handed { (station : Station) → Runs station device.old →
-            IfOk result (λ updated. IsHandedOver (device_run station (frames_for_device self.old.to_device)) device.new self.old self.new
-            updated) }
+            IfOk result (λ delivered. IsHandedOver (device_run station (frames_for_device self.old.to_device)) device.new self.old self.new
+            delivered) }
         ensures left { IfOk result (λ _. Delivers self.old self.new) }
         ensures same { device.new.station ≡ device.old.station }
     {
-        let updated = self.to_device.len();
+        let delivered = self.to_device.len();
         hand_over(
             device,
             self.to_device.as_slice(),
@@ -156,17 +156,17 @@ impl OtherEnd {
             &mut self.to_controller,
         )?;
         self.to_device.clear();
-        Ok(updated)
+        Ok(delivered)
     }
 
     /// Hands the frames that wait for the controller to it, in order, if there is one. What it sends waits. Returns how
     /// many frames waited.
     pub(crate) fn deliver(&mut self) -> Result<usize, AllocError>
-        ensures { IfOk result (λ updated. (updated ≡ length self.old.to_controller) × (self.new ≡ arrived_at self.old.controller self.old)) }
+        ensures { IfOk result (λ delivered. (delivered ≡ length self.old.to_controller) × (self.new ≡ arrived_at self.old.controller self.old)) }
     {
-        let updated = self.to_controller.len();
+        let delivered = self.to_controller.len();
         let Some(controller) = &mut self.controller else {
-            return Ok(updated);
+            return Ok(delivered);
         };
         hear(
             controller,
@@ -175,7 +175,7 @@ impl OtherEnd {
             &mut self.to_device,
         )?;
         self.to_controller.clear();
-        Ok(updated)
+        Ok(delivered)
     }
 
     /// Lets units of time pass at the controller, if there is one.
