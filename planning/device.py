@@ -40,7 +40,7 @@ class Record:
         """The place of some octets, which lie in the record."""
         offset = number(element, "ByteOffset", 0, MOST_RECORD, 0)
         if offset + length > self.length:
-            raise Refused(element.line, f"octets {offset} to {offset + length - 1} are behind the record's Length of {self.length}")
+            raise Refused(element.line, f"octets {offset} to {offset + length - 1} are after the record's Length of {self.length}")
         return offset
 
     def put(self, data, element, content):
@@ -85,7 +85,7 @@ class Submodule:
             elif kind in OCTETS:
                 found.append({"DataType": kind})
             else:
-                raise Refused(item.line, f"a DataItem of DataType {shown(kind)} is none that a catalogue has ({', '.join(OCTETS)}, {OCTET_STRING})")
+                raise Refused(item.line, f"a DataItem of DataType {shown(kind)} is not one that a catalogue has ({', '.join(OCTETS)}, {OCTET_STRING})")
         return found
 
     def octets(self, way):

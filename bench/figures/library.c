@@ -1,5 +1,5 @@
 /* Figures of the library through its header, for bench/figures/library.py: how deep each call goes into a stack that was painted
- * (`stack`), and so many units of time in one call (`quiet`), units one by one (`tick`) or cyclic frames (`cyclic`) to be counted by
+ * (`stack`), and a number of units of time in one call (`quiet`), units one by one (`tick`) or cyclic frames (`cyclic`) to be counted by
  * callgrind, after a script on standard input: what is executed within pn_step, and not what this program does. */
 #define _GNU_SOURCE
 #include "nandutable.h"

@@ -70,8 +70,8 @@ def main(words):
             print(f"deepest stack of {call}: {depth} octets{'' if depth <= DEEPEST else f', more than {DEEPEST}'}")
         exchanging = script("exchange.txt", b"# Release.")
         for what, title, given in (("quiet", "a unit of time without work, of 1,000 in one pn_tick", b""),
-                                   ("tick", "a pn_tick of one unit and the pn_next behind it", b""),
-                                   ("cyclic", "a pn_frame of a cyclic frame and the pn_next behind it", exchanging)):
+                                   ("tick", "a pn_tick of one unit and the pn_next after it", b""),
+                                   ("cyclic", "a pn_frame of a cyclic frame and the pn_next after it", exchanging)):
             once, twice = (instructions(program, folder, what, turns, given) for turns in (TURNS, 2 * TURNS))
             print(f"{title}: {(twice - once) / TURNS:.0f} instructions")
     return 1 if max(deepest.values()) > DEEPEST else 0

@@ -52,7 +52,7 @@ def reference(catalogue, number):
 
 
 def with_parameters(catalogue, number):
-    """As many in a submodule as there are indexes, and then in another one; of a module that stands in no slot: there they are not too many."""
+    """As many in a submodule as there are indexes, and then in another one; of a module that is in no slot: so they are not too many."""
     index = number % INDEXES
     if index == 0:
         part = {"Subslot": 1, "SubmoduleIdentNumber": 1, "ParameterRecordDataItem": []}
@@ -61,7 +61,7 @@ def with_parameters(catalogue, number):
 
 
 def with_submodules(catalogue, number):
-    """As many in a module as there are subslots, and then in another one; the modules stand in no slot."""
+    """As many in a module as there are subslots, and then in another one; the modules are in no slot."""
     subslot = number % SUBSLOTS
     if subslot == 0:
         catalogue["ModuleItem"].append({"ID": f"WIDE{number}", "ModuleIdentNumber": 1, "VirtualSubmoduleItem": []})

@@ -19,7 +19,7 @@ from program import answer_help, proved, refuse
 SETS = 40
 BASE = 3  # calls of a commit: erase the sector that does not count, write it, open its gate
 SLOT = 2  # calls of a commit into a slot: write it, open its gate
-SLOTS = 14  # behind a base
+SLOTS = 14  # after a base
 MASKS = ("00", "55", "ff", "0f0f", "00000000ffff0000")
 
 HEAD = "out 0200000000020200000000018892fefd04010000000200000008"

@@ -122,7 +122,7 @@ def counts(word, moves, records):
     return 4 ** moves, 4 ** moves
 
 
-def reckoned():
+def computed():
     """The lines that must be printed, one list for each line of stdin that is computed, each of the plan before it."""
     plan = None
     with open(os.path.join(TABLE, "stdin"), encoding="ascii") as file:
@@ -145,15 +145,15 @@ def check():
     """Whether all of them are in stdout, each after the one before it."""
     with open(os.path.join(TABLE, "stdout"), encoding="ascii") as file:
         printed = file.read().splitlines()
-    place, wrong, lists = 0, 0, list(reckoned())
+    place, wrong, lists = 0, 0, list(computed())
     for wanted in lists:
         at = next((at for at in range(place, len(printed)) if printed[at:at + len(wanted)] == wanted), None)
         if at is None:
             wrong += 1
-            print(f"not as reckoned: {wanted[0]} .. {wanted[-1]}")
+            print(f"not as computed: {wanted[0]} .. {wanted[-1]}")
         else:
             place = at + len(wanted)
-    print(f"{len(lists)} lines of schedules of both ends, {sum(map(len, lists))} lines of output, {wrong} not as reckoned")
+    print(f"{len(lists)} lines of schedules of both ends, {sum(map(len, lists))} lines of output, {wrong} not as computed")
     return int(wrong != 0 or not lists)
 
 
@@ -169,15 +169,15 @@ def compare(program, first, last, moves):
         rungs += len(wanted)
         if printed != wanted:
             wrong += 1
-            print(f"seed {seed}: not as reckoned")
-    print(f"{last + 1 - first} schedules of {moves} moves, {rungs} lines, {wrong} schedules not as reckoned")
+            print(f"seed {seed}: not as computed")
+    print(f"{last + 1 - first} schedules of {moves} moves, {rungs} lines, {wrong} schedules not as computed")
     return int(wrong != 0)
 
 
 def main(words):
     answer_help(__doc__, words)
     if words == ["--lines"]:
-        print("\n".join(line for lines in reckoned() for line in lines))
+        print("\n".join(line for lines in computed() for line in lines))
         return 0
     if words[:1] == ["--seeds"] and len(words) == 5 and all(word.isdigit() for word in words[2:]):
         return compare(words[1], *map(int, words[2:]))

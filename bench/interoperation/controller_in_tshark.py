@@ -255,7 +255,7 @@ def err(sent, fields):
 
 
 def kind_of(fields):
-    """What tshark takes a frame for, and what has to stand in it."""
+    """What tshark takes a frame for, and what it must contain."""
     def first(name):
         return int(fields[name][0], 0) if fields[name] else None
     if fields["pn_dcp.service_id"]:

@@ -394,7 +394,7 @@ class Talk:
         self.step("stop", list(wanted))
 
     def shows(self, state):
-        same("the state that is reckoned", self.expected.state, state)
+        same("the state that is computed", self.expected.state, state)
 
     def show(self):
         """The input and the last alarm."""

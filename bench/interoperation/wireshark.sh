@@ -30,7 +30,7 @@ conversation() {
     awk -v printed="$printed" '
         function next_line() { has_line = (getline line < printed) > 0 }
         function is_left(pattern) { return has_line && line ~ pattern }
-        BEGIN { next_line(); next_line() }                      # behind the first boot
+        BEGIN { next_line(); next_line() }                      # after the first boot
         { sub(/\r$/, "") }
         /^(#|$)/ { next }
         $1 == "frame" { print tolower($2) }
@@ -78,6 +78,6 @@ compare 'of alarms that acknowledge' "$(count '8892fc01.{8}13')" "$(count_read '
 compare 'of ARP' "$(count 0806)" "$(count_read arp)"
 compare 'calls and responses' "$(count "$call")" "$(count_read pn_io.opnum)"
 compare 'calls of ApplicationReady' "$(count "$call.{8}.{2}00.{196}0112")" "$(count_read 'dcerpc.pkt_type == 0 && pn_io.block_type == 0x0112')"
-compare 'responses, each behind its call' "$(count "$call.{8}.{2}02")" "$(count_read 'dcerpc.pkt_type == 2 && dcerpc.request_in')"
+compare 'responses, each after its call' "$(count "$call.{8}.{2}02")" "$(count_read 'dcerpc.pkt_type == 2 && dcerpc.request_in')"
 compare 'for another port' "$(($(count 0800) - $(count "$call")))" "$(count_read 'udp && !dcerpc')"
 exit $status

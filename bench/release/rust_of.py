@@ -328,7 +328,7 @@ def is_used(name, path, rest):
     return bool(re.search(rf"\b{word}\b", code)) or word == "*" or word in TRAITS or is_needed
 
 
-# What a macro of another file needs where it is used, though its name does not stand there.
+# What a macro of another file needs where it is used, though its name is not there.
 NEEDED = {"read_headed": ("read_fields", "version_at")}
 
 # What is imported for its methods alone.
@@ -371,7 +371,7 @@ def with_parts_of_slices(text):
         for name, write, inside in re.findall(r"(\w+): &(mut )?\[(\w+)\]", found.group(1)):
             head = head.replace(f"{name}: &{write}[{inside}]", f"{name}: *{write or 'const '}{inside}, {name}_length: usize")
             parts = "from_raw_parts_mut" if write else "from_raw_parts"
-            made.append(f"    // SAFETY: the caller says that so many lie there.\n    let {name} = unsafe {{ core::slice::{parts}({name}, {name}_length) }};\n")
+            made.append(f"    // SAFETY: the caller guarantees that this many elements are there.\n    let {name} = unsafe {{ core::slice::{parts}({name}, {name}_length) }};\n")
         if re.search(r"\balloc: Global\b", head):
             head = re.sub(r",\s*alloc: Global\b", "", head)
             made.append("    let alloc = Global;\n")

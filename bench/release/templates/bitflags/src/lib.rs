@@ -1,5 +1,5 @@
 //! Sets of named bits, as the proved sources write them: the struct is written by hand, and its names and operators come from
-//! `bitflag_items!`. Cargo's `bitflags` 1 writes the struct too, and so cannot stand here.
+//! `bitflag_items!`. Cargo's `bitflags` 1 writes the struct too, and so cannot be used here.
 #![no_std]
 #![forbid(unsafe_code)]
 
