@@ -5,7 +5,6 @@
 #include <stdio.h>
 #include <string.h>
 
-#define SECOND 1000000000ull
 #define LEAST_FRAME 60u
 #define BLOCKS_AT 26u /* after the addresses, EtherType, FrameID and the header of DCP */
 
