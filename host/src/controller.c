@@ -1,5 +1,7 @@
 /* nandutable-controller: the controller of a station on a network interface, by the plan of a catalogue. */
 #define _GNU_SOURCE
+#include "arp.h"
+#include "calls.h"
 #include "histogram.h"
 #include "loop.h"
 #include "naming.h"
@@ -8,6 +10,8 @@
 #include "say.h"
 #include "station.h"
 #include "streams.h"
+#include "waiting.h"
+#include "warnings.h"
 #include "words.h"
 #include <errno.h>
 #include <inttypes.h>
@@ -30,6 +34,7 @@ struct options {
     const char *plan;
     uint8_t assigned[6]; /* the station that first gets the plan's name */
     int has_assigned;
+    int is_forced; /* the name is set even if another station has it or the plan's address */
     int is_list;
 };
 
@@ -42,6 +47,8 @@ struct controller {
     struct places inputs;
     struct places outputs;
     struct reasons reasons;
+    struct waiting waiting;
+    struct holders holders; /* of the plan's name */
     uint8_t device[6]; /* the other end of the relation, to which the cyclic frames go */
     int has_device;
     uint64_t interval; /* of cyclic frames, in nanoseconds */
@@ -56,8 +63,7 @@ struct controller {
     uint16_t last_counter;
     uint64_t lost;
     uint64_t cyclic;
-    int is_missing_told; /* that no station has answered to the name */
-    uint64_t ends_at;    /* 0 before the end */
+    uint64_t ends_at; /* 0 before the end */
 };
 
 static const char *const states[] = {"", "looking", "addressing", "connecting", "writing", "ending", "waiting", "exchanging", "ended"};
@@ -78,6 +84,8 @@ static int transmit(void *context, const uint8_t *octets, uint32_t length)
     if (wire_is_cyclic(octets, length)) {
         memcpy(controller->device, octets, sizeof controller->device);
         controller->has_device = 1;
+    } else {
+        waiting_sent(&controller->waiting, octets, length);
     }
     return wire_send(&controller->loop.wire, octets, length);
 }
@@ -123,8 +131,8 @@ static void look_at_alarm(struct controller *controller)
 
 static void tell_end(struct controller *controller)
 {
-    char why[256];
-    reasons_words(&controller->reasons, controller->cause, why, sizeof why);
+    char why[320];
+    reasons_words(&controller->reasons, &controller->plan, controller->cause, why, sizeof why);
     lines_tell(&controller->loop.lines, "ended %u: %s%s", (unsigned)controller->cause, causes[controller->cause < 8 ? controller->cause : 0], why);
 }
 
@@ -152,6 +160,7 @@ static void look_at_state(void *context)
         return;
     controller->state = controller->op.phase;
     controller->cause = controller->op.note;
+    waiting_state(&controller->waiting, controller->state);
     loop_pace(&controller->loop, controller->state < PN_CONNECTING);
     keep_status(controller);
     if (controller->state != PN_ENDED) {
@@ -212,6 +221,24 @@ static int is_of_relation(const struct controller *controller, const uint8_t *oc
            memcmp(octets + 6, controller->device, sizeof controller->device) == 0 && cyclic_length(controller, octets, length) <= length;
 }
 
+/* A station that answers to the plan's name, beside another one. */
+static void look_at_names(struct controller *controller, const uint8_t *octets, size_t length)
+{
+    const pn_plan *plan = &controller->plan;
+    char first[WORDS_MAC], other[WORDS_MAC];
+    if (naming_has_name(octets, length, plan->name, plan->name_length) && naming_is_another(&controller->holders, octets))
+        lines_tell(&controller->loop.lines, "warning two stations '%.*s': %s, %s", (int)plan->name_length, (const char *)plan->name,
+                   words_show_mac(first, controller->holders.list[0]), words_show_mac(other, octets + 6));
+}
+
+/* Reads a frame that is not cyclic, for the messages. */
+static void hear(struct controller *controller, const uint8_t *octets, size_t length)
+{
+    reasons_hear(&controller->reasons, &controller->plan, octets, length);
+    waiting_hear(&controller->waiting, octets, length);
+    look_at_names(controller, octets, length);
+}
+
 static void take_frame(void *context, const uint8_t *octets, size_t length)
 {
     struct controller *controller = context;
@@ -222,13 +249,13 @@ static void take_frame(void *context, const uint8_t *octets, size_t length)
     if (is_of_relation(controller, octets, length))
         count_cyclic(controller, octets, cyclic_length(controller, octets, length));
     if (!is_cyclic)
-        reasons_hear(&controller->reasons, octets, length);
+        hear(controller, octets, length);
     look_at_state(controller);
     if (is_cyclic)
         look_at_inputs(controller);
     else if (before == PN_EXCHANGED)
         look_at_alarm(controller);
-    if (before == PN_ENDED && reasons_is_response(octets, length))
+    if (before == PN_ENDED && calls_is(octets, length, CALLS_RESPONSE))
         controller->ends_at = ticker_now();
 }
 
@@ -303,8 +330,8 @@ static const struct command commands[] = {
 
 static void usage(void)
 {
-    puts("Usage: nandutable-controller IFACE PLAN.json [--assign MAC] [--socket PATH] [--socket-group GROUP] [--period US]\n"
-         "                             [--realtime N]\n"
+    puts("Usage: nandutable-controller IFACE PLAN.json [--assign MAC [--force]] [--socket PATH] [--socket-group GROUP]\n"
+         "                             [--period US] [--realtime N]\n"
          "       nandutable-controller IFACE --list\n"
          "\n"
          "A PROFINET IO controller on the network interface IFACE. It finds the station of the plan by its name, sets its address, makes\n"
@@ -313,7 +340,9 @@ static void usage(void)
          "  PLAN.json             a catalogue in JSON with the keys of GSDML, such as host/demo/pump.json (installed:\n"
          "                        share/doc/nandutable/pump.json)\n"
          "  --list                prints a line for each station that answers within a second, and ends\n"
-         "  --assign MAC          first sets the name of the plan permanently at the station with this MAC address\n"
+         "  --assign MAC          first sets the name of the plan permanently at the station with this MAC address. Refused if another\n"
+         "                        station has this name or the plan's address\n"
+         "  --force               sets the name all the same, with a warning\n"
          "  --socket PATH         lines go in and out over this unix socket, and not over the standard streams\n"
          "  --socket-group GROUP  the members of this group may use the socket too, not only its owner\n"
          "  --period US           the period in which time is handed in, 31 to 10000 microseconds (default: the plan's interval, at most 1000)\n"
@@ -330,7 +359,8 @@ static void usage(void)
          "\n"
          "Lines that it accepts: `give SLOT SUBSLOT HEX`, `show`, `statistics`, `stop`, `help`. On SIGUSR1 it prints its statistics; SIGTERM\n"
          "stops it, and a second one ends it at once. Its status is the cause of its end: 1 another device, 2 refused, 3 other modules,\n"
-         "4 data hold, 5 ended by the device, 6 an alarm without answer, 7 stopped; 64 and more: it did not start.");
+         "4 data hold, 5 ended by the device, 6 an alarm without answer, 7 stopped; 64 and more: it did not start (75: another\n"
+         "station has the name or the address).");
 }
 
 static int take_option(void *context, int option, const char *word)
@@ -338,6 +368,7 @@ static int take_option(void *context, int option, const char *word)
     struct options *options = context;
     switch (option) {
     case 'l': options->is_list = 1; return 1;
+    case 'f': options->is_forced = 1; return 1;
     case 'a':
         if (!words_mac(word, options->assigned))
             options_misused("--assign takes six octets in hex between colons: ", word);
@@ -349,7 +380,8 @@ static int take_option(void *context, int option, const char *word)
 
 static void read_words(struct options *options, int count, char *words[])
 {
-    static const struct option known[] = {{"list", no_argument, NULL, 'l'}, {"assign", required_argument, NULL, 'a'}, SHARED_OPTIONS};
+    static const struct option known[] = {
+        {"list", no_argument, NULL, 'l'}, {"assign", required_argument, NULL, 'a'}, {"force", no_argument, NULL, 'f'}, SHARED_OPTIONS};
     const struct command_line line = {known, usage, take_option};
     int first;
     memset(options, 0, sizeof *options);
@@ -358,6 +390,8 @@ static void read_words(struct options *options, int count, char *words[])
         options_misused(options->is_list ? "name a network interface, and nothing else" : "name a network interface and a plan, and nothing else", "");
     if (options->shared.socket_group != NULL && options->shared.socket == NULL)
         options_misused("--socket-group takes --socket", "");
+    if (options->is_forced && !options->has_assigned)
+        options_misused("--force takes --assign", "");
     options->shared.interface = words[first];
     options->plan = options->is_list ? NULL : words[first + 1];
 }
@@ -371,13 +405,42 @@ static _Noreturn void list(struct controller *controller, const char *interface)
     exit(0);
 }
 
-/* Sets the name of the plan at a station. */
-static void assign(struct controller *controller, const uint8_t mac[6])
+/* Another station has a value that the plan gives. */
+static void object(const struct options *options, const char *value, const uint8_t found[6])
+{
+    char mac[WORDS_MAC];
+    words_show_mac(mac, found);
+    if (!options->is_forced)
+        fail(STATUS_IN_USE, "another station has %s: %s. Nothing was set (--force sets the name all the same)", value, mac);
+    say("warning: another station has %s: %s", value, mac);
+}
+
+/* Whether another station than the one to be named has the name or the address of the plan. */
+static void check_others(struct controller *controller, const struct options *options)
 {
     const pn_plan *plan = &controller->plan;
-    int answer = naming_assign(&controller->loop.wire, plan->controller_mac, mac, plan->name, plan->name_length);
+    uint8_t found[6];
+    char value[sizeof plan->name + 16];
+    if (naming_find(&controller->loop.wire, plan->controller_mac, plan->name, plan->name_length, options->assigned, found)) {
+        snprintf(value, sizeof value, "the name '%.*s'", (int)plan->name_length, (const char *)plan->name);
+        object(options, value, found);
+    }
+    if (!arp_is_zero(plan->address) && arp_find(&controller->loop.wire, plan->controller_mac, plan->address, options->assigned, found)) {
+        snprintf(value, sizeof value, "the address %u.%u.%u.%u", plan->address[0], plan->address[1], plan->address[2], plan->address[3]);
+        object(options, value, found);
+    }
+}
+
+/* Sets the name of the plan at a station. */
+static void assign(struct controller *controller, const struct options *options)
+{
+    const pn_plan *plan = &controller->plan;
+    char mac[WORDS_MAC];
+    int answer;
+    check_others(controller, options);
+    answer = naming_assign(&controller->loop.wire, plan->controller_mac, options->assigned, plan->name, plan->name_length);
     if (answer < 0)
-        fail(STATUS_NO_INPUT, "no station answers at %02x:%02x:%02x:%02x:%02x:%02x (--list lists the stations)", mac[0], mac[1], mac[2], mac[3], mac[4], mac[5]);
+        fail(STATUS_NO_INPUT, "no station answers at %s (--list lists the stations)", words_show_mac(mac, options->assigned));
     if (answer > 0)
         fail(PN_WAS_REFUSED, "the station does not accept the name, BlockError %d: %s", answer, reasons_block_error((uint8_t)answer));
 }
@@ -396,7 +459,7 @@ static void open_all(struct controller *controller, const struct options *option
     wire_open(&controller->loop.wire, options->shared.interface);
     wire_take(&controller->loop.wire, plan->controller_mac);
     if (options->has_assigned)
-        assign(controller, options->assigned);
+        assign(controller, options);
     loop_open(&controller->loop, &options->shared);
 }
 
@@ -412,11 +475,10 @@ static void make_uuid(uint8_t uuid[16])
 static void look_around(void *context)
 {
     struct controller *controller = context;
-    if (controller->state == PN_LOOKING && !controller->is_missing_told && ticker_now() - controller->loop.ticker.started > 3 * SECOND) {
-        controller->is_missing_told = 1;
-        lines_tell(&controller->loop.lines, "nobody answers to the name '%.*s' yet (--list lists the stations, --assign MAC sets this name at a station)",
-                   (int)controller->plan.name_length, (const char *)controller->plan.name);
-    }
+    char text[384];
+    waiting_ask(&controller->waiting, &controller->loop.wire);
+    if (waiting_line(&controller->waiting, &controller->loop.wire, text, sizeof text))
+        lines_tell(&controller->loop.lines, "%s", text);
     keep_status(controller);
 }
 
@@ -458,6 +520,8 @@ static void begin(struct controller *controller)
     if (other != NULL)
         lines_tell(&controller->loop.lines, "warning: the kernel has the controller's address on %s and answers for it too: remove it (`ip address del`)", other);
     loop_tell_link(&controller->loop);
+    warnings_of_plan(plan, &controller->loop.lines);
+    waiting_start(&controller->waiting, plan);
     send_all(controller);
     look_at_state(controller);
 }

@@ -55,6 +55,12 @@ int words_mac(const char *word, uint8_t mac[6])
     return 1;
 }
 
+const char *words_show_mac(char text[WORDS_MAC], const uint8_t mac[6])
+{
+    snprintf(text, WORDS_MAC, "%02x:%02x:%02x:%02x:%02x:%02x", mac[0], mac[1], mac[2], mac[3], mac[4], mac[5]);
+    return text;
+}
+
 int words_part(char *line, char *words[], int most)
 {
     static const char blanks[] = " \t\r\n";

@@ -14,6 +14,10 @@ long words_octets(const char *word, uint8_t *octets, size_t most);
 /* Reads a MAC address, six octets in hex between colons or hyphens. Returns whether it is one. */
 int words_mac(const char *word, uint8_t mac[6]);
 
+/* Writes a MAC address, six octets in hex between colons. Returns the text. */
+#define WORDS_MAC 18
+const char *words_show_mac(char text[WORDS_MAC], const uint8_t mac[6]);
+
 /* Splits a line at its blanks, in place, into at most `most` parts. Returns their number, or -1 if there are more. */
 int words_part(char *line, char *words[], int most);
 
