@@ -405,8 +405,8 @@ static _Noreturn void list(struct controller *controller, const char *interface)
     exit(0);
 }
 
-/* Another station has a value that the plan gives. */
-static void object(const struct options *options, const char *value, const uint8_t found[6])
+/* Ends the program because another station has a value of the plan; with --force only warns. */
+static void refuse_or_warn(const struct options *options, const char *value, const uint8_t found[6])
 {
     char mac[WORDS_MAC];
     words_show_mac(mac, found);
@@ -415,7 +415,7 @@ static void object(const struct options *options, const char *value, const uint8
     say("warning: another station has %s: %s", value, mac);
 }
 
-/* Whether another station than the one to be named has the name or the address of the plan. */
+/* Looks for another station that has the name or the address of the plan. */
 static void check_others(struct controller *controller, const struct options *options)
 {
     const pn_plan *plan = &controller->plan;
@@ -423,11 +423,11 @@ static void check_others(struct controller *controller, const struct options *op
     char value[sizeof plan->name + 16];
     if (naming_find(&controller->loop.wire, plan->controller_mac, plan->name, plan->name_length, options->assigned, found)) {
         snprintf(value, sizeof value, "the name '%.*s'", (int)plan->name_length, (const char *)plan->name);
-        object(options, value, found);
+        refuse_or_warn(options, value, found);
     }
     if (!arp_is_zero(plan->address) && arp_find(&controller->loop.wire, plan->controller_mac, plan->address, options->assigned, found)) {
         snprintf(value, sizeof value, "the address %u.%u.%u.%u", plan->address[0], plan->address[1], plan->address[2], plan->address[3]);
-        object(options, value, found);
+        refuse_or_warn(options, value, found);
     }
 }
 

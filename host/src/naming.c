@@ -109,7 +109,8 @@ unsigned naming_list(struct wire *wire)
     return count;
 }
 
-/* The blocks of an answer to Identify without the tag of its frame, or NULL. What precedes them is as in an untagged frame. */
+/* An answer to Identify, from the place at which an untagged frame would begin, so that its blocks are at BLOCKS_AT. NULL for another
+ * frame. `size` becomes the number of octets from there on. */
 static const uint8_t *untagged_answer(const uint8_t *octets, size_t *size)
 {
     size_t at = wire_frame_id_at(octets, *size);

@@ -34,10 +34,9 @@ void waiting_state(struct waiting *waiting, uint32_t state)
 
 void waiting_sent(struct waiting *waiting, const uint8_t *octets, size_t length)
 {
-    int is_call = calls_is(octets, length, CALLS_REQUEST);
-    if (length >= 14 && octets[0] % 2 == 0)
+    if (length >= 14 && octets[0] % 2 == 0) /* not to all stations */
         memcpy(waiting->device, octets, sizeof waiting->device);
-    if (!is_call || calls_sequence(octets) == waiting->sequence)
+    if (!calls_is(octets, length, CALLS_REQUEST) || calls_sequence(octets) == waiting->sequence)
         return;
     waiting->sequence = calls_sequence(octets);
     note_progress(waiting);
@@ -46,7 +45,8 @@ void waiting_sent(struct waiting *waiting, const uint8_t *octets, size_t length)
 void waiting_hear(struct waiting *waiting, const uint8_t *octets, size_t length)
 {
     struct arp_packet packet;
-    if (!waiting->is_asked || !arp_read(octets, length, &packet) || memcmp(packet.sender_address, waiting->plan->address, 4) != 0)
+    if (!waiting->is_asked || !arp_read(octets, length, &packet) || packet.is_request ||
+        memcmp(packet.sender_address, waiting->plan->address, 4) != 0)
         return;
     if (memcmp(packet.sender, waiting->device, 6) == 0) {
         waiting->is_answered = 1;
@@ -59,8 +59,9 @@ void waiting_hear(struct waiting *waiting, const uint8_t *octets, size_t length)
 void waiting_ask(struct waiting *waiting, struct wire *wire)
 {
     const pn_plan *plan = waiting->plan;
+    int is_about_address = waiting->state == PN_ADDRESSING || waiting->state == PN_CONNECTING;
     uint8_t frame[ARP_FRAME];
-    if (waiting->is_asked || arp_is_zero(plan->address) || (waiting->state != PN_ADDRESSING && waiting->state != PN_CONNECTING) ||
+    if (!is_about_address || waiting->is_asked || !wire->is_up || arp_is_zero(plan->address) ||
         ticker_now() + SECOND < waiting->since + waiting->pause)
         return;
     waiting->is_asked = 1;

@@ -31,7 +31,7 @@ void waiting_sent(struct waiting *waiting, const uint8_t *octets, size_t length)
 /* Reads a received frame. */
 void waiting_hear(struct waiting *waiting, const uint8_t *octets, size_t length);
 
-/* If a line is due within a second, and depends on it, asks by ARP who has the plan's address. */
+/* Sends an ARP request for the plan's address a second before a line whose text depends on the answer. */
 void waiting_ask(struct waiting *waiting, struct wire *wire);
 
 /* Writes a line if one is due. Returns whether it is. */

@@ -42,8 +42,8 @@ class Station(threading.Thread):
     """A station. What it answers may be changed while it runs.
 
     `identifies`: how often it answers an Identify for its name. `sets`: the BlockError of its answer to a Set, None for no answer. `arp`: the
-    address for which it answers ARP, or None. `calls`: the PNIOStatus of its answer to a call, by the type of the first block; no answer if
-    there is none."""
+    address for which it answers ARP, or None. `calls`: the PNIOStatus of its answer to a call, by the type of the first block, or for a Write by
+    that type and the index; no answer if there is none."""
 
     def __init__(self, wire, number, name="pump-1", identity=(291, 1110), suite=bytes(12), identifies=1, sets=None, arp=None, calls=None):
         super().__init__(daemon=True)
@@ -104,7 +104,8 @@ class Station(threading.Thread):
 
     def call(self, came):
         kind = struct.unpack_from(">H", came, BLOCKS_AT)[0]
-        status = self.calls.get(kind)
+        index = int.from_bytes(came[BLOCKS_AT + 34:BLOCKS_AT + 36], "big")  # of a Write
+        status = self.calls.get((kind, index), self.calls.get(kind))
         if status is None:
             return
         order = "<" if came[RPC_AT + 4] >> 4 == 1 else ">"
