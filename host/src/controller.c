@@ -49,7 +49,7 @@ struct controller {
     struct reasons reasons;
     struct waiting waiting;
     struct holders holders; /* of the plan's name */
-    uint8_t device[6]; /* the other end of the relation, to which the cyclic frames go */
+    uint8_t device[6];      /* the other end of the relation, to which the cyclic frames go */
     int has_device;
     uint64_t interval; /* of cyclic frames, in nanoseconds */
     /* The last reported values. */
@@ -475,7 +475,7 @@ static void make_uuid(uint8_t uuid[16])
 static void look_around(void *context)
 {
     struct controller *controller = context;
-    char text[384];
+    char text[448];
     waiting_ask(&controller->waiting, &controller->loop.wire);
     if (waiting_line(&controller->waiting, &controller->loop.wire, text, sizeof text))
         lines_tell(&controller->loop.lines, "%s", text);

@@ -118,7 +118,7 @@ static void words_of_state(const struct waiting *waiting, char *text, size_t siz
 int waiting_line(struct waiting *waiting, const struct wire *wire, char *text, size_t size)
 {
     uint64_t passed = ticker_now() - waiting->since;
-    char words[320];
+    char words[384]; /* a name has up to 240 letters */
     if (waiting->state < PN_LOOKING || waiting->state > PN_WAITING || passed < waiting->pause)
         return 0;
     if (wire->is_up)

@@ -41,15 +41,16 @@ def block_of(kind, fields):
 class Station(threading.Thread):
     """A station. What it answers may be changed while it runs.
 
-    `identifies`: how often it answers an Identify for its name. `sets`: the BlockError of its answer to a Set, None for no answer. `arp`: the
+    `identifies`: how often it answers an Identify for its name; `is_careless`: for another name too. `sets`: the BlockError of its answer to a Set, None for no answer. `arp`: the
     address for which it answers ARP, or None. `calls`: the PNIOStatus of its answer to a call, by the type of the first block, or for a Write by
     that type and the index; no answer if there is none."""
 
-    def __init__(self, wire, number, name="pump-1", identity=(291, 1110), suite=bytes(12), identifies=1, sets=None, arp=None, calls=None):
+    def __init__(self, wire, number, name="pump-1", identity=(291, 1110), suite=bytes(12), identifies=1, is_careless=False, sets=None, arp=None,
+                 calls=None):
         super().__init__(daemon=True)
         self.link, self.mac = wire.socket("d0"), mac_of(number)
         self.name_of_station, self.identity, self.suite = name.encode(), identity, suite
-        self.identifies, self.sets, self.arp, self.calls = identifies, sets, arp, calls or {}
+        self.identifies, self.is_careless, self.sets, self.arp, self.calls = identifies, is_careless, sets, arp, calls or {}
         self.is_over = False
         self.start()
 
@@ -91,7 +92,7 @@ class Station(threading.Thread):
 
     def identify(self, came):
         length = struct.unpack_from(">H", came, 28)[0]
-        if came[26:28] == b"\2\2" and came[30:30 + length] != self.name_of_station:
+        if came[26:28] == b"\2\2" and came[30:30 + length] != self.name_of_station and not self.is_careless:
             return
         blocks = block(2, 2, b"\0\0" + self.name_of_station) + block(2, 3, b"\0\0" + struct.pack(">HH", *self.identity)) + block(1, 2, b"\0\1" + self.suite)
         for _ in range(self.identifies):
