@@ -1,32 +1,28 @@
 /* nandutable-controller: the controller of a station on a network interface, by the plan of a catalogue. */
 #define _GNU_SOURCE
+#include "arp.h"
+#include "calls.h"
 #include "histogram.h"
-#include "lines.h"
+#include "loop.h"
 #include "naming.h"
+#include "options.h"
 #include "reasons.h"
 #include "say.h"
 #include "station.h"
 #include "streams.h"
-#include "ticker.h"
-#include "wake.h"
-#include "wire.h"
+#include "waiting.h"
+#include "warnings.h"
 #include "words.h"
 #include <errno.h>
-#include <getopt.h>
 #include <inttypes.h>
 #include <stdio.h>
 #include <stdlib.h>
 #include <string.h>
 #include <sys/random.h>
 
-#define VERSION "0.1.0"
-
-#define SECOND 1000000000ull
 /* Before the Connect only requests are due, one a second. */
-#define IDLE_PERIOD 10000000ull /* nanoseconds */
-#define IDLE_MOST 32000u        /* units */
+#define IDLE_MOST 32000u /* units */
 #define LONGEST_PERIOD 1000000ull
-#define FRAMES_AT_ONCE 64
 /* The FrameID of the cyclic frames that the controller requests from a device. */
 #define FRAME_INPUT 0xC001u
 /* How long to wait for the answer to a Release, and how often to write the status. */
@@ -34,15 +30,12 @@
 #define STATUS_EACH (SECOND / 4)
 
 struct options {
-    const char *interface;
+    struct shared_options shared;
     const char *plan;
-    const char *socket;
-    const char *socket_group; /* a group that may use the socket too, or NULL */
     uint8_t assigned[6]; /* the station that first gets the plan's name */
     int has_assigned;
+    int is_forced; /* the name is set even if another station has it or the plan's address */
     int is_list;
-    uint64_t period; /* nanoseconds; 0: that of the plan */
-    int realtime;
 };
 
 struct controller {
@@ -50,17 +43,15 @@ struct controller {
     pn_op op;
     pn_host host;
     pn_plan plan;
-    struct wire wire;
-    struct ticker ticker;
-    struct wake wake;
-    struct lines lines;
+    struct loop loop;
     struct places inputs;
     struct places outputs;
     struct reasons reasons;
-    uint8_t device[6]; /* the other end of the relation, to which the cyclic frames go */
+    struct waiting waiting;
+    struct holders holders; /* of the plan's name */
+    uint8_t device[6];      /* the other end of the relation, to which the cyclic frames go */
     int has_device;
     uint64_t interval; /* of cyclic frames, in nanoseconds */
-    uint64_t period;
     /* The last reported values. */
     uint32_t state;
     uint32_t cause;
@@ -72,9 +63,7 @@ struct controller {
     uint16_t last_counter;
     uint64_t lost;
     uint64_t cyclic;
-    uint64_t next_look;
-    int is_missing_told; /* that no station has answered to the name */
-    uint64_t ends_at;    /* 0 before the end */
+    uint64_t ends_at; /* 0 before the end */
 };
 
 static const char *const states[] = {"", "looking", "addressing", "connecting", "writing", "ending", "waiting", "exchanging", "ended"};
@@ -95,15 +84,10 @@ static int transmit(void *context, const uint8_t *octets, uint32_t length)
     if (wire_is_cyclic(octets, length)) {
         memcpy(controller->device, octets, sizeof controller->device);
         controller->has_device = 1;
+    } else {
+        waiting_sent(&controller->waiting, octets, length);
     }
-    return wire_send(&controller->wire, octets, length);
-}
-
-/* The program uses the library as its header says, so the library cannot return any other number. */
-static void must(uint32_t answer, const char *call)
-{
-    if (answer != PN_OK)
-        fail(STATUS_SOFTWARE, "%s returned %u: the library and this program do not fit", call, (unsigned)answer);
+    return wire_send(&controller->loop.wire, octets, length);
 }
 
 /* Sends the frames of the previous step. The controller repeats a frame that could not be sent, as one that is lost on the wire. */
@@ -111,31 +95,21 @@ static void send_all(struct controller *controller)
 {
     uint32_t answer = pn_controller_send(&controller->room, &controller->op, &controller->host);
     if (answer != PN_NOT_SENT)
-        must(answer, "pn_controller_send");
+        loop_must(answer, "pn_controller_send");
 }
 
 /* --- Reports --- */
-
-static void tell_octets(char *text, size_t size, const char *label, const uint8_t *octets, size_t length)
-{
-    int head = snprintf(text, size, "%s ", label);
-    if (head > 0 && (size_t)head + 2 * length + 1 <= size)
-        words_hex(text + head, octets, length);
-}
 
 static void look_at_inputs(struct controller *controller)
 {
     for (unsigned i = 0; i < controller->inputs.count; i++) {
         struct place *place = &controller->inputs.list[i];
-        pn_op *op = &controller->op;
-        char label[32], text[2 * STATION_DATA + 64];
-        must(pn_controller_value(&controller->room, op, place->slot, place->subslot), "pn_controller_value");
-        if (op->length != place->length || memcmp(op->octets, place->octets, place->length) == 0)
+        char text[STATION_LINE];
+        loop_must(pn_controller_value(&controller->room, &controller->op, place->slot, place->subslot), "pn_controller_value");
+        if (!station_update(place, controller->op.octets, controller->op.length))
             continue;
-        memcpy(place->octets, op->octets, place->length);
-        snprintf(label, sizeof label, "input %u %u", place->slot, place->subslot);
-        tell_octets(text, sizeof text, label, place->octets, place->length);
-        lines_tell(&controller->lines, "%s", text);
+        station_line(text, "input", place);
+        lines_tell(&controller->loop.lines, "%s", text);
     }
 }
 
@@ -151,15 +125,15 @@ static void look_at_alarm(struct controller *controller)
         return;
     *told = *op;
     snprintf(label, sizeof label, "alarm %u %u %u %u", (unsigned)op->note, (unsigned)op->slot, (unsigned)op->subslot, (unsigned)op->units);
-    tell_octets(text, sizeof text, label, op->octets, op->length);
-    lines_tell(&controller->lines, "%s", text);
+    words_labelled(text, sizeof text, label, op->octets, op->length);
+    lines_tell(&controller->loop.lines, "%s", text);
 }
 
 static void tell_end(struct controller *controller)
 {
-    char why[256];
-    reasons_words(&controller->reasons, controller->cause, why, sizeof why);
-    lines_tell(&controller->lines, "ended %u: %s%s", (unsigned)controller->cause, causes[controller->cause < 8 ? controller->cause : 0], why);
+    char why[320];
+    reasons_words(&controller->reasons, &controller->plan, controller->cause, why, sizeof why);
+    lines_tell(&controller->loop.lines, "ended %u: %s%s", (unsigned)controller->cause, causes[controller->cause < 8 ? controller->cause : 0], why);
 }
 
 static void status_line(const struct controller *controller, char *text, size_t size)
@@ -175,20 +149,22 @@ static void keep_status(struct controller *controller)
 {
     char text[256];
     status_line(controller, text, sizeof text);
-    lines_status(&controller->lines, text);
+    lines_status(&controller->loop.lines, text);
 }
 
-static void look_at_state(struct controller *controller)
+static void look_at_state(void *context)
 {
-    must(pn_controller_state(&controller->room, &controller->op), "pn_controller_state");
+    struct controller *controller = context;
+    loop_must(pn_controller_state(&controller->room, &controller->op), "pn_controller_state");
     if (controller->op.phase == controller->state)
         return;
     controller->state = controller->op.phase;
     controller->cause = controller->op.note;
-    ticker_pace(&controller->ticker, controller->state < PN_CONNECTING ? IDLE_PERIOD : controller->period);
+    waiting_state(&controller->waiting, controller->state);
+    loop_pace(&controller->loop, controller->state < PN_CONNECTING);
     keep_status(controller);
     if (controller->state != PN_ENDED) {
-        lines_tell(&controller->lines, "state %s", states[controller->state]);
+        lines_tell(&controller->loop.lines, "state %s", states[controller->state]);
         return;
     }
     tell_end(controller);
@@ -199,18 +175,14 @@ static void look_at_state(struct controller *controller)
 
 /* --- Events --- */
 
-static void take_time(struct controller *controller)
+static uint32_t tick(void *context, uint32_t units)
 {
-    uint32_t due = ticker_due(&controller->ticker, controller->state < PN_CONNECTING ? IDLE_MOST : PN_MOST_DEBT), left;
-    if (due == 0)
-        return;
-    while (due != 0) {
-        must(pn_controller_tick(&controller->room, &controller->op, due), "pn_controller_tick");
-        left = controller->op.units;
-        send_all(controller);
-        due = left;
-    }
-    look_at_state(controller);
+    struct controller *controller = context;
+    uint32_t left;
+    loop_must(pn_controller_tick(&controller->room, &controller->op, units), "pn_controller_tick");
+    left = controller->op.units;
+    send_all(controller);
+    return left;
 }
 
 /* Counts a cyclic frame: the time since the previous one, and how many are missing between them by their CycleCounter. */
@@ -249,144 +221,117 @@ static int is_of_relation(const struct controller *controller, const uint8_t *oc
            memcmp(octets + 6, controller->device, sizeof controller->device) == 0 && cyclic_length(controller, octets, length) <= length;
 }
 
-static void take_frame(struct controller *controller, const uint8_t *octets, size_t length)
+/* A station that answers to the plan's name, beside another one. */
+static void look_at_names(struct controller *controller, const uint8_t *octets, size_t length)
 {
+    const pn_plan *plan = &controller->plan;
+    char first[WORDS_MAC], other[WORDS_MAC];
+    if (naming_has_name(octets, length, plan->name, plan->name_length) && naming_is_another(&controller->holders, octets))
+        lines_tell(&controller->loop.lines, "warning two stations '%.*s': %s, %s", (int)plan->name_length, (const char *)plan->name,
+                   words_show_mac(first, controller->holders.list[0]), words_show_mac(other, octets + 6));
+}
+
+/* Reads a frame that is not cyclic, for the messages. */
+static void hear(struct controller *controller, const uint8_t *octets, size_t length)
+{
+    reasons_hear(&controller->reasons, &controller->plan, octets, length);
+    waiting_hear(&controller->waiting, octets, length);
+    look_at_names(controller, octets, length);
+}
+
+static void take_frame(void *context, const uint8_t *octets, size_t length)
+{
+    struct controller *controller = context;
     int is_cyclic = wire_is_cyclic(octets, length);
     uint32_t before = controller->state;
-    must(pn_controller_frame(&controller->room, &controller->op, octets, length), "pn_controller_frame");
+    loop_must(pn_controller_frame(&controller->room, &controller->op, octets, length), "pn_controller_frame");
     send_all(controller);
     if (is_of_relation(controller, octets, length))
         count_cyclic(controller, octets, cyclic_length(controller, octets, length));
     if (!is_cyclic)
-        reasons_hear(&controller->reasons, octets, length);
+        hear(controller, octets, length);
     look_at_state(controller);
     if (is_cyclic)
         look_at_inputs(controller);
     else if (before == PN_EXCHANGED)
         look_at_alarm(controller);
-    if (before == PN_ENDED && reasons_is_response(octets, length))
+    if (before == PN_ENDED && calls_is(octets, length, CALLS_RESPONSE))
         controller->ends_at = ticker_now();
-}
-
-static void take_frames(struct controller *controller)
-{
-    static uint8_t octets[WIRE_FRAME];
-    size_t length;
-    /* Waiting frames are handed in before the elapsed time, because they arrived before its end: a delayed program must not judge its
-     * partner to be silent. There is a limit for each turn, so that a flood of frames does not delay the time. While nothing is due at a
-     * unit of time, many units are handed in at once, before the frame. */
-    for (int i = 0; i < FRAMES_AT_ONCE && wire_receive(&controller->wire, octets, &length); i++) {
-        if (controller->state < PN_CONNECTING)
-            take_time(controller);
-        take_frame(controller, octets, length);
-    }
 }
 
 static void stop(struct controller *controller)
 {
-    must(pn_controller_stop(&controller->room, &controller->op), "pn_controller_stop");
+    loop_must(pn_controller_stop(&controller->room, &controller->op), "pn_controller_stop");
     send_all(controller);
     look_at_state(controller);
 }
 
 /* --- Lines --- */
 
-static void statistics(struct controller *controller, void (*tell)(struct lines *, const char *, ...))
+static void statistics(void *context, lines_writer tell)
 {
-    struct lines *lines = &controller->lines;
-    const struct histogram *intervals = &controller->intervals;
-    tell(lines, "statistics seconds %" PRIu64, (ticker_now() - controller->ticker.started) / SECOND);
-    tell(lines, "frames received %" PRIu64 " sent %" PRIu64 " not-sent %" PRIu64 " missed %" PRIu64, controller->wire.received, controller->wire.sent,
-         controller->wire.not_sent, wire_missed(&controller->wire));
+    struct controller *controller = context;
+    struct lines *lines = &controller->loop.lines;
+    loop_tell_frames(&controller->loop, tell);
     tell(lines, "cyclic received %" PRIu64 " lost %" PRIu64, controller->cyclic, controller->lost);
-    tell(lines, "time units %" PRIu64 " forgotten %" PRIu64 " stalls %" PRIu64 " most-at-once %" PRIu64, controller->ticker.given,
-         controller->ticker.forgotten, controller->ticker.stalls, controller->ticker.longest);
-    tell(lines, "interval count %" PRIu64 " p50 %u p99 %u max %" PRIu64 " us", intervals->total, histogram_within(intervals, 500),
-         histogram_within(intervals, 990), (intervals->most + 500) / 1000);
+    loop_tell_time(&controller->loop, &controller->intervals, tell);
     tell(lines, "jitter p50 %u p99 %u max %" PRIu64 " us", histogram_within(&controller->jitter, 500), histogram_within(&controller->jitter, 990),
          (controller->jitter.most + 500) / 1000);
     tell(lines, "lines lost %" PRIu64, lines_lost(lines));
 }
 
-static void show_places(struct controller *controller, const char *what, const struct places *places)
-{
-    for (unsigned i = 0; i < places->count; i++) {
-        const struct place *place = &places->list[i];
-        char label[32], text[2 * STATION_DATA + 64];
-        snprintf(label, sizeof label, "%s %u %u", what, place->slot, place->subslot);
-        tell_octets(text, sizeof text, label, place->octets, place->length);
-        lines_answer(&controller->lines, "%s", text);
-    }
-}
-
-static void show(struct controller *controller)
-{
-    char text[256];
-    status_line(controller, text, sizeof text);
-    lines_answer(&controller->lines, "state %s", states[controller->state]);
-    lines_answer(&controller->lines, "status %s", text);
-    show_places(controller, "input", &controller->inputs);
-    show_places(controller, "give", &controller->outputs);
-}
-
-static void help(struct lines *lines)
-{
-    lines_answer(lines, "give SLOT SUBSLOT HEX   sets the output of a submodule");
-    lines_answer(lines, "show                    state, status, inputs and outputs");
-    lines_answer(lines, "statistics              counts since the start");
-    lines_answer(lines, "stop                    releases the relation and ends the program");
-}
-
-static void take_give(struct controller *controller, char *words[])
-{
-    uint8_t octets[STATION_DATA];
-    unsigned long slot, subslot;
-    long length = words_octets(words[3], octets, sizeof octets);
-    struct place *place;
-    if (!words_number(words[1], 65535, &slot) || !words_number(words[2], 65535, &subslot) || length < 0) {
-        lines_answer(&controller->lines, "wrong: give SLOT SUBSLOT HEX");
-        return;
-    }
-    place = station_place(&controller->outputs, (uint16_t)slot, (uint16_t)subslot);
-    if (place == NULL)
-        lines_answer(&controller->lines, "wrong: slot %lu subslot %lu has no output", slot, subslot);
-    else if (place->length != length)
-        lines_answer(&controller->lines, "wrong: the output of slot %lu subslot %lu has %u octets", slot, subslot, place->length);
-    else {
-        memcpy(place->octets, octets, (size_t)length);
-        must(pn_controller_give(&controller->room, &controller->op, place->slot, place->subslot, place->octets, place->length), "pn_controller_give");
-        send_all(controller);
-        lines_answer(&controller->lines, "state %s", states[controller->state]);
-    }
-}
-
-static void take_line(void *context, char *line)
+static void show(void *context, char *words[])
 {
     struct controller *controller = context;
-    char *words[4];
-    int count = words_part(line, words, 4);
-    if (count == 0)
-        return;
-    if (count == 4 && strcmp(words[0], "give") == 0)
-        take_give(controller, words);
-    else if (count == 1 && strcmp(words[0], "show") == 0)
-        show(controller);
-    else if (count == 1 && strcmp(words[0], "statistics") == 0)
-        statistics(controller, lines_answer);
-    else if (count == 1 && strcmp(words[0], "help") == 0)
-        help(&controller->lines);
-    else if (count == 1 && strcmp(words[0], "stop") == 0)
-        controller->wake.is_ended = 1;
-    else
-        lines_answer(&controller->lines, "wrong: no such line; `help` lists them");
+    char text[256];
+    status_line(controller, text, sizeof text);
+    lines_answer(&controller->loop.lines, "state %s", states[controller->state]);
+    lines_answer(&controller->loop.lines, "status %s", text);
+    loop_answer_places(&controller->loop, "input", &controller->inputs);
+    loop_answer_places(&controller->loop, "give", &controller->outputs);
+    (void)words;
 }
+
+static void give(struct controller *controller, const struct words_place *given, const uint8_t *octets)
+{
+    struct place *place = station_place(&controller->outputs, given->slot, given->subslot);
+    struct lines *lines = &controller->loop.lines;
+    if (place == NULL)
+        lines_answer(lines, "wrong: slot %u subslot %u has no output", given->slot, given->subslot);
+    else if (place->length != given->length)
+        lines_answer(lines, "wrong: the output of slot %u subslot %u has %u octets", given->slot, given->subslot, place->length);
+    else {
+        memcpy(place->octets, octets, given->length);
+        loop_must(pn_controller_give(&controller->room, &controller->op, place->slot, place->subslot, place->octets, place->length), "pn_controller_give");
+        send_all(controller);
+        lines_answer(lines, "state %s", states[controller->state]);
+    }
+}
+
+static void take_give(void *context, char *words[])
+{
+    struct controller *controller = context;
+    uint8_t octets[STATION_DATA];
+    struct words_place given;
+    if (words_read_place(words + 1, &given, octets, sizeof octets))
+        give(controller, &given, octets);
+    else
+        lines_answer(&controller->loop.lines, "wrong: give SLOT SUBSLOT HEX");
+}
+
+static const struct command commands[] = {
+    {"give", 4, take_give, "give SLOT SUBSLOT HEX   sets the output of a submodule"},
+    {"show", 1, show, "show                    state, status, inputs and outputs"},
+    {"statistics", 1, NULL, "statistics              counts since the start"},
+    {"stop", 1, NULL, "stop                    releases the relation and ends the program"},
+    {NULL, 0, NULL, NULL}};
 
 /* --- The program --- */
 
 static void usage(void)
 {
-    puts("Usage: nandutable-controller IFACE PLAN.json [--assign MAC] [--socket PATH] [--socket-group GROUP] [--period US]\n"
-         "                             [--realtime N]\n"
+    puts("Usage: nandutable-controller IFACE PLAN.json [--assign MAC [--force]] [--socket PATH] [--socket-group GROUP]\n"
+         "                             [--period US] [--realtime N]\n"
          "       nandutable-controller IFACE --list\n"
          "\n"
          "A PROFINET IO controller on the network interface IFACE. It finds the station of the plan by its name, sets its address, makes\n"
@@ -395,7 +340,9 @@ static void usage(void)
          "  PLAN.json             a catalogue in JSON with the keys of GSDML, such as host/demo/pump.json (installed:\n"
          "                        share/doc/nandutable/pump.json)\n"
          "  --list                prints a line for each station that answers within a second, and ends\n"
-         "  --assign MAC          first sets the name of the plan permanently at the station with this MAC address\n"
+         "  --assign MAC          first sets the name of the plan permanently at the station with this MAC address. Refused if another\n"
+         "                        station has this name or the plan's address\n"
+         "  --force               sets the name all the same, with a warning\n"
          "  --socket PATH         lines go in and out over this unix socket, and not over the standard streams\n"
          "  --socket-group GROUP  the members of this group may use the socket too, not only its owner\n"
          "  --period US           the period in which time is handed in, 31 to 10000 microseconds (default: the plan's interval, at most 1000)\n"
@@ -412,84 +359,88 @@ static void usage(void)
          "\n"
          "Lines that it accepts: `give SLOT SUBSLOT HEX`, `show`, `statistics`, `stop`, `help`. On SIGUSR1 it prints its statistics; SIGTERM\n"
          "stops it, and a second one ends it at once. Its status is the cause of its end: 1 another device, 2 refused, 3 other modules,\n"
-         "4 data hold, 5 ended by the device, 6 an alarm without answer, 7 stopped; 64 and more: it did not start.");
+         "4 data hold, 5 ended by the device, 6 an alarm without answer, 7 stopped; 64 and more: it did not start (75: another\n"
+         "station has the name or the address).");
 }
 
-static _Noreturn void misused(const char *why, const char *word)
+static int take_option(void *context, int option, const char *word)
 {
-    fail(STATUS_USAGE, "%s%s (nandutable-controller --help)", why, word);
-}
-
-static void take_option(struct options *options, int option, const char *word)
-{
-    unsigned long number;
+    struct options *options = context;
     switch (option) {
-    case 'u': options->socket = word; return;
-    case 'g': options->socket_group = word; return;
-    case 'l': options->is_list = 1; return;
+    case 'l': options->is_list = 1; return 1;
+    case 'f': options->is_forced = 1; return 1;
     case 'a':
         if (!words_mac(word, options->assigned))
-            misused("--assign takes six octets in hex between colons: ", word);
+            options_misused("--assign takes six octets in hex between colons: ", word);
         options->has_assigned = 1;
-        return;
-    case 'p':
-        if (!words_number(word, 10000, &number) || number < 31)
-            misused("--period takes 31 to 10000 microseconds: ", word);
-        options->period = number * 1000;
-        return;
-    case 'r':
-        if (!words_number(word, 99, &number) || number < 1)
-            misused("--realtime takes 1 to 99: ", word);
-        options->realtime = (int)number;
-        return;
-    default: misused("there is no such option, or its argument is missing", "");
+        return 1;
+    default: return 0;
     }
 }
 
 static void read_words(struct options *options, int count, char *words[])
 {
     static const struct option known[] = {
-        {"list", no_argument, NULL, 'l'},       {"assign", required_argument, NULL, 'a'}, {"socket", required_argument, NULL, 'u'},
-        {"socket-group", required_argument, NULL, 'g'}, {"period", required_argument, NULL, 'p'}, {"realtime", required_argument, NULL, 'r'},
-        {"help", no_argument, NULL, 'h'},       {"version", no_argument, NULL, 'v'},      {NULL, 0, NULL, 0}};
-    int option;
+        {"list", no_argument, NULL, 'l'}, {"assign", required_argument, NULL, 'a'}, {"force", no_argument, NULL, 'f'}, SHARED_OPTIONS};
+    const struct command_line line = {known, usage, take_option};
+    int first;
     memset(options, 0, sizeof *options);
-    opterr = 0;
-    while ((option = getopt_long(count, words, "h", known, NULL)) != -1) {
-        if (option == 'h') {
-            usage();
-            exit(0);
-        }
-        if (option == 'v') {
-            puts("nandutable-controller " VERSION);
-            exit(0);
-        }
-        take_option(options, option, optarg);
-    }
-    if (optind + (options->is_list ? 1 : 2) != count)
-        misused(options->is_list ? "name a network interface, and nothing else" : "name a network interface and a plan, and nothing else", "");
-    if (options->socket_group != NULL && options->socket == NULL)
-        misused("--socket-group takes --socket", "");
-    options->interface = words[optind];
-    options->plan = options->is_list ? NULL : words[optind + 1];
+    first = options_read(&line, &options->shared, options, count, words);
+    if (first + (options->is_list ? 1 : 2) != count)
+        options_misused(options->is_list ? "name a network interface, and nothing else" : "name a network interface and a plan, and nothing else", "");
+    if (options->shared.socket_group != NULL && options->shared.socket == NULL)
+        options_misused("--socket-group takes --socket", "");
+    if (options->is_forced && !options->has_assigned)
+        options_misused("--force takes --assign", "");
+    options->shared.interface = words[first];
+    options->plan = options->is_list ? NULL : words[first + 1];
 }
 
 /* Lists the stations, and ends. */
 static _Noreturn void list(struct controller *controller, const char *interface)
 {
-    wire_open(&controller->wire, interface);
-    if (naming_list(&controller->wire) == 0)
+    wire_open(&controller->loop.wire, interface);
+    if (naming_list(&controller->loop.wire) == 0)
         fail(STATUS_NO_INPUT, "no station answers on %s", interface);
     exit(0);
 }
 
-/* Sets the name of the plan at a station. */
-static void assign(struct controller *controller, const uint8_t mac[6])
+/* Ends the program because another station has a value of the plan; with --force only warns. */
+static void refuse_or_warn(const struct options *options, const char *value, const uint8_t found[6])
+{
+    char mac[WORDS_MAC];
+    words_show_mac(mac, found);
+    if (!options->is_forced)
+        fail(STATUS_IN_USE, "another station has %s: %s. Nothing was set (--force sets the name all the same)", value, mac);
+    say("warning: another station has %s: %s", value, mac);
+}
+
+/* Looks for another station that has the name or the address of the plan. */
+static void check_others(struct controller *controller, const struct options *options)
 {
     const pn_plan *plan = &controller->plan;
-    int answer = naming_assign(&controller->wire, plan->controller_mac, mac, plan->name, plan->name_length);
+    uint8_t found[6];
+    char value[sizeof plan->name + 16];
+    if (naming_find(&controller->loop.wire, plan->controller_mac, plan->name, plan->name_length, options->assigned, found)) {
+        snprintf(value, sizeof value, "the name '%.*s'", (int)plan->name_length, (const char *)plan->name);
+        refuse_or_warn(options, value, found);
+    }
+    if (!arp_is_zero(plan->address) && arp_find(&controller->loop.wire, plan->controller_mac, plan->address, options->assigned, found)) {
+        snprintf(value, sizeof value, "the address %u.%u.%u.%u", plan->address[0], plan->address[1], plan->address[2], plan->address[3]);
+        refuse_or_warn(options, value, found);
+    }
+}
+
+/* Sets the name of the plan at a station. */
+static void assign(struct controller *controller, const struct options *options)
+{
+    const pn_plan *plan = &controller->plan;
+    char mac[WORDS_MAC];
+    int answer;
+    check_others(controller, options);
+    answer = naming_assign(&controller->loop.wire, plan->controller_mac, options->assigned, plan->name, plan->name_length);
     if (answer < 0)
-        fail(STATUS_NO_INPUT, "no station answers at %02x:%02x:%02x:%02x:%02x:%02x (--list lists the stations)", mac[0], mac[1], mac[2], mac[3], mac[4], mac[5]);
+        fail(STATUS_NO_INPUT, "no station answers at %s (--list lists the stations)", words_show_mac(mac, options->assigned));
     if (answer > 0)
         fail(PN_WAS_REFUSED, "the station does not accept the name, BlockError %d: %s", answer, reasons_block_error((uint8_t)answer));
 }
@@ -502,17 +453,14 @@ static void open_all(struct controller *controller, const struct options *option
     station_places(&controller->inputs, plan->modules, plan->module_count, OF_INPUT);
     station_places(&controller->outputs, plan->modules, plan->module_count, OF_OUTPUT);
     controller->interval = (uint64_t)plan->send_clock_factor * plan->reduction_ratio * PN_UNIT_NS;
-    controller->period = options->period != 0                     ? options->period
-                         : controller->interval < LONGEST_PERIOD ? controller->interval
-                                                                 : LONGEST_PERIOD;
-    wire_open(&controller->wire, options->interface);
-    wire_take(&controller->wire, plan->controller_mac);
+    controller->loop.period = options->shared.period != 0             ? options->shared.period
+                              : controller->interval < LONGEST_PERIOD ? controller->interval
+                                                                      : LONGEST_PERIOD;
+    wire_open(&controller->loop.wire, options->shared.interface);
+    wire_take(&controller->loop.wire, plan->controller_mac);
     if (options->has_assigned)
-        assign(controller, options->assigned);
-    lines_open(&controller->lines, options->socket, options->socket_group);
-    if (options->realtime != 0)
-        wake_realtime(options->realtime);
-    wake_open(&controller->wake);
+        assign(controller, options);
+    loop_open(&controller->loop, &options->shared);
 }
 
 /* A unique number: a UUID of version 4. */
@@ -524,6 +472,39 @@ static void make_uuid(uint8_t uuid[16])
     uuid[8] = (uint8_t)((uuid[8] & 0x3F) | 0x80);
 }
 
+static void look_around(void *context)
+{
+    struct controller *controller = context;
+    char text[448];
+    waiting_ask(&controller->waiting, &controller->loop.wire);
+    if (waiting_line(&controller->waiting, &controller->loop.wire, text, sizeof text))
+        lines_tell(&controller->loop.lines, "%s", text);
+    keep_status(controller);
+}
+
+/* On the first request the controller stops, and the program waits for the answer to its Release; on the second it does not wait. */
+static int is_over(void *context)
+{
+    struct controller *controller = context;
+    if (controller->loop.wake.is_ended && controller->state == PN_ENDED)
+        return 1;
+    if (controller->loop.wake.is_ended) {
+        controller->loop.wake.is_ended = 0;
+        stop(controller);
+    }
+    return controller->ends_at != 0 && ticker_now() >= controller->ends_at;
+}
+
+static const struct events events = {.idle_most = IDLE_MOST,
+                                     .look_each = STATUS_EACH,
+                                     .is_over = is_over,
+                                     .tick = tick,
+                                     .look = look_at_state,
+                                     .take_frame = take_frame,
+                                     .commands = commands,
+                                     .statistics = statistics,
+                                     .look_around = look_around};
+
 static void begin(struct controller *controller)
 {
     const pn_plan *plan = &controller->plan;
@@ -532,68 +513,17 @@ static void begin(struct controller *controller)
     uint8_t ar[16], activity[16];
     make_uuid(ar);
     make_uuid(activity);
-    must(pn_controller_start(&controller->room, plan, ar, activity), "pn_controller_start");
-    ticker_open(&controller->ticker);
-    ticker_pace(&controller->ticker, IDLE_PERIOD);
-    lines_tell(&controller->lines, "controller %02x:%02x:%02x:%02x:%02x:%02x on %s, for the station '%.*s', interval %" PRIu64 " us", mac[0], mac[1], mac[2],
-               mac[3], mac[4], mac[5], controller->wire.name, (int)plan->name_length, (const char *)plan->name, controller->interval / 1000);
+    loop_must(pn_controller_start(&controller->room, plan, ar, activity), "pn_controller_start");
+    loop_start(&controller->loop, &events, controller);
+    lines_tell(&controller->loop.lines, "controller %02x:%02x:%02x:%02x:%02x:%02x on %s, for the station '%.*s', interval %" PRIu64 " us", mac[0], mac[1], mac[2],
+               mac[3], mac[4], mac[5], controller->loop.wire.name, (int)plan->name_length, (const char *)plan->name, controller->interval / 1000);
     if (other != NULL)
-        lines_tell(&controller->lines, "warning: the kernel has the controller's address on %s and answers for it too: remove it (`ip address del`)", other);
-    if (!controller->wire.is_up)
-        lines_tell(&controller->lines, "link down (`ip link set %s up`)", controller->wire.name);
+        lines_tell(&controller->loop.lines, "warning: the kernel has the controller's address on %s and answers for it too: remove it (`ip address del`)", other);
+    loop_tell_link(&controller->loop);
+    warnings_of_plan(plan, &controller->loop.lines);
+    waiting_start(&controller->waiting, plan);
     send_all(controller);
     look_at_state(controller);
-}
-
-static void look_around(struct controller *controller)
-{
-    int change;
-    if (ticker_now() < controller->next_look)
-        return;
-    controller->next_look = ticker_now() + STATUS_EACH;
-    change = wire_look(&controller->wire);
-    if (change != 0)
-        lines_tell(&controller->lines, change > 0 ? "link up" : "link down");
-    if (ticker_tells(&controller->ticker))
-        lines_tell(&controller->lines, "stall: %" PRIu64 " units of time were forgotten since the start, in %" PRIu64 " stalls", controller->ticker.forgotten,
-                   controller->ticker.stalls);
-    if (controller->state == PN_LOOKING && !controller->is_missing_told && ticker_now() - controller->ticker.started > 3 * SECOND) {
-        controller->is_missing_told = 1;
-        lines_tell(&controller->lines, "nobody answers to the name '%.*s' yet (--list lists the stations, --assign MAC sets this name at a station)",
-                   (int)controller->plan.name_length, (const char *)controller->plan.name);
-    }
-    keep_status(controller);
-    controller->wake.has_lines = 1; /* continues to write what waits for a reader */
-}
-
-/* On the first request the controller stops, and the program waits for the answer to its Release; on the second it does not wait. */
-static int is_over(struct controller *controller)
-{
-    if (controller->wake.is_ended && controller->state == PN_ENDED)
-        return 1;
-    if (controller->wake.is_ended) {
-        controller->wake.is_ended = 0;
-        stop(controller);
-    }
-    return controller->ends_at != 0 && ticker_now() >= controller->ends_at;
-}
-
-static void run(struct controller *controller)
-{
-    while (!is_over(controller)) {
-        wake_wait(&controller->wake, &controller->wire, &controller->ticker, &controller->lines);
-        take_frames(controller);
-        take_time(controller);
-        if (controller->wake.has_lines) {
-            controller->wake.has_lines = 0;
-            lines_take(&controller->lines, take_line, controller);
-        }
-        if (controller->wake.is_asked) {
-            controller->wake.is_asked = 0;
-            statistics(controller, lines_tell);
-        }
-        look_around(controller);
-    }
 }
 
 int main(int count, char *words[])
@@ -604,11 +534,11 @@ int main(int count, char *words[])
     say_as("nandutable-controller");
     read_words(&options, count, words);
     if (options.is_list)
-        list(&controller, options.interface);
+        list(&controller, options.shared.interface);
     open_all(&controller, &options);
     begin(&controller);
-    run(&controller);
+    loop_run(&controller.loop);
     keep_status(&controller);
-    lines_close(&controller.lines);
+    lines_close(&controller.loop.lines);
     return (int)controller.cause;
 }

@@ -1,41 +1,26 @@
 /* nandutable-device: a PROFINET IO device on a network interface, whose settings are in a file. */
 #define _GNU_SOURCE
 #include "chip.h"
-#include "histogram.h"
-#include "lines.h"
+#include "loop.h"
+#include "options.h"
 #include "say.h"
 #include "sets.h"
 #include "station.h"
 #include "streams.h"
-#include "ticker.h"
-#include "wake.h"
-#include "wire.h"
 #include "words.h"
-#include <errno.h>
-#include <getopt.h>
 #include <inttypes.h>
 #include <stdio.h>
-#include <stdlib.h>
 #include <string.h>
 
-#define VERSION "0.1.0"
-
 /* Without a relation nothing is due at a unit of time, so many units may pass at once. */
-#define IDLE_PERIOD 10000000ull /* nanoseconds */
-#define IDLE_MOST 320000u       /* units: ten seconds */
-#define SECOND 1000000000ull
-#define FRAMES_AT_ONCE 64
+#define IDLE_MOST 320000u /* units: ten seconds */
 
 struct options {
-    const char *interface;
+    struct shared_options shared;
     const char *flash;
     const char *station;
-    const char *socket;
-    const char *socket_group; /* a group that may use the socket too, or NULL */
     uint8_t mac[6];
     int has_mac;
-    uint64_t period; /* nanoseconds */
-    int realtime;
     uint32_t sets_a_second; /* 0: no limit */
 };
 
@@ -44,15 +29,11 @@ struct device {
     pn_op op;
     pn_host host;
     pn_station station;
-    struct wire wire;
+    struct loop loop;
     struct chip chip;
-    struct ticker ticker;
-    struct wake wake;
-    struct lines lines;
     struct places inputs;
     struct places outputs;
     struct sets sets;
-    uint64_t period;
     /* The last reported values. */
     uint32_t phase;
     int is_lamp_on;
@@ -61,7 +42,6 @@ struct device {
     uint64_t notes[8];
     struct histogram intervals;
     uint64_t last_cyclic; /* when the last one was sent; 0: none yet */
-    uint64_t next_look;
 };
 
 static const char *const notes[] = {"done", "not-mine", "fault", "filter", "old-call", "no-relation", "stale-cycle", "refused"};
@@ -88,14 +68,7 @@ static int transmit(void *context, const uint8_t *octets, uint32_t length)
             histogram_put(&device->intervals, now - device->last_cyclic);
         device->last_cyclic = now;
     }
-    return wire_send(&device->wire, octets, length);
-}
-
-/* The program uses the library as its header says, so the library cannot return any other number. */
-static void must(uint32_t answer, const char *call)
-{
-    if (answer != PN_OK)
-        fail(STATUS_SOFTWARE, "%s returned %u: the library and this program do not fit", call, (unsigned)answer);
+    return wire_send(&device->loop.wire, octets, length);
 }
 
 /* Starts from the contents of the file. */
@@ -105,12 +78,12 @@ static void start(struct device *device)
     if (chip_settle(&device->chip) != 0)
         fail(STATUS_INPUT, "the flash file '%s' cannot be read and written: %s. Nothing was sent of the step in which it failed; correct this and start again",
              device->chip.path, device->chip.why);
-    must(pn_make(&device->room, &device->station), "pn_make");
+    loop_must(pn_make(&device->room, &device->station), "pn_make");
     answer = pn_boot(&device->room, &device->op, device->chip.sectors[0], device->chip.sectors[1]);
     if (answer == PN_FOREIGN)
         fail(STATUS_DATA, "no device of this kind wrote the contents of the flash file '%s'. It was not changed: name another file, or move it away to start with a new one",
              device->chip.path);
-    must(answer, "pn_boot");
+    loop_must(answer, "pn_boot");
 }
 
 static void look(struct device *device, int is_first);
@@ -121,9 +94,9 @@ static void carry_out(struct device *device)
 {
     if (pn_carry_out(&device->room, &device->op, &device->host) != PN_FLASH_FAULT)
         return;
-    lines_tell(&device->lines, "power lost: a call of the flash failed: %s", device->chip.why);
+    lines_tell(&device->loop.lines, "power lost: a call of the flash failed: %s", device->chip.why);
     start(device);
-    lines_tell(&device->lines, "boot ok");
+    lines_tell(&device->loop.lines, "boot ok");
     look(device, 0);
 }
 
@@ -140,13 +113,6 @@ static void tell_name(const char *label, const pn_settings *s, char *text, size_
     snprintf(text, size, "%s %.*s", label, s->name_length == 0 ? 1 : (int)s->name_length, s->name_length == 0 ? "-" : (const char *)s->name);
 }
 
-static void tell_octets(char *text, size_t size, const char *label, uint16_t slot, uint16_t subslot, const uint8_t *octets, size_t length)
-{
-    int head = snprintf(text, size, "%s %u %u ", label, slot, subslot);
-    if (head > 0 && (size_t)head + 2 * length + 1 <= size)
-        words_hex(text + head, octets, length);
-}
-
 /* The kernel answers ARP, and calls, for each of its own addresses, on every interface. */
 static void warn_of_kernel(struct device *device, const pn_settings *settings)
 {
@@ -156,7 +122,7 @@ static void warn_of_kernel(struct device *device, const pn_settings *settings)
         return;
     interface = wire_with_address(settings->address);
     if (interface != NULL)
-        lines_tell(&device->lines, "warning: the kernel has the device's address %u.%u.%u.%u on %s and answers for it too: remove it (`ip address del`) or assign another to the device",
+        lines_tell(&device->loop.lines, "warning: the kernel has the device's address %u.%u.%u.%u on %s and answers for it too: remove it (`ip address del`) or assign another to the device",
                    settings->address[0], settings->address[1], settings->address[2], settings->address[3], interface);
 }
 
@@ -170,14 +136,14 @@ static void look_at_settings(struct device *device, int is_first)
 {
     pn_settings now;
     char text[320];
-    must(pn_running(&device->room, &device->op, &now), "pn_running");
+    loop_must(pn_running(&device->room, &device->op, &now), "pn_running");
     if (is_first || now.name_length != device->settings.name_length || memcmp(now.name, device->settings.name, sizeof now.name) != 0) {
         tell_name("name", &now, text, sizeof text);
-        lines_tell(&device->lines, "%s", text);
+        lines_tell(&device->loop.lines, "%s", text);
     }
     if (is_first || !is_same_suite(&now, &device->settings)) {
         tell_suite("ip", &now, text, sizeof text);
-        lines_tell(&device->lines, "%s", text);
+        lines_tell(&device->loop.lines, "%s", text);
         warn_of_kernel(device, &now);
     }
     device->settings = now;
@@ -187,13 +153,12 @@ static void look_at_outputs(struct device *device)
 {
     for (unsigned i = 0; i < device->outputs.count; i++) {
         struct place *place = &device->outputs.list[i];
-        char text[2 * STATION_DATA + 64];
-        must(pn_output(&device->room, &device->op, place->slot, place->subslot), "pn_output");
-        if (device->op.length != place->length || memcmp(device->op.octets, place->octets, place->length) == 0)
+        char text[STATION_LINE];
+        loop_must(pn_output(&device->room, &device->op, place->slot, place->subslot), "pn_output");
+        if (!station_update(place, device->op.octets, device->op.length))
             continue;
-        memcpy(place->octets, device->op.octets, place->length);
-        tell_octets(text, sizeof text, "output", place->slot, place->subslot, place->octets, place->length);
-        lines_tell(&device->lines, "%s", text);
+        station_line(text, "output", place);
+        lines_tell(&device->loop.lines, "%s", text);
     }
 }
 
@@ -201,7 +166,7 @@ static void look_at_outputs(struct device *device)
 static int give(struct device *device, const struct place *place)
 {
     uint32_t note;
-    must(pn_input(&device->room, &device->op, place->slot, place->subslot, place->octets, place->length), "pn_input");
+    loop_must(pn_input(&device->room, &device->op, place->slot, place->subslot, place->octets, place->length), "pn_input");
     note = device->op.note;
     carry_out(device);
     return note == PN_DONE;
@@ -215,20 +180,21 @@ static void give_all(struct device *device)
             give(device, &device->inputs.list[i]);
 }
 
-static void look_at_state(struct device *device)
+static void look_at_state(void *context)
 {
+    struct device *device = context;
     int is_lamp_on;
-    must(pn_state(&device->room, &device->op), "pn_state");
+    loop_must(pn_state(&device->room, &device->op), "pn_state");
     is_lamp_on = device->op.units != 0;
     if (is_lamp_on != device->is_lamp_on)
-        lines_tell(&device->lines, "lamp %s", is_lamp_on ? "on" : "off");
+        lines_tell(&device->loop.lines, "lamp %s", is_lamp_on ? "on" : "off");
     device->is_lamp_on = is_lamp_on;
     if (device->op.phase == device->phase)
         return;
     device->phase = device->op.phase;
-    lines_tell(&device->lines, "phase %s", phases[device->phase]);
+    lines_tell(&device->loop.lines, "phase %s", phases[device->phase]);
     device->last_cyclic = 0;
-    ticker_pace(&device->ticker, device->phase == PN_NONE ? IDLE_PERIOD : device->period);
+    loop_pace(&device->loop, device->phase == PN_NONE);
     look_at_outputs(device);
 }
 
@@ -241,27 +207,24 @@ static void look(struct device *device, int is_first)
 
 /* --- Events --- */
 
-static void take_time(struct device *device)
+static uint32_t tick(void *context, uint32_t units)
 {
-    uint32_t due = ticker_due(&device->ticker, device->phase == PN_NONE ? IDLE_MOST : PN_MOST_DEBT), left;
-    if (due == 0)
-        return;
-    while (due != 0) {
-        must(pn_tick(&device->room, &device->op, due), "pn_tick");
-        left = device->op.units;
-        carry_out(device);
-        due = left;
-    }
-    look_at_state(device);
+    struct device *device = context;
+    uint32_t left;
+    loop_must(pn_tick(&device->room, &device->op, units), "pn_tick");
+    left = device->op.units;
+    carry_out(device);
+    return left;
 }
 
-static void take_frame(struct device *device, const uint8_t *octets, size_t length)
+static void take_frame(void *context, const uint8_t *octets, size_t length)
 {
+    struct device *device = context;
     int is_cyclic = wire_is_cyclic(octets, length);
     uint32_t note;
     if (!sets_let_in(&device->sets, octets, length, device->station.mac, ticker_now()))
         return;
-    must(pn_frame(&device->room, &device->op, octets, length), "pn_frame");
+    loop_must(pn_frame(&device->room, &device->op, octets, length), "pn_frame");
     note = device->op.note;
     if (note < sizeof device->notes / sizeof device->notes[0])
         device->notes[note]++;
@@ -277,72 +240,47 @@ static void take_frame(struct device *device, const uint8_t *octets, size_t leng
         give_all(device);
 }
 
-static void take_frames(struct device *device)
-{
-    static uint8_t octets[WIRE_FRAME];
-    size_t length;
-    /* Waiting frames are handed in before the elapsed time, because they arrived before its end: a delayed program must not judge its
-     * partner to be silent. There is a limit for each turn, so that a flood of frames does not delay the time. While nothing is due at a
-     * unit of time, many units are handed in at once, before the frame. */
-    for (int i = 0; i < FRAMES_AT_ONCE && wire_receive(&device->wire, octets, &length); i++) {
-        if (device->phase == PN_NONE)
-            take_time(device);
-        take_frame(device, octets, length);
-    }
-}
-
 /* --- Lines --- */
 
-static void show(struct device *device)
+static void show(void *context, char *words[])
 {
+    struct device *device = context;
     pn_settings running, stored;
-    uint32_t left;
-    char text[2 * STATION_DATA + 320];
-    must(pn_running(&device->room, &device->op, &running), "pn_running");
-    must(pn_stored(&device->room, &device->op, &stored), "pn_stored");
-    must(pn_left(&device->room, &device->op, &left), "pn_left");
-    must(pn_state(&device->room, &device->op), "pn_state");
+    uint32_t left = 0;
+    char text[320];
+    loop_must(pn_running(&device->room, &device->op, &running), "pn_running");
+    loop_must(pn_stored(&device->room, &device->op, &stored), "pn_stored");
+    loop_must(pn_left(&device->room, &device->op, &left), "pn_left");
+    loop_must(pn_state(&device->room, &device->op), "pn_state");
     tell_name("name", &running, text, sizeof text);
-    lines_answer(&device->lines, "%s", text);
+    lines_answer(&device->loop.lines, "%s", text);
     tell_suite("ip", &running, text, sizeof text);
-    lines_answer(&device->lines, "%s", text);
+    lines_answer(&device->loop.lines, "%s", text);
     tell_name("stored-name", &stored, text, sizeof text);
-    lines_answer(&device->lines, "%s", text);
+    lines_answer(&device->loop.lines, "%s", text);
     tell_suite("stored-ip", &stored, text, sizeof text);
-    lines_answer(&device->lines, "%s", text);
-    lines_answer(&device->lines, "commits-left %" PRIu32, left);
-    lines_answer(&device->lines, "phase %s", phases[device->op.phase]);
-    lines_answer(&device->lines, "lamp %u", (unsigned)device->op.units);
-    for (unsigned i = 0; i < device->inputs.count; i++) {
-        const struct place *place = &device->inputs.list[i];
-        tell_octets(text, sizeof text, "input", place->slot, place->subslot, place->octets, place->length);
-        lines_answer(&device->lines, "%s", text);
-    }
-    for (unsigned i = 0; i < device->outputs.count; i++) {
-        const struct place *place = &device->outputs.list[i];
-        tell_octets(text, sizeof text, "output", place->slot, place->subslot, place->octets, place->length);
-        lines_answer(&device->lines, "%s", text);
-    }
+    lines_answer(&device->loop.lines, "%s", text);
+    lines_answer(&device->loop.lines, "commits-left %" PRIu32, left);
+    lines_answer(&device->loop.lines, "phase %s", phases[device->op.phase]);
+    lines_answer(&device->loop.lines, "lamp %u", (unsigned)device->op.units);
+    loop_answer_places(&device->loop, "input", &device->inputs);
+    loop_answer_places(&device->loop, "output", &device->outputs);
+    (void)words;
 }
 
-static void statistics(struct device *device, void (*tell)(struct lines *, const char *, ...))
+static void statistics(void *context, lines_writer tell)
 {
-    struct lines *lines = &device->lines;
-    const struct histogram *intervals = &device->intervals;
-    uint32_t left;
-    must(pn_left(&device->room, &device->op, &left), "pn_left");
-    tell(lines, "statistics seconds %" PRIu64, (ticker_now() - device->ticker.started) / SECOND);
-    tell(lines, "frames received %" PRIu64 " sent %" PRIu64 " not-sent %" PRIu64 " missed %" PRIu64, device->wire.received, device->wire.sent,
-         device->wire.not_sent, wire_missed(&device->wire));
+    struct device *device = context;
+    struct lines *lines = &device->loop.lines;
+    uint32_t left = 0;
+    loop_must(pn_left(&device->room, &device->op, &left), "pn_left");
+    loop_tell_frames(&device->loop, tell);
     for (unsigned i = 0; i < sizeof notes / sizeof notes[0]; i++)
         tell(lines, "note %s %" PRIu64, notes[i], device->notes[i]);
     tell(lines, "sets dropped %" PRIu64, device->sets.dropped);
     tell(lines, "flash programs %" PRIu64 " erases %" PRIu64 " faults %" PRIu64 " commits-left %" PRIu32, device->chip.programs, device->chip.erases,
          device->chip.faults, left);
-    tell(lines, "time units %" PRIu64 " forgotten %" PRIu64 " stalls %" PRIu64 " most-at-once %" PRIu64, device->ticker.given, device->ticker.forgotten,
-         device->ticker.stalls, device->ticker.longest);
-    tell(lines, "interval count %" PRIu64 " p50 %u p99 %u max %" PRIu64 " us", intervals->total, histogram_within(intervals, 500),
-         histogram_within(intervals, 990), (intervals->most + 500) / 1000);
+    loop_tell_time(&device->loop, &device->intervals, tell);
     tell(lines, "lines lost %" PRIu64, lines_lost(lines));
 }
 
@@ -350,69 +288,47 @@ static void take_input(struct device *device, uint16_t slot, uint16_t subslot, c
 {
     struct place *place = station_place(&device->inputs, slot, subslot);
     if (place == NULL)
-        lines_answer(&device->lines, "wrong: slot %u subslot %u has no input", slot, subslot);
+        lines_answer(&device->loop.lines, "wrong: slot %u subslot %u has no input", slot, subslot);
     else if (place->length != length)
-        lines_answer(&device->lines, "wrong: the input of slot %u subslot %u has %u octets", slot, subslot, place->length);
+        lines_answer(&device->loop.lines, "wrong: the input of slot %u subslot %u has %u octets", slot, subslot, place->length);
     else {
         memcpy(place->octets, octets, length);
         place->is_given = 1;
-        lines_answer(&device->lines, give(device, place) ? "note done" : "note refused: no relation has it yet; it is kept for the next one");
+        lines_answer(&device->loop.lines, give(device, place) ? "note done" : "note refused: no relation has it yet; it is kept for the next one");
     }
 }
 
 static void take_alarm(struct device *device, uint16_t slot, uint16_t subslot, const uint8_t *octets, size_t length)
 {
     uint32_t note;
-    must(pn_alarm(&device->room, &device->op, slot, subslot, octets, length), "pn_alarm");
+    loop_must(pn_alarm(&device->room, &device->op, slot, subslot, octets, length), "pn_alarm");
     note = device->op.note;
     carry_out(device);
-    lines_answer(&device->lines, note == PN_DONE ? "note done"
-                                                 : "note refused: an alarm has a plugged submodule and at most 32 octets, and may be raised while data is exchanged and no alarm is active");
-}
-
-static void help(struct lines *lines)
-{
-    lines_answer(lines, "input SLOT SUBSLOT HEX   sets the input of a submodule");
-    lines_answer(lines, "alarm SLOT SUBSLOT HEX   raises a process alarm with these octets");
-    lines_answer(lines, "show                     name, address, remaining commits, phase, lamp, inputs and outputs");
-    lines_answer(lines, "statistics               counts since the start");
-    lines_answer(lines, "quit                     ends the program");
+    lines_answer(&device->loop.lines, note == PN_DONE ? "note done"
+                                                      : "note refused: an alarm has a plugged submodule and at most 32 octets, and may be raised while data is exchanged and no alarm is active");
 }
 
 /* A line with three arguments: a place and octets. */
-static void take_place(struct device *device, char *words[])
-{
-    uint8_t octets[STATION_DATA];
-    unsigned long slot, subslot;
-    long length = words_octets(words[3], octets, sizeof octets);
-    if (!words_number(words[1], 65535, &slot) || !words_number(words[2], 65535, &subslot) || length < 0)
-        lines_answer(&device->lines, "wrong: %s SLOT SUBSLOT HEX", words[0]);
-    else if (strcmp(words[0], "input") == 0)
-        take_input(device, (uint16_t)slot, (uint16_t)subslot, octets, (size_t)length);
-    else
-        take_alarm(device, (uint16_t)slot, (uint16_t)subslot, octets, (size_t)length);
-}
-
-static void take_line(void *context, char *line)
+static void take_place(void *context, char *words[])
 {
     struct device *device = context;
-    char *words[4];
-    int count = words_part(line, words, 4);
-    if (count == 0)
-        return;
-    if (count == 4 && (strcmp(words[0], "input") == 0 || strcmp(words[0], "alarm") == 0))
-        take_place(device, words);
-    else if (count == 1 && strcmp(words[0], "show") == 0)
-        show(device);
-    else if (count == 1 && strcmp(words[0], "statistics") == 0)
-        statistics(device, lines_answer);
-    else if (count == 1 && strcmp(words[0], "help") == 0)
-        help(&device->lines);
-    else if (count == 1 && strcmp(words[0], "quit") == 0)
-        device->wake.is_ended = 1;
+    uint8_t octets[STATION_DATA];
+    struct words_place place;
+    if (!words_read_place(words + 1, &place, octets, sizeof octets))
+        lines_answer(&device->loop.lines, "wrong: %s SLOT SUBSLOT HEX", words[0]);
+    else if (strcmp(words[0], "input") == 0)
+        take_input(device, place.slot, place.subslot, octets, place.length);
     else
-        lines_answer(&device->lines, "wrong: no such line; `help` lists them");
+        take_alarm(device, place.slot, place.subslot, octets, place.length);
 }
+
+static const struct command commands[] = {
+    {"input", 4, take_place, "input SLOT SUBSLOT HEX   sets the input of a submodule"},
+    {"alarm", 4, take_place, "alarm SLOT SUBSLOT HEX   raises a process alarm with these octets"},
+    {"show", 1, show, "show                     name, address, remaining commits, phase, lamp, inputs and outputs"},
+    {"statistics", 1, NULL, "statistics               counts since the start"},
+    {"quit", 1, NULL, "quit                     ends the program"},
+    {NULL, 0, NULL, NULL}};
 
 /* --- The program --- */
 
@@ -447,49 +363,38 @@ static void usage(void)
          "prints its statistics; SIGTERM ends it.");
 }
 
-static _Noreturn void misused(const char *why, const char *word)
+static void take_mac(struct options *options, const char *word)
 {
-    fail(STATUS_USAGE, "%s%s (nandutable-device --help)", why, word);
+    if (!words_mac(word, options->mac) || options->mac[0] % 2 != 0)
+        options_misused("--mac takes six octets in hex between colons, the first one even: ", word);
+    options->has_mac = 1;
 }
 
-/* One option and its argument. */
-static void take_option(struct options *options, int option, const char *word)
+static void take_limit(struct options *options, const char *word)
 {
     unsigned long number;
+    if (!words_number(word, SETS_MOST, &number) || number < 1)
+        options_misused("--sets-per-second takes 1 to 1000000: ", word);
+    options->sets_a_second = (uint32_t)number;
+}
+
+static int take_option(void *context, int option, const char *word)
+{
+    struct options *options = context;
     switch (option) {
-    case 'f': options->flash = word; return;
-    case 's': options->station = word; return;
-    case 'u': options->socket = word; return;
-    case 'g': options->socket_group = word; return;
-    case 'm':
-        if (!words_mac(word, options->mac) || options->mac[0] % 2 != 0)
-            misused("--mac takes six octets in hex between colons, the first one even: ", word);
-        options->has_mac = 1;
-        return;
-    case 'p':
-        if (!words_number(word, 10000, &number) || number < 31)
-            misused("--period takes 31 to 10000 microseconds: ", word);
-        options->period = number * 1000;
-        return;
-    case 'r':
-        if (!words_number(word, 99, &number) || number < 1)
-            misused("--realtime takes 1 to 99: ", word);
-        options->realtime = (int)number;
-        return;
-    case 'l':
-        if (!words_number(word, SETS_MOST, &number) || number < 1)
-            misused("--sets-per-second takes 1 to 1000000: ", word);
-        options->sets_a_second = (uint32_t)number;
-        return;
-    default: misused("there is no such option, or its argument is missing", "");
+    case 'f': options->flash = word; return 1;
+    case 's': options->station = word; return 1;
+    case 'm': take_mac(options, word); return 1;
+    case 'l': take_limit(options, word); return 1;
+    default: return 0;
     }
 }
 
-static const struct option known[] = {
-    {"flash", required_argument, NULL, 'f'},           {"station", required_argument, NULL, 's'}, {"socket", required_argument, NULL, 'u'},
-    {"socket-group", required_argument, NULL, 'g'},    {"mac", required_argument, NULL, 'm'},     {"period", required_argument, NULL, 'p'},
-    {"sets-per-second", required_argument, NULL, 'l'}, {"realtime", required_argument, NULL, 'r'}, {"help", no_argument, NULL, 'h'},
-    {"version", no_argument, NULL, 'v'},               {NULL, 0, NULL, 0}};
+static const struct option known[] = {{"flash", required_argument, NULL, 'f'},
+                                      {"station", required_argument, NULL, 's'},
+                                      {"mac", required_argument, NULL, 'm'},
+                                      {"sets-per-second", required_argument, NULL, 'l'},
+                                      SHARED_OPTIONS};
 
 /* Checks only the flash file's name, before any message is printed: a message could go into that file. */
 static void keep_flash_apart(int count, char *words[])
@@ -504,27 +409,18 @@ static void keep_flash_apart(int count, char *words[])
 
 static void read_words(struct options *options, int count, char *words[])
 {
-    int option;
+    const struct command_line line = {known, usage, take_option};
+    int first;
     memset(options, 0, sizeof *options);
-    options->period = 250000;
-    while ((option = getopt_long(count, words, "h", known, NULL)) != -1) {
-        if (option == 'h') {
-            usage();
-            exit(0);
-        }
-        if (option == 'v') {
-            puts("nandutable-device " VERSION);
-            exit(0);
-        }
-        take_option(options, option, optarg);
-    }
-    if (optind + 1 != count)
-        misused(optind == count ? "name a network interface" : "a device has only one interface", "");
-    options->interface = words[optind];
+    options->shared.period = 250000;
+    first = options_read(&line, &options->shared, options, count, words);
+    if (first + 1 != count)
+        options_misused(first == count ? "name a network interface" : "a device has only one interface", "");
+    options->shared.interface = words[first];
     if (options->flash == NULL)
-        misused("name a flash file with --flash", "");
-    if (options->socket_group != NULL && options->socket == NULL)
-        misused("--socket-group takes --socket", "");
+        options_misused("name a flash file with --flash", "");
+    if (options->shared.socket_group != NULL && options->shared.socket == NULL)
+        options_misused("--socket-group takes --socket", "");
 }
 
 static void make_station(struct device *device, const struct options *options)
@@ -537,7 +433,7 @@ static void make_station(struct device *device, const struct options *options)
             fail(STATUS_DATA, "'%s': DNS_CompatibleName has more than 25 letters", options->station);
         pn_plan_station(&plan, &device->station);
     }
-    memcpy(device->station.mac, options->has_mac ? options->mac : device->wire.hardware, 6);
+    memcpy(device->station.mac, options->has_mac ? options->mac : device->loop.wire.hardware, 6);
     station_places(&device->inputs, device->station.modules, device->station.module_count, OF_INPUT);
     station_places(&device->outputs, device->station.modules, device->station.module_count, OF_OUTPUT);
 }
@@ -545,65 +441,40 @@ static void make_station(struct device *device, const struct options *options)
 static void open_all(struct device *device, const struct options *options)
 {
     device->host = (pn_host){device, program, erase, transmit};
-    device->period = options->period;
+    device->loop.period = options->shared.period;
     sets_limit(&device->sets, options->sets_a_second, ticker_now());
-    wire_open(&device->wire, options->interface);
+    wire_open(&device->loop.wire, options->shared.interface);
     make_station(device, options);
-    wire_take(&device->wire, device->station.mac);
-    wire_join_identify(&device->wire);
+    wire_take(&device->loop.wire, device->station.mac);
+    wire_join_identify(&device->loop.wire);
     chip_open(&device->chip, options->flash);
-    lines_open(&device->lines, options->socket, options->socket_group);
-    if (options->realtime != 0)
-        wake_realtime(options->realtime);
-    wake_open(&device->wake);
+    loop_open(&device->loop, &options->shared);
 }
+
+static int is_over(void *context)
+{
+    return ((const struct device *)context)->loop.wake.is_ended;
+}
+
+static const struct events events = {.idle_most = IDLE_MOST,
+                                     .look_each = SECOND,
+                                     .is_over = is_over,
+                                     .tick = tick,
+                                     .look = look_at_state,
+                                     .take_frame = take_frame,
+                                     .commands = commands,
+                                     .statistics = statistics};
 
 static void begin(struct device *device)
 {
     const uint8_t *mac = device->station.mac;
     start(device);
-    ticker_open(&device->ticker);
-    ticker_pace(&device->ticker, IDLE_PERIOD);
-    lines_tell(&device->lines, "boot ok");
-    lines_tell(&device->lines, "device %02x:%02x:%02x:%02x:%02x:%02x on %s, %s '%s'", mac[0], mac[1], mac[2], mac[3], mac[4], mac[5], device->wire.name,
+    loop_start(&device->loop, &events, device);
+    lines_tell(&device->loop.lines, "boot ok");
+    lines_tell(&device->loop.lines, "device %02x:%02x:%02x:%02x:%02x:%02x on %s, %s '%s'", mac[0], mac[1], mac[2], mac[3], mac[4], mac[5], device->loop.wire.name,
                device->chip.is_new ? "a new flash file" : "the flash file", device->chip.path);
-    if (!device->wire.is_up)
-        lines_tell(&device->lines, "link down (`ip link set %s up`)", device->wire.name);
+    loop_tell_link(&device->loop);
     look(device, 1);
-}
-
-/* What the program checks once a second. */
-static void look_around(struct device *device)
-{
-    int change;
-    if (ticker_now() < device->next_look)
-        return;
-    device->next_look = ticker_now() + SECOND;
-    change = wire_look(&device->wire);
-    if (change != 0)
-        lines_tell(&device->lines, change > 0 ? "link up" : "link down");
-    if (ticker_tells(&device->ticker))
-        lines_tell(&device->lines, "stall: %" PRIu64 " units of time were forgotten since the start, in %" PRIu64 " stalls", device->ticker.forgotten,
-                   device->ticker.stalls);
-    device->wake.has_lines = 1; /* continues to write what waits for a reader */
-}
-
-static void run(struct device *device)
-{
-    while (!device->wake.is_ended) {
-        wake_wait(&device->wake, &device->wire, &device->ticker, &device->lines);
-        take_frames(device);
-        take_time(device);
-        if (device->wake.has_lines) {
-            device->wake.has_lines = 0;
-            lines_take(&device->lines, take_line, device);
-        }
-        if (device->wake.is_asked) {
-            device->wake.is_asked = 0;
-            statistics(device, lines_tell);
-        }
-        look_around(device);
-    }
 }
 
 int main(int count, char *words[])
@@ -616,8 +487,8 @@ int main(int count, char *words[])
     read_words(&options, count, words);
     open_all(&device, &options);
     begin(&device);
-    run(&device);
-    lines_tell(&device.lines, "ended");
-    lines_close(&device.lines);
+    loop_run(&device.loop);
+    lines_tell(&device.loop.lines, "ended");
+    lines_close(&device.loop.lines);
     return 0;
 }

@@ -35,6 +35,9 @@ struct lines {
     struct talker *asking; /* the sender of the line that is being answered, or NULL */
 };
 
+/* A function that sends a line: lines_tell or lines_answer. */
+typedef void (*lines_writer)(struct lines *lines, const char *format, ...) __attribute__((format(printf, 2, 3)));
+
 /* Opens the standard streams, or a socket with this path instead. Only its owner and the members of `group` may use the socket; NULL for
  * no group. */
 void lines_open(struct lines *lines, const char *path, const char *group);

@@ -1,11 +1,9 @@
 #define _GNU_SOURCE
 #include "naming.h"
 #include "ticker.h"
-#include <poll.h>
 #include <stdio.h>
 #include <string.h>
 
-#define SECOND 1000000000ull
 #define LEAST_FRAME 60u
 #define BLOCKS_AT 26u /* after the addresses, EtherType, FrameID and the header of DCP */
 
@@ -29,14 +27,10 @@ static void put_head(uint8_t *frame, const uint8_t target[6], const uint8_t sour
 static int next_answer(struct wire *wire, unsigned id, unsigned service, uint64_t until, uint8_t octets[WIRE_FRAME], size_t *length)
 {
     static const uint8_t xid[] = {XID >> 24, XID >> 16 & 0xFF, XID >> 8 & 0xFF, XID & 0xFF};
-    for (uint64_t now = ticker_now(); now < until; now = ticker_now()) {
-        struct pollfd one = {.fd = wire->fd, .events = POLLIN};
-        poll(&one, 1, (int)((until - now) / 1000000) + 1);
-        while (wire_receive(wire, octets, length))
-            if (*length >= BLOCKS_AT && wire_frame_id_at(octets, *length) == 14 && octets[14] == id >> 8 && octets[15] == (id & 0xFF) &&
-                octets[16] == service && octets[17] != 0 && memcmp(octets + 18, xid, sizeof xid) == 0)
-                return 1;
-    }
+    while (wire_wait(wire, until, octets, length))
+        if (*length >= BLOCKS_AT && wire_frame_id_at(octets, *length) == 14 && octets[14] == id >> 8 && octets[15] == (id & 0xFF) &&
+            octets[16] == service && octets[17] != 0 && memcmp(octets + 18, xid, sizeof xid) == 0)
+            return 1;
     return 0;
 }
 
@@ -92,20 +86,92 @@ static void show_station(const uint8_t *octets, size_t length)
     puts("");
 }
 
+/* Sends an Identify with this block to all stations. */
+static void send_identify(struct wire *wire, const uint8_t source[6], const uint8_t *block, size_t size)
+{
+    static const uint8_t group[6] = {0x01, 0x0E, 0xCF, 0, 0, 0};
+    uint8_t frame[LEAST_FRAME + 256] = {0};
+    put_head(frame, group, source, FRAME_IDENTIFY, SERVICE_IDENTIFY, 1, size);
+    memcpy(frame + BLOCKS_AT, block, size);
+    wire_send(wire, frame, BLOCKS_AT + size < LEAST_FRAME ? LEAST_FRAME : BLOCKS_AT + size);
+}
+
 unsigned naming_list(struct wire *wire)
 {
-    static const uint8_t group[6] = {0x01, 0x0E, 0xCF, 0, 0, 0}, all[] = {0xFF, 0xFF, 0, 0};
+    static const uint8_t all[] = {0xFF, 0xFF, 0, 0};
     static uint8_t octets[WIRE_FRAME];
-    uint8_t frame[LEAST_FRAME] = {0};
     uint64_t until = ticker_now() + SECOND;
     size_t length;
     unsigned count = 0;
-    put_head(frame, group, wire->hardware, FRAME_IDENTIFY, SERVICE_IDENTIFY, 1, sizeof all);
-    memcpy(frame + BLOCKS_AT, all, sizeof all);
-    wire_send(wire, frame, sizeof frame);
+    send_identify(wire, wire->hardware, all, sizeof all);
     for (; next_answer(wire, FRAME_IDENTIFIED, SERVICE_IDENTIFY, until, octets, &length); count++)
         show_station(octets, length);
     return count;
+}
+
+/* An answer to Identify, from the place at which an untagged frame would begin, so that its blocks are at BLOCKS_AT. NULL for another
+ * frame. `size` becomes the number of octets from there on. */
+static const uint8_t *untagged_answer(const uint8_t *octets, size_t *size)
+{
+    size_t at = wire_frame_id_at(octets, *size);
+    if (at == 0 || *size < at + BLOCKS_AT - 14 || wire_frame_id(octets, *size) != FRAME_IDENTIFIED || octets[at + 2] != SERVICE_IDENTIFY ||
+        octets[at + 3] != 1)
+        return NULL;
+    *size -= at - 14;
+    return octets + (at - 14);
+}
+
+int naming_has_name(const uint8_t *octets, size_t size, const uint8_t *name, size_t length)
+{
+    const uint8_t *answer = untagged_answer(octets, &size), *found;
+    size_t found_size;
+    if (answer == NULL)
+        return 0;
+    found = value_of(answer, size, 2, 2, &found_size);
+    return found != NULL && found_size == length && memcmp(found, name, length) == 0;
+}
+
+const uint8_t *naming_identity(const uint8_t *octets, size_t size)
+{
+    const uint8_t *answer = untagged_answer(octets, &size), *found;
+    size_t found_size;
+    if (answer == NULL)
+        return NULL;
+    found = value_of(answer, size, 2, 3, &found_size);
+    return found_size < 4 ? NULL : found;
+}
+
+int naming_is_another(struct holders *holders, const uint8_t *octets)
+{
+    const uint8_t *mac = octets + 6;
+    for (unsigned i = 0; i < holders->count; i++)
+        if (memcmp(holders->list[i], mac, 6) == 0)
+            return 0;
+    if (holders->count == NAMING_HOLDERS)
+        return 0;
+    memcpy(holders->list[holders->count], mac, 6);
+    holders->count++;
+    return holders->count > 1;
+}
+
+int naming_find(struct wire *wire, const uint8_t source[6], const uint8_t *name, size_t length, const uint8_t except[6], uint8_t found[6])
+{
+    static uint8_t octets[WIRE_FRAME];
+    uint8_t block[4 + 240] = {2, 2, 0, (uint8_t)length};
+    size_t size;
+    if (length > 240)
+        return 0;
+    memcpy(block + 4, name, length);
+    for (int times = 0; times < 2; times++) {
+        uint64_t until = ticker_now() + SECOND / 2;
+        send_identify(wire, source, block, 4 + length + length % 2);
+        while (next_answer(wire, FRAME_IDENTIFIED, SERVICE_IDENTIFY, until, octets, &size))
+            if (naming_has_name(octets, size, name, length) && memcmp(octets + 6, except, 6) != 0) {
+                memcpy(found, octets + 6, 6);
+                return 1;
+            }
+    }
+    return 0;
 }
 
 int naming_assign(struct wire *wire, const uint8_t source[6], const uint8_t mac[6], const uint8_t *name, size_t length)

@@ -11,4 +11,23 @@ unsigned naming_list(struct wire *wire);
 /* Sets a name permanently at the station with this MAC address. Returns 0, the BlockError of its refusal, or -1 without an answer. */
 int naming_assign(struct wire *wire, const uint8_t source[6], const uint8_t mac[6], const uint8_t *name, size_t length);
 
+/* Asks for a second which stations have a name. Returns whether one other than `except` answers, and its MAC address. */
+int naming_find(struct wire *wire, const uint8_t source[6], const uint8_t *name, size_t length, const uint8_t except[6], uint8_t found[6]);
+
+/* Whether a received frame is an answer to Identify from a station with this name. */
+int naming_has_name(const uint8_t *octets, size_t size, const uint8_t *name, size_t length);
+
+/* The VendorID and the DeviceID of such an answer, two octets each, or NULL. */
+const uint8_t *naming_identity(const uint8_t *octets, size_t size);
+
+/* The stations that answered to a name. Stations beyond the limit are not kept. */
+#define NAMING_HOLDERS 8
+struct holders {
+    unsigned count;
+    uint8_t list[NAMING_HOLDERS][6];
+};
+
+/* Keeps the station that sent an answer. Returns whether it is new, and not the first. */
+int naming_is_another(struct holders *holders, const uint8_t *octets);
+
 #endif

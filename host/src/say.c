@@ -10,6 +10,11 @@ void say_as(const char *program)
     name = program;
 }
 
+const char *say_name(void)
+{
+    return name;
+}
+
 static void say_list(const char *format, va_list values)
 {
     fprintf(stderr, "%s: ", name);

@@ -15,8 +15,9 @@ enum {
     STATUS_PERMISSION = 77 /* a capability is missing */
 };
 
-/* Sets the name that messages begin with. */
+/* Sets the name that messages begin with, and returns it. */
 void say_as(const char *program);
+const char *say_name(void);
 
 /* Writes a line on standard error. */
 void say(const char *format, ...) __attribute__((format(printf, 1, 2)));

@@ -1,5 +1,6 @@
 #include "station.h"
 #include "say.h"
+#include "words.h"
 #include <errno.h>
 #include <stdio.h>
 #include <stdlib.h>
@@ -93,4 +94,19 @@ struct place *station_place(struct places *places, uint16_t slot, uint16_t subsl
         if (places->list[i].slot == slot && places->list[i].subslot == subslot)
             return &places->list[i];
     return NULL;
+}
+
+int station_update(struct place *place, const uint8_t *octets, size_t length)
+{
+    if (length != place->length || memcmp(octets, place->octets, length) == 0)
+        return 0;
+    memcpy(place->octets, octets, length);
+    return 1;
+}
+
+void station_line(char text[STATION_LINE], const char *label, const struct place *place)
+{
+    char labelled[32];
+    snprintf(labelled, sizeof labelled, "%s %u %u", label, place->slot, place->subslot);
+    words_labelled(text, STATION_LINE, labelled, place->octets, place->length);
 }

@@ -32,6 +32,13 @@ void station_plan(pn_plan *plan, const char *path);
 /* The submodules that have data of a direction. */
 void station_places(struct places *places, const pn_module *modules, uint32_t count, enum direction direction);
 
+/* Copies data to a place. Returns whether they differ from its data; data of another length are not copied, and do not. */
+int station_update(struct place *place, const uint8_t *octets, size_t length);
+
+/* Writes a line for a place: the label, its slot, its subslot and its data in hex. */
+#define STATION_LINE (2 * STATION_DATA + 64)
+void station_line(char text[STATION_LINE], const char *label, const struct place *place);
+
 /* The place of a submodule, or NULL. */
 struct place *station_place(struct places *places, uint16_t slot, uint16_t subslot);
 

@@ -8,7 +8,6 @@
 #include <time.h>
 #include <unistd.h>
 
-#define SECOND 1000000000ull
 #define TOLD_EACH (10 * SECOND)
 
 uint64_t ticker_now(void)

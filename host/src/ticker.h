@@ -4,6 +4,8 @@
 
 #include <stdint.h>
 
+#define SECOND UINT64_C(1000000000) /* nanoseconds */
+
 struct ticker {
     int fd;             /* becomes readable each period */
     uint64_t started;   /* nanoseconds of the clock */

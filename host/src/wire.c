@@ -1,6 +1,7 @@
 #define _GNU_SOURCE
 #include "wire.h"
 #include "say.h"
+#include "ticker.h"
 #include <arpa/inet.h>
 #include <errno.h>
 #include <ifaddrs.h>
@@ -10,6 +11,7 @@
 #include <linux/if_packet.h>
 #include <linux/sockios.h>
 #include <netinet/in.h>
+#include <poll.h>
 #include <string.h>
 #include <sys/ioctl.h>
 #include <sys/socket.h>
@@ -176,6 +178,17 @@ int wire_receive(struct wire *wire, uint8_t octets[WIRE_FRAME], size_t *length)
         wire->received++;
         return 1;
     }
+}
+
+int wire_wait(struct wire *wire, uint64_t until, uint8_t octets[WIRE_FRAME], size_t *length)
+{
+    for (uint64_t now = ticker_now(); now < until; now = ticker_now()) {
+        struct pollfd one = {.fd = wire->fd, .events = POLLIN};
+        if (wire_receive(wire, octets, length))
+            return 1;
+        poll(&one, 1, (int)((until - now) / 1000000) + 1);
+    }
+    return 0;
 }
 
 int wire_send(struct wire *wire, const uint8_t *octets, size_t length)

@@ -34,6 +34,9 @@ void wire_join_identify(struct wire *wire);
 /* Reads the next frame, from its destination on, with its tag if it has one. Returns whether there was one. */
 int wire_receive(struct wire *wire, uint8_t octets[WIRE_FRAME], size_t *length);
 
+/* Reads the next frame, and waits for it until a time of the clock (ticker_now). Returns whether there was one. */
+int wire_wait(struct wire *wire, uint64_t until, uint8_t octets[WIRE_FRAME], size_t *length);
+
 /* Sends a frame. Returns 0, or 1 if it was not sent. */
 int wire_send(struct wire *wire, const uint8_t *octets, size_t length);
 

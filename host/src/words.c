@@ -1,5 +1,6 @@
 #include "words.h"
 #include <ctype.h>
+#include <stdio.h>
 #include <string.h>
 
 int words_number(const char *word, unsigned long most, unsigned long *value)
@@ -54,6 +55,12 @@ int words_mac(const char *word, uint8_t mac[6])
     return 1;
 }
 
+const char *words_show_mac(char text[WORDS_MAC], const uint8_t mac[6])
+{
+    snprintf(text, WORDS_MAC, "%02x:%02x:%02x:%02x:%02x:%02x", mac[0], mac[1], mac[2], mac[3], mac[4], mac[5]);
+    return text;
+}
+
 int words_part(char *line, char *words[], int most)
 {
     static const char blanks[] = " \t\r\n";
@@ -71,6 +78,16 @@ int words_part(char *line, char *words[], int most)
     }
 }
 
+int words_read_place(char *words[], struct words_place *place, uint8_t *octets, size_t most)
+{
+    unsigned long slot, subslot;
+    long length = words_octets(words[2], octets, most);
+    if (!words_number(words[0], 65535, &slot) || !words_number(words[1], 65535, &subslot) || length < 0)
+        return 0;
+    *place = (struct words_place){(uint16_t)slot, (uint16_t)subslot, (size_t)length};
+    return 1;
+}
+
 void words_hex(char *text, const uint8_t *octets, size_t length)
 {
     static const char digits[] = "0123456789abcdef";
@@ -79,4 +96,11 @@ void words_hex(char *text, const uint8_t *octets, size_t length)
         text[2 * i + 1] = digits[octets[i] & 15];
     }
     text[2 * length] = '\0';
+}
+
+void words_labelled(char *text, size_t size, const char *label, const uint8_t *octets, size_t length)
+{
+    int head = snprintf(text, size, "%s ", label);
+    if (head > 0 && (size_t)head + 2 * length + 1 <= size)
+        words_hex(text + head, octets, length);
 }

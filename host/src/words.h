@@ -14,10 +14,27 @@ long words_octets(const char *word, uint8_t *octets, size_t most);
 /* Reads a MAC address, six octets in hex between colons or hyphens. Returns whether it is one. */
 int words_mac(const char *word, uint8_t mac[6]);
 
+/* Writes a MAC address, six octets in hex between colons. Returns the text. */
+#define WORDS_MAC 18
+const char *words_show_mac(char text[WORDS_MAC], const uint8_t mac[6]);
+
 /* Splits a line at its blanks, in place, into at most `most` parts. Returns their number, or -1 if there are more. */
 int words_part(char *line, char *words[], int most);
 
+/* A place and octets: the words SLOT SUBSLOT HEX, with at most `most` octets. */
+struct words_place {
+    uint16_t slot;
+    uint16_t subslot;
+    size_t length;
+};
+
+/* Reads such words, the octets apart. Returns whether they are a place and octets. */
+int words_read_place(char *words[], struct words_place *place, uint8_t *octets, size_t most);
+
 /* Writes octets in hex, followed by a 0; `text` has room for 2 * length + 1. */
 void words_hex(char *text, const uint8_t *octets, size_t length);
+
+/* Writes a label, a blank, and octets in hex. If there is no room for all of them, only the label and the blank. */
+void words_labelled(char *text, size_t size, const char *label, const uint8_t *octets, size_t length);
 
 #endif

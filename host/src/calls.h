@@ -1,0 +1,19 @@
+/* Places in an untagged frame with a DCE/RPC datagram, as the controller and a device send it. Only used for messages. */
+#ifndef HOST_CALLS_H
+#define HOST_CALLS_H
+
+#include <stddef.h>
+#include <stdint.h>
+
+enum { CALLS_REQUEST = 0, CALLS_RESPONSE = 2 };
+
+/* Whether a frame is a datagram of this type that is long enough for the PNIOStatus of a response. */
+int calls_is(const uint8_t *octets, size_t length, unsigned type);
+
+/* The sequence number of such a datagram. */
+uint32_t calls_sequence(const uint8_t *octets);
+
+/* The PNIOStatus of such a response. */
+void calls_status(const uint8_t *octets, uint8_t status[4]);
+
+#endif

@@ -1,0 +1,170 @@
+#define _GNU_SOURCE
+#include "loop.h"
+#include "nandutable.h"
+#include "say.h"
+#include "words.h"
+#include <inttypes.h>
+#include <string.h>
+
+#define FRAMES_AT_ONCE 64
+#define IDLE_PERIOD 10000000u /* nanoseconds */
+
+void loop_must(uint32_t answer, const char *call)
+{
+    if (answer != PN_OK)
+        fail(STATUS_SOFTWARE, "%s returned %u: the library and this program do not fit", call, (unsigned)answer);
+}
+
+void loop_open(struct loop *loop, const struct shared_options *shared)
+{
+    lines_open(&loop->lines, shared->socket, shared->socket_group);
+    if (shared->realtime != 0)
+        wake_realtime(shared->realtime);
+    wake_open(&loop->wake);
+}
+
+void loop_start(struct loop *loop, const struct events *events, void *context)
+{
+    loop->events = events;
+    loop->context = context;
+    ticker_open(&loop->ticker);
+    loop_pace(loop, 1);
+}
+
+void loop_pace(struct loop *loop, int is_idle)
+{
+    loop->is_idle = is_idle;
+    ticker_pace(&loop->ticker, is_idle ? IDLE_PERIOD : loop->period);
+}
+
+void loop_tell_link(struct loop *loop)
+{
+    if (!loop->wire.is_up)
+        lines_tell(&loop->lines, "link down (`ip link set %s up`)", loop->wire.name);
+}
+
+static void take_time(struct loop *loop)
+{
+    const struct events *events = loop->events;
+    uint32_t due = ticker_due(&loop->ticker, loop->is_idle ? events->idle_most : PN_MOST_DEBT);
+    if (due == 0)
+        return;
+    while (due != 0)
+        due = events->tick(loop->context, due);
+    events->look(loop->context);
+}
+
+static void take_frames(struct loop *loop)
+{
+    static uint8_t octets[WIRE_FRAME];
+    const struct events *events = loop->events;
+    size_t length;
+    /* Waiting frames are handed in before the elapsed time, because they arrived before its end: a delayed program must not judge its
+     * partner to be silent. There is a limit for each turn, so that a flood of frames does not delay the time. While nothing is due at a
+     * unit of time, many units are handed in at once, before the frame. */
+    for (int i = 0; i < FRAMES_AT_ONCE && wire_receive(&loop->wire, octets, &length); i++) {
+        if (loop->is_idle)
+            take_time(loop);
+        events->take_frame(loop->context, octets, length);
+    }
+}
+
+static void help(struct loop *loop)
+{
+    for (const struct command *command = loop->events->commands; command->word != NULL; command++)
+        lines_answer(&loop->lines, "%s", command->help);
+}
+
+static void carry_out(struct loop *loop, const struct command *command, char *words[])
+{
+    if (command->take != NULL)
+        command->take(loop->context, words);
+    else if (strcmp(command->word, "statistics") == 0)
+        loop->events->statistics(loop->context, lines_answer);
+    else
+        loop->wake.is_ended = 1;
+}
+
+static void take_line(void *context, char *line)
+{
+    struct loop *loop = context;
+    char *words[4];
+    int count = words_part(line, words, 4);
+    if (count == 0)
+        return;
+    for (const struct command *command = loop->events->commands; command->word != NULL; command++)
+        if (command->count == count && strcmp(command->word, words[0]) == 0) {
+            carry_out(loop, command, words);
+            return;
+        }
+    if (count == 1 && strcmp(words[0], "help") == 0)
+        help(loop);
+    else
+        lines_answer(&loop->lines, "wrong: no such line; `help` lists them");
+}
+
+static void look_at_stalls(struct loop *loop)
+{
+    if (ticker_tells(&loop->ticker))
+        lines_tell(&loop->lines, "stall: %" PRIu64 " units of time were forgotten since the start, in %" PRIu64 " stalls", loop->ticker.forgotten,
+                   loop->ticker.stalls);
+}
+
+/* What is checked now and then. */
+static void look_around(struct loop *loop)
+{
+    int change;
+    if (ticker_now() < loop->next_look)
+        return;
+    loop->next_look = ticker_now() + loop->events->look_each;
+    change = wire_look(&loop->wire);
+    if (change != 0)
+        lines_tell(&loop->lines, change > 0 ? "link up" : "link down");
+    look_at_stalls(loop);
+    if (loop->events->look_around != NULL)
+        loop->events->look_around(loop->context);
+    loop->wake.has_lines = 1; /* continues to write what waits for a reader */
+}
+
+void loop_run(struct loop *loop)
+{
+    const struct events *events = loop->events;
+    while (!events->is_over(loop->context)) {
+        wake_wait(&loop->wake, &loop->wire, &loop->ticker, &loop->lines);
+        take_frames(loop);
+        take_time(loop);
+        if (loop->wake.has_lines) {
+            loop->wake.has_lines = 0;
+            lines_take(&loop->lines, take_line, loop);
+        }
+        if (loop->wake.is_asked) {
+            loop->wake.is_asked = 0;
+            events->statistics(loop->context, lines_tell);
+        }
+        look_around(loop);
+    }
+}
+
+void loop_tell_frames(struct loop *loop, lines_writer tell)
+{
+    tell(&loop->lines, "statistics seconds %" PRIu64, (ticker_now() - loop->ticker.started) / SECOND);
+    tell(&loop->lines, "frames received %" PRIu64 " sent %" PRIu64 " not-sent %" PRIu64 " missed %" PRIu64, loop->wire.received, loop->wire.sent,
+         loop->wire.not_sent, wire_missed(&loop->wire));
+}
+
+void loop_tell_time(struct loop *loop, const struct histogram *intervals, lines_writer tell)
+{
+    tell(&loop->lines, "time units %" PRIu64 " forgotten %" PRIu64 " stalls %" PRIu64 " most-at-once %" PRIu64, loop->ticker.given,
+         loop->ticker.forgotten, loop->ticker.stalls, loop->ticker.longest);
+    tell(&loop->lines, "interval count %" PRIu64 " p50 %u p99 %u max %" PRIu64 " us", intervals->total, histogram_within(intervals, 500),
+         histogram_within(intervals, 990), (intervals->most + 500) / 1000);
+}
+
+void loop_answer_places(struct loop *loop, const char *label, const struct places *places)
+{
+    for (unsigned i = 0; i < places->count; i++) {
+        char text[STATION_LINE];
+        station_line(text, label, &places->list[i]);
+        lines_answer(&loop->lines, "%s", text);
+    }
+}

@@ -1,0 +1,72 @@
+/* The loop of both programs: it waits for frames, time, lines and signals, and hands each to the program. */
+#ifndef HOST_LOOP_H
+#define HOST_LOOP_H
+
+#include "histogram.h"
+#include "lines.h"
+#include "options.h"
+#include "station.h"
+#include "ticker.h"
+#include "wake.h"
+#include "wire.h"
+
+/* A line that a program accepts, by its first word and the number of its words. */
+struct command {
+    const char *word;
+    int count;
+    void (*take)(void *context, char *words[]); /* NULL: `statistics` prints them, and another line ends the program */
+    const char *help; /* its form and its effect */
+};
+
+/* What a program does at each event. Each function gets the context of the loop. */
+struct events {
+    uint32_t idle_most; /* the most units that are handed in at once while nothing is due at a unit of time */
+    uint64_t look_each; /* nanoseconds between two calls of look_around */
+    int (*is_over)(void *context);
+    /* Hands in units of time, at least one. Returns how many of them remain. */
+    uint32_t (*tick)(void *context, uint32_t units);
+    void (*look)(void *context); /* reports what changed, after the time */
+    void (*take_frame)(void *context, const uint8_t *octets, size_t length);
+    const struct command *commands; /* the last one has no word */
+    void (*statistics)(void *context, lines_writer tell);
+    void (*look_around)(void *context); /* now and then; NULL for nothing */
+};
+
+struct loop {
+    struct wire wire;
+    struct ticker ticker;
+    struct wake wake;
+    struct lines lines;
+    const struct events *events;
+    void *context;
+    uint64_t period; /* in which time is handed in, in nanoseconds */
+    int is_idle;     /* whether nothing is due at a unit of time */
+    uint64_t next_look;
+};
+
+/* Opens the lines, the scheduler's priority and the signals. The interface is opened before, by wire_open. */
+void loop_open(struct loop *loop, const struct shared_options *shared);
+
+/* Starts the time; nothing is due at a unit of it yet. */
+void loop_start(struct loop *loop, const struct events *events, void *context);
+
+/* Sets whether nothing is due at a unit of time: then the program wakes only a hundred times a second, otherwise in its period. */
+void loop_pace(struct loop *loop, int is_idle);
+
+/* Reports an interface that is down at the start. */
+void loop_tell_link(struct loop *loop);
+
+/* Runs until the program is over. */
+void loop_run(struct loop *loop);
+
+/* Parts of the statistics: the seconds and the frames; the time and the intervals between frames. */
+void loop_tell_frames(struct loop *loop, lines_writer tell);
+void loop_tell_time(struct loop *loop, const struct histogram *intervals, lines_writer tell);
+
+/* Answers with a line for each place: the label, its slot, its subslot and its data. */
+void loop_answer_places(struct loop *loop, const char *label, const struct places *places);
+
+/* Ends the program if a call of the library did not return PN_OK: the program uses the library as its header says, so it cannot. */
+void loop_must(uint32_t answer, const char *call);
+
+#endif

@@ -1,0 +1,59 @@
+#define _GNU_SOURCE
+#include "options.h"
+#include "say.h"
+#include "words.h"
+#include <stdio.h>
+#include <stdlib.h>
+
+#define VERSION "0.1.0"
+
+_Noreturn void options_misused(const char *why, const char *word)
+{
+    fail(STATUS_USAGE, "%s%s (%s --help)", why, word, say_name());
+}
+
+static void take_period(struct shared_options *shared, const char *word)
+{
+    unsigned long number;
+    if (!words_number(word, 10000, &number) || number < 31)
+        options_misused("--period takes 31 to 10000 microseconds: ", word);
+    shared->period = number * 1000;
+}
+
+static void take_realtime(struct shared_options *shared, const char *word)
+{
+    unsigned long number;
+    if (!words_number(word, 99, &number) || number < 1)
+        options_misused("--realtime takes 1 to 99: ", word);
+    shared->realtime = (int)number;
+}
+
+static void take_shared(struct shared_options *shared, int option, const char *word)
+{
+    switch (option) {
+    case 'u': shared->socket = word; return;
+    case 'g': shared->socket_group = word; return;
+    case 'p': take_period(shared, word); return;
+    case 'r': take_realtime(shared, word); return;
+    default: options_misused("there is no such option, or its argument is missing", "");
+    }
+}
+
+int options_read(const struct command_line *line, struct shared_options *shared, void *options, int count, char *words[])
+{
+    int option;
+    opterr = 0;
+    while ((option = getopt_long(count, words, "h", line->known, NULL)) != -1) {
+        if (option == 'h') {
+            line->usage();
+            exit(0);
+        }
+        if (option == 'v') {
+            printf("%s %s\n", say_name(), VERSION);
+            exit(0);
+        }
+        if (!line->take(options, option, optarg))
+            take_shared(shared, option, optarg);
+    }
+    return optind;
+}
