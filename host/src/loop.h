@@ -14,7 +14,8 @@
 struct command {
     const char *word;
     int count;
-    void (*take)(void *context, char *words[]); /* NULL: `statistics` prints them, and another line ends the program */
+    /* NULL for the two lines of the loop itself: `statistics`, and the one that ends the program. */
+    void (*take)(void *context, char *words[]);
     const char *help; /* its form and its effect */
 };
 

@@ -7,7 +7,7 @@ import time
 from wire import block
 
 ZEROS = bytes(4)
-CONNECT, WRITE, PRM_END, RELEASE = 0x0101, 0x0008, 0x0110, 0x0114
+CONNECT, WRITE, PRM_END = 0x0101, 0x0008, 0x0110
 RPC_AT, BLOCKS_AT = 42, 142  # after Ethernet, IPv4 and UDP; and after the header of DCE/RPC and the sizes of the arguments
 
 
@@ -41,9 +41,9 @@ def block_of(kind, fields):
 class Station(threading.Thread):
     """A station. What it answers may be changed while it runs.
 
-    `identifies`: how often it answers an Identify for its name; `is_careless`: for another name too. `sets`: the BlockError of its answer to a Set, None for no answer. `arp`: the
-    address for which it answers ARP, or None. `calls`: the PNIOStatus of its answer to a call, by the type of the first block, or for a Write by
-    that type and the index; no answer if there is none."""
+    `identifies`: how often it answers an Identify for its name; `is_careless`: for another name too. `sets`: the BlockError of its answer to a
+    Set, None for no answer. `arp`: the address for which it answers ARP, or None. `calls`: the PNIOStatus of its answer to a call, by the type of
+    the first block, or for a Write by that type and the index; no answer if there is none."""
 
     def __init__(self, wire, number, name="pump-1", identity=(291, 1110), suite=bytes(12), identifies=1, is_careless=False, sets=None, arp=None,
                  calls=None):
