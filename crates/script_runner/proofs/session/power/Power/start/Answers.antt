@@ -6,7 +6,7 @@ pub returns-in-Ok-clause-stored : goal.returns-in-Ok-clause-stored
 returns-in-Ok-clause-stored c settings room reliable left starts =
     let live = c.in-Ok.ensures.known settings room starts in
     record {
-      station_is = rw (c.identity.ensures, c.real.ensures) at c.in-Ok.ensures.station;
+      station_is = rw (c.demo_identity.ensures, c.demo_modules.ensures) at c.in-Ok.ensures.station;
       live_is = live;
       reliable = c.in-Ok.ensures.reliable reliable;
       unfailed = ap (λ l. l.values.has_failed) live;
@@ -27,7 +27,7 @@ returns-in-Err-clause-back c = (
 
 pub returns-in-Ok-clause-back : goal.returns-in-Ok-clause-back
 returns-in-Ok-clause-back c = (
-  rw (c.identity.ensures, c.real.ensures) at c.in-Ok.ensures.station,
+  rw (c.demo_identity.ensures, c.demo_modules.ensures) at c.in-Ok.ensures.station,
   c.in-Ok.ensures.fresh,
   subst (λ image. StartsWith image c.in-Ok.device.live.values.stored c.in-Ok.device.live.values.room) (sym c.in-Ok.ensures.same) c.in-Ok.ensures.starts,
   (c.in-Ok.ensures.same, ap (λ chip. chip.armed) c.in-Ok.ensures.calls),
