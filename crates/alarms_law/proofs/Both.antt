@@ -3,7 +3,7 @@ use Rattle.std.proofs.Common.{◌≡◌, ◌<◌, ◌≤◌, ◌+◌, ℕ, true,
 use Rattle.std.specs.Prelude.{OnErr, OnOk}
 use Rattle.flash_model.specs.declared.flash.Flash.{Ghosts as Flash}
 use Rattle.pn_values.specs.declared.identity.Identity.{Identity}
-use Rattle.connect_laws.specs.request.Request.{request_for}
+use Rattle.startup_law.specs.request.Request.{request_for}
 use Rattle.relations.specs.Exchanged.{output_in}
 use Rattle.relations.specs.RelationState.{RelationState}
 use Rattle.relations.specs.declared.phase.Phase.TheVariants.{Exchanging as in_exchange}

@@ -22,7 +22,7 @@ use Rattle.block_codec.specs.Block.{block, block_bytes, block_of, body_of, field
 use Rattle.block_codec.specs.Kinds.{number_of, type_of}
 use Rattle.codec_laws.specs.blocks.Writable.{CanBeWritten}
 use Rattle.connect_requests.specs.Request.{Request}
-use Rattle.connect_laws.specs.request.Request.{request_for}
+use Rattle.startup_law.specs.request.Request.{request_for}
 use Rattle.relations.specs.Connect.{connect_blocks, differing_of, rows_of}
 use Rattle.controller_frames.specs.declared.setup.Setup.{Setup}
 use Rattle.message_laws.specs.hearing.Stations.{IsDevice, IsSetup}

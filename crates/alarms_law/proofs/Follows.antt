@@ -55,7 +55,7 @@ use Rattle.alarms_law.proofs.Reported.{IsCallIn, IsCalledAs, IsGood, IsNotedAs, 
 use Rattle.alarms_law.specs.Over.{taken_by, taken_of}
 use Rattle.alarms_law.proofs.Lists.{Extends, each_behind, each_on, more_extends, none_some, some_is, unchanged}
 use Rattle.message_laws.specs.hearing.Stations.{IsSetup}
-use Rattle.connect_laws.specs.request.Request.{request_for}
+use Rattle.startup_law.specs.request.Request.{request_for}
 use Rattle.alarms_law.specs.Sized.{AreSizedModules}
 use Rattle.message_laws.specs.sending.Sized.{IsLive}
 use Rattle.alarms_law.proofs.Placed.{IsPlaced}

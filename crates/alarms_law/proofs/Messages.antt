@@ -36,7 +36,7 @@ use Rattle.cyclic_exchange.specs.declared.route.Route.{Route}
 use Rattle.cyclic_exchange.specs.Frames.{cyclic_body}
 use Rattle.relations.specs.exchange.Frames.{Frame, Inputs, Notifies, Replies as Answers, body_of}
 use Rattle.plans.specs.declared.parts.Controller.{Controller}
-use Rattle.connect_laws.specs.request.Request.{request_for}
+use Rattle.startup_law.specs.request.Request.{request_for}
 use Rattle.relations.specs.declared.ready.Ready.{Ready}
 use Rattle.relations.specs.declared.farewell.Farewell.{Farewell}
 use Rattle.relations.specs.Connect.{connect_blocks, differing_of}

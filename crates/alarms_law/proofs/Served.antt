@@ -23,7 +23,7 @@ use Rattle.records.specs.declared.writes.write.Effect.{Effect}
 use Rattle.records.specs.declared.writes.write.Effect.TheVariants.{Stores, Keeps}
 use Rattle.records.specs.declared.writes.write.Write.{Write}
 use Rattle.records.specs.writes.Handled.{write_of}
-use Rattle.connect_laws.specs.request.Request.{request_for}
+use Rattle.startup_law.specs.request.Request.{request_for}
 use Rattle.relations.specs.RelationState.{RelationState, uuid_of}
 use Rattle.relations.specs.Phases.{Parameterized, answered, keeping, updated}
 use Rattle.relations.specs.Calls.{control_block, done_of, in_started, named_of, prm_end_answer, prm_end_of, release_answer, release_of}

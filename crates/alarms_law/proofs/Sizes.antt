@@ -30,7 +30,7 @@ use Rattle.relations.specs.exchange.Notices.{behind_message, header_of}
 use Rattle.relations.specs.exchange.Opening.{route_of}
 use Rattle.relations.specs.exchange.Units.{flow_later, tick_of}
 use Rattle.plans.specs.declared.parts.Parts.{Parts}
-use Rattle.connect_laws.specs.request.Request.{request_for}
+use Rattle.startup_law.specs.request.Request.{request_for}
 use Rattle.relations.specs.declared.farewell.Farewell.{Farewell}
 use Rattle.relations.specs.Farewells.{farewell_of, said_by}
 use Rattle.relations.specs.RelationState.{RelationState}

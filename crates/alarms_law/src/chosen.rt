@@ -3,7 +3,7 @@ ghost use Rattle.pn_values.specs.declared.identity.Identity.{Identity};
 ghost use Rattle.pn_values.specs.declared.real.Real.{Real};
 ghost use Rattle.controller_frames.specs.declared.setup.Setup.{Setup};
 ghost use Rattle.message_laws.specs.hearing.Stations.{IsDevice, IsSetup};
-ghost use Rattle.connect_laws.specs.request.Request.{request_for};
+ghost use Rattle.startup_law.specs.request.Request.{request_for};
 ghost use Rattle.relations.specs.Connect.{connect_blocks, differing_of};
 ghost use Rattle.alarms_law.specs.Sized.{IsChosenWell};
 

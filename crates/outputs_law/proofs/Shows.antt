@@ -24,7 +24,7 @@ use Rattle.relations.specs.exchange.Flow.{Flow}
 use Rattle.relations.specs.exchange.Notices.{may_raise, raised_by}
 use Rattle.relations.specs.RelationState.{RelationState}
 use Rattle.relations.specs.Exchanged.{hearing}
-use Rattle.connect_laws.specs.request.Request.{request_for}
+use Rattle.startup_law.specs.request.Request.{request_for}
 use Rattle.device_frames.specs.Heard.{Heard, Cyclic as Comes}
 use Rattle.device_frames.specs.Sent.{Sent, IdentifyAnswer, GetAnswer, SetAnswer, ArpReply, CallAnswer, Again, ReadyCall, Ends, Exchanges, bytes_of}
 use Rattle.device_frames.specs.Sendable.{AreSendable}

@@ -6,7 +6,7 @@ use Rattle.cyclic_data.specs.declared.place.Place.{Place}
 use Rattle.cyclic_data.specs.declared.place.PlaceKind.{PlaceKind}
 use Rattle.cyclic_data.specs.declared.place.PlaceKind.TheVariants.{Data, Iocs}
 use Rattle.cyclic_data.specs.Image.{Cell, Shown as Image, good, place_at}
-use Rattle.connect_laws.specs.request.Request.{iocr_for}
+use Rattle.startup_law.specs.request.Request.{iocr_for}
 use Rattle.relations.specs.Exchanged.{output_in}
 use Rattle.relations.specs.RelationState.{RelationState}
 use Rattle.controller_frames.specs.declared.setup.Setup.{Setup}

@@ -10,7 +10,7 @@ use Rattle.cyclic_exchange.specs.declared.route.Route.{Route}
 use Rattle.cyclic_exchange.specs.Opening.{first_taken}
 use Rattle.cyclic_exchange.specs.Received.{is_of_partner}
 use Rattle.relations.specs.exchange.Opening.{route_of}
-use Rattle.connect_laws.specs.request.Request.{iocr_for, request_for}
+use Rattle.startup_law.specs.request.Request.{iocr_for, request_for}
 use Rattle.relations.specs.RelationState.{RelationState}
 use Rattle.device_frames.specs.declared.event.Event.TheVariants.{Frame}
 use Rattle.device_frames.specs.Heard.{Heard, Cyclic, heard_of}

@@ -35,7 +35,7 @@ use Rattle.pn_alarms.specs.Message.{ToController as AlarmReported, alarm_of}
 use Rattle.plans.specs.declared.parts.Controller.{Controller}
 use Rattle.plans.specs.declared.parts.Parts.{Parts}
 use Rattle.plans.specs.Connect.{alarm_block}
-use Rattle.connect_laws.specs.request.Request.{request_for}
+use Rattle.startup_law.specs.request.Request.{request_for}
 use Rattle.relations.specs.declared.ready.Ready.{Ready}
 use Rattle.relations.specs.RelationState.{RelationState}
 use Rattle.relations.specs.Ready.{ready_of}

@@ -13,7 +13,7 @@ use Rattle.connect_requests.specs.Handled.{request_of}
 use Rattle.plans.specs.Connect.{connect_of}
 use Rattle.records.specs.declared.writes.taken.TakenRecord.{TakenRecord}
 use Rattle.relations.specs.RelationState.{RelationState}
-use Rattle.connect_laws.specs.request.Request.{request_for}
+use Rattle.startup_law.specs.request.Request.{request_for}
 use Rattle.device_frames.specs.declared.event.Event.TheVariants.{Frame}
 use Rattle.device_frames.specs.Heard.{Heard, Ticks, Given, Raised, heard_of}
 use Rattle.device_frames.specs.Sent.{Sent, Again, bytes_of}

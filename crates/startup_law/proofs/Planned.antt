@@ -38,7 +38,7 @@ use Rattle.records.specs.writes.Handled.{effect_of, is_known, is_length, handled
 use Rattle.plans.specs.declared.parts.PlanRecord.{PlanRecord}
 use Rattle.plans.specs.Connect.{connect_of}
 use Rattle.plans.specs.Plan.{AreShort}
-use Rattle.connect_laws.specs.request.Request.{request_for}
+use Rattle.startup_law.specs.request.Request.{request_for}
 use Rattle.device_frames.specs.Heard as device
 use Rattle.device_frames.specs.Heard.{Heard}
 use Rattle.device_core.specs.State.{Station}

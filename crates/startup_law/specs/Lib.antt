@@ -1,2 +1,4 @@
 pub mod View
 pub mod Played
+pub mod request
+pub mod answer

@@ -1,6 +1,6 @@
 //! The law of a start-up, for the worlds that moves lead to.
 ghost use Rattle.std.specs.Prelude.{◌≡◌, ◌<◌, List, Some};
-ghost use Rattle.connect_laws.specs.request.Request.{request_for};
+ghost use Rattle.startup_law.specs.request.Request.{request_for};
 ghost use Rattle.relations.specs.RelationState.{RelationState};
 ghost use Rattle.relations.specs.declared.phase.Phase.TheVariants.{Exchanging as in_exchange};
 ghost use Rattle.controller_core.specs.declared.state.State.TheVariants.{Exchanging};
@@ -10,8 +10,8 @@ ghost use Rattle.end_laws.specs.both.StartUp.{WasExchanging, WasHanded};
 ghost use Rattle.startup_law.specs.View.{rules_of, view_of};
 ghost use Rattle.startup_law.specs.Played.{AreMade, AreMeant, ArePlaced, Begins, CanMeet, IsRunOf, last_world, viewed};
 
+use crate::connect_is_taken;
 use codec_laws::blocks_are_read;
-use connect_laws::connect_is_taken;
 use connect_requests::ConnectRequest;
 use controller_frames::Setup;
 use end_laws::{controller_goes_on, device_goes_on, device_sends_what_it_owes, start_up_is_kept};

@@ -1,10 +1,9 @@
 //! A device in an exchange: it takes the events of lines one after another, and what it sends is counted.
 use arrayvec::ArrayVec;
-use pn_values::demo_identity;
+use pn_values::{Real, RealModule, RealSubmodule, demo_identity};
 use device_core::{Device, Event, Note};
 use flash_model::MemoryFlash;
 use frame_codec::{Bytes, Outbox};
-use pn_values::{Real, RealModule, RealSubmodule};
 use rattle_std::alloc::Global;
 
 /// A device over the smallest flash.

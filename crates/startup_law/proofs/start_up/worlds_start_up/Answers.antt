@@ -1,6 +1,6 @@
 use Rattle.std.proofs.Common.{ap, ◌∙◌}
 use Rattle.relations.specs.declared.phase.Phase.{Phase}
-use Rattle.connect_laws.specs.request.Request.{request_for}
+use Rattle.startup_law.specs.request.Request.{request_for}
 use Rattle.controller_frames.specs.declared.setup.Setup.{Setup}
 use Rattle.end_laws.specs.device.Small.{link_of, phase_in}
 use Rattle.startup_law.specs.View.{rules_of, view_of}

@@ -1,2 +1,0 @@
-pub mod request
-pub mod answer

@@ -1,0 +1,41 @@
+//! The law of the plan.
+ghost use Rattle.std.specs.Prelude.{◌≡◌, true, List, ℕ, None, Ok};
+ghost use Rattle.std.specs.List.{AllByRecursion};
+ghost use Rattle.connect_blocks.specs.ArBlock.{is_some_uuid};
+ghost use Rattle.module_diff.specs.Diff.{diff_of};
+ghost use Rattle.connect_requests.specs.Handled.{request_of};
+ghost use Rattle.plans.specs.declared.parts.Parts.{Parts};
+ghost use Rattle.plans.specs.Connect.{IsRead, blocks_of, connect_of};
+ghost use Rattle.plans.specs.Plan.{IsPlan};
+ghost use Rattle.startup_law.specs.request.Request.{no_rows, request_for};
+
+use block_fields::Uuid;
+use connect_requests::layouts_are_taken;
+use plans::{Plan, packed_places_are_asked};
+
+/// What a device reads from the Connect of any plan. This is a law of the definitions; the function has no code.
+pub fn requests_are_read()
+    // A device without a relation reads exactly the plan's request, and so accepts it, if each block is read as it was
+    // written.
+    ensures read { (parts : Parts) (ar : List ℕ) → IsPlan parts → AllByRecursion IsRead (blocks_of parts ar)
+        → request_of None (connect_of parts ar) ≡ Ok (request_for parts ar) }
+    // If the device has the plan's modules, none of them differs.
+    ensures same { (parts : Parts) (ar : List ℕ) → IsPlan parts →
+        diff_of (request_for parts ar).expected parts.real.modules.items ≡ no_rows }
+{
+    layouts_are_taken();
+    packed_places_are_asked();
+}
+
+/// The law of the plan: what a device reads from the Connect of this plan, with this ARUUID.
+pub fn connect_is_taken(plan: &Plan, ar: &Uuid)
+    // If the ARUUID is not zero, a device without a relation reads exactly the plan's request, and so accepts it.
+    ensures read { is_some_uuid ar.now ≡ true → request_of None (connect_of plan.now ar.now) ≡ Ok (request_for plan.now ar.now) }
+    // If the device has the plan's modules, none of them differs.
+    ensures same { diff_of (request_for plan.now ar.now).expected plan.now.real.modules.items ≡ no_rows }
+{
+    requests_are_read();
+    // These are called for their clauses on the plan and its Connect.
+    let _modules = plan.real();
+    let _octets = plan.connect(ar);
+}
