@@ -1,6 +1,7 @@
 /* nandutable-device: a PROFINET IO device on a network interface, whose settings are in a file. */
 #define _GNU_SOURCE
 #include "chip.h"
+#include "identity.h"
 #include "loop.h"
 #include "options.h"
 #include "say.h"
@@ -19,6 +20,7 @@ struct options {
     struct shared_options shared;
     const char *flash;
     const char *station;
+    const char *identity;
     uint8_t mac[6];
     int has_mac;
     uint32_t sets_a_second; /* 0: no limit */
@@ -334,17 +336,20 @@ static const struct command commands[] = {
 
 static void usage(void)
 {
-    puts("Usage: nandutable-device IFACE --flash FILE [--station FILE] [--mac MAC] [--socket PATH] [--socket-group GROUP]\n"
-         "                         [--period US] [--realtime N] [--sets-per-second N]\n"
+    puts("Usage: nandutable-device IFACE --flash FILE [--station FILE] [--identity FILE] [--mac MAC] [--socket PATH]\n"
+         "                         [--socket-group GROUP] [--period US] [--realtime N] [--sets-per-second N]\n"
          "\n"
          "A PROFINET IO device on the network interface IFACE. Its name, address and I&M texts are in the flash file, and survive a power\n"
          "failure at any moment.\n"
          "\n"
          "  --flash FILE          the flash: 8,192 octets; made if it does not exist. Only one process may use a file\n"
-         "  --station FILE        a catalogue in JSON with the keys of GSDML: identity and modules. Default: the demo station, with two\n"
-         "                        octets of input in slot 1 and two of output in slot 2, as in host/demo/pump.json (installed:\n"
-         "                        share/doc/nandutable/pump.json)\n"
-         "  --mac MAC             the device's MAC address (default: the interface's)\n"
+         "  --station FILE        a catalogue in JSON with the keys of GSDML: VendorID, DeviceID, type of station and modules. Default: the\n"
+         "                        demo station, with two octets of input in slot 1 and two of output in slot 2, as in\n"
+         "                        host/demo/pump.json (installed: share/doc/nandutable/pump.json)\n"
+         "  --identity FILE       lines `Key = value`: OrderID, serial number and revisions (I&M0), VendorID, DeviceID, type of station, MAC.\n"
+         "                        A key that is absent has the value of the catalogue, or of the demo station. Example:\n"
+         "                        host/demo/pump.identity (installed: share/doc/nandutable/pump.identity)\n"
+         "  --mac MAC             the device's MAC address (default: that of the identity file, else the interface's)\n"
          "  --socket PATH         lines go in and out over this unix socket, and not over the standard streams\n"
          "  --socket-group GROUP  the members of this group may use the socket too, not only its owner\n"
          "  --period US           the period in which time is handed in during a relation, 31 to 10000 microseconds; choose at most the\n"
@@ -357,7 +362,7 @@ static void usage(void)
          "\n"
          "Examples:\n"
          "  nandutable-device eth1 --flash /var/lib/nandutable/pump.flash\n"
-         "  nandutable-device eth1 --flash pump.flash --station pump.json --socket /run/pump --realtime 50\n"
+         "  nandutable-device eth1 --flash pump.flash --station pump.json --identity pump.identity --socket /run/pump --realtime 50\n"
          "\n"
          "Lines that it accepts: `input SLOT SUBSLOT HEX`, `alarm SLOT SUBSLOT HEX`, `show`, `statistics`, `help`, `quit`. On SIGUSR1 it\n"
          "prints its statistics; SIGTERM ends it.");
@@ -384,6 +389,7 @@ static int take_option(void *context, int option, const char *word)
     switch (option) {
     case 'f': options->flash = word; return 1;
     case 's': options->station = word; return 1;
+    case 'i': options->identity = word; return 1;
     case 'm': take_mac(options, word); return 1;
     case 'l': take_limit(options, word); return 1;
     default: return 0;
@@ -392,6 +398,7 @@ static int take_option(void *context, int option, const char *word)
 
 static const struct option known[] = {{"flash", required_argument, NULL, 'f'},
                                       {"station", required_argument, NULL, 's'},
+                                      {"identity", required_argument, NULL, 'i'},
                                       {"mac", required_argument, NULL, 'm'},
                                       {"sets-per-second", required_argument, NULL, 'l'},
                                       SHARED_OPTIONS};
@@ -423,9 +430,11 @@ static void read_words(struct options *options, int count, char *words[])
         options_misused("--socket-group takes --socket", "");
 }
 
-static void make_station(struct device *device, const struct options *options)
+/* Reads what the device is. Returns whether its MAC address is given. */
+static int read_station(struct device *device, const struct options *options)
 {
     static pn_plan plan;
+    int has_mac = options->has_mac;
     station_demo(&device->station);
     if (options->station != NULL) {
         station_plan(&plan, options->station);
@@ -433,18 +442,24 @@ static void make_station(struct device *device, const struct options *options)
             fail(STATUS_DATA, "'%s': DNS_CompatibleName has more than 25 letters", options->station);
         pn_plan_station(&plan, &device->station);
     }
-    memcpy(device->station.mac, options->has_mac ? options->mac : device->loop.wire.hardware, 6);
+    if (options->identity != NULL && identity_read(&device->station, options->identity, options->station))
+        has_mac = 1;
+    if (options->has_mac)
+        memcpy(device->station.mac, options->mac, 6);
     station_places(&device->inputs, device->station.modules, device->station.module_count, OF_INPUT);
     station_places(&device->outputs, device->station.modules, device->station.module_count, OF_OUTPUT);
+    return has_mac;
 }
 
 static void open_all(struct device *device, const struct options *options)
 {
+    int has_mac = read_station(device, options);
     device->host = (pn_host){device, program, erase, transmit};
     device->loop.period = options->shared.period;
     sets_limit(&device->sets, options->sets_a_second, ticker_now());
     wire_open(&device->loop.wire, options->shared.interface);
-    make_station(device, options);
+    if (!has_mac)
+        memcpy(device->station.mac, device->loop.wire.hardware, 6);
     wire_take(&device->loop.wire, device->station.mac);
     wire_join_identify(&device->loop.wire);
     chip_open(&device->chip, options->flash);
