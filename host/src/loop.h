@@ -14,7 +14,7 @@
 struct command {
     const char *word;
     int count;
-    /* NULL for the two lines of the loop itself: `statistics`, and the one that ends the program. */
+    /* NULL for the lines of the loop itself: `statistics`, and the one that ends the program if it is for the program alone. */
     void (*take)(void *context, char *words[]);
     const char *help; /* its form and its effect */
 };

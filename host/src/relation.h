@@ -11,6 +11,12 @@
 #include "waiting.h"
 
 struct relation {
+    /* What is read for each frame of any station. */
+    uint64_t ends_at; /* 0 before the end */
+    uint32_t state;   /* as it was reported last */
+    uint32_t cause;
+    struct waiting waiting;
+    /* The rest. */
     pn_controller room;
     pn_op op;
     pn_host host;
@@ -23,15 +29,11 @@ struct relation {
     struct places inputs;
     struct places outputs;
     struct reasons reasons;
-    struct waiting waiting;
     struct holders holders; /* of the plan's name */
     uint8_t device[6];      /* the other end of the relation, to which the cyclic frames go */
     int has_device;
     uint64_t interval; /* of cyclic frames, in nanoseconds */
-    /* The last reported values. */
-    uint32_t state;
-    uint32_t cause;
-    pn_op alarm;
+    pn_op alarm;       /* the last that was reported */
     /* Statistics. */
     struct histogram intervals; /* between received frames */
     struct histogram jitter;    /* how far these differ from the plan's */
@@ -39,19 +41,18 @@ struct relation {
     uint16_t last_counter;
     uint64_t lost;
     uint64_t cyclic;
-    uint64_t ends_at; /* 0 before the end */
 };
 
 /* Reads the plan of this file. If it is not valid, ends the program with a message. */
 void relation_open(struct relation *relation, const char *file);
 
-/* Makes the controller, also again after its end, with new numbers. The outputs that were given before are given to it. */
+/* Makes the controller, also again after its end, with new numbers. */
 void relation_make(struct relation *relation, struct loop *loop);
 
 /* Reports what the plan says, before the start. */
 void relation_introduce(struct relation *relation);
 
-/* Sends the first frame. */
+/* Sends the first frame, and sets the outputs that were set before. */
 void relation_begin(struct relation *relation);
 
 /* Hands in units of time, and sends the frames that are due. */
