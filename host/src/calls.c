@@ -1,9 +1,16 @@
 #include "calls.h"
+#include <string.h>
 
 /* After Ethernet (14), IPv4 (20) and UDP (8). The header of DCE/RPC has 80 octets. */
 #define RPC_AT 42u
 #define SEQUENCE_AT (RPC_AT + 64u)
 #define STATUS_AT (RPC_AT + 80u)
+
+/* From the header of DCE/RPC on: its length, the activity, and the ARUUID of the block of a control, after the header, the sizes of the
+ * arguments (20), BlockHeader (6) and two octets that are reserved. */
+#define HEADER 80u
+#define ACTIVITY_AT 40u
+#define AR_AT (HEADER + 28u)
 
 int calls_is(const uint8_t *octets, size_t length, unsigned type)
 {
@@ -28,4 +35,38 @@ uint32_t calls_sequence(const uint8_t *octets)
 void calls_status(const uint8_t *octets, uint8_t status[4])
 {
     read_four(octets, STATUS_AT, status);
+}
+
+/* The header of DCE/RPC in a frame, whatever is before it; 0 if the frame has none that is complete. */
+static size_t header_at(const uint8_t *octets, size_t length)
+{
+    size_t at = length >= 18 && octets[12] == 0x81 && octets[13] == 0 ? 18 : 14;
+    if (length < at + 20 || octets[at - 2] != 0x08 || octets[at - 1] != 0 || octets[at + 9] != 17)
+        return 0;
+    at += (size_t)(octets[at] & 15) * 4 + 8;
+    return length < at + HEADER || octets[at] != 4 ? 0 : at;
+}
+
+/* Copies a UUID of the header with the most significant octet of each of its fields first, whatever the order of the datagram is. */
+static void read_uuid(const uint8_t *header, size_t at, uint8_t uuid[16])
+{
+    static const uint8_t swapped[16] = {3, 2, 1, 0, 5, 4, 7, 6, 8, 9, 10, 11, 12, 13, 14, 15};
+    int is_little = header[4] >> 4 == 1;
+    for (size_t i = 0; i < 16; i++)
+        uuid[i] = header[at + (is_little ? swapped[i] : i)];
+}
+
+int calls_read(const uint8_t *octets, size_t length, struct calls_numbers *numbers)
+{
+    size_t at = header_at(octets, length);
+    if (at == 0)
+        return 0;
+    read_uuid(octets + at, ACTIVITY_AT, numbers->activity);
+    numbers->has_ar = octets[at + 1] == CALLS_REQUEST;
+    if (!numbers->has_ar)
+        return 1;
+    if (length < at + AR_AT + 16)
+        return 0;
+    memcpy(numbers->ar, octets + at + AR_AT, 16);
+    return 1;
 }

@@ -16,4 +16,14 @@ uint32_t calls_sequence(const uint8_t *octets);
 /* The PNIOStatus of such a response. */
 void calls_status(const uint8_t *octets, uint8_t status[4]);
 
+/* The numbers that say which relation a datagram is for. */
+struct calls_numbers {
+    uint8_t activity[16];
+    uint8_t ar[16]; /* ARUUID of a request */
+    int has_ar;
+};
+
+/* Reads the numbers of a datagram of any type, also with a tag and with options of IPv4. Returns whether it is one that has them. */
+int calls_read(const uint8_t *octets, size_t length, struct calls_numbers *numbers);
+
 #endif

@@ -282,7 +282,8 @@ static void statistics(void *context, lines_writer tell)
     tell(lines, "sets dropped %" PRIu64, device->sets.dropped);
     tell(lines, "flash programs %" PRIu64 " erases %" PRIu64 " faults %" PRIu64 " commits-left %" PRIu32, device->chip.programs, device->chip.erases,
          device->chip.faults, left);
-    loop_tell_time(&device->loop, &device->intervals, tell);
+    loop_tell_time(&device->loop, tell);
+    loop_tell_intervals(&device->loop, &device->intervals, tell);
     tell(lines, "lines lost %" PRIu64, lines_lost(lines));
 }
 

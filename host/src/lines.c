@@ -187,12 +187,26 @@ static void put_line(struct lines *lines, struct talker *talker, const char *lin
     put(talker, text, (size_t)length < sizeof text ? (size_t)length : sizeof text - 1);
 }
 
+void lines_speak_for(struct lines *lines, const char *name)
+{
+    lines->name = name;
+}
+
+/* Writes a line, after the name of its station if it has one. */
+static void write_line(const struct lines *lines, char line[LINE_ROOM], const char *format, va_list values)
+{
+    size_t head = 0;
+    if (lines->name != NULL)
+        head = (size_t)snprintf(line, LINE_ROOM, "%s ", lines->name);
+    vsnprintf(line + head, LINE_ROOM - head, format, values);
+}
+
 void lines_tell(struct lines *lines, const char *format, ...)
 {
     char line[LINE_ROOM];
     va_list values;
     va_start(values, format);
-    vsnprintf(line, sizeof line, format, values);
+    write_line(lines, line, format, values);
     va_end(values);
     for (int i = 0; i < LINES_TALKERS; i++)
         put_line(lines, &lines->talkers[i], line);
@@ -203,7 +217,7 @@ void lines_answer(struct lines *lines, const char *format, ...)
     char line[LINE_ROOM];
     va_list values;
     va_start(values, format);
-    vsnprintf(line, sizeof line, format, values);
+    write_line(lines, line, format, values);
     va_end(values);
     for (int i = 0; i < LINES_TALKERS; i++)
         if (lines->asking == NULL || lines->asking == &lines->talkers[i])

@@ -33,6 +33,7 @@ struct lines {
     char status[256]; /* shown below all lines on a terminal */
     struct talker talkers[LINES_TALKERS];
     struct talker *asking; /* the sender of the line that is being answered, or NULL */
+    const char *name;      /* the station whose lines these are, or NULL */
 };
 
 /* A function that sends a line: lines_tell or lines_answer. */
@@ -50,6 +51,9 @@ nfds_t lines_polls(struct lines *lines, struct pollfd *polls);
 
 /* Reads what arrived, and passes each line to `take`, which may change it. */
 void lines_take(struct lines *lines, void (*take)(void *context, char *line), void *context);
+
+/* Sets the station whose lines follow: its name and a blank are in front of each. NULL: nothing is in front. */
+void lines_speak_for(struct lines *lines, const char *name);
 
 /* Sends a line to all readers. */
 void lines_tell(struct lines *lines, const char *format, ...) __attribute__((format(printf, 2, 3)));

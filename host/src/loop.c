@@ -85,13 +85,8 @@ static void carry_out(struct loop *loop, const struct command *command, char *wo
         loop->wake.is_ended = 1;
 }
 
-static void take_line(void *context, char *line)
+static void take_words(struct loop *loop, char *words[], int count)
 {
-    struct loop *loop = context;
-    char *words[4];
-    int count = words_part(line, words, 4);
-    if (count == 0)
-        return;
     for (const struct command *command = loop->events->commands; command->word != NULL; command++)
         if (command->count == count && strcmp(command->word, words[0]) == 0) {
             carry_out(loop, command, words);
@@ -101,6 +96,21 @@ static void take_line(void *context, char *line)
         help(loop);
     else
         lines_answer(&loop->lines, "wrong: no such line; `help` lists them");
+}
+
+static void take_line(void *context, char *line)
+{
+    struct loop *loop = context;
+    const struct events *events = loop->events;
+    char *words[5]; /* the name of a station, and at most four others */
+    int count = words_part(line, words, 5), named = 0;
+    if (count == 0)
+        return;
+    if (count > 1 && events->choose != NULL)
+        named = events->choose(loop->context, words[0]);
+    take_words(loop, words + named, count - named);
+    if (named)
+        events->choose(loop->context, NULL);
 }
 
 static void look_at_stalls(struct loop *loop)
@@ -152,10 +162,14 @@ void loop_tell_frames(struct loop *loop, lines_writer tell)
          loop->wire.not_sent, wire_missed(&loop->wire));
 }
 
-void loop_tell_time(struct loop *loop, const struct histogram *intervals, lines_writer tell)
+void loop_tell_time(struct loop *loop, lines_writer tell)
 {
     tell(&loop->lines, "time units %" PRIu64 " forgotten %" PRIu64 " stalls %" PRIu64 " most-at-once %" PRIu64, loop->ticker.given,
          loop->ticker.forgotten, loop->ticker.stalls, loop->ticker.longest);
+}
+
+void loop_tell_intervals(struct loop *loop, const struct histogram *intervals, lines_writer tell)
+{
     tell(&loop->lines, "interval count %" PRIu64 " p50 %u p99 %u max %" PRIu64 " us", intervals->total, histogram_within(intervals, 500),
          histogram_within(intervals, 990), (intervals->most + 500) / 1000);
 }

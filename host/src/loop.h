@@ -10,11 +10,11 @@
 #include "wake.h"
 #include "wire.h"
 
-/* A line that a program accepts, by its first word and the number of its words. */
+/* A line that a program accepts, by its first word and the number of its words. The name of a station is not one of them. */
 struct command {
     const char *word;
     int count;
-    /* NULL for the two lines of the loop itself: `statistics`, and the one that ends the program. */
+    /* NULL for the lines of the loop itself: `statistics`, and the one that ends the program if it is for the program alone. */
     void (*take)(void *context, char *words[]);
     const char *help; /* its form and its effect */
 };
@@ -28,6 +28,9 @@ struct events {
     uint32_t (*tick)(void *context, uint32_t units);
     void (*look)(void *context); /* reports what changed, after the time */
     void (*take_frame)(void *context, const uint8_t *octets, size_t length);
+    /* Whether a word in front of a line is the name of a station; the line is then for this one. It is called with NULL after the line. NULL
+     * if no line has a name. */
+    int (*choose)(void *context, const char *name);
     const struct command *commands; /* the last one has no word */
     void (*statistics)(void *context, lines_writer tell);
     void (*look_around)(void *context); /* now and then; NULL for nothing */
@@ -60,9 +63,10 @@ void loop_tell_link(struct loop *loop);
 /* Runs until the program is over. */
 void loop_run(struct loop *loop);
 
-/* Parts of the statistics: the seconds and the frames; the time and the intervals between frames. */
+/* Parts of the statistics: the seconds and the frames; the time; the intervals between frames. */
 void loop_tell_frames(struct loop *loop, lines_writer tell);
-void loop_tell_time(struct loop *loop, const struct histogram *intervals, lines_writer tell);
+void loop_tell_time(struct loop *loop, lines_writer tell);
+void loop_tell_intervals(struct loop *loop, const struct histogram *intervals, lines_writer tell);
 
 /* Answers with a line for each place: the label, its slot, its subslot and its data. */
 void loop_answer_places(struct loop *loop, const char *label, const struct places *places);

@@ -22,6 +22,11 @@ CLONE_NEWNET = 0x40000000
 SO_RCVBUFFORCE = 33
 
 
+def device_of(number):
+    """The MAC address of a station of a plant."""
+    return bytes((2, 0, 0, 0, 3, number))
+
+
 class NoWire(Exception):
     """Namespaces or a wire between them cannot be made here."""
 
@@ -90,6 +95,40 @@ class Wire:
             finally:
                 libc.setns(home.fileno(), CLONE_NEWNET)
         return made
+
+
+class Place(Wire):
+    """The end d0 of one station of a plant, in a namespace of its own."""
+
+    def __init__(self, plant, number):
+        self.device, self.controller, self.programs = f"{plant.device}{number}", plant.controller, plant.programs
+
+
+class Plant(Wire):
+    """A bridge to which stations 1 to `count` and a controller are plugged: each station has a namespace with the interface d0, the controller
+    has c0."""
+
+    def __init__(self, count, tag="p"):
+        super().__init__(tag)
+        self.places = {number: Place(self, number) for number in range(1, count + 1)}
+
+    def plug(self):
+        bridge = self.device
+        command("ip", "-n", bridge, "link", "add", "b0", "type", "bridge", "forward_delay", "0", "mcast_snooping", "0")
+        command("ip", "-n", bridge, "link", "set", "b0", "up")
+        self.plug_one("e0", self.controller, "c0", TOOL)
+        for number, place in self.places.items():
+            command("ip", "netns", "add", place.device)
+            self.made.append(place.device)
+            self.within(place.device, "sh", "-c", "echo 1 > /proc/sys/net/ipv6/conf/default/disable_ipv6; :")
+            self.plug_one(f"e{number}", place.device, "d0", device_of(number))
+        time.sleep(0.05)
+
+    def plug_one(self, port, name, interface, mac):
+        bridge = self.device
+        command("ip", "link", "add", port, "netns", bridge, "type", "veth", "peer", "name", interface, "netns", name)
+        command("ip", "-n", bridge, "link", "set", port, "master", "b0", "up")
+        command("ip", "-n", name, "link", "set", interface, "address", mac.hex(":"), "up")
 
 
 class Program:
@@ -240,8 +279,8 @@ def block(option, suboption, octets):
     return bytes((option, suboption)) + struct.pack(">H", len(octets)) + octets + bytes(len(octets) % 2)
 
 
-def set_name(name, xid, qualifier=1):
-    return dcp(0xFEFD, 4, xid, block(2, 2, struct.pack(">H", qualifier) + name.encode()))
+def set_name(name, xid, qualifier=1, target=DEVICE):
+    return dcp(0xFEFD, 4, xid, block(2, 2, struct.pack(">H", qualifier) + name.encode()), target)
 
 
 def identify(name, xid):

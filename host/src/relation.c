@@ -1,0 +1,333 @@
+#define _GNU_SOURCE
+#include "relation.h"
+#include "calls.h"
+#include "say.h"
+#include "warnings.h"
+#include "words.h"
+#include <errno.h>
+#include <inttypes.h>
+#include <stdio.h>
+#include <string.h>
+#include <sys/random.h>
+
+/* The FrameID of the cyclic frames that the controller requests from a device. */
+#define FRAME_INPUT 0xC001u
+/* How long to wait for the answer to a Release. */
+#define RELEASE_WAITS (SECOND / 5)
+
+static const char *const states[] = {"", "looking", "addressing", "connecting", "writing", "ending", "waiting", "exchanging", "ended"};
+static const char *const causes[] = {
+    "",
+    "the station is of another VendorID or DeviceID than the plan says",
+    "the device refused a request",
+    "what is plugged in the device is not what the plan expects",
+    "no cyclic frame of the device came within the data hold time",
+    "the device ended the relation",
+    "the device did not acknowledge an alarm's AlarmAck",
+    "stopped",
+};
+
+static int transmit(void *context, const uint8_t *octets, uint32_t length)
+{
+    struct relation *relation = context;
+    if (wire_is_cyclic(octets, length)) {
+        memcpy(relation->device, octets, sizeof relation->device);
+        relation->has_device = 1;
+    } else {
+        waiting_sent(&relation->waiting, octets, length);
+    }
+    return wire_send(&relation->loop->wire, octets, length);
+}
+
+/* Sends the frames of the previous step. The controller repeats a frame that could not be sent, as one that is lost on the wire. */
+static void send_all(struct relation *relation)
+{
+    uint32_t answer = pn_controller_send(&relation->room, &relation->op, &relation->host);
+    if (answer != PN_NOT_SENT)
+        loop_must(answer, "pn_controller_send");
+}
+
+/* --- The start --- */
+
+void relation_open(struct relation *relation, const char *file)
+{
+    const pn_plan *plan = &relation->plan;
+    relation->host = (pn_host){relation, NULL, NULL, transmit};
+    relation->file = file;
+    station_plan(&relation->plan, file);
+    memcpy(relation->station, plan->name, plan->name_length);
+    station_places(&relation->inputs, plan->modules, plan->module_count, OF_INPUT);
+    station_places(&relation->outputs, plan->modules, plan->module_count, OF_OUTPUT);
+    relation->interval = (uint64_t)plan->send_clock_factor * plan->reduction_ratio * PN_UNIT_NS;
+}
+
+/* A unique number: a UUID of version 4. */
+static void make_uuid(uint8_t uuid[16])
+{
+    if (getrandom(uuid, 16, 0) != 16)
+        fail(STATUS_SYSTEM, "the system gives no random numbers: %s", strerror(errno));
+    uuid[6] = (uint8_t)((uuid[6] & 0x0F) | 0x40);
+    uuid[8] = (uint8_t)((uuid[8] & 0x3F) | 0x80);
+}
+
+/* Gives the output of a place to the controller. */
+static void put_output(struct relation *relation, const struct place *place)
+{
+    loop_must(pn_controller_give(&relation->room, &relation->op, place->slot, place->subslot, place->octets, place->length), "pn_controller_give");
+    send_all(relation);
+}
+
+void relation_make(struct relation *relation, struct loop *loop)
+{
+    make_uuid(relation->ar);
+    make_uuid(relation->activity);
+    relation->loop = loop;
+    relation->state = relation->cause = 0;
+    relation->has_device = 0;
+    relation->last_cyclic = 0;
+    relation->ends_at = 0;
+    memset(&relation->alarm, 0, sizeof relation->alarm);
+    memset(&relation->reasons, 0, sizeof relation->reasons);
+    memset(&relation->holders, 0, sizeof relation->holders);
+    loop_must(pn_controller_start(&relation->room, &relation->plan, relation->ar, relation->activity), "pn_controller_start");
+}
+
+void relation_introduce(struct relation *relation)
+{
+    char mac[WORDS_MAC];
+    lines_tell(&relation->loop->lines, "controller %s on %s, for the station '%s', interval %" PRIu64 " us",
+               words_show_mac(mac, relation->plan.controller_mac), relation->loop->wire.name, relation->station, relation->interval / 1000);
+}
+
+void relation_begin(struct relation *relation)
+{
+    waiting_start(&relation->waiting, &relation->plan);
+    send_all(relation);
+    for (unsigned i = 0; i < relation->outputs.count; i++)
+        if (relation->outputs.list[i].is_given)
+            put_output(relation, &relation->outputs.list[i]);
+}
+
+/* --- Reports --- */
+
+static void look_at_inputs(struct relation *relation)
+{
+    for (unsigned i = 0; i < relation->inputs.count; i++) {
+        struct place *place = &relation->inputs.list[i];
+        char text[STATION_LINE];
+        loop_must(pn_controller_value(&relation->room, &relation->op, place->slot, place->subslot), "pn_controller_value");
+        if (!station_update(place, relation->op.octets, relation->op.length))
+            continue;
+        station_line(text, "input", place);
+        lines_tell(&relation->loop->lines, "%s", text);
+    }
+}
+
+/* Reports the last alarm, if it differs from the one reported before. */
+static void look_at_alarm(struct relation *relation)
+{
+    pn_op *op = &relation->op, *told = &relation->alarm;
+    char label[64], text[2 * PN_OP_SIZE + 96];
+    if (pn_controller_alarm(&relation->room, op) != PN_OK)
+        return;
+    if (told->length == op->length && told->note == op->note && told->slot == op->slot && told->subslot == op->subslot && told->units == op->units &&
+        memcmp(told->octets, op->octets, op->length) == 0)
+        return;
+    *told = *op;
+    snprintf(label, sizeof label, "alarm %u %u %u %u", (unsigned)op->note, (unsigned)op->slot, (unsigned)op->subslot, (unsigned)op->units);
+    words_labelled(text, sizeof text, label, op->octets, op->length);
+    lines_tell(&relation->loop->lines, "%s", text);
+}
+
+static void tell_end(struct relation *relation)
+{
+    char why[320];
+    reasons_words(&relation->reasons, &relation->plan, relation->cause, why, sizeof why);
+    lines_tell(&relation->loop->lines, "ended %u: %s%s", (unsigned)relation->cause, causes[relation->cause < 8 ? relation->cause : 0], why);
+}
+
+void relation_status(const struct relation *relation, char *text, size_t size)
+{
+    const struct histogram *intervals = &relation->intervals;
+    snprintf(text, size, "%s %.*s | %" PRIu64 " frames | interval %u us, p99 %u, max %" PRIu64 " | jitter p99 %u us | lost %" PRIu64,
+             states[relation->state], (int)relation->plan.name_length, (const char *)relation->plan.name, relation->cyclic,
+             histogram_within(intervals, 500), histogram_within(intervals, 990), (intervals->most + 500) / 1000,
+             histogram_within(&relation->jitter, 990), relation->lost);
+}
+
+/* Counts a cyclic frame: the time since the previous one, and how many are missing between them by their CycleCounter. */
+static void count_cyclic(struct relation *relation, const uint8_t *octets, size_t length)
+{
+    uint64_t now = ticker_now(), apart = now - relation->last_cyclic, units = relation->interval / PN_UNIT_NS;
+    uint16_t counter = (uint16_t)(octets[length - 4] << 8 | octets[length - 3]);
+    uint16_t passed = (uint16_t)(counter - relation->last_counter);
+    relation->cyclic++;
+    if (relation->last_cyclic != 0) {
+        histogram_put(&relation->intervals, apart);
+        histogram_put(&relation->jitter, apart > relation->interval ? apart - relation->interval : relation->interval - apart);
+        if (passed < 0x8000 && passed > units)
+            relation->lost += passed / units - 1;
+    }
+    relation->last_cyclic = now;
+    relation->last_counter = counter;
+}
+
+/* The number of octets of a cyclic frame of the device, from its destination on. Further octets are padding. */
+static size_t cyclic_length(const struct relation *relation, const uint8_t *octets, size_t length)
+{
+    size_t data = 0, at = wire_frame_id_at(octets, length);
+    for (uint32_t i = 0; i < relation->plan.module_count; i++)
+        for (uint16_t k = 0; k < relation->plan.modules[i].submodule_count; k++) {
+            const pn_submodule *part = &relation->plan.modules[i].submodules[k];
+            data += (part->input != 0 || part->output == 0 ? part->input + 1u : 0u) + (part->output != 0 ? 1u : 0u);
+        }
+    return at + 2 + (data < 40 ? 40 : data) + 4;
+}
+
+/* Whether a frame is a complete cyclic frame of the relation, as far as this program can see; only those are counted. */
+static int is_of_relation(const struct relation *relation, const uint8_t *octets, size_t length)
+{
+    return relation->has_device && wire_frame_id(octets, length) == FRAME_INPUT && memcmp(octets, relation->plan.controller_mac, 6) == 0 &&
+           memcmp(octets + 6, relation->device, sizeof relation->device) == 0 && cyclic_length(relation, octets, length) <= length;
+}
+
+/* A station that answers to the plan's name, beside another one. */
+static void look_at_names(struct relation *relation, const uint8_t *octets, size_t length)
+{
+    const pn_plan *plan = &relation->plan;
+    char first[WORDS_MAC], other[WORDS_MAC];
+    if (naming_has_name(octets, length, plan->name, plan->name_length) && naming_is_another(&relation->holders, octets))
+        lines_tell(&relation->loop->lines, "warning two stations '%.*s': %s, %s", (int)plan->name_length, (const char *)plan->name,
+                   words_show_mac(first, relation->holders.list[0]), words_show_mac(other, octets + 6));
+}
+
+/* Reads a frame that is not cyclic, for the messages. */
+static void hear(struct relation *relation, const uint8_t *octets, size_t length)
+{
+    reasons_hear(&relation->reasons, &relation->plan, octets, length);
+    waiting_hear(&relation->waiting, octets, length);
+    look_at_names(relation, octets, length);
+}
+
+/* --- Events --- */
+
+void relation_tick(struct relation *relation, uint32_t units)
+{
+    while (units != 0) {
+        loop_must(pn_controller_tick(&relation->room, &relation->op, units), "pn_controller_tick");
+        units = relation->op.units;
+        send_all(relation);
+    }
+}
+
+void relation_take(struct relation *relation, const uint8_t *octets, size_t length)
+{
+    loop_must(pn_controller_frame(&relation->room, &relation->op, octets, length), "pn_controller_frame");
+    send_all(relation);
+    if (is_of_relation(relation, octets, length))
+        count_cyclic(relation, octets, cyclic_length(relation, octets, length));
+    if (!wire_is_cyclic(octets, length))
+        hear(relation, octets, length);
+}
+
+void relation_look_at_data(struct relation *relation, const uint8_t *octets, size_t length, uint32_t before)
+{
+    if (wire_is_cyclic(octets, length))
+        look_at_inputs(relation);
+    else if (before == PN_EXCHANGED)
+        look_at_alarm(relation);
+    if (before == PN_ENDED && calls_is(octets, length, CALLS_RESPONSE))
+        relation->ends_at = ticker_now();
+}
+
+void relation_stop(struct relation *relation)
+{
+    loop_must(pn_controller_stop(&relation->room, &relation->op), "pn_controller_stop");
+    send_all(relation);
+}
+
+int relation_is_changed(struct relation *relation)
+{
+    loop_must(pn_controller_state(&relation->room, &relation->op), "pn_controller_state");
+    if (relation->op.phase == relation->state)
+        return 0;
+    relation->state = relation->op.phase;
+    relation->cause = relation->op.note;
+    waiting_state(&relation->waiting, relation->state);
+    return 1;
+}
+
+void relation_tell_state(struct relation *relation)
+{
+    if (relation->state != PN_ENDED) {
+        lines_tell(&relation->loop->lines, "state %s", states[relation->state]);
+        return;
+    }
+    tell_end(relation);
+    look_at_inputs(relation);
+    /* For these two causes the controller sends a Release; the program waits for its answer. */
+    relation->ends_at = ticker_now() + (relation->cause == PN_STOPPED || relation->cause == PN_MODULE_DIFF ? RELEASE_WAITS : 0);
+}
+
+void relation_tell_waiting(struct relation *relation)
+{
+    char text[448];
+    waiting_ask(&relation->waiting, &relation->loop->wire);
+    if (waiting_line(&relation->waiting, &relation->loop->wire, text, sizeof text))
+        lines_tell(&relation->loop->lines, "%s", text);
+}
+
+int relation_is_over(const struct relation *relation)
+{
+    return relation->ends_at != 0 && ticker_now() >= relation->ends_at;
+}
+
+/* --- Lines --- */
+
+void relation_tell_cyclic(struct relation *relation, lines_writer tell)
+{
+    tell(&relation->loop->lines, "cyclic received %" PRIu64 " lost %" PRIu64, relation->cyclic, relation->lost);
+}
+
+void relation_tell_times(struct relation *relation, lines_writer tell)
+{
+    loop_tell_intervals(relation->loop, &relation->intervals, tell);
+    tell(&relation->loop->lines, "jitter p50 %u p99 %u max %" PRIu64 " us", histogram_within(&relation->jitter, 500),
+         histogram_within(&relation->jitter, 990), (relation->jitter.most + 500) / 1000);
+}
+
+void relation_show(struct relation *relation)
+{
+    char text[256];
+    relation_status(relation, text, sizeof text);
+    lines_answer(&relation->loop->lines, "state %s", states[relation->state]);
+    lines_answer(&relation->loop->lines, "status %s", text);
+    loop_answer_places(relation->loop, "input", &relation->inputs);
+    loop_answer_places(relation->loop, "give", &relation->outputs);
+}
+
+static void give(struct relation *relation, const struct words_place *given, const uint8_t *octets)
+{
+    struct place *place = station_place(&relation->outputs, given->slot, given->subslot);
+    struct lines *lines = &relation->loop->lines;
+    if (place == NULL)
+        lines_answer(lines, "wrong: slot %u subslot %u has no output", given->slot, given->subslot);
+    else if (place->length != given->length)
+        lines_answer(lines, "wrong: the output of slot %u subslot %u has %u octets", given->slot, given->subslot, place->length);
+    else {
+        memcpy(place->octets, octets, given->length);
+        place->is_given = 1;
+        put_output(relation, place);
+        lines_answer(lines, "state %s", states[relation->state]);
+    }
+}
+
+void relation_give(struct relation *relation, char *words[])
+{
+    uint8_t octets[STATION_DATA];
+    struct words_place given;
+    if (words_read_place(words + 1, &given, octets, sizeof octets))
+        give(relation, &given, octets);
+    else
+        lines_answer(&relation->loop->lines, "wrong: give SLOT SUBSLOT HEX");
+}

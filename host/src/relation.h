@@ -1,0 +1,95 @@
+/* The controller of one station: its relation, what it reports, and its statistics. A process has one for each plan. */
+#ifndef HOST_RELATION_H
+#define HOST_RELATION_H
+
+#include "histogram.h"
+#include "loop.h"
+#include "naming.h"
+#include "nandutable_controller.h"
+#include "reasons.h"
+#include "station.h"
+#include "waiting.h"
+
+struct relation {
+    /* What is read for each frame of any station. */
+    uint64_t ends_at; /* 0 before the end */
+    uint32_t state;   /* as it was reported last */
+    uint32_t cause;
+    struct waiting waiting;
+    /* The rest. */
+    pn_controller room;
+    pn_op op;
+    pn_host host;
+    pn_plan plan;
+    const char *file;     /* of the plan */
+    char station[241];    /* the name of the station, with a 0 at its end */
+    uint8_t ar[16];       /* ARUUID */
+    uint8_t activity[16]; /* of the calls of the controller */
+    struct loop *loop;
+    struct places inputs;
+    struct places outputs;
+    struct reasons reasons;
+    struct holders holders; /* of the plan's name */
+    uint8_t device[6];      /* the other end of the relation, to which the cyclic frames go */
+    int has_device;
+    uint64_t interval; /* of cyclic frames, in nanoseconds */
+    pn_op alarm;       /* the last that was reported */
+    /* Statistics. */
+    struct histogram intervals; /* between received frames */
+    struct histogram jitter;    /* how far these differ from the plan's */
+    uint64_t last_cyclic;       /* when the last one arrived; 0: none yet */
+    uint16_t last_counter;
+    uint64_t lost;
+    uint64_t cyclic;
+};
+
+/* Reads the plan of this file. If it is not valid, ends the program with a message. */
+void relation_open(struct relation *relation, const char *file);
+
+/* Makes the controller, also again after its end, with new numbers. */
+void relation_make(struct relation *relation, struct loop *loop);
+
+/* Reports what the plan says, before the start. */
+void relation_introduce(struct relation *relation);
+
+/* Sends the first frame, and sets the outputs that were set before. */
+void relation_begin(struct relation *relation);
+
+/* Hands in units of time, and sends the frames that are due. */
+void relation_tick(struct relation *relation, uint32_t units);
+
+/* Hands in a received frame, and sends the answer. */
+void relation_take(struct relation *relation, const uint8_t *octets, size_t length);
+
+/* Reports the inputs and the alarm of such a frame. `before` is the state before it. */
+void relation_look_at_data(struct relation *relation, const uint8_t *octets, size_t length, uint32_t before);
+
+/* Stops the controller, which releases the relation. */
+void relation_stop(struct relation *relation);
+
+/* Whether the state is another one than before; it is noted. */
+int relation_is_changed(struct relation *relation);
+
+/* Reports the state. */
+void relation_tell_state(struct relation *relation);
+
+/* Reports what the controller waits for, now and then. */
+void relation_tell_waiting(struct relation *relation);
+
+/* Whether the controller has ended, and does not wait any more for the answer to its Release. */
+int relation_is_over(const struct relation *relation);
+
+/* The line `give`, with its words. */
+void relation_give(struct relation *relation, char *words[]);
+
+/* The line `show`. */
+void relation_show(struct relation *relation);
+
+/* Parts of the statistics: received and lost frames; the intervals between them. */
+void relation_tell_cyclic(struct relation *relation, lines_writer tell);
+void relation_tell_times(struct relation *relation, lines_writer tell);
+
+/* Writes the status in one line. */
+void relation_status(const struct relation *relation, char *text, size_t size);
+
+#endif
