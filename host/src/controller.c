@@ -253,7 +253,7 @@ static void take_frame(void *context, const uint8_t *octets, size_t length)
     look_at_state(controller);
     if (is_cyclic)
         look_at_inputs(controller);
-    else if (before == PN_EXCHANGED)
+    else if (before == PN_DATA_EXCHANGE)
         look_at_alarm(controller);
     if (before == PN_ENDED && calls_is(octets, length, CALLS_RESPONSE))
         controller->ends_at = ticker_now();
