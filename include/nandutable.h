@@ -18,13 +18,15 @@
  * answered for. A flash call that fails counts as lost power: send nothing more of this step, and start again with pn_make and pn_boot
  * from the contents of the chip.
  *
- * Every function returns a number: PN_OK, or the reason why it did nothing. After any other number than PN_OK the device is unchanged,
- * and the operation holds only the request. Numbers of two or four octets have the byte order of the machine; octets of frames and
- * values are as on the wire.
+ * Every function returns a number of nandutable_numbers.h: PN_OK, or the reason why it did nothing (pn_strerror has its text). After any
+ * other number than PN_OK the device is unchanged, and the operation holds only the request. Numbers of two or four octets have the byte
+ * order of the machine; octets of frames and values are as on the wire.
  *
  * Under the MIT licence or the Apache License 2.0, as you choose. */
 #ifndef NANDUTABLE_H
 #define NANDUTABLE_H
+
+#include "nandutable_numbers.h"
 
 #include <stddef.h>
 #include <stdint.h>
@@ -33,9 +35,6 @@
 #ifdef __cplusplus
 extern "C" {
 #endif
-
-/* The version of this header. pn_make compares it, and the sizes below, with those of the library. */
-#define PN_ABI 1u
 
 /* Octets of the room of a device; its address is a multiple of 16. */
 #define PN_DEVICE_SIZE 81920u
@@ -54,26 +53,6 @@ extern "C" {
 #define PN_MODULES 16u
 #define PN_SUBMODULES 4u
 #define PN_PARAMETERS 2u
-
-/* What a function returns. After each number except PN_OK nothing has changed. */
-enum {
-    PN_OK = 0,
-    PN_NULL = 1,         /* a pointer is null */
-    PN_BAD_ABI = 2,      /* the version of the header, or one of its sizes, is not the library's */
-    PN_SMALL_ROOM = 3,   /* the room has fewer than PN_DEVICE_SIZE octets, or its address is not a multiple of 16 */
-    PN_BAD_STATION = 4,  /* a count of the station is more than its list holds */
-    PN_NOT_BOOTED = 5,   /* pn_boot has not returned PN_OK since pn_make */
-    PN_IS_BOOTED = 6,    /* pn_boot has already returned PN_OK */
-    PN_HAS_WORK = 7,     /* work of the previous step was not taken yet: call pn_next */
-    PN_BAD_LENGTH = 8,   /* too many octets, or a sector whose length is not PN_SECTOR_SIZE */
-    PN_NO_SLOT = 9,      /* no submodule with an output is plugged in this slot and subslot */
-    PN_UNKNOWN = 10,     /* no such operation */
-    PN_FOREIGN = 11,     /* pn_boot: no device of this layout wrote the contents of the flash */
-    PN_FLASH_FAULT = 12, /* pn_carry_out: a flash call failed; call pn_make and pn_boot next */
-    PN_NOT_SENT = 13,    /* pn_carry_out: a frame could not be sent; the other frames of the step were tried */
-    PN_LOST = 14,        /* a flash call failed since pn_boot; call pn_make and pn_boot next */
-    PN_NO_RECORD = 15    /* no accepted parameter record has this number */
-};
 
 /* The result of an event (pn_op.note). None of them is a fault of the host. */
 enum {
@@ -116,13 +95,15 @@ enum {
     PN_OP_LEFT = 14
 };
 
-/* A parameter record that a submodule accepts: its index, 0 to 32,767, and its exact length, 1 to 64 octets. */
+/* A parameter record that a submodule accepts: its index, 0 to 32,767 and no other record's of the submodule, and its exact length, 1 to
+ * 64 octets. */
 typedef struct pn_parameter {
     uint16_t index;
     uint16_t length;
 } pn_parameter;
 
-/* A submodule, with the number of octets of its input and output data, 0 for no data. */
+/* A submodule in a subslot from 1 to 36,863, which no other submodule of the module has. `input` and `output` are octets of data, at most
+ * 1,439, 0 for no data. */
 typedef struct pn_submodule {
     uint32_t ident;
     uint16_t subslot;
@@ -132,7 +113,7 @@ typedef struct pn_submodule {
     pn_parameter parameters[PN_PARAMETERS];
 } pn_submodule;
 
-/* A module in a slot from 0 to 15. */
+/* A module in a slot from 0 to 15, which no other module has. */
 typedef struct pn_module {
     uint32_t ident;
     uint16_t slot;
@@ -140,8 +121,8 @@ typedef struct pn_module {
     pn_submodule submodules[PN_SUBMODULES];
 } pn_module;
 
-/* The factory data of a device, and what is plugged in it. Texts are padded with spaces. The access point is slot 0: subslot 1, its
- * interface 0x8000 and its ports from 0x8001 on. */
+/* The factory data of a device, and what is plugged in it. The first octet of `mac` is even. Texts are padded with spaces. The access point
+ * is slot 0: subslot 1, its interface 0x8000 and its ports from 0x8001 on. */
 typedef struct pn_station {
     uint8_t mac[6];
     uint16_t vendor_id;
@@ -175,13 +156,17 @@ typedef struct pn_op {
     uint8_t octets[PN_OP_SIZE];
 } pn_op;
 
-/* The room of a device. Only the library uses its contents. */
+/* `made` of a pn_device or a pn_controller that was made. */
+#define PN_MADE 0x6D616465u
+
+/* The memory of a device. Only the library and the functions below use its contents. */
 typedef struct pn_device {
 #if defined(__cplusplus)
     alignas(16) unsigned char room[PN_DEVICE_SIZE];
 #else
     _Alignas(16) unsigned char room[PN_DEVICE_SIZE];
 #endif
+    uint32_t made; /* PN_MADE once pn_make has returned PN_OK */
 } pn_device;
 
 /* The sizes that the library was built with. */
@@ -219,7 +204,8 @@ uint32_t pn_step(void *room, pn_op *op, const uint8_t *given, size_t length);
 /* --- A start --- */
 
 /* Makes a device from this station in a room of `size` octets. `abi` is the version of the caller's header, `op_size` the size of its
- * operation. May return PN_NULL, PN_BAD_ABI, PN_SMALL_ROOM, PN_BAD_STATION. */
+ * operation. It does not set `made` of a pn_device: for a room elsewhere call pn_step.
+ * May return PN_NULL, PN_BAD_ABI, PN_SMALL_ROOM, PN_BAD_STATION, and PN_BAD_MAC to PN_BAD_PARAMETER. */
 static inline uint32_t pn_device_make(void *room, size_t size, uint32_t abi, size_t op_size, const pn_station *station)
 {
     uint32_t answer;
@@ -233,13 +219,18 @@ static inline uint32_t pn_device_make(void *room, size_t size, uint32_t abi, siz
     return answer;
 }
 
-/* Makes a device from this station, and copies the station. Call it first; a device that is made again forgets everything.
- * May return PN_NULL, PN_BAD_ABI, PN_SMALL_ROOM, PN_BAD_STATION. */
+/* Makes a device from this station, and copies the station. Call it first; a device that is made again forgets everything. Of several
+ * faults of a station it returns the first of: PN_BAD_STATION, PN_BAD_MAC, PN_BAD_SLOT, PN_BAD_SUBSLOT, PN_BAD_DATA, PN_BAD_PARAMETER.
+ * May also return PN_NULL, PN_BAD_ABI, PN_SMALL_ROOM. */
 static inline uint32_t pn_make(pn_device *device, const pn_station *station)
 {
+    uint32_t answer;
     if (device == NULL)
         return PN_NULL;
-    return pn_device_make(device->room, sizeof device->room, PN_ABI, sizeof(pn_op), station);
+    answer = pn_device_make(device->room, sizeof device->room, PN_ABI, sizeof(pn_op), station);
+    if (answer == PN_OK)
+        device->made = PN_MADE;
+    return answer;
 }
 
 /* One operation, with the octets `given`; NULL if there are none. */
@@ -248,14 +239,22 @@ static inline uint32_t pn_ask(pn_device *device, pn_op *op, uint32_t what, const
     static const uint8_t none[1] = {0};
     if (device == NULL || op == NULL || (given == NULL && length != 0))
         return PN_NULL;
+    if (device->made != PN_MADE)
+        return PN_NOT_MADE;
     op->what = what;
     return pn_step(device->room, op, given == NULL ? none : given, length);
+}
+
+/* One operation that changes nothing in the device. */
+static inline uint32_t pn_read(const pn_device *device, pn_op *op, uint32_t what)
+{
+    return pn_ask((pn_device *)(uintptr_t)device, op, what, NULL, 0);
 }
 
 /* Starts a device from the present contents of both sectors of the chip, and writes nothing. pn_make made the device before. It has no
  * relation yet and sends nothing by itself. On a chip that was never written both sectors are all ones. After PN_FOREIGN the chip is
  * unchanged, and the device may be booted from other sectors.
- * May return PN_NULL, PN_IS_BOOTED, PN_FOREIGN. */
+ * May return PN_NULL, PN_NOT_MADE, PN_IS_BOOTED, PN_LOST, PN_FOREIGN. */
 static inline uint32_t pn_boot(pn_device *device, pn_op *op, const uint8_t first[PN_SECTOR_SIZE], const uint8_t second[PN_SECTOR_SIZE])
 {
     uint32_t answer;
@@ -273,7 +272,8 @@ static inline uint32_t pn_boot(pn_device *device, pn_op *op, const uint8_t first
 }
 
 /* --- Events. Each needs a booted device without remaining work, and sets `note`. After each, call pn_carry_out or pn_next. ---
- * They may return PN_NULL, PN_NOT_BOOTED, PN_LOST, PN_HAS_WORK, and what each names. */
+ * They may return PN_NULL, PN_NOT_MADE, PN_NOT_BOOTED, PN_LOST, PN_HAS_WORK, and what each names. After such a number nothing was done:
+ * `units` of pn_tick, for one, is still the number that was handed in. A loop must end on it. */
 
 /* Hands in a received frame: its octets from the destination address on, without the check sequence. The interface must accept the
  * device's address, the broadcast address and the group address 01-0E-CF-00-00-00. */
@@ -318,14 +318,18 @@ static inline uint32_t pn_alarm(pn_device *device, pn_op *op, uint16_t slot, uin
 
 /* Hands out the next piece of work of the last event, each once: the flash calls in their order, then the frames. Sets `work`, and what
  * belongs to it: `sector`, `place`, `length` and `octets` of PN_PROGRAM, `sector` of PN_ERASE, `length` and `octets` of PN_SEND; `length`
- * is 0 with PN_ERASE and PN_NOTHING. May return PN_NULL, PN_NOT_BOOTED, PN_LOST. */
+ * is 0 with PN_ERASE and PN_NOTHING. May return PN_NULL, PN_NOT_MADE, PN_NOT_BOOTED, PN_LOST. */
 static inline uint32_t pn_next(pn_device *device, pn_op *op)
 {
     return pn_ask(device, op, PN_OP_NEXT, NULL, 0);
 }
 
 /* What a host does for a device. Each function returns 0 on success. `program` and `erase` return when the chip holds the requested
- * contents durably, so that they survive a power failure; `program` only turns ones to zeros, and stays within one sector. */
+ * contents durably, so that they survive a power failure; `program` only turns ones to zeros, and stays within one sector.
+ *
+ * pn_carry_out calls them in the middle of a step. They may not hand an event to this device, and they may not use the operation: its
+ * `octets` are those that they were given. The functions that read the device may be called with another operation, and all functions of
+ * another device. A frame that comes meanwhile waits until pn_carry_out returns. */
 typedef struct pn_host {
     void *context;
     int (*program)(void *context, uint32_t sector, uint32_t place, const uint8_t *octets, uint32_t length);
@@ -334,7 +338,7 @@ typedef struct pn_host {
 } pn_host;
 
 /* A flash call failed on the host's side. This counts as lost power: the remaining work is dropped, and every call except pn_make returns
- * PN_LOST from now on. pn_carry_out makes this call by itself. May return PN_NULL, PN_NOT_BOOTED, PN_LOST. */
+ * PN_LOST from now on. pn_carry_out makes this call by itself. May return PN_NULL, PN_NOT_MADE, PN_NOT_BOOTED, PN_LOST. */
 static inline uint32_t pn_lose(pn_device *device, pn_op *op)
 {
     return pn_ask(device, op, PN_OP_LOSE, NULL, 0);
@@ -347,12 +351,13 @@ static inline uint32_t pn_failed(pn_device *device, pn_op *op)
     return answer == PN_OK ? (uint32_t)PN_FLASH_FAULT : answer;
 }
 
-/* Takes all work and does it. May return PN_NULL, PN_NOT_BOOTED, PN_FLASH_FAULT (nothing more is done; make and boot the device again),
- * PN_LOST, PN_NOT_SENT (a frame was lost, as it could be on the wire; there is no other effect). */
+/* Takes all work and does it. May return PN_NULL (also for a function of `host`), PN_NOT_MADE, PN_NOT_BOOTED, PN_FLASH_FAULT (nothing
+ * more is done; make and boot the device again), PN_LOST, PN_NOT_SENT (a frame was lost, as it could be on the wire; there is no other
+ * effect). */
 static inline uint32_t pn_carry_out(pn_device *device, pn_op *op, const pn_host *host)
 {
     uint32_t answer, sent = PN_OK;
-    if (host == NULL)
+    if (host == NULL || host->program == NULL || host->erase == NULL || host->send == NULL)
         return PN_NULL;
     for (;;) {
         answer = pn_next(device, op);
@@ -377,40 +382,50 @@ static inline uint32_t pn_carry_out(pn_device *device, pn_op *op, const pn_host 
     }
 }
 
-/* --- Reading a device. Each function needs a booted device, with or without remaining work. They may return PN_NULL, PN_NOT_BOOTED,
- * PN_LOST, and what each names. --- */
+/* --- Reading a device. Each function needs a booted device, with or without remaining work, and changes nothing in it. They may return
+ * PN_NULL, PN_NOT_MADE, PN_NOT_BOOTED, PN_LOST, and what each names. --- */
 
 /* The output of a submodule, in `length` and `octets`: its value in the last accepted cyclic frame. Zeros if no frame was accepted yet, if
  * its IOPS is not GOOD, or without a relation. May return PN_NO_SLOT. */
-static inline uint32_t pn_output(pn_device *device, pn_op *op, uint16_t slot, uint16_t subslot)
+static inline uint32_t pn_output(const pn_device *device, pn_op *op, uint16_t slot, uint16_t subslot)
 {
     if (op == NULL)
         return PN_NULL;
     op->slot = slot;
     op->subslot = subslot;
-    return pn_ask(device, op, PN_OP_OUTPUT, NULL, 0);
+    return pn_read(device, op, PN_OP_OUTPUT);
 }
 
 /* What the application relation waits for (`phase`), and the number of units for which the lamp still flashes (`units`). */
-static inline uint32_t pn_state(pn_device *device, pn_op *op)
+static inline uint32_t pn_state(const pn_device *device, pn_op *op)
 {
-    return pn_ask(device, op, PN_OP_STATE, NULL, 0);
+    return pn_read(device, op, PN_OP_STATE);
 }
 
 /* A parameter record that the relation accepted, by its number from 0 on, in the order of arrival: `slot`, `subslot`, its index in
  * `place`, and its octets in `length` and `octets`. May return PN_NO_RECORD. */
-static inline uint32_t pn_taken(pn_device *device, pn_op *op, uint32_t number)
+static inline uint32_t pn_taken(const pn_device *device, pn_op *op, uint32_t number)
 {
     if (op == NULL)
         return PN_NULL;
     op->place = number;
-    return pn_ask(device, op, PN_OP_RECORD, NULL, 0);
+    return pn_read(device, op, PN_OP_RECORD);
 }
 
-/* The settings in the octets of an operation. */
-static inline void pn_settings_of(const pn_op *op, pn_settings *settings)
+/* Octets of settings before the name, and the longest name. */
+#define PN_SETTINGS_SIZE 190u
+#define PN_NAME_SIZE 240u
+
+/* The settings in the octets of an operation after pn_running or pn_stored. May return PN_NULL, PN_BAD_LENGTH (its `length` is not one of
+ * settings); then `settings` is unchanged. */
+static inline uint32_t pn_settings_of(const pn_op *op, pn_settings *settings)
 {
-    const uint8_t *from = op->octets;
+    const uint8_t *from;
+    if (op == NULL || settings == NULL)
+        return PN_NULL;
+    if (op->length < PN_SETTINGS_SIZE || op->length > PN_SETTINGS_SIZE + PN_NAME_SIZE)
+        return PN_BAD_LENGTH;
+    from = op->octets;
     memcpy(settings->address, from, 4);
     memcpy(settings->mask, from + 4, 4);
     memcpy(settings->gateway, from + 8, 4);
@@ -418,43 +433,40 @@ static inline void pn_settings_of(const pn_op *op, pn_settings *settings)
     memcpy(settings->im2, from + 66, 16);
     memcpy(settings->im3, from + 82, 54);
     memcpy(settings->im4, from + 136, 54);
-    settings->name_length = op->length - 190;
+    settings->name_length = op->length - PN_SETTINGS_SIZE;
     memset(settings->name, 0, sizeof settings->name);
-    memcpy(settings->name, from + 190, settings->name_length);
+    memcpy(settings->name, from + PN_SETTINGS_SIZE, settings->name_length);
+    return PN_OK;
 }
 
 /* The running settings; they are in `length` and `octets` of the operation too. */
-static inline uint32_t pn_running(pn_device *device, pn_op *op, pn_settings *settings)
+static inline uint32_t pn_running(const pn_device *device, pn_op *op, pn_settings *settings)
 {
     uint32_t answer;
     if (settings == NULL)
         return PN_NULL;
-    answer = pn_ask(device, op, PN_OP_RUNNING, NULL, 0);
-    if (answer == PN_OK)
-        pn_settings_of(op, settings);
-    return answer;
+    answer = pn_read(device, op, PN_OP_RUNNING);
+    return answer == PN_OK ? pn_settings_of(op, settings) : answer;
 }
 
 /* The settings that a restart finds, once all work has been taken and done. */
-static inline uint32_t pn_stored(pn_device *device, pn_op *op, pn_settings *settings)
+static inline uint32_t pn_stored(const pn_device *device, pn_op *op, pn_settings *settings)
 {
     uint32_t answer;
     if (settings == NULL)
         return PN_NULL;
-    answer = pn_ask(device, op, PN_OP_STORED, NULL, 0);
-    if (answer == PN_OK)
-        pn_settings_of(op, settings);
-    return answer;
+    answer = pn_read(device, op, PN_OP_STORED);
+    return answer == PN_OK ? pn_settings_of(op, settings) : answer;
 }
 
 /* How many commits the flash still accepts once all work has been taken and done (`place` of the operation): that many further commands
  * that change settings are accepted. At 0 each is refused, and the device continues with its present settings. */
-static inline uint32_t pn_left(pn_device *device, pn_op *op, uint32_t *left)
+static inline uint32_t pn_left(const pn_device *device, pn_op *op, uint32_t *left)
 {
     uint32_t answer;
     if (left == NULL)
         return PN_NULL;
-    answer = pn_ask(device, op, PN_OP_LEFT, NULL, 0);
+    answer = pn_read(device, op, PN_OP_LEFT);
     if (answer == PN_OK)
         *left = op->place;
     return answer;

@@ -32,19 +32,16 @@ extern "C" {
 /* The maximum number of parameter records of a plan. */
 #define PN_RECORDS 32u
 
-/* What the functions below return in addition to the numbers of nandutable.h. After it nothing has changed. */
-enum { PN_BAD_PLAN = 14 /* the plan is not valid (pn_plan_fault returns why), or the ARUUID is zero */ };
-
 /* The state of a controller (pn_op.phase). */
 enum {
-    PN_LOOKING = 1,    /* looks for the station, by its name */
-    PN_ADDRESSING = 2, /* sets its IP suite */
-    PN_CONNECTING = 3, /* asks for the relation */
-    PN_WRITING = 4,    /* writes the records of the plan */
-    PN_ENDING = 5,     /* ends the parameters, by PrmEnd */
-    PN_WAITING = 6,    /* waits for ApplicationReady */
-    PN_EXCHANGED = 7,  /* exchanges data */
-    PN_ENDED = 8       /* has ended; pn_op.note is the cause */
+    PN_LOOKING = 1,       /* looks for the station, by its name */
+    PN_ADDRESSING = 2,    /* sets its IP suite */
+    PN_CONNECTING = 3,    /* asks for the relation */
+    PN_WRITING = 4,       /* writes the records of the plan */
+    PN_ENDING = 5,        /* ends the parameters, by PrmEnd */
+    PN_WAITING = 6,       /* waits for ApplicationReady */
+    PN_DATA_EXCHANGE = 7, /* exchanges data */
+    PN_ENDED = 8          /* has ended; pn_op.note is the cause */
 };
 
 /* Why a controller ended (pn_op.note). */
@@ -56,23 +53,6 @@ enum {
     PN_ABORTED = 5,       /* the device ended the relation */
     PN_ALARM_RETRIES = 6, /* the device did not acknowledge an AlarmAck */
     PN_STOPPED = 7        /* pn_controller_stop */
-};
-
-/* The first fault of a catalogue that gives no plan (pn_plan_read), or of a plan that a host wrote and that is not valid (pn_plan_fault).
- * Only a catalogue has the first three. */
-enum {
-    PN_PLAN_JSON = 1,          /* the text is not JSON */
-    PN_PLAN_MISSING_KEY = 2,
-    PN_PLAN_WRONG_KIND = 3,    /* a value is of another kind than its key requires */
-    PN_PLAN_NUMBER = 4,        /* a number is out of its range, or what it names does not exist or exists twice */
-    PN_PLAN_NOT_ALLOWED = 5,   /* a module is not allowed in its slot */
-    PN_PLAN_TOO_MANY = 6,      /* too many slots, submodules or records */
-    PN_PLAN_FRAME_LONG = 7,    /* a cyclic frame would hold more than 1,440 octets */
-    PN_PLAN_CONNECT_LONG = 8,  /* the Connect would not fit a frame */
-    PN_PLAN_NAME = 9,          /* a station name is not valid */
-    PN_PLAN_ADDRESS = 10,      /* an address is not valid */
-    PN_PLAN_MEMORY = 11,       /* out of memory */
-    PN_PLAN_NULL = 12          /* a pointer is null, or the size of the plan is not the library's */
 };
 
 /* A parameter record that the controller writes at start-up. The submodule in this slot and subslot must accept it (its `parameters`), with
@@ -119,13 +99,14 @@ typedef struct pn_plan {
     pn_record records[PN_RECORDS];
 } pn_plan;
 
-/* The room of a controller. Only the library uses its contents. */
+/* The memory of a controller. Only the library and the functions below use its contents. */
 typedef struct pn_controller {
 #if defined(__cplusplus)
     alignas(16) unsigned char room[PN_CONTROLLER_SIZE];
 #else
     _Alignas(16) unsigned char room[PN_CONTROLLER_SIZE];
 #endif
+    uint32_t made; /* PN_MADE once pn_controller_start has returned PN_OK */
 } pn_controller;
 
 #if defined(__cplusplus)
@@ -152,11 +133,12 @@ uint32_t pn_controller_judge(size_t size, uint32_t abi, size_t op_size, const pn
 void pn_controller_put(void *room, const pn_plan *plan, const uint8_t ar[16], const uint8_t activity[16]);
 uint32_t pn_controller_step(void *room, pn_op *op, const uint8_t *given, size_t length);
 
-/* Reads the catalogue of a station, whose keys are those of GSDML. Returns PN_OK, or a number from PN_PLAN_JSON on. */
+/* Reads the catalogue of a station, whose keys are those of GSDML. After a number from PN_PLAN_JSON on the plan is all zeros.
+ * May return PN_NULL, PN_BAD_ABI (the plan of the header is not the library's), PN_PLAN_JSON to PN_PLAN_MEMORY. */
 static inline uint32_t pn_plan_read(pn_plan *plan, const uint8_t *text, size_t length)
 {
     if (text == NULL || plan == NULL)
-        return PN_PLAN_NULL;
+        return PN_NULL;
     memset(plan, 0, sizeof *plan);
     return pn_plan_make(text, length, sizeof *plan, plan);
 }
@@ -174,27 +156,30 @@ static inline uint32_t pn_plan_where(const uint8_t *text, size_t length, char *w
 /* Returns the first fault of a plan that a host wrote, with the number that a catalogue with this fault has, or PN_OK if it is valid. The
  * order: a count that is more than its list holds (PN_PLAN_TOO_MANY); PN_PLAN_NUMBER (times, modules, submodules, parameter records, and
  * records that no submodule accepts); PN_PLAN_NAME; PN_PLAN_ADDRESS; PN_PLAN_NOT_ALLOWED (the order of the slots, a slot that occurs
- * twice, a record for slot 0); PN_PLAN_TOO_MANY (a slot past 15); PN_PLAN_FRAME_LONG; PN_PLAN_CONNECT_LONG. For a null pointer
- * PN_PLAN_NULL. */
+ * twice, a record for slot 0); PN_PLAN_TOO_MANY (a slot past 15); PN_PLAN_FRAME_LONG; PN_PLAN_CONNECT_LONG. May also return PN_NULL. */
 static inline uint32_t pn_plan_fault(const pn_plan *plan)
 {
-    return plan == NULL ? (uint32_t)PN_PLAN_NULL : pn_plan_judge(plan);
+    return plan == NULL ? (uint32_t)PN_NULL : pn_plan_judge(plan);
 }
 
 /* Fills in the station that a plan expects, for a device that represents it. What a catalogue does not contain (the MAC address, texts of
- * I&M0) is unchanged. */
-static inline void pn_plan_station(const pn_plan *plan, pn_station *station)
+ * I&M0) is unchanged. May return PN_NULL. */
+static inline uint32_t pn_plan_station(const pn_plan *plan, pn_station *station)
 {
+    if (plan == NULL || station == NULL)
+        return PN_NULL;
     station->vendor_id = plan->vendor_id;
     station->device_id = plan->device_id;
     station->station_type_length = (uint16_t)(plan->station_type_length > 25 ? 26 : plan->station_type_length);
     memcpy(station->station_type, plan->station_type, sizeof station->station_type);
     station->module_count = plan->module_count;
     memcpy(station->modules, plan->modules, sizeof station->modules);
+    return PN_OK;
 }
 
 /* Makes the controller of a plan in a room of `size` octets. `abi` is the version of the caller's header, `op_size` the size of its
- * operation. May return PN_NULL, PN_BAD_ABI, PN_SMALL_ROOM, PN_BAD_PLAN. */
+ * operation. It does not set `made` of a pn_controller: for a room elsewhere call pn_controller_step. May return PN_NULL, PN_BAD_ABI,
+ * PN_SMALL_ROOM, PN_BAD_PLAN. */
 static inline uint32_t pn_controller_make(void *room, size_t size, uint32_t abi, size_t op_size, const pn_plan *plan, const uint8_t ar[16],
                                           const uint8_t activity[16])
 {
@@ -214,9 +199,13 @@ static inline uint32_t pn_controller_make(void *room, size_t size, uint32_t abi,
  * May return PN_NULL, PN_BAD_ABI, PN_SMALL_ROOM, PN_BAD_PLAN. */
 static inline uint32_t pn_controller_start(pn_controller *controller, const pn_plan *plan, const uint8_t ar[16], const uint8_t activity[16])
 {
+    uint32_t answer;
     if (controller == NULL)
         return PN_NULL;
-    return pn_controller_make(controller->room, sizeof controller->room, PN_ABI, sizeof(pn_op), plan, ar, activity);
+    answer = pn_controller_make(controller->room, sizeof controller->room, PN_ABI, sizeof(pn_op), plan, ar, activity);
+    if (answer == PN_OK)
+        controller->made = PN_MADE;
+    return answer;
 }
 
 /* One operation, with the octets `given`; NULL if there are none. */
@@ -225,12 +214,20 @@ static inline uint32_t pn_controller_ask(pn_controller *controller, pn_op *op, u
     static const uint8_t none[1] = {0};
     if (controller == NULL || op == NULL || (given == NULL && length != 0))
         return PN_NULL;
+    if (controller->made != PN_MADE)
+        return PN_NOT_MADE;
     op->what = what;
     return pn_controller_step(controller->room, op, given == NULL ? none : given, length);
 }
 
-/* --- Events. Before each, all frames of the previous one must be taken, otherwise PN_HAS_WORK. What a function does not name as set keeps
- * its value in the operation. --- */
+/* One operation that changes nothing in the controller. */
+static inline uint32_t pn_controller_read(const pn_controller *controller, pn_op *op, uint32_t what)
+{
+    return pn_controller_ask((pn_controller *)(uintptr_t)controller, op, what, NULL, 0);
+}
+
+/* --- Events. Before each, all frames of the previous one must be taken, otherwise PN_HAS_WORK. They may also return PN_NULL, PN_NOT_MADE,
+ * and what each names. What a function does not name as set keeps its value in the operation. --- */
 
 /* Hands in a received frame: its octets from the destination address on, without the check sequence. */
 static inline uint32_t pn_controller_frame(pn_controller *controller, pn_op *op, const uint8_t *octets, size_t length)
@@ -248,8 +245,8 @@ static inline uint32_t pn_controller_tick(pn_controller *controller, pn_op *op, 
     return pn_controller_ask(controller, op, 4, NULL, 0);
 }
 
-/* The application sets the output of a submodule. It must have exactly the submodule's length, otherwise nothing changes. It may be set
- * before data is exchanged, and is kept. */
+/* The application sets the output of a submodule. It may be set before data is exchanged, and is kept. May return PN_NO_SLOT (the plan has
+ * no submodule with an output there), PN_BAD_LENGTH (its output has another length). */
 static inline uint32_t pn_controller_give(pn_controller *controller, pn_op *op, uint16_t slot, uint16_t subslot, const uint8_t *octets,
                                           size_t length)
 {
@@ -273,11 +270,12 @@ static inline uint32_t pn_controller_next(pn_controller *controller, pn_op *op)
     return pn_controller_ask(controller, op, 7, NULL, 0);
 }
 
-/* Takes all frames and sends them by the host's `send`. May return PN_NULL, PN_NOT_SENT (a frame was lost, as it could be on the wire). */
+/* Takes all frames and sends them by the host's `send`, which may do what nandutable.h says of pn_host. The other functions of `host` are
+ * not called, and may be null. May return PN_NULL, PN_NOT_MADE, PN_NOT_SENT (a frame was lost, as it could be on the wire). */
 static inline uint32_t pn_controller_send(pn_controller *controller, pn_op *op, const pn_host *host)
 {
     uint32_t answer, sent = PN_OK;
-    if (host == NULL)
+    if (host == NULL || host->send == NULL)
         return PN_NULL;
     for (;;) {
         answer = pn_controller_next(controller, op);
@@ -290,30 +288,30 @@ static inline uint32_t pn_controller_send(pn_controller *controller, pn_op *op, 
     }
 }
 
-/* --- Reading a controller --- */
+/* --- Reading a controller. Each function changes nothing in it. They may return PN_NULL, PN_NOT_MADE, and what each names. --- */
 
 /* The input of a submodule, in `length` and `octets`: its value in the last accepted cyclic frame. Zeros if no frame was accepted yet, if
  * its IOPS is not GOOD, and after the end of the controller. May return PN_NO_SLOT. */
-static inline uint32_t pn_controller_value(pn_controller *controller, pn_op *op, uint16_t slot, uint16_t subslot)
+static inline uint32_t pn_controller_value(const pn_controller *controller, pn_op *op, uint16_t slot, uint16_t subslot)
 {
     if (op == NULL)
         return PN_NULL;
     op->slot = slot;
     op->subslot = subslot;
-    return pn_controller_ask(controller, op, 8, NULL, 0);
+    return pn_controller_read(controller, op, 8);
 }
 
 /* Its state (`phase`), and the cause of its end (`note`). */
-static inline uint32_t pn_controller_state(pn_controller *controller, pn_op *op)
+static inline uint32_t pn_controller_state(const pn_controller *controller, pn_op *op)
 {
-    return pn_controller_ask(controller, op, 9, NULL, 0);
+    return pn_controller_read(controller, op, 9);
 }
 
 /* The last accepted alarm: `slot`, `subslot`, its type in `note`, its AlarmSpecifier in `units`, its data in `length` and `octets`.
  * PN_NO_SLOT if no alarm was accepted. */
-static inline uint32_t pn_controller_alarm(pn_controller *controller, pn_op *op)
+static inline uint32_t pn_controller_alarm(const pn_controller *controller, pn_op *op)
 {
-    return pn_controller_ask(controller, op, 12, NULL, 0);
+    return pn_controller_read(controller, op, 12);
 }
 
 #ifdef __cplusplus

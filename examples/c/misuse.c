@@ -77,9 +77,83 @@ static int sends(void *context, const uint8_t *given, uint32_t length)
 
 static const pn_host failing = {NULL, fails_program, fails_erase, sends};
 
+/* The station again, with an access point and two modules. */
+static void bend_again(void)
+{
+    bent = station;
+    bent.module_count = 3;
+    for (uint16_t i = 0; i < 3; i++) {
+        pn_module *module = &bent.modules[i];
+        module->ident = i + 1u;
+        module->slot = i;
+        module->submodule_count = 2;
+        for (uint16_t k = 0; k < 2; k++) {
+            module->submodules[k].ident = k + 1u;
+            module->submodules[k].subslot = (uint16_t)(k + 1);
+        }
+    }
+    bent.modules[1].submodules[0].parameter_count = 2;
+    bent.modules[1].submodules[0].parameters[0].index = 1;
+    bent.modules[1].submodules[0].parameters[0].length = 1;
+    bent.modules[1].submodules[0].parameters[1].index = 32767;
+    bent.modules[1].submodules[0].parameters[1].length = 64;
+}
+
+static void refuses(const char *what, uint32_t wanted)
+{
+    wants(what, pn_make(&device, &bent), wanted);
+    bend_again();
+}
+
+/* A station at the limits. */
+static void takes(const char *what)
+{
+    if (pn_make(&device, &bent) != PN_OK) {
+        printf("%s: answers %u, and should be made\n", what, (unsigned)pn_make(&device, &bent));
+        exit(1);
+    }
+    memcpy(&before, &device, sizeof device);
+    bend_again();
+}
+
+/* Stations that cannot be, each with one fault. */
+static void bend_stations(void)
+{
+    pn_submodule *part = &bent.modules[1].submodules[0];
+    bend_again();
+    takes("three modules");
+    bent.mac[0] = 0xFF, refuses("the broadcast address", PN_BAD_MAC);
+    bent.mac[0] = 1, refuses("a group's address", PN_BAD_MAC);
+    bent.mac[0] = 0xFE, takes("an address of one station");
+    bent.modules[2].slot = 40, refuses("slot 40", PN_BAD_SLOT);
+    bent.modules[2].slot = 16, refuses("slot 16", PN_BAD_SLOT);
+    bent.modules[2].slot = 15, takes("slot 15");
+    bent.modules[2].slot = 0, refuses("slot 0 twice", PN_BAD_SLOT);
+    bent.modules[1].slot = 2, refuses("a slot twice", PN_BAD_SLOT);
+    bent.modules[1].slot = 2, bent.modules[2].slot = 1, takes("slots out of order");
+    bent.modules[0].submodules[0].subslot = 0, refuses("subslot 0", PN_BAD_SUBSLOT);
+    bent.modules[2].submodules[1].subslot = 36864, refuses("a subslot past the last", PN_BAD_SUBSLOT);
+    bent.modules[2].submodules[1].subslot = 36863, takes("the last subslot");
+    bent.modules[2].submodules[1].subslot = 1, refuses("a subslot twice", PN_BAD_SUBSLOT);
+    part->input = 65535, refuses("65,535 octets of input", PN_BAD_DATA);
+    part->input = 1440, refuses("1,440 octets of input", PN_BAD_DATA);
+    part->output = 1440, refuses("1,440 octets of output", PN_BAD_DATA);
+    part->input = part->output = 1439, takes("1,439 octets");
+    part->parameters[0].length = 0, refuses("a parameter record of no octets", PN_BAD_PARAMETER);
+    part->parameters[1].length = 65, refuses("a parameter record of 65 octets", PN_BAD_PARAMETER);
+    part->parameters[1].index = 32768, refuses("an index past the last", PN_BAD_PARAMETER);
+    part->parameters[1].index = 1, refuses("an index twice", PN_BAD_PARAMETER);
+    part->parameter_count = 1, part->parameters[1].length = 65, takes("a record that is not counted");
+    bent.module_count = 2, bent.modules[2].slot = 40, takes("a module that is not counted");
+    bent.modules[2].submodule_count = 1, bent.modules[2].submodules[1].subslot = 1, takes("a submodule that is not counted");
+}
+
 int main(void)
 {
     memset(erased, 0xFF, sizeof erased);
+    wants("a start before it was made", pn_boot(&device, &op, erased, erased), PN_NOT_MADE);
+    wants("a frame before it was made", pn_frame(&device, &op, set, sizeof set), PN_NOT_MADE);
+    wants("settings before it was made", pn_running(&device, &op, &settings), PN_NOT_MADE);
     station.mac[0] = 2;
     station.mac[5] = 1;
     wants("no device", pn_make(NULL, &station), PN_NULL);
@@ -98,6 +172,7 @@ int main(void)
     bent.module_count = 0;
     bent.station_type_length = 26;
     wants("a long station type", pn_make(&device, &bent), PN_BAD_STATION);
+    bend_stations();
     keep(pn_make(&device, &station));
 
     ask_all("before the start");
@@ -136,6 +211,30 @@ int main(void)
     wants("an output that is not plugged", pn_output(&device, &op, 9, 9), PN_NO_SLOT);
     wants("no place for settings", pn_running(&device, &op, NULL), PN_NULL);
     wants("no place for a number", pn_left(&device, &op, NULL), PN_NULL);
+    wants("no host", pn_carry_out(&device, &op, NULL), PN_NULL);
+    for (unsigned i = 0; i < 3; i++) {
+        pn_host lacking = failing;
+        if (i == 0)
+            lacking.program = NULL;
+        else if (i == 1)
+            lacking.erase = NULL;
+        else
+            lacking.send = NULL;
+        wants("a host without a function", pn_carry_out(&device, &op, &lacking), PN_NULL);
+    }
+    keep(pn_running(&device, &op, &settings));
+    wants("settings of no operation", pn_settings_of(NULL, &settings), PN_NULL);
+    wants("settings for nobody", pn_settings_of(&op, NULL), PN_NULL);
+    for (op.length = 0; op.length < 190; op.length++)
+        wants("short settings", pn_settings_of(&op, &settings), PN_BAD_LENGTH);
+    for (op.length = 431; op.length < PN_OP_SIZE; op.length++)
+        wants("long settings", pn_settings_of(&op, &settings), PN_BAD_LENGTH);
+    op.length = 0xFFFFFFFFu;
+    wants("far too long settings", pn_settings_of(&op, &settings), PN_BAD_LENGTH);
+    op.length = 430;
+    keep(pn_settings_of(&op, &settings));
+    if (settings.name_length != 240)
+        return 1;
     wants("a record that was not taken", pn_taken(&device, &op, 0), PN_NO_RECORD);
     keep(pn_frame(&device, &op, octets, sizeof octets));
     keep(pn_frame(&device, &op, octets, 0));

@@ -80,7 +80,7 @@ static void status_of_all(const struct controller *controller, char *text, size_
     uint64_t cyclic = 0, lost = 0;
     unsigned exchanging = 0;
     for (unsigned i = 0; i < controller->count; i++) {
-        exchanging += controller->relations[i].state == PN_EXCHANGED;
+        exchanging += controller->relations[i].state == PN_DATA_EXCHANGE;
         cyclic += controller->relations[i].cyclic;
         lost += controller->relations[i].lost;
     }

@@ -234,7 +234,7 @@ void relation_look_at_data(struct relation *relation, const uint8_t *octets, siz
 {
     if (wire_is_cyclic(octets, length))
         look_at_inputs(relation);
-    else if (before == PN_EXCHANGED)
+    else if (before == PN_DATA_EXCHANGE)
         look_at_alarm(relation);
     if (before == PN_ENDED && calls_is(octets, length, CALLS_RESPONSE))
         relation->ends_at = ticker_now();

@@ -64,9 +64,9 @@ void station_plan(pn_plan *plan, const char *path)
     uint8_t *text = read_whole(path, &length);
     uint32_t fault = pn_plan_read(plan, text, length);
     if (fault != PN_OK && pn_plan_where(text, length, where, sizeof where) != 0)
-        fail(STATUS_DATA, "'%s': fault %u at %s: %s", path, (unsigned)fault, where, fault_words(fault));
+        fail(STATUS_DATA, "'%s': fault %u at %s: %s", path, (unsigned)(fault - PN_PLAN_FAULT), where, fault_words(fault));
     if (fault != PN_OK)
-        fail(STATUS_DATA, "'%s': fault %u: %s", path, (unsigned)fault, fault_words(fault));
+        fail(STATUS_DATA, "'%s': fault %u: %s", path, (unsigned)(fault - PN_PLAN_FAULT), fault_words(fault));
     free(text);
 }
 

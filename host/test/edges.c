@@ -10,6 +10,8 @@
 static pn_plan plan, bent;
 static pn_controller controller, before;
 static pn_op op;
+static pn_station station;
+static const pn_host silent;
 static uint8_t text[65536], made[65536 + 8], octets[2000];
 static const uint8_t ar[16] = {1}, activity[16] = {2}, zero[16];
 static unsigned count;
@@ -164,7 +166,7 @@ static void bend_plans(void)
     }
     bent.record_count = 0, refuses("a Connect that is too long", PN_PLAN_CONNECT_LONG);
     wants("no ARUUID", pn_controller_start(&controller, &plan, zero, activity), PN_BAD_PLAN);
-    if (pn_plan_fault(&plan) != PN_OK || pn_plan_fault(NULL) != PN_PLAN_NULL)
+    if (pn_plan_fault(&plan) != PN_OK || pn_plan_fault(NULL) != PN_NULL)
         exit(1);
 }
 
@@ -187,6 +189,8 @@ static void ask_all(const char *when)
 
 static void misuse(void)
 {
+    wants("a frame before it was made", pn_controller_frame(&controller, &op, octets, 60), PN_NOT_MADE);
+    wants("a state before it was made", pn_controller_state(&controller, &op), PN_NOT_MADE);
     wants("no room", pn_controller_start(NULL, &plan, ar, activity), PN_NULL);
     wants("no plan", pn_controller_start(&controller, NULL, ar, activity), PN_NULL);
     wants("no number", pn_controller_start(&controller, &plan, NULL, activity), PN_NULL);
@@ -212,12 +216,22 @@ static void misuse(void)
     wants("another operation", pn_controller_ask(&controller, &op, 14, NULL, 0), PN_UNKNOWN);
     wants("no octets", pn_controller_frame(&controller, &op, NULL, 1), PN_NULL);
     wants("no operation's room", pn_controller_frame(&controller, NULL, octets, 60), PN_NULL);
+    wants("no host", pn_controller_send(&controller, &op, NULL), PN_NULL);
+    wants("a host that cannot send", pn_controller_send(&controller, &op, &silent), PN_NULL);
+    wants("no station to fill in", pn_plan_station(&plan, NULL), PN_NULL);
+    wants("no plan to fill it in from", pn_plan_station(NULL, &station), PN_NULL);
     wants("no such input", pn_controller_value(&controller, &op, 9, 9), PN_NO_SLOT);
     wants("no alarm", pn_controller_alarm(&controller, &op), PN_NO_SLOT);
     keep("a frame that is too long", pn_controller_frame(&controller, &op, octets, sizeof octets));
     keep("a frame of nothing", pn_controller_frame(&controller, &op, octets, 0));
     keep("an output", pn_controller_give(&controller, &op, 2, 1, octets, 2));
-    keep("an output of no such length", pn_controller_give(&controller, &op, 2, 1, octets, 2000));
+    wants("an output of no octets", pn_controller_give(&controller, &op, 2, 1, octets, 0), PN_BAD_LENGTH);
+    wants("an output that is too short", pn_controller_give(&controller, &op, 2, 1, octets, 1), PN_BAD_LENGTH);
+    wants("an output that is too long", pn_controller_give(&controller, &op, 2, 1, octets, 2000), PN_BAD_LENGTH);
+    wants("an output of an input", pn_controller_give(&controller, &op, 1, 1, octets, 2), PN_NO_SLOT);
+    wants("an output of the access point", pn_controller_give(&controller, &op, 0, 1, octets, 0), PN_NO_SLOT);
+    wants("an output of another slot", pn_controller_give(&controller, &op, 3, 1, octets, 2), PN_NO_SLOT);
+    wants("an output of another subslot", pn_controller_give(&controller, &op, 2, 2, octets, 2), PN_NO_SLOT);
     keep("a second", pn_controller_tick(&controller, &op, 32000));
     if (op.units != 0 || pn_controller_next(&controller, &op) != PN_OK || op.work != PN_SEND)
         exit(1);
@@ -252,7 +266,7 @@ static size_t bend(size_t length)
 
 static void bend_catalogues(size_t length, unsigned long times)
 {
-    unsigned long faults[16] = {0};
+    unsigned long faults[PN_PLAN_ADDRESS + 1] = {0};
     char where[64];
     for (unsigned long i = 0; i < times; i++) {
         size_t now = bend(length);
@@ -269,7 +283,7 @@ static void bend_catalogues(size_t length, unsigned long times)
         }
     }
     printf("%u misuses; %lu bent catalogues: %lu are plans, faults", count, times, faults[0]);
-    for (unsigned i = 1; i <= PN_PLAN_ADDRESS; i++)
+    for (unsigned i = PN_PLAN_JSON; i <= PN_PLAN_ADDRESS; i++)
         printf(" %lu", faults[i]);
     puts("");
 }
@@ -455,9 +469,9 @@ int main(int words_count, char *words[])
     length = fread(text, 1, sizeof text, file);
     fclose(file);
     memset(&before, 0, sizeof before);
-    wants("no text", pn_plan_read(&plan, NULL, 0), PN_PLAN_NULL);
-    wants("no plan's room", pn_plan_read(NULL, text, length), PN_PLAN_NULL);
-    wants("another plan", pn_plan_make(text, length, sizeof plan - 4, &plan), PN_PLAN_NULL);
+    wants("no text", pn_plan_read(&plan, NULL, 0), PN_NULL);
+    wants("no plan's room", pn_plan_read(NULL, text, length), PN_NULL);
+    wants("another plan", pn_plan_make(text, length, sizeof plan - 4, &plan), PN_BAD_ABI);
     wants("the catalogue", pn_plan_read(&plan, text, length), PN_OK);
     misuse();
     bend_both(strtoul(words[2], NULL, 10));

@@ -1,6 +1,6 @@
 -- The modules that are plugged in a station, as a host writes them.
-use Rattle.std.specs.Prelude.{◌&&◌, Bool, nat_le, List, take, map}
-use Rattle.std.specs.List.{list_all}
+use Rattle.std.specs.Prelude.{◌&&◌, ◌==◌, ℕ, Bool, true, nat_le, not, List, [], ◌∷◌, take, map}
+use Rattle.std.specs.List.{list_all, list_any}
 use Rattle.pn_values.specs.declared.real.ParameterRecord.{ParameterRecord}
 use Rattle.pn_values.specs.declared.real.RealModule.{RealModule}
 use Rattle.pn_values.specs.declared.real.RealSubmodule.{RealSubmodule}
@@ -23,6 +23,21 @@ is_submodule submodule = nat_le submodule.parameter_count 2
 
 abbrev pub is_module : Module → Bool
 is_module plugged = nat_le plugged.submodule_count 4 && list_all is_submodule (submodules_in plugged)
+
+-- ---- parameter records in their ranges
+
+-- A parameter record: its index is from 0 to 32,767, its length from 1 to 64.
+abbrev pub is_parameter : Parameter → Bool
+is_parameter item = nat_le item.index 32767 && (nat_le 1 item.length && nat_le item.length 64)
+
+-- A parameter record has this index.
+abbrev pub has_index : ℕ → List Parameter → Bool
+has_index index items = list_any (λ item. item.index == index) items
+
+-- Parameter records in their ranges, each with an index of its own.
+abbrev pub are_parameters : List Parameter → Bool
+are_parameters [] = true
+are_parameters (item ∷ items) = (is_parameter item && not (has_index item.index items)) && are_parameters items
 
 -- ---- the values
 

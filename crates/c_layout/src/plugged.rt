@@ -1,7 +1,8 @@
 //! The modules that are plugged in a station, as they lie in the memory of the host.
 ghost use Rattle.std.specs.Prelude.{◌≡◌, ◌≤◌, true, length, map};
 ghost use Rattle.std.specs.List.{list_all};
-ghost use Rattle.c_layout.specs.Modules.{is_module, is_submodule, module_of, parameter_of, submodule_of, submodules_in};
+ghost use Rattle.c_layout.specs.Modules.{are_parameters, has_index, is_module, is_parameter, is_submodule, module_of, parameter_of, submodule_of};
+ghost use Rattle.c_layout.specs.Modules.{submodules_in};
 
 use arrayvec::ArrayVec;
 use pn_values::{ParameterRecord, RealModule, RealSubmodule};
@@ -64,6 +65,30 @@ fn are_submodules(submodules: &[Submodule]) -> bool
         }
     }
     true
+}
+
+/// Whether parameter records are in their ranges, each with an index of its own.
+pub fn are_parameters(items: &[Parameter]) -> bool
+    ensures { result ≡ are_parameters items.now }
+{
+    for i in 0..items.len() {
+        if !is_parameter(&items[i]) || has_index(&items[i + 1..], items[i].index) {
+            return false;
+        }
+    }
+    true
+}
+
+fn is_parameter(item: &Parameter) -> bool
+    ensures { result ≡ is_parameter item.now }
+{
+    item.index <= 32767 && item.length >= 1 && item.length <= 64
+}
+
+fn has_index(items: &[Parameter], index: u16) -> bool
+    ensures { result ≡ has_index index items.now }
+{
+    items.iter().any(|item| item.index == index)
 }
 
 /// The modules as values. There are at most 16, and no count is greater than its list can hold.

@@ -187,7 +187,7 @@ all_parts written is =
 
 -- A plan in which no fault is found is in its ranges.
 handled : (a b c d e f : Bool) (rest : ℕ)
-    → ((if not a then 6 else (if not b then 4 else (if not c then 9 else (if not d then 10 else (if not e then 5 else (if not f then 6 else rest)))))) == 0) ≡ true
+    → ((if not a then 38 else (if not b then 36 else (if not c then 41 else (if not d then 42 else (if not e then 37 else (if not f then 38 else rest)))))) == 0) ≡ true
     → ((a && (b && (c && (d && (e && f))))) ≡ true) × ((rest == 0) ≡ true)
 handled true true true true true true rest is = (refl, is)
 handled true true true true true false rest is = cc

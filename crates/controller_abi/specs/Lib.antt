@@ -1,3 +1,4 @@
+pub mod Outputs
 pub mod Plans
 pub mod Serves
 pub mod State

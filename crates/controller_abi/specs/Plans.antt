@@ -12,7 +12,7 @@ use Rattle.plans.specs.declared.plan.TooLong.TheVariants.{Frame, Connect}
 use Rattle.c_layout.specs.declared.plugged.Module.{Module}
 use Rattle.c_layout.specs.declared.plugged.Parameter.{Parameter}
 use Rattle.c_layout.specs.declared.plugged.Submodule.{Submodule}
-use Rattle.c_layout.specs.Modules.{is_module, module_of, parameters_in, submodules_in}
+use Rattle.c_layout.specs.Modules.{are_parameters, is_module, module_of, parameters_in, submodules_in}
 use Rattle.controller_abi.specs.declared.plan.WrittenPlan.{WrittenPlan}
 use Rattle.controller_abi.specs.declared.plan.WrittenRecord.{WrittenRecord}
 
@@ -50,19 +50,6 @@ are_times written =
 abbrev pub is_rising : ℕ → List ℕ → Bool
 is_rising least [] = true
 is_rising least (number ∷ numbers) = nat_le least number && is_rising (number + 1) numbers
-
--- A parameter record: its index is from 0 to 32,767, its length from 1 to 64.
-abbrev pub is_parameter : Parameter → Bool
-is_parameter item = nat_le item.index 32767 && (nat_le 1 item.length && nat_le item.length 64)
-
--- A parameter record has this index.
-abbrev pub has_index : ℕ → List Parameter → Bool
-has_index index items = list_any (λ item. item.index == index) items
-
--- Parameter records in their ranges, each with an index of its own.
-abbrev pub are_parameters : List Parameter → Bool
-are_parameters [] = true
-are_parameters (item ∷ items) = (is_parameter item && not (has_index item.index items)) && are_parameters items
 
 -- A submodule: its subslot is at most 36,863, and its parameter records are valid.
 abbrev pub is_part : Submodule → Bool
@@ -165,19 +152,19 @@ pub record IsWritten (written : WrittenPlan) : Type 0 where
 -- A cyclic frame or the Connect is too long.
 abbrev pub fault_of_length : {T : Type 0} → Result T TooLong → ℕ
 fault_of_length (Ok plan) = 0
-fault_of_length (Err Frame) = 7
-fault_of_length (Err Connect) = 8
+fault_of_length (Err Frame) = 39
+fault_of_length (Err Connect) = 40
 
--- The first fault of a plan, with the number that a catalogue with this fault has; 0 if it has none. After lists that
--- are too long the faults are checked in the order of those of a catalogue.
+-- The first fault of a plan, with the number that a catalogue with this fault has, 32 and the number of the fault; 0 if
+-- it has none. After lists that are too long the faults are checked in the order of those of a catalogue.
 abbrev pub fault_of : WrittenPlan → ℕ
 fault_of written =
-    if not (has_room written) then 6 else
-    (if not (are_numbers written) then 4 else
-    (if not (are_named written) then 9 else
-    (if not (are_addresses written) then 10 else
-    (if not (are_placed written) then 5 else
-    (if not (are_low written) then 6 else fault_of_length (plan_of (parts_of written)))))))
+    if not (has_room written) then 38 else
+    (if not (are_numbers written) then 36 else
+    (if not (are_named written) then 41 else
+    (if not (are_addresses written) then 42 else
+    (if not (are_placed written) then 37 else
+    (if not (are_low written) then 38 else fault_of_length (plan_of (parts_of written)))))))
 
 abbrev pub is_plan : WrittenPlan → Bool
 is_plan written = fault_of written == 0
@@ -186,5 +173,5 @@ is_plan written = fault_of written == 0
 -- plan, or an ARUUID that is zero.
 abbrev pub why_not_made : ℕ → ℕ → ℕ → WrittenPlan → List ℕ → ℕ
 why_not_made size abi op_size written ar =
-    if not (abi == 1 && op_size == 1560) then 2 else
-    (if nat_lt size 40960 then 3 else (if not (is_plan written) then 14 else (if is_nil_bytes ar then 14 else 0)))
+    if not (abi == 2 && op_size == 1560) then 2 else
+    (if nat_lt size 40960 then 3 else (if not (is_plan written) then 16 else (if is_nil_bytes ar then 16 else 0)))

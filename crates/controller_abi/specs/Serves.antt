@@ -2,7 +2,7 @@
 -- afterwards: an equation of the whole operation says which fields are written, and with what. All other fields are
 -- unchanged, and so are the octets after those that are written. A refused operation changes nothing, neither in the
 -- controller nor in the operation.
-use Rattle.std.specs.Prelude.{◌≡◌, ◌==◌, ℕ, Bool, true, false, if◌then◌else◌, List, [], ◌∷◌, take, Option, Some, None}
+use Rattle.std.specs.Prelude.{◌≡◌, ◌==◌, ℕ, Bool, true, false, if◌then◌else◌, List, [], ◌∷◌, length, take, Option, Some, None}
 use Rattle.record_blocks.specs.declared.alarm_notification.AlarmNotification.{AlarmNotification}
 use Rattle.controller_core.specs.Cause.{number_of}
 use Rattle.cyclic_exchange.specs.Process.{value_at}
@@ -15,6 +15,7 @@ use Rattle.c_layout.specs.Places.{place_in}
 use Rattle.c_layout.specs.Reported.{with_octets}
 use Rattle.controller_abi.specs.declared.operation.Operation.{Operation}
 use Rattle.controller_abi.specs.declared.operation.Operation.TheVariants as operation
+use Rattle.controller_abi.specs.Outputs.{output_at, why_not_set}
 use Rattle.controller_abi.specs.State.{State, advanced, after, has_frames}
 use Rattle.controller_abi.specs.Steps.{Passes}
 
@@ -43,10 +44,21 @@ abbrev pub why_no_place : Bool → ℕ
 why_no_place true = 7
 why_no_place false = 9
 
--- The output of a submodule is set. A slot or subslot that is not a number of 16 bits names no submodule.
+-- The output of a submodule is set by one step of the controller, or it is refused: with why, and then nothing changes.
+abbrev pub IsSet : Option ℕ → State → Event → ℕ → State → Type 0
+IsSet (Some why) old event answer new = (answer ≡ why) × (new ≡ old)
+IsSet None old event answer new = (answer ≡ 0) × (new ≡ after old event)
+
+-- The number of octets of the output at a place of the plan of a controller.
+abbrev pub planned_output : State → ℕ → ℕ → Option ℕ
+planned_output port slot subslot = output_at slot subslot port.controller.setup.plan.real.modules.items
+
+-- The output of a submodule is set, if the plan has one of this length there. A slot or subslot that is not a number of
+-- 16 bits names no submodule.
 abbrev pub IsGift : Option (ℕ × ℕ) → State → List ℕ → ℕ → State → Type 0
 IsGift (Some place) old given answer new =
-    IsEvent (has_frames old.frames) old (event.Give place.0 place.1 (record { items = take 1519 given })) answer new
+    IsSet (why_not_set (has_frames old.frames) (planned_output old place.0 place.1) (length given)) old
+    (event.Give place.0 place.1 (record { items = take 1519 given })) answer new
 IsGift None old given answer new = (answer ≡ why_no_place (has_frames old.frames)) × (new ≡ old)
 
 -- Units of time passed, and the number that remains is reported.

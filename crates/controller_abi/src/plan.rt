@@ -10,24 +10,27 @@ ghost use Rattle.controller_core.specs.Machine.{fresh};
 ghost use Rattle.c_layout.specs.Modules.{is_module, is_submodule, module_of};
 ghost use Rattle.controller_abi.specs.State.{opened};
 ghost use Rattle.controller_abi.specs.Plans.{IsShort, IsWritten, are_addresses as is_addressed, are_low as is_low, are_named};
-ghost use Rattle.controller_abi.specs.Plans.{are_numbers as are_all_numbers, are_ordered as is_in_order, are_parameters};
+ghost use Rattle.controller_abi.specs.Plans.{are_numbers as are_all_numbers, are_ordered as is_in_order};
 ghost use Rattle.controller_abi.specs.Plans.{are_placed as are_all_placed, are_times as is_timed, controller_name_in};
-ghost use Rattle.controller_abi.specs.Plans.{does_part_take, does_take, fault_of, fault_of_length as of_length, has_index};
-ghost use Rattle.controller_abi.specs.Plans.{has_room as has_all_room, is_item, is_name as is_named, is_parameter, is_part};
+ghost use Rattle.controller_abi.specs.Plans.{does_part_take, does_take, fault_of, fault_of_length as of_length};
+ghost use Rattle.controller_abi.specs.Plans.{has_room as has_all_room, is_item, is_name as is_named, is_part};
 ghost use Rattle.controller_abi.specs.Plans.{is_plan as is_planned, is_record, is_rising, is_sound as is_all_sound};
 ghost use Rattle.controller_abi.specs.Plans.{is_written as is_all_written, modules_in, name_in, parts_of, record_of, records_in};
 ghost use Rattle.controller_abi.specs.Plans.{suite_in, why_not_made};
 
 use crate::port::Port;
 use arrayvec::ArrayVec;
-use c_layout::{Module, Parameter, Submodule, are_modules, modules};
+use c_layout::{
+    BAD_ABI, BAD_PLAN, Module, PLAN_FAULT, Parameter, SMALL_ROOM, Submodule, are_modules,
+    are_parameters, modules,
+};
 use plans::{Controller, Parts, Plan, PlanRecord, Station, Times, TooLong};
 use pn_values::{IpSuite, Mac, Real, StationName};
 use station_names::check;
 use uuid::Uuid;
 
 /// The version of the header.
-const ABI: u32 = 1;
+const ABI: u32 = 2;
 
 /// The number of octets of the memory for a port.
 const ROOM: usize = 40960;
@@ -36,19 +39,19 @@ const ROOM: usize = 40960;
 const OP_SIZE: usize = 1560;
 
 // The faults of a plan, with the numbers that a catalogue with the same fault has.
-const NUMBER: u32 = 4;
+const NUMBER: u32 = PLAN_FAULT + 4;
 
-const NOT_ALLOWED: u32 = 5;
+const NOT_ALLOWED: u32 = PLAN_FAULT + 5;
 
-const TOO_MANY: u32 = 6;
+const TOO_MANY: u32 = PLAN_FAULT + 6;
 
-const FRAME_LONG: u32 = 7;
+const FRAME_LONG: u32 = PLAN_FAULT + 7;
 
-const CONNECT_LONG: u32 = 8;
+const CONNECT_LONG: u32 = PLAN_FAULT + 8;
 
-const NAME: u32 = 9;
+const NAME: u32 = PLAN_FAULT + 9;
 
-const ADDRESS: u32 = 10;
+const ADDRESS: u32 = PLAN_FAULT + 10;
 
 /// A parameter record that the controller writes at start-up.
 #[repr(C)]
@@ -93,13 +96,13 @@ pub fn judge(size: usize, abi: u32, op_size: usize, written: &WrittenPlan, ar: &
     ensures { result ≡ why_not_made size abi op_size written.now ar.now }
 {
     if abi != ABI || op_size != OP_SIZE {
-        return 2;
+        return BAD_ABI;
     }
     if size < ROOM {
-        return 3;
+        return SMALL_ROOM;
     }
     if fault_in(written) != 0 || Uuid::from_bytes(*ar).is_nil() {
-        return 14;
+        return BAD_PLAN;
     }
     0
 }
@@ -112,7 +115,12 @@ pub fn port_of(written: &WrittenPlan, ar: &[u8; 16], activity: &[u8; 16]) -> Por
     ensures { result ≡ opened (fresh (parts_of written.now) ar.now activity.now) }
 {
     match planned(written) {
-        Ok(plan) => Port::new(plan, Uuid::from_bytes(*ar), Uuid::from_bytes(*activity)),
+        Ok(plan) => Port::new(
+            plan,
+            real_in(written),
+            Uuid::from_bytes(*ar),
+            Uuid::from_bytes(*activity),
+        ),
         Err(_) => unreachable!(),
     }
 }
@@ -239,30 +247,6 @@ fn is_part(submodule: &Submodule) -> bool
 {
     submodule.subslot <= 36863
         && are_parameters(&submodule.parameters[..submodule.parameter_count as usize])
-}
-
-// Whether parameter records are in their ranges, each with an index of its own.
-fn are_parameters(items: &[Parameter]) -> bool
-    ensures { result ≡ are_parameters items.now }
-{
-    for i in 0..items.len() {
-        if !is_parameter(&items[i]) || has_index(&items[i + 1..], items[i].index) {
-            return false;
-        }
-    }
-    true
-}
-
-fn is_parameter(item: &Parameter) -> bool
-    ensures { result ≡ is_parameter item.now }
-{
-    item.index <= 32767 && item.length >= 1 && item.length <= 64
-}
-
-fn has_index(items: &[Parameter], index: u16) -> bool
-    ensures { result ≡ has_index index items.now }
-{
-    items.iter().any(|item| item.index == index)
 }
 
 // Whether each record is one that a submodule of these modules accepts.

@@ -1,12 +1,14 @@
 //! A controller, and the frames of its last step that the host has not fetched yet.
 ghost use Rattle.std.specs.Prelude.{◌≡◌, false, option_map};
 ghost use Rattle.controller_core.specs.Machine.{fresh};
+ghost use Rattle.controller_abi.specs.Outputs.{output_at as output_in, output_of as output_in_module};
 ghost use Rattle.controller_abi.specs.State.{IsNext, advanced, after, has_frames, is_over as over, is_stopped as stops, opened};
 ghost use Rattle.controller_abi.specs.Steps.{Passes};
 
 use controller_core::{Controller, Event, State};
 use frame_codec::{Frame, Outbox};
 use plans::Plan;
+use pn_values::{Real, RealModule, RealSubmodule};
 use std::marker::Model;
 use uuid::Uuid;
 
@@ -16,26 +18,31 @@ use uuid::Uuid;
 #[derive(Drop)]
 pub struct Port {
     controller: Controller,
+    /// The modules of its plan.
+    real: Real,
     outbox: Outbox,
     /// The number of frames in the outbox that the host has fetched.
     frames_past: usize,
 }
 
 impl Model for Port {
-    ghost use Rattle.std.specs.Prelude.{drop};
+    ghost use Rattle.std.specs.Prelude.{◌≡◌, drop};
     ghost use Rattle.frame_codec.specs.Outbox.{boxed};
     ghost use Rattle.controller_abi.specs.State.{State};
 
     ghost Value = { State };
 
     ghost view = { λ port. record { controller = port.controller; frames = drop port.frames_past (boxed port.outbox) } };
+
+    ghost invariant = { λ port. port.real ≡ port.controller.setup.plan.real };
 }
 
 impl Port {
-    /// The controller of a plan, with the ARUUID of its relation and the activity of its calls. Its opening frame waits
-    /// to be fetched.
+    /// The controller of a plan with these modules, with the ARUUID of its relation and the activity of its calls. Its
+    /// opening frame waits to be fetched.
     #[inline(always)]
-    pub fn new(plan: Plan, ar: Uuid, activity: Uuid) -> Port
+    pub fn new(plan: Plan, real: Real, ar: Uuid, activity: Uuid) -> Port
+        requires { real ≡ plan.real }
         ensures { result ≡ opened (fresh plan ar activity) }
     {
         let controller = Controller::new(plan, ar, activity);
@@ -43,6 +50,7 @@ impl Port {
         outbox.put_copy(&controller.opening());
         Port {
             controller,
+            real,
             outbox,
             frames_past: 0,
         }
@@ -83,6 +91,13 @@ impl Port {
         }
     }
 
+    /// The number of octets of the output of a submodule, if the plan has the submodule.
+    pub fn output_at(&self, slot: u16, subslot: u16) -> Option<u16>
+        ensures { result ≡ output_in slot subslot self.now.controller.setup.plan.real.modules.items }
+    {
+        output_at(self.real.modules.as_slice(), slot, subslot)
+    }
+
     // ---- events
 
     /// Handles an event. All frames of the step before are fetched.
@@ -115,6 +130,30 @@ impl Port {
     {
         self.has_work() || (!was_over && is_over(self.controller.state()))
     }
+}
+
+// The number of octets of the output of a submodule of these modules.
+fn output_at(modules: &[RealModule], slot: u16, subslot: u16) -> Option<u16>
+    ensures { result ≡ output_in slot subslot modules.now }
+{
+    for plugged in modules {
+        if plugged.slot == slot {
+            return output_of(plugged.submodules.as_slice(), subslot);
+        }
+    }
+    None
+}
+
+// The same of a submodule of one module.
+fn output_of(submodules: &[RealSubmodule], subslot: u16) -> Option<u16>
+    ensures { result ≡ output_in_module subslot submodules.now }
+{
+    for part in submodules {
+        if part.subslot == subslot {
+            return Some(part.output);
+        }
+    }
+    None
 }
 
 // Whether a controller has ended.

@@ -1,29 +1,21 @@
 //! One operation of the host.
-ghost use Rattle.std.specs.Prelude.{◌≡◌, take};
+ghost use Rattle.std.specs.Prelude.{◌≡◌, length, take};
 ghost use Rattle.cyclic_exchange.specs.Process.{value_at};
-ghost use Rattle.controller_core.specs.declared.event.Event.TheVariants.{Frame as Framed};
+ghost use Rattle.controller_core.specs.declared.event.Event.TheVariants.{Frame as Framed, Give as Given};
 ghost use Rattle.c_layout.specs.Places.{place_in};
+ghost use Rattle.controller_abi.specs.Outputs.{why_not_fit, why_not_set};
 ghost use Rattle.controller_abi.specs.State.{has_frames};
-ghost use Rattle.controller_abi.specs.Serves.{IsAlarm, IsEvent, IsGift, IsHandOut, IsInput, IsTick, IsValue, Serves, cause_number};
-ghost use Rattle.controller_abi.specs.Serves.{operation_of as operation_in, phase_number, why_no_place};
+ghost use Rattle.controller_abi.specs.Serves.{IsAlarm, IsEvent, IsGift, IsHandOut, IsInput, IsSet, IsTick, IsValue, Serves, cause_number};
+ghost use Rattle.controller_abi.specs.Serves.{operation_of as operation_in, phase_number, planned_output, why_no_place};
 ghost use Rattle.controller_abi.specs.Serves.{with_alarm, with_next, with_state};
 
 use crate::operation::{Operation, operation_of};
 use crate::port::Port;
 use block_codec::AlarmNotification;
-use c_layout::{Op, place_of, put};
+use c_layout::{BAD_LENGTH, HAS_WORK, NO_SLOT, Op, UNKNOWN, place_of, put};
 use controller_core::{Event, State};
 use frame_codec::Bytes;
 use wire::at_most;
-
-/// The result if there is no such operation.
-const UNKNOWN: u32 = 10;
-
-/// The result if there is no such place, and if no alarm was accepted yet.
-const NO_SLOT: u32 = 9;
-
-/// The result of an event while frames of the step before remain.
-const HAS_WORK: u32 = 7;
 
 /// Carries out one operation, with the given octets. Returns 0, or why nothing changed.
 pub fn serve(port: &mut Port, op: &mut Op, given: &[u8]) -> u32
@@ -71,14 +63,53 @@ fn frame(port: &mut Port, given: &[u8]) -> u32
     offer(port, &Event::Frame(first_of(given)))
 }
 
-#[inline(never)]
 fn give(port: &mut Port, op: &Op, given: &[u8]) -> u32
     ensures { IsGift (place_in op.now.slot op.now.subslot) port.old given.now result port.new }
 {
     match place_of(op) {
-        Some(place) => offer(port, &Event::Give(place.0, place.1, first_of(given))),
+        Some(place) => set(port, place.0, place.1, given),
         None => no_place(port),
     }
+}
+
+// Sets the output of a submodule, or returns why not.
+#[inline(never)]
+fn set(port: &mut Port, slot: u16, subslot: u16, given: &[u8]) -> u32
+    ensures { IsSet (why_not_set (has_frames port.old.frames) (planned_output port.old slot subslot) (length given.now)) port.old (Given slot subslot (record { items = take 1519 given.now })) result port.new }
+{
+    match why_not(port, slot, subslot, given.len()) {
+        Some(why) => why,
+        None => {
+            port.take(&Event::Give(slot, subslot, first_of(given)));
+            0
+        }
+    }
+}
+
+// Why no value of this size is set as the output of a submodule, if it is not set.
+fn why_not(port: &Port, slot: u16, subslot: u16, size: usize) -> Option<u32>
+    ensures { result ≡ why_not_set (has_frames port.now.frames) (planned_output port.now slot subslot) size }
+{
+    if port.has_work() {
+        return Some(HAS_WORK);
+    }
+    match port.output_at(slot, subslot) {
+        Some(output) => why_not_in(output, size),
+        None => Some(NO_SLOT),
+    }
+}
+
+// Why a value of this size is not set as an output of this length, if it is not set.
+fn why_not_in(output: u16, size: usize) -> Option<u32>
+    ensures { result ≡ why_not_fit output size }
+{
+    if output == 0 {
+        return Some(NO_SLOT);
+    }
+    if usize::from(output) != size {
+        return Some(BAD_LENGTH);
+    }
+    None
 }
 
 // Why no output is set at an invalid place.

@@ -1,6 +1,7 @@
 //! What a host asks of a port: one operation with its number, and a station, as it lies in the host's memory.
 
 mod operation;
+mod plugged;
 mod serving;
 mod station;
 

@@ -13,7 +13,7 @@ use plan_abi::{read, show};
 use std::alloc::Global;
 
 /// Reads a catalogue into a plan. Returns 0, or the number of the first fault, and then all of the plan is zero.
-/// Returns 12 if `size` is not the size of a plan, and then the plan is unchanged.
+/// Returns 2 if `size` is not the size of a plan, and then the plan is unchanged.
 #[unsafe(no_mangle)]
 pub extern "C" fn pn_plan_make(
     text: &[u8],
@@ -23,11 +23,11 @@ pub extern "C" fn pn_plan_make(
 ) -> u32
     ensures planned { result ≡ 0 → IsPlanOf text.now (parts_of plan.new) }
     ensures written { result ≡ 0 → IsWritten text.now plan.new }
-    ensures refused { result ≢ 0 → result ≢ 12 → IsFault text.now result }
-    ensures nothing { result ≢ 0 → result ≢ 12 → IsBlank plan.new }
-    ensures kept { result ≡ 12 → plan.new ≡ plan.old }
-    ensures fits { size ≡ 4272 → result ≢ 12 }
-    ensures other { size ≢ 4272 → result ≡ 12 }
+    ensures refused { result ≢ 0 → result ≢ 2 → IsFault text.now result }
+    ensures nothing { result ≢ 0 → result ≢ 2 → IsBlank plan.new }
+    ensures kept { result ≡ 2 → plan.new ≡ plan.old }
+    ensures fits { size ≡ 4272 → result ≢ 2 }
+    ensures other { size ≢ 4272 → result ≡ 2 }
 {
     read(alloc, text, size, plan)
 }

@@ -1,5 +1,5 @@
 -- What is returned to a host that asks for the plan of a catalogue.
-use Rattle.std.specs.Prelude.{◌≡◌, ◌≤◌, ◌<◌, ◌++◌, ℕ, List, [], ◌∷◌, length, map, drop, min, nat_le, replicate, Ok, if◌then◌else◌}
+use Rattle.std.specs.Prelude.{◌≡◌, ◌≤◌, ◌<◌, ◌+◌, ◌++◌, ℕ, List, [], ◌∷◌, length, map, drop, min, nat_le, replicate, Ok, if◌then◌else◌}
 use Rattle.pn_values.specs.declared.real.ParameterRecord.{ParameterRecord}
 use Rattle.pn_values.specs.declared.real.RealModule.{RealModule}
 use Rattle.pn_values.specs.declared.real.RealSubmodule.{RealSubmodule}
@@ -16,11 +16,11 @@ use Rattle.controller_abi.specs.declared.plan.WrittenPlan.{WrittenPlan}
 use Rattle.controller_abi.specs.declared.plan.WrittenRecord.{WrittenRecord}
 use Rattle.controller_abi.specs.Plans.{parts_of}
 
--- the number is that of a fault for which the text is refused
+-- the number is that of a fault for which the text is refused: 32 and the number of the fault
 pub record IsFault (text : List ℕ) (answer : ℕ) : Type 0 where
   pub fault : PlanFault
   pub refused : IsRefused text fault
-  pub number : answer ≡ number_of fault
+  pub number : answer ≡ 32 + number_of fault
 
 -- ---- modules and records in the host's memory
 

@@ -5,18 +5,38 @@ use configurator::plan_from_json;
 use controller_abi::{Port, serve};
 use c_layout::Op;
 use rattle_std::alloc::Global;
+use plans::Plan;
+use pn_values::{ParameterRecord, Real, RealModule, RealSubmodule};
 use uuid::Uuid;
 
 /// Units of time in a second: after this time a request is sent again.
 const SECOND: u32 = 32000;
+
+/// The modules of a plan once more.
+fn copied(plan: &Plan) -> Real {
+    let modules = plan.real().modules.iter().map(|module| RealModule {
+        slot: module.slot,
+        ident: module.ident,
+        submodules: module.submodules.iter().map(|part| RealSubmodule {
+            subslot: part.subslot,
+            ident: part.ident,
+            input: part.input,
+            output: part.output,
+            parameters: part.parameters.iter().map(|item| ParameterRecord { index: item.index, length: item.length }).collect(),
+        }).collect(),
+    });
+    Real { modules: modules.collect() }
+}
 
 /// The controller of the demo station's plan, whose first frame waits.
 fn begun(alloc: Global) -> Port {
     let plan = plan_from_json(alloc, PUMP.as_bytes())
         .ok()
         .expect("there is a plan");
+    let real = copied(&plan);
     Port::new(
         plan,
+        real,
         Uuid::from_bytes([0x11; 16]),
         Uuid::from_bytes([0x51; 16]),
     )
@@ -97,6 +117,30 @@ fn no_such_operation_or_slot() {
     let mut op = asked_of(8, 3, 1);
     assert_eq!(serve(&mut port, &mut op, &[]), 9);
     assert_eq!(answer(&mut port, 12), 9);
+}
+
+// The demo station's plan has two octets of input in slot 1 and two of output in slot 2. Each value and its answer.
+#[test]
+fn a_value_is_set_where_the_plan_has_an_output_of_its_length() {
+    let mut port = begun(Global);
+    assert_eq!(next(&mut port), 3);
+    for (slot, subslot, length, wanted) in [
+        (2, 1, 2, 0),
+        (2, 1, 1, 8),
+        (2, 1, 3, 8),
+        (2, 1, 0, 8),
+        (2, 1, 1600, 8),
+        (1, 1, 2, 9),
+        (1, 1, 0, 9),
+        (0, 1, 0, 9),
+        (2, 2, 2, 9),
+        (3, 1, 2, 9),
+        (2, 65536 + 1, 2, 9),
+    ] {
+        let mut op = asked_of(5, slot, subslot);
+        assert_eq!(serve(&mut port, &mut op, &vec![0; length]), wanted, "{slot} {subslot} {length}");
+        assert_eq!((op.slot, op.subslot, op.work), (slot, subslot, 0));
+    }
 }
 
 #[test]

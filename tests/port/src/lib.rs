@@ -6,6 +6,7 @@
 mod calls;
 mod cycles;
 mod host;
+mod judged;
 mod operations;
 mod refusals;
 mod stations;

@@ -3,24 +3,61 @@ use crate::calls::{
     alarm, boot, fill, frame, input, lamp, lose, output, phase, running, stored, taken, tick, work,
 };
 use crate::stations::{booted, busy, lost, made};
+use c_layout::{BAD_ABI, BAD_DATA, BAD_LENGTH, BAD_MAC, BAD_PARAMETER, BAD_PLAN, BAD_SLOT, BAD_STATION, BAD_SUBSLOT};
+use c_layout::{HAS_WORK, NO_RECORD, NO_SLOT, PLAN_FAULT, SMALL_ROOM, UNKNOWN};
 use device_abi::{Port, Refusal};
 use flash_model::Sector;
 use test_stations::{IDENTIFY, SET};
 
-const NUMBERS: [(Refusal, u32); 7] = [
-    (Refusal::NotBooted, 5),
-    (Refusal::IsBooted, 6),
-    (Refusal::HasWork, 7),
-    (Refusal::BadLength, 8),
-    (Refusal::NoSlot, 9),
-    (Refusal::Foreign, 11),
-    (Refusal::PowerLost, 14),
-];
+/// What the header says of numbers.
+const HEADER: &str = include_str!("../../../include/nandutable_numbers.h");
+
+/// Each number of the header, with its name.
+fn header() -> Vec<(&'static str, u32)> {
+    let lines = HEADER.lines().filter_map(|line| line.trim().strip_prefix("PN_")?.split_once(" = "));
+    lines.filter_map(|(name, rest)| Some((name, rest.split([',', ' ']).next()?.parse().ok()?))).collect()
+}
+
+#[test]
+fn each_number_of_the_header_has_one_meaning() {
+    let numbers = header();
+    assert_eq!(numbers.len(), 34);
+    for (place, (name, number)) in numbers.iter().enumerate() {
+        for (other, same) in &numbers[place + 1..] {
+            assert!(name != other && number != same, "{name} and {other} are {number} and {same}");
+        }
+    }
+}
 
 #[test]
 fn numbers_are_those_of_the_header() {
-    for (refusal, wanted) in NUMBERS {
-        assert_eq!(refusal.number(), wanted);
+    let named = [
+        ("NOT_BOOTED", Refusal::NotBooted.number()),
+        ("IS_BOOTED", Refusal::IsBooted.number()),
+        ("HAS_WORK", Refusal::HasWork.number()),
+        ("BAD_LENGTH", Refusal::BadLength.number()),
+        ("NO_SLOT", Refusal::NoSlot.number()),
+        ("FOREIGN", Refusal::Foreign.number()),
+        ("LOST", Refusal::PowerLost.number()),
+        ("BAD_ABI", BAD_ABI),
+        ("SMALL_ROOM", SMALL_ROOM),
+        ("BAD_STATION", BAD_STATION),
+        ("HAS_WORK", HAS_WORK),
+        ("BAD_LENGTH", BAD_LENGTH),
+        ("NO_SLOT", NO_SLOT),
+        ("UNKNOWN", UNKNOWN),
+        ("NO_RECORD", NO_RECORD),
+        ("BAD_PLAN", BAD_PLAN),
+        ("BAD_MAC", BAD_MAC),
+        ("BAD_SLOT", BAD_SLOT),
+        ("BAD_SUBSLOT", BAD_SUBSLOT),
+        ("BAD_DATA", BAD_DATA),
+        ("BAD_PARAMETER", BAD_PARAMETER),
+        ("PLAN_JSON", PLAN_FAULT + 1),
+        ("PLAN_MEMORY", PLAN_FAULT + 11),
+    ];
+    for (name, wanted) in named {
+        assert!(header().contains(&(name, wanted)), "{name} is {wanted}");
     }
 }
 

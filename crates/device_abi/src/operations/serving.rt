@@ -13,24 +13,12 @@ ghost use Rattle.device_abi.specs.operations.Serves.{sector_number as number_of,
 
 use crate::operations::operation::{Operation, operation_of};
 use crate::{Port, Recorded, Refusal, Work};
-use c_layout::{Op, place_of, put, put_more};
+use c_layout::{BAD_LENGTH, NO_RECORD, NO_SLOT, Op, UNKNOWN, place_of, put, put_more};
 use device_core::Note;
 use flash_model::Sector;
 use pn_values::Settings;
 use records::TakenRecord;
 use relations::Phase;
-
-/// The result if there is no such operation.
-const UNKNOWN: u32 = 10;
-
-/// The result if nothing can be plugged there.
-const NO_SLOT: u32 = 9;
-
-/// The result if there is no such sector.
-const NO_SECTOR: u32 = 8;
-
-/// The result if no record has this number.
-const NO_RECORD: u32 = 15;
 
 /// Carries out one operation, with the given octets. Returns 0, or why nothing changed.
 pub fn serve(port: &mut Port, op: &mut Op, given: &[u8]) -> u32
@@ -72,7 +60,7 @@ fn fill(port: &mut Port, op: &Op, given: &[u8]) -> u32
 {
     match sector_at(op.sector) {
         Some(sector) => done(port.fill(sector, given)),
-        None => NO_SECTOR,
+        None => BAD_LENGTH,
     }
 }
 

@@ -3,15 +3,20 @@ ghost use Rattle.std.specs.Prelude.{◌≡◌, ◌≤◌, true};
 ghost use Rattle.std.specs.List.{list_all};
 ghost use Rattle.c_layout.specs.Modules.{is_module};
 ghost use Rattle.device_abi.specs.operations.Made.{IsMade, why_not_made};
-ghost use Rattle.device_abi.specs.operations.Stations.{identity_of, is_station as is_written, modules_in, real_of};
+ghost use Rattle.device_abi.specs.operations.Stations.{fault_of, has_room as has_all_room, identity_of, is_single as has_own_mac, is_station};
+ghost use Rattle.device_abi.specs.operations.Stations.{modules_in, real_of};
 
 use crate::Port;
+use crate::operations::plugged::{are_carried, are_described, are_parted, are_slots};
 use arrayvec::ArrayVec;
-use c_layout::{Module, are_modules, modules};
+use c_layout::{
+    BAD_ABI, BAD_DATA, BAD_MAC, BAD_PARAMETER, BAD_SLOT, BAD_STATION, BAD_SUBSLOT, Module,
+    SMALL_ROOM, are_modules, modules,
+};
 use pn_values::{Identity, Mac, Real};
 
 /// The version of the header.
-const ABI: u32 = 1;
+const ABI: u32 = 2;
 
 /// The number of octets of the memory for a port.
 const ROOM: usize = 81920;
@@ -40,39 +45,73 @@ pub struct Station {
 }
 
 /// Why no device is made from this station, or 0: another version or size of an operation than the library's, too
-/// little memory, or a list of the station that is too long.
+/// little memory, or the first fault of the station.
 pub fn judge(size: usize, abi: u32, op_size: usize, station: &Station) -> u32
     ensures { result ≡ why_not_made size abi op_size station.now }
 {
     if abi != ABI || op_size != OP_SIZE {
-        return 2;
+        return BAD_ABI;
     }
     if size < ROOM {
-        return 3;
+        return SMALL_ROOM;
     }
-    if !is_station(station) {
-        return 4;
-    }
-    0
+    fault_in(station)
 }
 
 /// A port of this station that did not start.
 #[inline(always)]
 pub fn port_of(station: &Station) -> Port
-    requires { is_written station.now ≡ true }
+    requires { is_station station.now ≡ true }
     ensures { IsMade station.now result }
 {
     Port::new(identity_in(station), real_in(station))
 }
 
+// ---- whether it is a valid station
+
+// The first fault of a station, or 0.
+fn fault_in(station: &Station) -> u32
+    ensures { result ≡ fault_of station.now }
+{
+    if !has_room(station) {
+        return BAD_STATION;
+    }
+    let modules = &station.modules[..station.module_count as usize];
+    if !is_single(station) {
+        return BAD_MAC;
+    }
+    if !are_slots(modules) {
+        return BAD_SLOT;
+    }
+    if !are_parted(modules) {
+        return BAD_SUBSLOT;
+    }
+    if !are_carried(modules) {
+        return BAD_DATA;
+    }
+    if !are_described(modules) {
+        return BAD_PARAMETER;
+    }
+    0
+}
+
 // Whether no count of a station is greater than its list can hold.
-fn is_station(station: &Station) -> bool
-    ensures { result ≡ is_written station.now }
+fn has_room(station: &Station) -> bool
+    ensures { result ≡ has_all_room station.now }
 {
     station.station_type_length <= 25
         && station.module_count <= 16
         && are_modules(&station.modules[..station.module_count as usize])
 }
+
+// Whether the MAC address is that of one station, and not of a group.
+fn is_single(station: &Station) -> bool
+    ensures { result ≡ has_own_mac station.now }
+{
+    station.mac[0] % 2 == 0
+}
+
+// ---- the values
 
 // The identity of the device.
 fn identity_in(station: &Station) -> Identity
