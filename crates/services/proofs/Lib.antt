@@ -1,0 +1,6 @@
+pub mod Sound
+pub mod Lengths
+pub mod Requests
+pub mod Replies
+pub mod Facts
+pub mod Runs

@@ -1,0 +1,6 @@
+pub mod State
+pub mod Message
+pub mod Echo
+pub mod Views
+pub mod Answer
+pub mod Run
