@@ -5,10 +5,11 @@ use Rattle.frame_codec.specs.declared.arp.Arp.{Arp}
 use Rattle.frame_codec.specs.declared.fault.FrameFault.{FrameFault}
 use Rattle.pn_values.specs.declared.mac.Mac.{Mac}
 use Rattle.frame_codec.specs.Meaning.{Meaning, Content, RealTime, ArpPacket, UdpDatagram}
+use Rattle.frame_codec.specs.declared.udp.Endpoint.{Endpoint}
 use Rattle.frame_codec.specs.Frame.{frame_of, frame_bytes}
 use Rattle.services.specs.State.{State, disputed, is_own, is_running}
 use Rattle.services.specs.Echo.{Request, request_of, reply_frame}
-use Rattle.services.specs.Answer.{IsNoArp, IsOther, after_content, after_layers, after_packet, answer_to, arp_answer, arp_reply_of, content_answer, echo_answer, heard, layers_answer, is_asked, is_conflict, is_group, is_sought}
+use Rattle.services.specs.Answer.{IsOtherFrame, IsOther, after_content, after_layers, after_packet, answer_to, arp_answer, arp_reply_of, content_answer, datagram_answer, echo_answer, heard, layers_answer, is_asked, is_conflict, is_group, is_sought}
 use Rattle.services.proofs.Requests.{request_unread}
 
 -- an echo request is judged as such
@@ -77,20 +78,30 @@ module _ (state : State) (bytes : List ℕ) (meaning : Meaning) (packet : Arp) (
   arp_keeps conflict = arp_after ∙ refused (is_conflict state packet.sender) (disputed state) state conflict
 
 -- what is neither an echo request nor ARP is dropped
-others_dropped : (state : State) (bytes : List ℕ) (layers : Result Meaning FrameFault) → IsNoArp layers → (fault : FrameFault) → request_of bytes ≡ Err fault
+others_dropped : (state : State) (bytes : List ℕ) (layers : Result Meaning FrameFault) → IsOtherFrame layers → (fault : FrameFault) → request_of bytes ≡ Err fault
     → (layers_answer state bytes layers ≡ None) × (after_layers state layers ≡ state)
 others_dropped state bytes (Ok meaning) apart fault e = content_dropped state meaning.destination meaning.source meaning.content apart
   where
     content_dropped : (state : State) (destination source : Mac) (content : Content) → IsOther content → (content_answer state destination source content ≡ None) × (after_content state content ≡ state)
     content_dropped state destination source (RealTime frame_id body) apart = (refl, refl)
     content_dropped state destination source (ArpPacket packet) apart = absurd apart
-    content_dropped state destination source (UdpDatagram from to body) apart = (refl, refl)
+    content_dropped state destination source (UdpDatagram from to body) apart = absurd apart
 others_dropped state bytes (Err unread) apart fault e = (ap (echo_answer state) e, refl)
 
-pub other_answer : (state : State) (bytes : List ℕ) (fault : FrameFault) → request_of bytes ≡ Err fault → IsNoArp (frame_of bytes) → answer_to state bytes ≡ None
+pub other_answer : (state : State) (bytes : List ℕ) (fault : FrameFault) → request_of bytes ≡ Err fault → IsOtherFrame (frame_of bytes) → answer_to state bytes ≡ None
 unfolding answer_to
 other_answer state bytes fault e apart = (others_dropped state bytes (frame_of bytes) apart fault e).0
 
-pub other_keeps : (state : State) (bytes : List ℕ) (fault : FrameFault) → request_of bytes ≡ Err fault → IsNoArp (frame_of bytes) → heard state bytes ≡ state
+pub other_keeps : (state : State) (bytes : List ℕ) (fault : FrameFault) → request_of bytes ≡ Err fault → IsOtherFrame (frame_of bytes) → heard state bytes ≡ state
 unfolding heard
 other_keeps state bytes fault e apart = (others_dropped state bytes (frame_of bytes) apart fault e).1
+
+-- a datagram is judged as a call, and changes nothing
+module _ (state : State) (bytes : List ℕ) (meaning : Meaning) (from to : Endpoint) (body : List ℕ) (e : frame_of bytes ≡ Ok meaning) (f : meaning.content ≡ UdpDatagram from to body) where
+  pub call_is : answer_to state bytes ≡ datagram_answer state meaning.destination meaning.source from to body
+  unfolding answer_to
+  call_is = rw (e, f) refl
+
+  pub call_keeps : heard state bytes ≡ state
+  unfolding heard
+  call_keeps = rw (e, f) refl

@@ -10,6 +10,9 @@ use Rattle.frame_codec.specs.declared.arp.ArpOperation.TheVariants as arp
 use Rattle.frame_codec.specs.declared.arp.Holder.{Holder}
 use Rattle.frame_codec.specs.declared.fault.FrameFault.{FrameFault}
 use Rattle.frame_codec.specs.Meaning.{Meaning, Content, RealTime, ArpPacket, UdpDatagram}
+use Rattle.frame_codec.specs.declared.udp.Endpoint.{Endpoint}
+use Rattle.frame_codec.specs.Calls.{call_port, calls_at}
+use Rattle.services.specs.Unserved.{unserved_answer}
 use Rattle.frame_codec.specs.Frame.{frame_bytes, frame_of}
 use Rattle.services.specs.declared.announcement.Role.{Role}
 use Rattle.services.specs.declared.announcement.Role.TheVariants.{Device, Controller}
@@ -74,11 +77,31 @@ is_conflict state sender = is_running state sender.address && not (is_own state 
 abbrev pub frame_in : Option (Items ℕ) → Option (List ℕ)
 frame_in frame = option_map (λ (items : Items ℕ). items.items) frame
 
+-- ---- calls that nobody serves (C706)
+
+-- Whether the services answer calls: a controller's do not.
+abbrev pub answers_calls : Role → Bool
+answers_calls Device = true
+answers_calls Controller = false
+
+-- Whether a datagram of this destination is a call to this station: to its MAC address, its running address and the port of
+-- calls.
+abbrev pub is_called : State → Mac → Endpoint → Bool
+is_called state destination to = answers_calls state.role && is_own state destination && is_running state to.address && to.port == call_port
+
+-- The frame that takes an answer to a caller.
+abbrev pub call_reply_of : Mac → List ℕ → Mac → Endpoint → List ℕ → Meaning
+call_reply_of mac address asker from body = record { destination = asker; source = mac; tag = None; content = UdpDatagram (calls_at address) from body }
+
+abbrev pub datagram_answer : State → Mac → Mac → Endpoint → Endpoint → List ℕ → Option (List ℕ)
+datagram_answer state destination source from to body =
+    if is_called state destination to then option_map (λ answer. frame_bytes (call_reply_of state.mac state.address source from answer)) (unserved_answer body) else None
+
 -- The answer to a frame that was read.
 abbrev pub content_answer : State → Mac → Mac → Content → Option (List ℕ)
 content_answer state destination source (RealTime frame_id body) = None
 content_answer state destination source (ArpPacket packet) = arp_answer state destination source packet
-content_answer state destination source (UdpDatagram from to body) = None
+content_answer state destination source (UdpDatagram from to body) = datagram_answer state destination source from to body
 
 -- The answer to a frame, by its layers if they can be read as real-time data, ARP or UDP, else by its echo request.
 abbrev pub layers_answer : State → List ℕ → Result Meaning FrameFault → Option (List ℕ)
@@ -89,16 +112,16 @@ layers_answer state bytes (Err fault) = echo_answer state (request_of bytes)
 unfoldable pub answer_to : State → List ℕ → Option (List ℕ)
 answer_to state bytes = layers_answer state bytes (frame_of bytes)
 
--- anything but ARP
+-- anything but ARP and UDP
 abbrev pub IsOther : Content → Type 0
 IsOther (RealTime frame_id body) = Unit {0}
 IsOther (ArpPacket packet) = ⊥
-IsOther (UdpDatagram from to body) = Unit {0}
+IsOther (UdpDatagram from to body) = ⊥
 
--- octets that are not a frame of ARP
-abbrev pub IsNoArp : Result Meaning FrameFault → Type 0
-IsNoArp (Ok meaning) = IsOther meaning.content
-IsNoArp (Err fault) = Unit {0}
+-- octets that are a frame neither of ARP nor of UDP
+abbrev pub IsOtherFrame : Result Meaning FrameFault → Type 0
+IsOtherFrame (Ok meaning) = IsOther meaning.content
+IsOtherFrame (Err fault) = Unit {0}
 
 -- The state after a packet of ARP from this sender.
 abbrev pub after_packet : State → Holder → State

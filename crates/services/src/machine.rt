@@ -1,19 +1,23 @@
 //! The machine of the services.
-ghost use Rattle.std.specs.Prelude.{◌≡◌, true, false};
+ghost use Rattle.std.specs.Prelude.{◌≡◌, ℕ, List, true, false};
 ghost use Rattle.frame_codec.specs.declared.arp.Arp.{Arp};
+ghost use Rattle.frame_codec.specs.declared.udp.Endpoint.{Endpoint};
 ghost use Rattle.frame_codec.specs.declared.fault.FrameFault.{FrameFault};
 ghost use Rattle.frame_codec.specs.Frame.{frame_bytes, frame_of};
-ghost use Rattle.frame_codec.specs.Meaning.{ArpPacket, Meaning, meaning_of};
+ghost use Rattle.frame_codec.specs.Meaning.{ArpPacket, Meaning, UdpDatagram, meaning_of};
 ghost use Rattle.services.specs.State.{announcement_for as announced, disputed, observed, sent_by_tick, started, ticked, is_running as runs, is_own as owns, is_defended as defends_by, announces as announces_by};
-ghost use Rattle.services.specs.Answer.{IsNoArp, after_content, after_packet, answer_to, arp_answer, arp_reply_of, content_answer, echo_answer, frame_in, heard, is_asked as asks, is_conflict as conflicts_with, is_group as is_group_by, is_request as requests, is_sought as seeks, resolves as resolves_by};
+ghost use Rattle.services.specs.Answer.{IsOtherFrame, after_content, after_packet, answer_to, arp_answer, arp_reply_of, content_answer, echo_answer, frame_in, heard, answers_calls as answers_calls_by, datagram_answer, is_asked as asks, is_called as calls_by, is_conflict as conflicts_with, is_group as is_group_by, is_request as requests, is_sought as seeks, resolves as resolves_by};
 ghost use Rattle.services.specs.Echo.{Request, reply_frame, request_of};
 ghost use Rattle.services.specs.Views.{asked_by};
 
 use crate::address::{BROADCAST, is_group, is_same, is_zero};
 use crate::echo::{EchoRequest, request_at};
-use crate::reply::{announcement, arp_reply, echo_reply};
+use crate::reply::{announcement, arp_reply, call_reply, echo_reply};
+use crate::unserved::unserved;
 use crate::{Announcement, Role};
-use frame_codec::{Arp, ArpOperation, Frame, Holder, Layered, Payload, read};
+use frame_codec::{
+    Arp, ArpOperation, Endpoint, Frame, Holder, Layered, Payload, RPC_PORT, Udp, read,
+};
 use pn_values::Mac;
 use std::marker::Model;
 
@@ -21,7 +25,8 @@ use std::marker::Model;
 const DEFEND_INTERVAL: u32 = 320_000;
 
 /// The services of a station. They answer echo requests (RFC 792), announce the running IP address, count its conflicts
-/// and defend it (RFC 5227). Those of a controller also answer requests of ARP (RFC 826), which a device does itself.
+/// and defend it (RFC 5227). Those of a controller also answer requests of ARP (RFC 826), which a device does itself. Those
+/// of a device also answer pings and calls that nobody serves (C706).
 ///
 /// The owner gives them each frame of ARP, each frame that the station drops, each tick, and after each step the running
 /// IP address. Clauses see them as the state of one machine.
@@ -75,6 +80,16 @@ fn resolves(role: Role) -> bool
     match role {
         Role::Device => false,
         Role::Controller => true,
+    }
+}
+
+/// Whether the services of this end answer calls.
+fn answers_calls(role: Role) -> bool
+    ensures { result ≡ answers_calls_by role }
+{
+    match role {
+        Role::Device => true,
+        Role::Controller => false,
     }
 }
 
@@ -151,10 +166,19 @@ impl Services {
         ensures arp_dropped { (meaning : Meaning) (packet : Arp) → frame_of bytes.now ≡ Ok meaning → meaning.content ≡ ArpPacket packet →
             seeks self.old meaning.destination packet ≡ false → frame_in result ≡ None }
 
-        // A frame that is neither an echo request nor ARP is dropped.
-        ensures dropped { (fault : FrameFault) → request_of bytes.now ≡ Err fault → IsNoArp (frame_of bytes.now) → frame_in result ≡ None }
+        // A datagram to the MAC address, the running IP address and the port of calls of a device is answered, if it is a
+        // ping or a call that nobody serves: by 'no call', or by a rejection. No other datagram is answered.
+        ensures call { (meaning : Meaning) (from to : Endpoint) (body : List ℕ) → frame_of bytes.now ≡ Ok meaning →
+            meaning.content ≡ UdpDatagram from to body →
+            frame_in result ≡ datagram_answer self.old meaning.destination meaning.source from to body }
+        // A datagram changes nothing.
+        ensures call_keeps { (meaning : Meaning) (from to : Endpoint) (body : List ℕ) → frame_of bytes.now ≡ Ok meaning →
+            meaning.content ≡ UdpDatagram from to body → self.new ≡ self.old }
+
+        // A frame that is neither an echo request nor ARP nor UDP is dropped.
+        ensures dropped { (fault : FrameFault) → request_of bytes.now ≡ Err fault → IsOtherFrame (frame_of bytes.now) → frame_in result ≡ None }
         // Such a frame changes nothing.
-        ensures dropped_keeps { (fault : FrameFault) → request_of bytes.now ≡ Err fault → IsNoArp (frame_of bytes.now) → self.new ≡ self.old }
+        ensures dropped_keeps { (fault : FrameFault) → request_of bytes.now ≡ Err fault → IsOtherFrame (frame_of bytes.now) → self.new ≡ self.old }
     {
         self.handle(bytes)
     }
@@ -204,7 +228,9 @@ impl Services {
                 self.hear_packet(layered.destination, layered.source, packet)
             }
             Payload::RealTime { .. } => None,
-            Payload::Udp(_) => None,
+            Payload::Udp(ref datagram) => {
+                self.hear_datagram(layered.destination, layered.source, datagram)
+            }
         }
     }
 
@@ -220,6 +246,35 @@ impl Services {
         } else {
             None
         }
+    }
+
+    /// Handles a datagram.
+    fn hear_datagram(&self, destination: Mac, source: Mac, datagram: &Udp<'_>) -> Option<Frame>
+        ensures { frame_in result ≡ datagram_answer self.now destination source datagram.now.source datagram.now.destination datagram.now.body.now }
+    {
+        if !self.is_called(destination, &datagram.destination) {
+            return None;
+        }
+        match unserved(datagram.body) {
+            Some(answer) => Some(call_reply(
+                self.mac,
+                self.address,
+                source,
+                datagram.source,
+                answer.as_slice(),
+            )),
+            None => None,
+        }
+    }
+
+    /// Whether a datagram of this destination is a call to this station.
+    fn is_called(&self, destination: Mac, to: &Endpoint) -> bool
+        ensures { result ≡ calls_by self.now destination to.now }
+    {
+        answers_calls(self.role)
+            && self.is_own(destination)
+            && self.is_running(to.address)
+            && to.port == RPC_PORT
     }
 
     /// Counts the conflict, if the sender of a packet of ARP uses the running address.

@@ -3,7 +3,7 @@ ghost use Rattle.std.specs.Prelude.{◌≡◌, ◌-◌, ◌+◌, ◌≤◌, [], 
 ghost use Rattle.frame_codec.specs.Frame.{frame_bytes};
 ghost use Rattle.services.specs.Message.{echo_header, icmp_packet, message_header, packet_header};
 ghost use Rattle.services.specs.Echo.{echoed, internet_link, link, reply_frame};
-ghost use Rattle.services.specs.Answer.{arp_reply_of};
+ghost use Rattle.services.specs.Answer.{arp_reply_of, call_reply_of};
 ghost use Rattle.services.specs.State.{announcement_by};
 ghost use Rattle.services.specs.Views.{asked_by, meaning_of};
 
@@ -13,7 +13,7 @@ use crate::header::{IcmpPacket, put_packet};
 use crate::link::put_link;
 use crate::message::{ECHO_REPLY, EchoHeader, put_echo_header};
 use arrayvec::ArrayVec;
-use frame_codec::{Arp, ArpOperation, Frame, Holder, Layered, Payload, write};
+use frame_codec::{Arp, ArpOperation, Endpoint, Frame, Holder, Layered, Payload, Udp, write};
 use pn_values::Mac;
 
 /// As many zeros as the shortest frame has octets.
@@ -86,6 +86,29 @@ pub(crate) fn arp_reply(mac: Mac, address: [u8; 4], asker: Mac, target: Holder) 
             operation: ArpOperation::Reply,
             sender,
             target,
+        }),
+    })
+}
+
+/// The frame that takes the answer to a call to its caller.
+pub(crate) fn call_reply(
+    mac: Mac,
+    address: [u8; 4],
+    asker: Mac,
+    caller: Endpoint,
+    body: &[u8],
+) -> Frame
+    requires { length body.now ≤ 1472 }
+    ensures { result.items ≡ frame_bytes (call_reply_of mac address asker caller body.now) }
+{
+    write(&Layered {
+        destination: asker,
+        source: mac,
+        tag: None,
+        payload: Payload::Udp(Udp {
+            source: Endpoint::of_calls(address),
+            destination: caller,
+            body,
         }),
     })
 }

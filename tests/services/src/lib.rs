@@ -1,4 +1,4 @@
-//! Tests of the services' public calls: echo, ARP, announcements and conflicts. The octets of each frame are those that
+//! Tests of the services' public calls: echo, ARP, announcements, conflicts and calls. The octets of each frame are those
 //! Scapy 2.5 makes of its fields, unless the test says otherwise.
 #![cfg(test)]
 
@@ -6,6 +6,7 @@ use pn_values::Mac;
 use services::{Role, Services};
 
 mod arp;
+mod calls;
 mod echo;
 mod times;
 

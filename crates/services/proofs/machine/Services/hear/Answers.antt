@@ -1,5 +1,5 @@
 use Rattle.std.proofs.Common.{◌∙◌}
-use Rattle.services.proofs.Facts.{echo_answered, echo_elsewhere, echo_from_group, echo_other_address, echo_keeps, arp_answered, arp_dropped, arp_disputes, arp_keeps, other_answer, other_keeps}
+use Rattle.services.proofs.Facts.{echo_answered, echo_elsewhere, echo_from_group, echo_other_address, echo_keeps, arp_answered, arp_dropped, arp_disputes, arp_keeps, call_is, call_keeps, other_answer, other_keeps}
 use Rattle.services.proofs.machine.Services.hear.Goals as goal
 
 pub returns-clause-echo : goal.returns-clause-echo
@@ -34,3 +34,9 @@ returns-clause-dropped c = λ fault e apart. c.handle.ensures.answer ∙ other_a
 
 pub returns-clause-dropped_keeps : goal.returns-clause-dropped_keeps
 returns-clause-dropped_keeps c = λ fault e apart. c.handle.ensures.state ∙ other_keeps c.args.self.now c.args.bytes.now fault e apart
+
+pub returns-clause-call : goal.returns-clause-call
+returns-clause-call c = λ meaning from to body e f. c.handle.ensures.answer ∙ call_is c.args.self.now c.args.bytes.now meaning from to body e f
+
+pub returns-clause-call_keeps : goal.returns-clause-call_keeps
+returns-clause-call_keeps c = λ meaning from to body e f. c.handle.ensures.state ∙ call_keeps c.args.self.now c.args.bytes.now meaning from to body e f
