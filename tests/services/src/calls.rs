@@ -1,7 +1,7 @@
 //! Pings, and calls that nobody serves. The octets are those of a reference model that shares no line with the product;
 //! tshark reads each answer.
 
-use super::{Role, Services, STATION, answer_of, controller, device, octets};
+use super::{Role, STATION, Services, answer_of, controller, device, octets};
 
 /// What is called, the call, and its answer.
 const CALLS: [(&str, &str, &str); 6] = [
@@ -39,14 +39,24 @@ const CALLS: [(&str, &str, &str); 6] = [
 
 /// A cancel, packet type 8, and a request that is a fragment.
 const DROPPED: [(&str, &str); 2] = [
-    ("a cancel", "02000000000102000000000208004500006c000040004011b92dc0a80001c0a80002c00288940058e20f0408200000000000dea000006c9711d18271000104560123dea000016c9711d1827100a02442df7d66666666777788889999aaaaaaaaaaaa0000000000000001000000030000ffffffff000000000000"),
-    ("a fragment", "020000000001020000000002080045000080000040004011b919c0a80001c0a80002c0028894006cfdda0400040000000000dea000006c9711d18271000104560123dea000026c9711d1827100a02442df7d66666666777788889999aaaaaaaaaaaa0000000000000001000000030000ffffffff0014000000000000000000000000000000000000000000000000"),
+    (
+        "a cancel",
+        "02000000000102000000000208004500006c000040004011b92dc0a80001c0a80002c00288940058e20f0408200000000000dea000006c9711d18271000104560123dea000016c9711d1827100a02442df7d66666666777788889999aaaaaaaaaaaa0000000000000001000000030000ffffffff000000000000",
+    ),
+    (
+        "a fragment",
+        "020000000001020000000002080045000080000040004011b919c0a80001c0a80002c0028894006cfdda0400040000000000dea000006c9711d18271000104560123dea000026c9711d1827100a02442df7d66666666777788889999aaaaaaaaaaaa0000000000000001000000030000ffffffff0014000000000000000000000000000000000000000000000000",
+    ),
 ];
 
 #[test]
 fn a_call_that_nobody_serves_is_answered() {
     for (what, call, answer) in CALLS {
-        assert_eq!(answer_of(&mut device(), &octets(call)), Some(octets(answer)), "{what}");
+        assert_eq!(
+            answer_of(&mut device(), &octets(call)),
+            Some(octets(answer)),
+            "{what}"
+        );
     }
 }
 
@@ -65,7 +75,11 @@ fn a_call_that_the_device_serves_is_not_answered() {
         call[111] = operation;
         // A datagram without a checksum.
         call[40..42].fill(0);
-        assert_eq!(answer_of(&mut device(), &call).is_some(), operation > 5, "{operation}");
+        assert_eq!(
+            answer_of(&mut device(), &call).is_some(),
+            operation > 5,
+            "{operation}"
+        );
     }
 }
 
@@ -89,14 +103,22 @@ fn a_call_that_is_not_read_is_dropped() {
         ("a fragment number", 119, 1),
         ("authentication", 120, 1),
     ] {
-        assert_eq!(answer_of(&mut device(), &with(place, octet)), None, "{what}");
+        assert_eq!(
+            answer_of(&mut device(), &with(place, octet)),
+            None,
+            "{what}"
+        );
     }
 }
 
 #[test]
 fn a_call_to_another_station_or_port_is_dropped() {
     for (what, place, octet) in [("MAC address", 5, 3), ("port", 37, 0x95)] {
-        assert_eq!(answer_of(&mut device(), &with(place, octet)), None, "{what}");
+        assert_eq!(
+            answer_of(&mut device(), &with(place, octet)),
+            None,
+            "{what}"
+        );
     }
     let mut moved = Services::new(Role::Device, STATION, [192, 168, 0, 3]);
     assert_eq!(answer_of(&mut moved, &octets(CALLS[0].1)), None);

@@ -1,5 +1,5 @@
 //! Tests of the services' public calls: echo, ARP, announcements, conflicts and calls. The octets of each frame are those
-//! Scapy 2.5 makes of its fields, unless the test says otherwise.
+//! that Scapy 2.5 makes of its fields, unless the test says otherwise.
 #![cfg(test)]
 
 use pn_values::Mac;
@@ -19,10 +19,12 @@ const STATION: Mac = Mac {
 const ADDRESS: [u8; 4] = [192, 168, 0, 2];
 
 /// The announcement of the address, padded to 60 octets.
-const ANNOUNCEMENT: &str = "ffffffffffff02000000000108060001080006040001020000000001c0a80002000000000000c0a80002";
+const ANNOUNCEMENT: &str =
+    "ffffffffffff02000000000108060001080006040001020000000001c0a80002000000000000c0a80002";
 
 /// A reply of ARP by another station, to yet another one, that says that it holds the station's address.
-const RIVAL: &str = "02000000004402000000003308060001080006040002020000000033c0a80002020000000002c0a80001";
+const RIVAL: &str =
+    "02000000004402000000003308060001080006040002020000000033c0a80002020000000002c0a80001";
 
 /// The octets that these hexadecimal digits spell.
 fn octets(digits: &str) -> Vec<u8> {
@@ -63,7 +65,9 @@ fn settled(role: Role) -> Services {
 
 /// The answer to these octets.
 fn answer_of(services: &mut Services, frame: &[u8]) -> Option<Vec<u8>> {
-    services.hear(frame).map(|answer| answer.as_slice().to_vec())
+    services
+        .hear(frame)
+        .map(|answer| answer.as_slice().to_vec())
 }
 
 /// What a tick sends.
