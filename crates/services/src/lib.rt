@@ -1,0 +1,25 @@
+//! What a station does beside its relation: it answers echo requests (RFC 792), announces its IP address and defends it
+//! (RFC 826, RFC 5227), and answers pings and calls that nobody serves (The Open Group C706). A controller has the same
+//! services, but for the calls.
+//!
+//! The services are a machine of their own. They hear only the frames that the device or controller dropped, and each
+//! frame of ARP. They know the MAC address and the running IP address, and nothing of the relation. They store nothing:
+//! a restart begins again.
+#![tactic(auto)]
+
+mod address;
+mod announcement;
+mod call;
+mod echo;
+mod header;
+mod law;
+mod link;
+mod machine;
+mod message;
+mod reply;
+mod unserved;
+
+pub use announcement::{Announcement, Role};
+pub use law::{addresses_are_announced_twice, defences_are_rare, echo_formats_are_sound};
+pub use machine::Services;
+pub use unserved::{Refusal, Rejection};

@@ -1,0 +1,356 @@
+//! The machine of the services.
+ghost use Rattle.std.specs.Prelude.{◌≡◌, ℕ, List, true, false};
+ghost use Rattle.frame_codec.specs.declared.arp.Arp.{Arp};
+ghost use Rattle.frame_codec.specs.declared.udp.Endpoint.{Endpoint};
+ghost use Rattle.frame_codec.specs.declared.fault.FrameFault.{FrameFault};
+ghost use Rattle.frame_codec.specs.Frame.{frame_bytes, frame_of};
+ghost use Rattle.frame_codec.specs.Meaning.{ArpPacket, Meaning, UdpDatagram, meaning_of};
+ghost use Rattle.services.specs.State.{announcement_for as announced, disputed, observed, sent_by_tick, started, ticked, is_running as runs, is_own as owns, is_defended as defends_by, announces as announces_by};
+ghost use Rattle.services.specs.Answer.{IsOtherFrame, after_content, after_packet, answer_to, arp_answer, arp_reply_of, content_answer, echo_answer, frame_in, heard, answers_calls as answers_calls_by, datagram_answer, is_asked as asks, is_called as calls_by, is_conflict as conflicts_with, is_group as is_group_by, is_request as requests, is_sought as seeks, resolves as resolves_by};
+ghost use Rattle.services.specs.Echo.{Request, reply_frame, request_of};
+ghost use Rattle.services.specs.Views.{asked_by};
+
+use crate::address::{BROADCAST, is_group, is_same, is_zero};
+use crate::echo::{EchoRequest, request_at};
+use crate::reply::{announcement, arp_reply, call_reply, echo_reply};
+use crate::unserved::unserved;
+use crate::{Announcement, Role};
+use frame_codec::{
+    Arp, ArpOperation, Endpoint, Frame, Holder, Layered, Payload, RPC_PORT, Udp, read,
+};
+use pn_values::Mac;
+use std::marker::Model;
+
+/// The least time between two defences of the address, in ticks: 10 seconds (RFC 5227, DEFEND_INTERVAL).
+const DEFEND_INTERVAL: u32 = 320_000;
+
+/// The services of a station. They answer echo requests (RFC 792), announce the running IP address, count its conflicts
+/// and defend it (RFC 5227). Those of a controller also answer requests of ARP (RFC 826), which a device does itself. Those
+/// of a device also answer pings and calls that nobody serves (C706).
+///
+/// The owner gives them each frame of ARP, each frame that the station drops, each tick, and after each step the running
+/// IP address. Clauses see them as the state of one machine.
+#[derive(Drop)]
+pub struct Services {
+    role: Role,
+    mac: Mac,
+    address: [u8; 4],
+    announcement: Announcement,
+    defends: bool,
+    guard: u32,
+    conflicts: u64,
+}
+
+impl Model for Services {
+    ghost use Rattle.std.specs.Prelude.{◌≡◌, length};
+    ghost use Rattle.services.specs.State.{State};
+
+    ghost Value = { State };
+
+    ghost view = { λ s. record { role = s.role; mac = s.mac; address = s.address; announcement = s.announcement; defends = s.defends; guard = s.guard; conflicts = s.conflicts } };
+
+    ghost invariant = { λ s. length s.address ≡ 4 };
+}
+
+/// What is to be announced of a new address.
+fn announcement_for(address: [u8; 4]) -> Announcement
+    ensures { result ≡ announced address }
+{
+    if is_zero(address) {
+        Announcement::Nothing
+    } else {
+        Announcement::First
+    }
+}
+
+/// Whether a packet of ARP asks who holds an address.
+fn is_request(operation: ArpOperation) -> bool
+    ensures { result ≡ requests operation }
+{
+    match operation {
+        ArpOperation::Request => true,
+        ArpOperation::Reply => false,
+    }
+}
+
+/// Whether the services of this end answer requests of ARP.
+fn resolves(role: Role) -> bool
+    ensures { result ≡ resolves_by role }
+{
+    match role {
+        Role::Device => false,
+        Role::Controller => true,
+    }
+}
+
+/// Whether the services of this end answer calls.
+fn answers_calls(role: Role) -> bool
+    ensures { result ≡ answers_calls_by role }
+{
+    match role {
+        Role::Device => true,
+        Role::Controller => false,
+    }
+}
+
+impl Services {
+    /// The services of a station at its start, with its running IP address; zeros if it has none.
+    pub fn new(role: Role, mac: Mac, address: [u8; 4]) -> Services
+        ensures { result ≡ started role mac address }
+    {
+        Services {
+            role,
+            mac,
+            address,
+            announcement: announcement_for(address),
+            defends: false,
+            guard: 0,
+            conflicts: 0,
+        }
+    }
+
+    /// How many frames of ARP came from another station that uses the running address. The count saturates at
+    /// `u64::MAX`.
+    pub fn conflicts(&self) -> u64
+        ensures { result ≡ self.now.conflicts }
+    {
+        self.conflicts
+    }
+
+    /// Tells the services the running IP address after a step.
+    pub fn observe(&mut self, address: [u8; 4])
+        // A new address is announced, in place of what was still to be said of the old one.
+        ensures state { self.new ≡ observed self.old address }
+    {
+        if is_same(address, self.address) {
+            return;
+        }
+        self.address = address;
+        self.announcement = announcement_for(address);
+        self.defends = false;
+    }
+
+    /// Handles a frame that the station dropped, or any frame of ARP. Returns the answer.
+    pub fn hear(&mut self, bytes: &[u8]) -> Option<Frame>
+        // The state follows from the machine.
+        ensures state { self.new ≡ heard self.old bytes.now }
+        // The answer, if there is one, is that of the machine. There is at most one.
+        ensures answer { frame_in result ≡ answer_to self.old bytes.now }
+
+        // An echo request to the MAC address and the running IP address of the station, from no group, is answered by its
+        // reply.
+        ensures echo { (request : Request) → request_of bytes.now ≡ Ok request → asks self.old request ≡ true →
+            frame_in result ≡ Some (reply_frame self.old.mac request) }
+        // An echo request to another MAC address, as to a group or to all stations, is not answered.
+        ensures elsewhere { (request : Request) → request_of bytes.now ≡ Ok request → owns self.old request.destination ≡ false →
+            frame_in result ≡ None }
+        // An echo request from a group is not answered.
+        ensures group { (request : Request) → request_of bytes.now ≡ Ok request → is_group_by request.source ≡ true → frame_in result ≡ None }
+        // An echo request for another IP address is not answered, and none while the station has no address.
+        ensures address { (request : Request) → request_of bytes.now ≡ Ok request → runs self.old request.echo.destination ≡ false →
+            frame_in result ≡ None }
+        // An echo request changes nothing.
+        ensures echo_keeps { (request : Request) → request_of bytes.now ≡ Ok request → self.new ≡ self.old }
+
+        // A packet of ARP whose sender is another station with the running address is a conflict, whatever its destination.
+        ensures conflict { (meaning : Meaning) (packet : Arp) → frame_of bytes.now ≡ Ok meaning → meaning.content ≡ ArpPacket packet →
+            conflicts_with self.old packet.sender ≡ true → self.new ≡ disputed self.old }
+        // No other packet of ARP changes anything.
+        ensures no_conflict { (meaning : Meaning) (packet : Arp) → frame_of bytes.now ≡ Ok meaning → meaning.content ≡ ArpPacket packet →
+            conflicts_with self.old packet.sender ≡ false → self.new ≡ self.old }
+        // The services of a controller answer a request for the running address to it or to all: it holds the address.
+        ensures arp_answered { (meaning : Meaning) (packet : Arp) → frame_of bytes.now ≡ Ok meaning → meaning.content ≡ ArpPacket packet →
+            seeks self.old meaning.destination packet ≡ true →
+            frame_in result ≡ Some (frame_bytes (arp_reply_of self.old.mac self.old.address meaning.source packet.sender)) }
+        // No other packet of ARP is answered, and none by the services of a device.
+        ensures arp_dropped { (meaning : Meaning) (packet : Arp) → frame_of bytes.now ≡ Ok meaning → meaning.content ≡ ArpPacket packet →
+            seeks self.old meaning.destination packet ≡ false → frame_in result ≡ None }
+
+        // A datagram to the MAC address, the running IP address and the port of calls of a device is answered, if it is a
+        // ping or a call that nobody serves: by 'no call', or by a rejection. No other datagram is answered.
+        ensures call { (meaning : Meaning) (from to : Endpoint) (body : List ℕ) → frame_of bytes.now ≡ Ok meaning →
+            meaning.content ≡ UdpDatagram from to body →
+            frame_in result ≡ datagram_answer self.old meaning.destination meaning.source from to body }
+        // A datagram changes nothing.
+        ensures call_keeps { (meaning : Meaning) (from to : Endpoint) (body : List ℕ) → frame_of bytes.now ≡ Ok meaning →
+            meaning.content ≡ UdpDatagram from to body → self.new ≡ self.old }
+
+        // A frame that is neither an echo request nor ARP nor UDP is dropped.
+        ensures dropped { (fault : FrameFault) → request_of bytes.now ≡ Err fault → IsOtherFrame (frame_of bytes.now) → frame_in result ≡ None }
+        // Such a frame changes nothing.
+        ensures dropped_keeps { (fault : FrameFault) → request_of bytes.now ≡ Err fault → IsOtherFrame (frame_of bytes.now) → self.new ≡ self.old }
+    {
+        self.handle(bytes)
+    }
+
+    /// Handles a tick, which is 31.25 microseconds. Returns the frame to send.
+    pub fn tick(&mut self) -> Option<Frame>
+        // The state follows from the machine.
+        ensures state { self.new ≡ ticked self.old }
+        // The frame, if there is one, is that of the machine.
+        ensures frame { frame_in result ≡ sent_by_tick self.old }
+    {
+        let announces = self.announces();
+        let defends = self.is_defended();
+        self.announcement = self.announcement.after_tick();
+        self.defends = false;
+        self.guard = if defends {
+            DEFEND_INTERVAL
+        } else {
+            self.guard.saturating_sub(1)
+        };
+        if announces {
+            Some(announcement(self.mac, self.address))
+        } else {
+            None
+        }
+    }
+
+    /// Handles a frame.
+    #[tactic(auto, unfolding(crate::specs::Answer::answer_to, crate::specs::Answer::heard))]
+    fn handle(&mut self, bytes: &[u8]) -> Option<Frame>
+        ensures state { self.new ≡ heard self.old bytes.now }
+        ensures answer { frame_in result ≡ answer_to self.old bytes.now }
+    {
+        match read(bytes) {
+            Ok(layered) => self.hear_layers(&layered),
+            Err(_) => self.echo(bytes),
+        }
+    }
+
+    /// Handles a frame that was read.
+    fn hear_layers(&mut self, layered: &Layered<'_>) -> Option<Frame>
+        ensures state { self.new ≡ after_content self.old (meaning_of layered.now).content }
+        ensures answer { frame_in result ≡ content_answer self.old layered.now.destination layered.now.source (meaning_of layered.now).content }
+    {
+        match layered.payload {
+            Payload::Arp(ref packet) => {
+                self.hear_packet(layered.destination, layered.source, packet)
+            }
+            Payload::RealTime { .. } => None,
+            Payload::Udp(ref datagram) => {
+                self.hear_datagram(layered.destination, layered.source, datagram)
+            }
+        }
+    }
+
+    /// Handles a packet of ARP.
+    fn hear_packet(&mut self, destination: Mac, source: Mac, packet: &Arp) -> Option<Frame>
+        ensures state { self.new ≡ after_packet self.old packet.now.sender }
+        ensures answer { frame_in result ≡ arp_answer self.old destination source packet.now }
+    {
+        let sought = self.is_sought(destination, packet);
+        self.judge(&packet.sender);
+        if sought {
+            Some(arp_reply(self.mac, self.address, source, packet.sender))
+        } else {
+            None
+        }
+    }
+
+    /// Handles a datagram.
+    fn hear_datagram(&self, destination: Mac, source: Mac, datagram: &Udp<'_>) -> Option<Frame>
+        ensures { frame_in result ≡ datagram_answer self.now destination source datagram.now.source datagram.now.destination datagram.now.body.now }
+    {
+        if !self.is_called(destination, &datagram.destination) {
+            return None;
+        }
+        match unserved(datagram.body) {
+            Some(answer) => Some(call_reply(
+                self.mac,
+                self.address,
+                source,
+                datagram.source,
+                answer.as_slice(),
+            )),
+            None => None,
+        }
+    }
+
+    /// Whether a datagram of this destination is a call to this station.
+    fn is_called(&self, destination: Mac, to: &Endpoint) -> bool
+        ensures { result ≡ calls_by self.now destination to.now }
+    {
+        answers_calls(self.role)
+            && self.is_own(destination)
+            && self.is_running(to.address)
+            && to.port == RPC_PORT
+    }
+
+    /// Counts the conflict, if the sender of a packet of ARP uses the running address.
+    fn judge(&mut self, sender: &Holder)
+        ensures { self.new ≡ after_packet self.old sender.now }
+    {
+        if self.is_conflict(sender) {
+            self.defends = true;
+            self.conflicts = self.conflicts.saturating_add(1);
+        }
+    }
+
+    /// The answer to a frame that is neither real-time data nor ARP nor UDP.
+    fn echo(&self, bytes: &[u8]) -> Option<Frame>
+        ensures { frame_in result ≡ echo_answer self.now (request_of bytes.now) }
+    {
+        let Ok(request) = request_at(bytes) else {
+            return None;
+        };
+        if !self.is_asked(&request) {
+            return None;
+        }
+        Some(echo_reply(self.mac, &request))
+    }
+
+    /// Whether an echo request is answered.
+    fn is_asked(&self, request: &EchoRequest<'_>) -> bool
+        ensures { result ≡ asks self.now (asked_by request.now) }
+    {
+        self.is_own(request.destination)
+            && !is_group(request.source)
+            && self.is_running(request.echo.destination)
+    }
+
+    /// Whether a packet of ARP is answered.
+    fn is_sought(&self, destination: Mac, packet: &Arp) -> bool
+        ensures { result ≡ seeks self.now destination packet.now }
+    {
+        resolves(self.role)
+            && is_request(packet.operation)
+            && (self.is_own(destination) || destination.is(&BROADCAST))
+            && self.is_running(packet.target.address)
+    }
+
+    /// Whether another station uses the running address.
+    fn is_conflict(&self, sender: &Holder) -> bool
+        ensures { result ≡ conflicts_with self.now sender.now }
+    {
+        self.is_running(sender.address) && !self.is_own(sender.mac)
+    }
+
+    /// Whether a conflict is defended in this tick.
+    fn is_defended(&self) -> bool
+        ensures { result ≡ defends_by self.now }
+    {
+        self.defends && self.guard <= 1 && !self.announcement.is_due()
+    }
+
+    /// Whether the announcement is sent in this tick.
+    fn announces(&self) -> bool
+        ensures { result ≡ announces_by self.now }
+    {
+        self.announcement.is_due() || self.is_defended()
+    }
+
+    /// Whether this is the running address, and not all zeros.
+    fn is_running(&self, address: [u8; 4]) -> bool
+        ensures { result ≡ runs self.now address }
+    {
+        is_same(address, self.address) && !is_zero(address)
+    }
+
+    /// Whether this is the MAC address of the station.
+    fn is_own(&self, mac: Mac) -> bool
+        ensures { result ≡ owns self.now mac }
+    {
+        mac.is(&self.mac)
+    }
+}

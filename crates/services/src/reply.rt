@@ -1,0 +1,135 @@
+//! The frames that the services send.
+ghost use Rattle.std.specs.Prelude.{◌≡◌, ◌-◌, ◌+◌, ◌≤◌, [], ◌++◌, length, replicate};
+ghost use Rattle.frame_codec.specs.Frame.{frame_bytes};
+ghost use Rattle.services.specs.Message.{echo_header, icmp_packet, message_header, packet_header};
+ghost use Rattle.services.specs.Echo.{echoed, internet_link, link, reply_frame};
+ghost use Rattle.services.specs.Answer.{arp_reply_of, call_reply_of};
+ghost use Rattle.services.specs.State.{announcement_by};
+ghost use Rattle.services.specs.Views.{asked_by, meaning_of};
+
+use crate::address::{BROADCAST, UNKNOWN};
+use crate::echo::EchoRequest;
+use crate::header::{IcmpPacket, put_packet};
+use crate::link::put_link;
+use crate::message::{ECHO_REPLY, EchoHeader, put_echo_header};
+use arrayvec::ArrayVec;
+use frame_codec::{Arp, ArpOperation, Endpoint, Frame, Holder, Layered, Payload, Udp, write};
+use pn_values::Mac;
+
+/// As many zeros as the shortest frame has octets.
+static ZEROS: [u8; 60] = [0; 60];
+
+/// Pads with zeros to at least 60 octets.
+fn pad(frame: &mut Frame)
+    ensures { frame.new.items ≡ frame.old.items ++ replicate (60 - length frame.old.items) 0 }
+{
+    // The shortest frame of Ethernet has 64 octets, 4 of them the check sequence, which the interface appends.
+    if frame.len() < 60 {
+        frame.append(&ZEROS[frame.len()..]);
+    }
+}
+
+/// The headers of the reply to an echo request: of Ethernet, of IPv4 and of the message.
+fn headers(mac: Mac, request: &EchoRequest<'_>) -> ArrayVec<u8, 42>
+    requires { length request.now.echo.body.now ≤ 1472 }
+    ensures items { let message = echoed (meaning_of request.now.echo) in result.items
+        ≡ (link.write (internet_link request.now.source mac) [] ++ icmp_packet.write (packet_header message) [])
+        ++ (echo_header 0).write (message_header 0 message) [] }
+    ensures len { length result.items ≡ 42 }
+{
+    let echo = &request.echo;
+    let source = echo.destination;
+    let destination = echo.source;
+    let packet = IcmpPacket {
+        size: echo.body.len() as u16 + 8,
+        checksum: 0,
+        source,
+        destination,
+    }
+    .seal();
+    let message = EchoHeader {
+        checksum: 0,
+        identifier: echo.identifier,
+        sequence: echo.sequence,
+    }
+    .seal(ECHO_REPLY, echo.body);
+    let mut out: ArrayVec<u8, 42> = ArrayVec::new();
+    put_link(&mut out, request.source, mac);
+    put_packet(&mut out, &packet);
+    put_echo_header(&mut out, ECHO_REPLY, &message);
+    out
+}
+
+/// The frame that replies to an echo request.
+pub(crate) fn echo_reply(mac: Mac, request: &EchoRequest<'_>) -> Frame
+    requires { length request.now.echo.body.now ≤ 1472 }
+    ensures { result.items ≡ reply_frame mac (asked_by request.now) }
+{
+    let headers = headers(mac, request);
+    let mut frame = Frame::new();
+    frame.append(headers.as_slice());
+    frame.append(request.echo.body);
+    pad(&mut frame);
+    frame
+}
+
+/// The frame that tells a station that this one holds the address.
+pub(crate) fn arp_reply(mac: Mac, address: [u8; 4], asker: Mac, target: Holder) -> Frame
+    ensures { result.items ≡ frame_bytes (arp_reply_of mac address asker target) }
+{
+    let sender = Holder { mac, address };
+    write(&Layered {
+        destination: asker,
+        source: mac,
+        tag: None,
+        payload: Payload::Arp(Arp {
+            operation: ArpOperation::Reply,
+            sender,
+            target,
+        }),
+    })
+}
+
+/// The frame that takes the answer to a call to its caller.
+pub(crate) fn call_reply(
+    mac: Mac,
+    address: [u8; 4],
+    asker: Mac,
+    caller: Endpoint,
+    body: &[u8],
+) -> Frame
+    requires { length body.now ≤ 1472 }
+    ensures { result.items ≡ frame_bytes (call_reply_of mac address asker caller body.now) }
+{
+    write(&Layered {
+        destination: asker,
+        source: mac,
+        tag: None,
+        payload: Payload::Udp(Udp {
+            source: Endpoint::of_calls(address),
+            destination: caller,
+            body,
+        }),
+    })
+}
+
+/// The frame that announces the address to all stations.
+pub(crate) fn announcement(mac: Mac, address: [u8; 4]) -> Frame
+    ensures { result.items ≡ frame_bytes (announcement_by mac address) }
+{
+    let sender = Holder { mac, address };
+    let target = Holder {
+        mac: UNKNOWN,
+        address,
+    };
+    write(&Layered {
+        destination: BROADCAST,
+        source: mac,
+        tag: None,
+        payload: Payload::Arp(Arp {
+            operation: ArpOperation::Request,
+            sender,
+            target,
+        }),
+    })
+}
