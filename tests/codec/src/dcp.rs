@@ -2,8 +2,9 @@
 
 use arrayvec::ArrayVec;
 use dcp_core::{
-    DcpFault, Kind, Outcome, Request, Response, ResponseBlock, ResponseBlocks, Service, get_answer,
-    identify_answer, identify_matches, read_answer, read_request, set_answer, set_plan,
+    Block, DcpFault, Kind, Outcome, Request, Response, ResponseBlock, ResponseBlocks, Service,
+    get_answer, identify_answer, identify_matches, read_answer, read_request, set_answer, set_plan,
+    write_request,
 };
 use pn_values::{BlockError, Command, IpSuite, SetItem, Settings, demo_identity};
 use station_names::check;
@@ -193,6 +194,82 @@ fn plans_a_name_and_refuses_a_mask() {
         4, 1, 0, 0, 0, 2, 0, 0, 0, 16, 5, 4, 0, 3, 2, 2, 0, 0, 5, 4, 0, 3, 1, 2, 3, 0,
     ];
     sets(&request, &errors, &expected);
+}
+
+/// What a Set of this name asks for, of a station that no relation uses. The name has an even number of octets.
+fn set_of(name: &[u8]) -> ArrayVec<SetItem, 16> {
+    let mut bytes = ArrayVec::<u8, 64>::new();
+    let head = [4, 0, 0, 0, 0, 2, 0, 0, 0, name.len() as u8 + 6];
+    let block = [2, 2, 0, name.len() as u8 + 2, 0, 1];
+    for part in [&head[..], &block, name] {
+        bytes.try_extend_from_slice(part).expect("fits");
+    }
+    set_plan(&request(GET_SET, bytes.as_slice()), false)
+}
+
+// No octets delete the name; a text that is not a station name is refused, and deletes nothing.
+#[test]
+fn refuses_a_bad_name() {
+    assert!(matches!(
+        set_of(b"").as_slice(),
+        [SetItem::Ask(Command::SetName { permanent: true, name })] if name.as_bytes().is_empty()
+    ));
+    for name in [
+        &b"Pump-1"[..],
+        b"pump-1--",
+        b"a..b",
+        b"port-001",
+        b"10.0.0.1",
+    ] {
+        assert!(
+            matches!(
+                set_of(name).as_slice(),
+                [SetItem::Answer(BlockError::Value)]
+            ),
+            "{name:?}"
+        );
+    }
+}
+
+/// This is how a request for one block is sent.
+fn asks(service: Service, kind: Kind, contents: &[u8], expected: &[u8]) {
+    let mut blocks = ArrayVec::new();
+    blocks.push(Block { kind, contents });
+    let mut octets = ArrayVec::<u8, 64>::new();
+    write_request(
+        &Request {
+            service,
+            xid: 0x0102_0304,
+            blocks,
+        },
+        &mut octets,
+    );
+    assert_eq!(octets.as_slice(), expected, "{service:?}");
+}
+
+// As Wireshark reads them: an Identify has the ResponseDelay 1, which a Get and a Set do not have.
+#[test]
+fn asks_with_a_delay_only_in_an_identify() {
+    asks(
+        Service::Identify,
+        Kind::NameOfStation,
+        b"pump-1",
+        &[
+            5, 0, 1, 2, 3, 4, 0, 1, 0, 10, 2, 2, 0, 6, b'p', b'u', b'm', b'p', b'-', b'1',
+        ],
+    );
+    asks(
+        Service::Get,
+        Kind::NameOfStation,
+        b"",
+        &[3, 0, 1, 2, 3, 4, 0, 0, 0, 2, 2, 2],
+    );
+    asks(
+        Service::Set,
+        Kind::Signal,
+        &[0, 0, 1, 0],
+        &[4, 0, 1, 2, 3, 4, 0, 0, 0, 8, 5, 3, 0, 4, 0, 0, 1, 0],
+    );
 }
 
 #[test]

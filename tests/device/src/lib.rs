@@ -15,6 +15,7 @@ mod cycles;
 mod faults;
 mod frames;
 mod full;
+mod lamp;
 mod losses;
 
 /// A station that is tried, and what it sent last.
