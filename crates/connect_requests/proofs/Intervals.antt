@@ -1,7 +1,7 @@
 -- The intervals of a Connect that is accepted.
-use Rattle.std.proofs.Common.{◌≡◌, ◌*◌, ◌<◌, ◌≤◌, ◌||◌, ℕ, zero, suc, Bool, true, false, cond, List, [], ◌∷◌, length, Option, Some, None, Result, Ok, Err, refl, sym, ap, subst, ◌∙◌}
+use Rattle.std.proofs.Common.{◌≡◌, inl, inr, ◌==◌, ◌*◌, ◌<◌, ◌≤◌, ◌||◌, ◌&&◌, ℕ, zero, suc, Bool, true, false, cond, List, [], ◌∷◌, length, Option, Some, None, Result, Ok, Err, refl, sym, ap, ◌∙◌, arith}
 use Rattle.std.specs.Prelude.{nat_lt, is_some, not}
-use Rattle.std.proofs.lemmas.Bool.{lt-ltb, ltb-true, le-ltb, false≢true}
+use Rattle.std.proofs.lemmas.Bool.{cases_lt, lt-ltb, le-ltb, true≢false}
 use Rattle.wire.specs.Codec.{◌>>=◌}
 use Rattle.wire.specs.Checks.{or_fault}
 use Rattle.records.specs.declared.status.call_fault.CallFault.{CallFault}
@@ -13,6 +13,8 @@ use Rattle.connect_blocks.specs.declared.iocr.IocrType.TheVariants.{Input, Outpu
 use Rattle.connect_blocks.specs.declared.iocr.IocrBlockReq.{IocrBlockReq}
 use Rattle.block_codec.specs.declared.block.Block.{Block}
 use Rattle.block_codec.specs.declared.block.Block.TheVariants as is
+use Rattle.block_codec.specs.declared.block_type.BlockType.TheVariants as kind
+use Rattle.block_codec.specs.Kinds.{number_of}
 use Rattle.module_diff.specs.declared.expected.Expected.{Expected}
 use Rattle.cyclic_data.specs.Layout.{Table}
 use Rattle.connect_requests.specs.declared.parts.Ar.{Ar}
@@ -20,7 +22,7 @@ use Rattle.connect_requests.specs.declared.parts.AlarmCr.{AlarmCr}
 use Rattle.connect_requests.specs.Pieces.{Piece, pieces_of}
 use Rattle.connect_requests.specs.Layouts.{data_of, in_order, layout_of}
 use Rattle.connect_requests.specs.Request.{Request, iocr_of}
-use Rattle.connect_requests.specs.Handled.{Sofar, admitted, any_short, ar_in, behind_ar, expected_with, has_iocr, is_short, is_short_in, nothing, request_behind, request_in, request_of, request_with, request_within, some_short, this_or, well_formed, with_block, with_iocr, with_piece, with_pieces}
+use Rattle.connect_requests.specs.Handled.{Sofar, admitted, any_short, ar_in, behind_ar, expected_with, has_iocr, is_further, is_short, is_short_in, nothing, request_behind, request_in, request_of, request_with, request_within, some_short, this_or, well_formed, with_block, with_iocr, with_piece, with_pieces}
 
 bind_ok : {A B : Type 0} (r : Result A CallFault) (f : A → Result B CallFault) (y : B) → (r >>= f) ≡ Ok y → (x : A) × (r ≡ Ok x) × (f x ≡ Ok y)
 bind_ok (Ok x) f y e = (x, refl, e)
@@ -102,7 +104,9 @@ piece_counts : (smallest : ℕ) (sofar next : Sofar) (piece : Piece) → with_pi
     → (is_short_in smallest piece.found || short_by smallest sofar) ≡ short_by smallest next
 unfolding with_piece
 piece_counts smallest sofar next piece e =
-    found_counts smallest piece.number sofar next piece.found (handled_three _ _ _ _ _ _ _ next e)
+    found_counts smallest piece.number sofar next piece.found
+    (handled_three (nat_lt piece.left 4) (not (is_further piece.number)) (piece.number == number_of kind.AlarmCrBlockReq && is_some sofar.alarm)
+    faults.BlockHeader faults.BlockType faults.AlarmCrRepeated (well_formed piece.number piece.found >>= λ (block : Block). with_block sofar block) next e)
 
 -- ---- all blocks
 
@@ -169,7 +173,8 @@ parts_false true b e = absurd cc
 parts_false false b e = (refl, e)
 
 not_less : (a b : ℕ) → nat_lt a b ≡ false → b ≤ a
-not_less a b e = omega (arith, e)
+not_less a b e =
+    elim (cases_lt a b) [ inl below ↦ absurd (true≢false (sym (lt-ltb a b below) ∙ e)) | inr above ↦ omega (arith, above) ]
 
 unshort : (short : Bool) (read : Result Request CallFault) (request : Request) → cond short (Err (faults.IocrField 10)) read ≡ Ok request
     → (short ≡ false) × (read ≡ Ok request)

@@ -21,7 +21,6 @@ pub fn layouts_are_taken()
 
 /// How a smallest interval is kept. These are laws of the definitions that specify `ConnectRequest::read`; the function
 /// has no code. An interval is SendClockFactor times ReductionRatio.
-#[tactic(auto, using(crate::proofs::Intervals::accepted_within, crate::proofs::Intervals::same_within, crate::proofs::Intervals::input_within, crate::proofs::Intervals::output_within, crate::proofs::Read::standing_within))]
 pub fn intervals_are_kept()
     // A Connect that is accepted asks for no smaller interval, and is read as without the smallest interval.
     ensures accepted { (smallest : ℕ) (blocks : List ℕ) (request : Request) → request_within smallest None blocks ≡ Ok request →
