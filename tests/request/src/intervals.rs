@@ -17,9 +17,17 @@ fn status(smallest: u32, blocks: &[u8]) -> Option<[u8; 4]> {
 
 /// A Connect with these two IOCRBlockReq.
 fn connect(input: &[u8], output: &[u8]) -> Vec<u8> {
-    joined(&[&AR, input, output, &ALARM, &EXPECTED_0, &EXPECTED_1, &EXPECTED_2])
-        .as_slice()
-        .to_vec()
+    joined(&[
+        &AR,
+        input,
+        output,
+        &ALARM,
+        &EXPECTED_0,
+        &EXPECTED_1,
+        &EXPECTED_2,
+    ])
+    .as_slice()
+    .to_vec()
 }
 
 #[test]
@@ -36,13 +44,28 @@ fn the_smallest_interval_itself_is_accepted() {
 fn either_direction_is_checked() {
     // SendClockFactor 64: 64 units
     let (input, output) = (with(&INPUT, 21, 64), with(&OUTPUT, 21, 64));
-    assert_eq!(status(64, &connect(input.as_slice(), output.as_slice())), None);
-    assert_eq!(status(64, &connect(input.as_slice(), &OUTPUT)), Some(TOO_SMALL));
-    assert_eq!(status(64, &connect(&INPUT, output.as_slice())), Some(TOO_SMALL));
+    assert_eq!(
+        status(64, &connect(input.as_slice(), output.as_slice())),
+        None
+    );
+    assert_eq!(
+        status(64, &connect(input.as_slice(), &OUTPUT)),
+        Some(TOO_SMALL)
+    );
+    assert_eq!(
+        status(64, &connect(&INPUT, output.as_slice())),
+        Some(TOO_SMALL)
+    );
     // ReductionRatio 2 does the same
     let (input, output) = (with(&INPUT, 23, 2), with(&OUTPUT, 23, 2));
-    assert_eq!(status(64, &connect(input.as_slice(), output.as_slice())), None);
-    assert_eq!(status(65, &connect(input.as_slice(), output.as_slice())), Some(TOO_SMALL));
+    assert_eq!(
+        status(64, &connect(input.as_slice(), output.as_slice())),
+        None
+    );
+    assert_eq!(
+        status(65, &connect(input.as_slice(), output.as_slice())),
+        Some(TOO_SMALL)
+    );
 }
 
 #[test]
@@ -54,7 +77,10 @@ fn the_largest_interval_is_accepted() {
         with(block.as_slice(), 23, 0)
     };
     let (input, output) = (long(&INPUT), long(&OUTPUT));
-    assert_eq!(status(65_536, &connect(input.as_slice(), output.as_slice())), None);
+    assert_eq!(
+        status(65_536, &connect(input.as_slice(), output.as_slice())),
+        None
+    );
     assert_eq!(
         status(65_537, &connect(input.as_slice(), output.as_slice())),
         Some(TOO_SMALL)
@@ -83,9 +109,15 @@ fn faults_of_later_blocks_come_later() {
     let output = with(&OUTPUT, 7, 3);
     let blocks = joined(&[&AR, &INPUT, output.as_slice()]);
     assert_eq!(status(33, blocks.as_slice()), Some(TOO_SMALL));
-    assert_eq!(status(32, blocks.as_slice()), Some([0xdb, 0x81, 0x02, 0x04]));
+    assert_eq!(
+        status(32, blocks.as_slice()),
+        Some([0xdb, 0x81, 0x02, 0x04])
+    );
     // a fault of the ARBlockReq comes before: its version is field 2
     let ar = with(&AR, 4, 2);
     let blocks = joined(&[ar.as_slice(), &INPUT]);
-    assert_eq!(status(33, blocks.as_slice()), Some([0xdb, 0x81, 0x01, 0x02]));
+    assert_eq!(
+        status(33, blocks.as_slice()),
+        Some([0xdb, 0x81, 0x01, 0x02])
+    );
 }

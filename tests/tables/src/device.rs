@@ -51,8 +51,14 @@ impl Device {
         match operation {
             Operation::Connect => {
                 let options = DeviceOptions::default();
-                self.relation
-                    .connect(&self.identity, &self.real, &options, PARTNER, blocks, answer)
+                self.relation.connect(
+                    &self.identity,
+                    &self.real,
+                    &options,
+                    PARTNER,
+                    blocks,
+                    answer,
+                )
             }
             Operation::Release => self.relation.release(blocks, answer),
             Operation::Control => self.relation.control(blocks, answer),
