@@ -14,10 +14,13 @@ use Rattle.block_codec.specs.declared.block.Block.TheVariants as variant
 use Rattle.block_codec.specs.declared.block_type.BlockType.TheVariants as kind
 use Rattle.block_codec.specs.Block.{block_bytes}
 use Rattle.records.specs.declared.status.call_fault.CallFault.{CallFault}
+use Rattle.records.specs.declared.status.call_fault.CallFault.TheVariants as fault
 use Rattle.records.specs.declared.status.operation.Operation.{Operation}
 use Rattle.records.specs.declared.status.operation.Operation.TheVariants as operation
 use Rattle.records.specs.status.Operation.{operation_of}
+use Rattle.connect_requests.specs.Pieces.{pieces_of}
 use Rattle.connect_requests.specs.Request.{Request}
+use Rattle.connect_requests.specs.Handled.{any_short, request_of, request_within}
 use Rattle.record_blocks.specs.declared.write_record.IodWriteReq.{IodWriteReq}
 use Rattle.records.specs.declared.writes.write.Effect.{Effect}
 use Rattle.records.specs.declared.writes.write.Effect.TheVariants.{Stores, Keeps}
@@ -69,6 +72,13 @@ never_done (Err why) next more value refused e = err_ok why value e
 never_done (Ok block) next more value refused e =
     let there = refused block in
     err_ok there.0 value (sym (ap (λ (r : Result ControlBlock CallFault). r >>= more) there.1) ∙ e)
+
+-- a Connect that is accepted is answered by what it asks for, whatever the smallest interval is
+accepted_as : (short : Bool) (read : Result Request CallFault) (blocks : Request → List ℕ) (one : Request) (value : List ℕ) → read ≡ Ok one
+    → (cond short (Err (fault.IocrField 10)) read >>= λ request. Ok (blocks request)) ≡ Ok value → blocks one ≡ value
+accepted_as true read blocks one value is e = absurd cc
+accepted_as false read blocks one value is e =
+    ok_is (blocks one) value (sym (ap (λ (r : Result Request CallFault). r >>= λ request. Ok (blocks request)) is) ∙ e)
 
 no_end : (blocks value : List ℕ) → prm_end_answer None blocks ≡ Ok value → ⊥
 unfolding prm_end_of
@@ -150,12 +160,14 @@ module _ (setup : Setup) (station : Station) (live : Live) where
     IsPlannedFor blocks which = IsPlannedAs (rules_of setup station) station.real call.header.sequence blocks which
 
     connect_well : (blocks : List ℕ) → IsPlannedFor blocks (Some operation.Connect) → (call.header.sequence ≡ 0 → live.rest.link ≡ None)
-        → IsWellOutcome call (connect_answer station.identity station.real live.rest.link blocks)
+        → IsWellOutcome call (connect_answer station.identity station.real station.options.smallest_interval live.rest.link blocks)
+    unfolding request_within
     connect_well blocks plan none = λ chooses zero_is value e.
-        let is : connect_answer station.identity station.real None blocks ≡ Ok (connect_blocks station.identity asked (differing_of asked station.real)) =
-        ap (λ (r : Result Request CallFault). r >>= λ request. Ok (connect_blocks station.identity request (differing_of request station.real))) plan in
-        let all = sym is ∙ (sym (ap (λ (l : Option RelationState). connect_answer station.identity station.real l blocks) (none zero_is)) ∙ e) in
-        subst (λ (octets : List ℕ). IsChosenWell octets) (ok_is (connect_blocks station.identity asked (differing_of asked station.real)) value all) chooses
+        let smallest = station.options.smallest_interval in
+        let all = sym (ap (λ (l : Option RelationState). connect_answer station.identity station.real smallest l blocks) (none zero_is)) ∙ e in
+        subst (λ (octets : List ℕ). IsChosenWell octets)
+        (accepted_as (any_short smallest None (pieces_of blocks)) (request_of None blocks) (λ request. connect_blocks station.identity request (differing_of request station.real)) asked value plan all)
+        chooses
 
     end_well : (blocks : List ℕ) → (call.header.sequence ≡ 0 → live.rest.link ≡ None) → IsWellOutcome call (prm_end_answer live.rest.link blocks)
     end_well blocks none = λ chooses zero_is value e. absurd (no_end blocks value (sym (ap (λ (l : Option RelationState). prm_end_answer l blocks) (none zero_is)) ∙ e))
@@ -180,7 +192,7 @@ module _ (setup : Setup) (station : Station) (live : Live) where
     new_serves : (blocks : List ℕ) (which : Operation) → IsPlannedFor blocks (Some which) → (call.header.sequence ≡ 0 → live.rest.link ≡ None)
         → Serves (handled_new station live caller call blocks which)
     new_serves blocks operation.Connect plan none = λ answers.
-        (answer_served from caller call operation.Connect (connect_answer station.identity station.real live.rest.link blocks) (connect_well blocks plan none), tt)
+        (answer_served from caller call operation.Connect (connect_answer station.identity station.real station.options.smallest_interval live.rest.link blocks) (connect_well blocks plan none), tt)
     new_serves blocks operation.Release plan none = λ answers.
         (answer_served from caller call operation.Release (release_answer live.rest.link blocks) (release_well blocks none), tt)
     new_serves blocks operation.Read plan none = absurd plan

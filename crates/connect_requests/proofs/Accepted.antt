@@ -55,3 +55,7 @@ iocr_in_range block layout is = record {
 -- The interval, in units of 31.25 microseconds.
 pub interval_few : (clock ratio : ℕ) → clock ≤ 128 → ratio ≤ 512 → clock * ratio ≤ 65536
 interval_few clock ratio short few = mul-le clock ratio 128 512 short few
+
+-- It fits 32 bits whatever the factors are.
+pub interval_fits : (clock ratio : ℕ) → clock ≤ 65535 → ratio ≤ 65535 → clock * ratio ≤ 4294836225
+interval_fits clock ratio short few = mul-le clock ratio 65535 65535 short few

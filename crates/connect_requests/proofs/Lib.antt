@@ -1,3 +1,4 @@
 mod Accepted
 mod Handled
+mod Intervals
 mod Read

@@ -1,6 +1,6 @@
 -- The order in which the blocks of a Connect are checked (IEC 61158-6-10, 5.2.4 and 5.2.6): the ARBlockReq first, then
 -- the others in their order, then which are missing, and then the layouts.
-use Rattle.std.specs.Prelude.{◌+◌, ◌==◌, ◌&&◌, ◌||◌, ℕ, Bool, true, false, not, List, [], ◌∷◌, ◌++◌, length, nat_eq, nat_lt, Option, Some, None, is_some, Result, Ok, Err, if◌then◌else◌}
+use Rattle.std.specs.Prelude.{◌+◌, ◌*◌, ◌==◌, ◌&&◌, ◌||◌, ℕ, Bool, true, false, not, List, [], ◌∷◌, ◌++◌, length, nat_eq, nat_lt, Option, Some, None, is_some, Result, Ok, Err, if◌then◌else◌}
 use Rattle.std.specs.List.{list_any}
 use Rattle.std.specs.Cmp.Lexicographic.{pointwise}
 use Rattle.wire.specs.Checks.{or_fault}
@@ -183,3 +183,40 @@ request_in standing (piece ∷ pieces) =
 -- relation, if any.
 unfoldable pub request_of : Option (List ℕ) → List ℕ → Result Request CallFault
 request_of standing blocks = request_in standing (pieces_of blocks)
+
+-- ---- the smallest interval
+
+-- Whether a block asks for cyclic frames at a smaller interval than this, in units of 31.25 microseconds. The interval
+-- is SendClockFactor times ReductionRatio.
+abbrev pub is_short : ℕ → Block → Bool
+is_short smallest (is.IocrBlockReq block) = nat_lt (block.send_clock_factor * block.reduction_ratio) smallest
+is_short smallest _ = false
+
+abbrev pub is_short_in : ℕ → Result Block BlockFault → Bool
+is_short_in smallest (Ok block) = is_short smallest block
+is_short_in smallest (Err form) = false
+
+-- Whether one of the blocks does, if it and all before it are accepted otherwise.
+abbrev pub this_or : Result Sofar CallFault → Bool → (Sofar → Bool) → Bool
+this_or (Ok next) this others = this || others next
+this_or (Err fault) this others = false
+
+unfoldable pub some_short : ℕ → Sofar → List Piece → Bool
+some_short smallest sofar [] = false
+some_short smallest sofar (piece ∷ pieces) = this_or (with_piece sofar piece) (is_short_in smallest piece.found) (λ next. some_short smallest next pieces)
+
+-- The same for the blocks after an ARBlockReq that is accepted. While a relation exists no further block is looked at.
+abbrev pub behind_ar : Result Ar CallFault → Bool → Bool
+behind_ar (Ok ar) others = others
+behind_ar (Err fault) others = false
+
+unfoldable pub any_short : ℕ → Option (List ℕ) → List Piece → Bool
+any_short smallest (Some standing) pieces = false
+any_short smallest None [] = false
+any_short smallest None (piece ∷ pieces) = behind_ar (ar_in piece) (some_short smallest nothing pieces)
+
+-- What the blocks of a Connect ask for, or their first fault, if the device has a smallest interval. A smaller one is
+-- refused in the turn of its IOCRBlockReq: after each other fault of that block, and before the faults of later blocks.
+unfoldable pub request_within : ℕ → Option (List ℕ) → List ℕ → Result Request CallFault
+request_within smallest standing blocks =
+    if any_short smallest standing (pieces_of blocks) then Err (fault.IocrField 10) else request_of standing blocks

@@ -1,12 +1,11 @@
 //! The blocks that follow the ARBlockReq.
-ghost use Rattle.std.specs.Prelude.{◌≡◌, IfOk};
+ghost use Rattle.std.specs.Prelude.{◌≡◌, ◌*◌, IfOk, nat_lt};
 ghost use Rattle.wire.specs.Codec.{Gives};
 ghost use Rattle.wire.specs.Formats.{big_number};
 ghost use Rattle.block_codec.specs.Block.{block_of, IsAccepted};
 ghost use Rattle.connect_requests.specs.Pieces.{behind, block_in, piece_at, pieces_in};
-ghost use Rattle.connect_requests.specs.Handled.{faulty, field_of, has_iocr, is_further, nothing, well_formed, with_block, with_piece};
-ghost use Rattle.connect_requests.specs.Handled.{with_pieces};
-ghost use Rattle.connect_requests.specs.Drafts.{AreAccepted, sofar_of};
+ghost use Rattle.connect_requests.specs.Handled.{faulty, field_of, has_iocr, is_further, is_short, nothing, well_formed, with_block};
+ghost use Rattle.connect_requests.specs.Drafts.{AreAccepted, piece_within, pieces_within, sofar_of};
 
 use crate::expected::{Room, add_modules};
 use crate::parts::{AlarmCr, alarm_of};
@@ -96,6 +95,24 @@ fn is_further(number: u16) -> bool
         || number == BlockType::ExpectedSubmoduleBlockReq.number()
 }
 
+/// Whether an IOCRBlockReq asks for a smaller interval than this.
+#[tactic(auto, using(crate::proofs::Accepted::interval_fits))]
+fn is_too_short(block: &IocrBlockReq<'_>, smallest: u32) -> bool
+    ensures { result ≡ nat_lt (block.now.send_clock_factor * block.now.reduction_ratio) smallest }
+{
+    u32::from(block.send_clock_factor) * u32::from(block.reduction_ratio) < smallest
+}
+
+/// Whether a block asks for a smaller interval than this.
+fn is_short(block: &Block<'_>, smallest: u32) -> bool
+    ensures { result ≡ is_short smallest block.now }
+{
+    match block {
+        Block::IocrBlockReq(block) => is_too_short(block, smallest),
+        _ => false,
+    }
+}
+
 impl<'a> Draft<'a> {
     /// An empty draft.
     pub(crate) fn new() -> Draft<'a>
@@ -166,16 +183,18 @@ impl<'a> Draft<'a> {
         }
     }
 
-    /// Adds the block at the start of the octets. Returns the octets after it.
+    /// Adds the block at the start of the octets, if it does not ask for a smaller interval than `smallest`. Returns the
+    /// octets after it.
     #[tactic(auto, unfolding(crate::specs::Handled::with_piece))]
     fn add_piece(
         &mut self,
+        smallest: u32,
         bytes: &'a [u8],
         room: &mut Room,
         expected: &mut Expected,
     ) -> Result<&'a [u8], CallFault>
         ensures piece { Gives (λ _. sofar_of self.new expected.new) result
-            (with_piece (sofar_of self.old expected.old) (piece_at bytes.now)) }
+            (piece_within smallest (sofar_of self.old expected.old) (piece_at bytes.now)) }
         ensures behind { IfOk result (λ rest. rest.now ≡ behind (block_of bytes.now)) }
         ensures accepted { AreAccepted self.old → AreAccepted self.new }
     {
@@ -191,20 +210,26 @@ impl<'a> Draft<'a> {
             return Err(CallFault::AlarmCrRepeated);
         }
         let (block, rest) = block_within(number, bytes, room)?;
+        let is_refused = is_short(&block, smallest);
         self.add_block(block, room, expected)?;
+        // This is checked last: each other fault of the block comes first.
+        if is_refused {
+            return Err(CallFault::IocrField(10));
+        }
         Ok(rest)
     }
 
-    /// Adds all blocks in the octets, at most `most`.
+    /// Adds all blocks in the octets, at most `most`, if none asks for a smaller interval than `smallest`.
     pub(crate) fn add_pieces(
         &mut self,
+        smallest: u32,
         bytes: &'a [u8],
         most: usize,
         room: &mut Room,
         expected: &mut Expected,
     ) -> Result<(), CallFault>
         ensures pieces { Gives (λ _. sofar_of self.new expected.new) result
-            (with_pieces (sofar_of self.old expected.old) (pieces_in most bytes.now)) }
+            (pieces_within smallest (sofar_of self.old expected.old) (pieces_in most bytes.now)) }
         ensures accepted { AreAccepted self.old → AreAccepted self.new }
     {
         let mut rest = bytes;
@@ -212,7 +237,7 @@ impl<'a> Draft<'a> {
             if rest.is_empty() {
                 return Ok(());
             }
-            rest = self.add_piece(rest, room, expected)?;
+            rest = self.add_piece(smallest, rest, room, expected)?;
         }
         Ok(())
     }

@@ -12,6 +12,6 @@ mod layouts;
 mod parts;
 mod request;
 
-pub use laws::layouts_are_taken;
+pub use laws::{intervals_are_kept, layouts_are_taken};
 pub use parts::{AlarmCr, Ar, Iocr};
 pub use request::{ConnectRequest, refuse};

@@ -1,10 +1,10 @@
 //! What a Connect asks for, stored in place.
-ghost use Rattle.std.specs.Prelude.{◌≡◌, None, Some, Err, IfOk};
+ghost use Rattle.std.specs.Prelude.{◌≡◌, ℕ, None, Some, Err, IfOk};
 ghost use Rattle.wire.specs.Codec.{Gives};
 ghost use Rattle.block_codec.specs.Block.{block_of};
 ghost use Rattle.connect_requests.specs.Pieces.{behind, piece_at, pieces_in};
-ghost use Rattle.connect_requests.specs.Handled.{conflict, ar_in, request_behind, request_of, request_with};
-ghost use Rattle.connect_requests.specs.Drafts.{AreAccepted, sofar_of};
+ghost use Rattle.connect_requests.specs.Handled.{conflict, ar_in, request_with, request_within};
+ghost use Rattle.connect_requests.specs.Drafts.{AreAccepted, behind_within, sofar_of};
 ghost use Rattle.connect_requests.specs.Request.{IsAlarmCr, IsAr, IsIocr};
 
 use crate::draft::{Draft, block_at};
@@ -89,9 +89,10 @@ fn conflict(standing: &Uuid, asked: &Uuid) -> CallFault
     }
 }
 
-/// Why a Connect with these blocks is refused while the relation with this ARUUID exists.
+/// Why a Connect with these blocks is refused while the relation with this ARUUID exists, whatever the smallest interval
+/// is.
 pub fn refuse(standing: &Uuid, blocks: &[u8]) -> CallFault
-    ensures { request_of (Some standing.now) blocks.now ≡ Err result }
+    ensures { (smallest : ℕ) → request_within smallest (Some standing.now) blocks.now ≡ Err result }
 {
     if blocks.is_empty() {
         return CallFault::BlockMissing;
@@ -118,29 +119,36 @@ impl ConnectRequest {
         }
     }
 
-    /// Reads what the blocks of a Connect ask for while no relation exists. Returns the first fault in the order of the
-    /// statuses; after a fault the stored content must not be used.
-    pub fn read(&mut self, blocks: &[u8]) -> Result<(), CallFault>
-        ensures { Gives (λ _. self.new) result (request_of None blocks.now) }
+    /// Reads what the blocks of a Connect ask for while no relation exists. An IOCRBlockReq with a smaller interval than
+    /// `smallest`, in units of 31.25 microseconds, is refused. Returns the first fault in the order of the statuses; after
+    /// a fault the stored content must not be used.
+    pub fn read(&mut self, smallest: u32, blocks: &[u8]) -> Result<(), CallFault>
+        ensures { Gives (λ _. self.new) result (request_within smallest None blocks.now) }
     {
         if blocks.is_empty() {
             return Err(CallFault::BlockMissing);
         }
         match first_block(blocks) {
-            Ok((ar, others)) => self.read_others(ar, others, blocks.len() - 1),
+            Ok((ar, others)) => self.read_others(smallest, ar, others, blocks.len() - 1),
             Err(fault) => Err(fault),
         }
     }
 
     /// Reads the blocks after the ARBlockReq, at most `most`.
-    fn read_others(&mut self, ar: Ar, others: &[u8], most: usize) -> Result<(), CallFault>
+    fn read_others(
+        &mut self,
+        smallest: u32,
+        ar: Ar,
+        others: &[u8],
+        most: usize,
+    ) -> Result<(), CallFault>
         requires { IsAr ar }
-        ensures { Gives (λ _. self.new) result (request_behind ar (pieces_in most others.now)) }
+        ensures { Gives (λ _. self.new) result (behind_within smallest ar (pieces_in most others.now)) }
     {
         let mut draft = Draft::new();
         let mut room = Room::new();
         clear(&mut self.expected);
-        draft.add_pieces(others, most, &mut room, &mut self.expected)?;
+        draft.add_pieces(smallest, others, most, &mut room, &mut self.expected)?;
         self.finish(ar, &draft)
     }
 

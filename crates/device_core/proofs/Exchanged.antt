@@ -12,7 +12,7 @@ use Rattle.relations.specs.Phases.{updated}
 use Rattle.relations.specs.Exchanged.{becoming, heard_by, hearing, received_by, receiving, receiving_as}
 use Rattle.device_frames.specs.declared.note.Note.TheVariants.{Done, Refused}
 use Rattle.device_core.specs.State.{Station, Live}
-use Rattle.device_core.specs.Handled.{handled_cyclic, handled_notice, handled_received}
+use Rattle.device_core.specs.Handled.{handled_cyclic, handled_input, handled_notice, handled_received}
 use Rattle.device_frames.specs.Relation.{alarms_of}
 use Rattle.device_core.specs.Machine.{Finished, end_of}
 
@@ -53,6 +53,17 @@ pub notice_raised : (station : Station) (live : Live) (flow : Option Flow) → i
     ≡ record { rest = record live.rest { link = updated (becoming flow) live.rest.link }; sent = alarms_of (flow_of (updated (becoming flow) live.rest.link)); note = Done }
 notice_raised station live (Some flow) some = refl
 notice_raised station live None some = cc
+
+pub notice_leaves : (station : Station) (live : Live) (flow : Option Flow) → is_some flow ≡ false
+    → (end_of station live (handled_notice live flow)).rest ≡ record live.rest { link = updated (becoming flow) live.rest.link }
+notice_leaves station live (Some flow) none = cc
+notice_leaves station live None none = refl
+
+-- The rest after an input is given, or refused.
+pub input_leaves : (station : Station) (live : Live) (flow : Option Flow)
+    → (end_of station live (handled_input live flow)).rest ≡ record live.rest { link = updated (becoming flow) live.rest.link }
+input_leaves station live (Some flow) = refl
+input_leaves station live None = refl
 
 -- A PDU that is ignored changes nothing.
 pub stays_ignored : (message : ToDevice) (link : Option RelationState) → heard_by message link ≡ fate.Ignored → updated (hearing message link) link ≡ link

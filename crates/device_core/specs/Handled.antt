@@ -46,7 +46,7 @@ use Rattle.relations.specs.declared.hearing.ReadyAnswer.TheVariants as to_ready
 use Rattle.relations.specs.declared.phase.Partner.{Partner}
 use Rattle.relations.specs.RelationState.{RelationState, uuid_of, differing_in, flow_of, is_alarm_of}
 use Rattle.relations.specs.Calls.{prm_end_of, release_of, prm_end_answer, release_answer}
-use Rattle.relations.specs.Connect.{connect_of, connect_answer, making}
+use Rattle.relations.specs.Connect.{connect_within, connect_answer, making}
 use Rattle.relations.specs.Ready.{answer_of as ready_answer, handled_by}
 use Rattle.relations.specs.Timers.{due_of}
 use Rattle.relations.specs.Phases.{Handled as Moving, Parameterized, Named, Ended, Exchanged, Unmoved, answered, keeping, updated, passing, taking}
@@ -164,8 +164,9 @@ handled_write station live caller call (Err fault) = served station live caller 
 -- A new call, by its operation.
 abbrev pub handled_new : Station → Live → Caller → Call → List ℕ → Operation → Handled
 handled_new station live caller call blocks Connect =
-    served station live caller call Connect (connect_answer station.identity station.real live.rest.link blocks)
-    (updated (making station.real (partner_of caller) (connect_of live.rest.link blocks)) live.rest.link) []
+    let smallest = station.options.smallest_interval in
+    served station live caller call Connect (connect_answer station.identity station.real smallest live.rest.link blocks)
+    (updated (making station.real (partner_of caller) (connect_within smallest live.rest.link blocks)) live.rest.link) []
 handled_new station live caller call blocks Release =
     served station live caller call Release (release_answer live.rest.link blocks) (updated (answered Ended (release_of live.rest.link blocks)) live.rest.link) []
 handled_new station live caller call blocks Read =

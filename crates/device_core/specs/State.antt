@@ -5,12 +5,19 @@ use Rattle.pn_values.specs.declared.real.Real.{Real}
 use Rattle.settings_store.specs.State as store
 use Rattle.settings_store.specs.State.{Values}
 use Rattle.rpc_core.specs.Cache.{Kept}
+use Rattle.relations.specs.declared.options.DeviceOptions.{DeviceOptions}
+use Rattle.relations.specs.Options.{default_options}
 use Rattle.relations.specs.RelationState.{RelationState}
 
--- The fixed properties of a device: its identity, and the modules that are plugged.
+-- The fixed properties of a device: its identity, the modules that are plugged, and its options.
 pub record Station : Type 0 where
   pub identity : Identity
   pub real : Real
+  pub options : DeviceOptions
+
+-- A device with all options at their defaults.
+abbrev pub plain : Identity → Real → Station
+plain identity real = record { identity = identity; real = real; options = default_options }
 
 -- The state that a device has besides its settings, and loses with its power: the number of units for which the lamp
 -- still flashes, the answers to the last calls, newest first, its application relation, if there is one, and the units

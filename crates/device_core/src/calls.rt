@@ -175,6 +175,7 @@ impl<F: Flash<S>, const S: usize> Device<F, S> {
         let came = self.relation.connect(
             &self.identity,
             &self.real,
+            &self.options,
             partner,
             serving.blocks,
             &mut self.answers.blocks,

@@ -10,13 +10,14 @@ ghost use Rattle.relations.specs.Exchanged.{output_in};
 ghost use Rattle.relations.specs.RelationState.{phase_of, taken_of, uuid_of};
 ghost use Rattle.relations.specs.Outputs.{output_of};
 ghost use Rattle.device_core.specs.Cycle.{started};
+ghost use Rattle.device_core.specs.State.{plain};
 
 use crate::calls::Answering;
 use arrayvec::ArrayVec;
 use flash_model::{Flash, Order};
 use pn_values::{Identity, Real, SetItem, Settings};
 use records::TakenRecord;
-use relations::{Phase, Relation};
+use relations::{DeviceOptions, Phase, Relation};
 use rpc_core::Uuid;
 use settings_journal::BootFault;
 use settings_store::Store;
@@ -28,6 +29,7 @@ use std::marker::Model;
 pub struct Device<F: Flash<S>, const S: usize> {
     pub(crate) identity: Identity,
     pub(crate) real: Real,
+    pub(crate) options: DeviceOptions,
     pub(crate) store: Store<F, S>,
     pub(crate) lamp: u32,
     // The answers to calls.
@@ -48,7 +50,7 @@ impl<F: Flash<S>, const S: usize> Model for Device<F, S> {
 
     ghost view = { λ device. record {
       flash = device.store.flash;
-      station = record { identity = device.identity; real = device.real };
+      station = record { identity = device.identity; real = device.real; options = device.options };
       live = record {
         values = device.store.values;
         rest = record { lamp = device.lamp; calls = device.answers.kept; link = device.relation; units = device.units };
@@ -59,13 +61,14 @@ impl<F: Flash<S>, const S: usize> Model for Device<F, S> {
 }
 
 impl<F: Flash<S>, const S: usize> Device<F, S> {
-    /// Starts a device from the content of the flash, and writes nothing. A refusal returns the flash.
+    /// Starts a device from the content of the flash, and writes nothing. All options have their defaults. A refusal
+    /// returns the flash.
     pub fn boot(identity: Identity, real: Real, flash: F) -> Result<Device<F, S>, (BootFault, F)>
         // After a successful start the stored settings are the running settings, and nothing remains of an earlier
         // cycle.
         ensures starts { IfOk result (λ device. StartsWith (F.image flash) device.live.values.stored device.live.values.room) }
         ensures fresh { IfOk result (λ device. device.live ≡ started device.live.values.stored device.live.values.room) }
-        ensures station { IfOk result (λ device. device.station ≡ record { identity = identity; real = real }) }
+        ensures station { IfOk result (λ device. device.station ≡ plain identity real) }
 
         // If the settings can be read, the start succeeds with them, or it fails with FlashFault. Content that this device
         // wrote is refused only with FlashFault. A blank flash counts as such, with the factory settings and room for at
@@ -91,7 +94,7 @@ impl<F: Flash<S>, const S: usize> Device<F, S> {
             MatchResult result (λ device. F.is_reliable device.flash) (λ refused. F.is_reliable refused.1
             × (refused.0 ≡ BootFault.Foreign)) }
     {
-        let mut device = Device::unstarted(identity, real, flash);
+        let mut device = Device::unstarted(identity, real, DeviceOptions::default(), flash);
         match device.load() {
             Ok(()) => Ok(device),
             Err(fault) => Err((fault, device.into_flash())),
@@ -210,6 +213,7 @@ impl<F: Flash<S>, const S: usize> Device<F, S> {
         let Device {
             identity,
             real,
+            options: _,
             store,
             lamp: _,
             answers: _,

@@ -14,21 +14,22 @@ use flash_model::Flash;
 use pn_alarms::Abort;
 use pn_values::{Identity, Real};
 use records::Blocks;
-use relations::Relation;
+use relations::{DeviceOptions, Relation};
 use rpc_core::CallCache;
 use settings_journal::{BootFault, Fill};
 use settings_store::Store;
 
 impl<F: Flash<S>, const S: usize> Device<F, S> {
     /// A device that did not start: it stores nothing, and has read nothing yet.
-    pub fn unstarted(identity: Identity, real: Real, flash: F) -> Self
+    pub fn unstarted(identity: Identity, real: Real, options: DeviceOptions, flash: F) -> Self
         ensures flash { result.flash ≡ flash }
-        ensures station { result.station ≡ record { identity = identity; real = real } }
+        ensures station { result.station ≡ record { identity = identity; real = real; options = options } }
         ensures has_failed { result.live.values.has_failed ≡ true }
     {
         Device {
             identity,
             real,
+            options,
             store: Store::unstarted(flash),
             lamp: 0,
             answers: Answering {

@@ -28,7 +28,7 @@ use Rattle.records.specs.calls.Single.{formed, single_of}
 use Rattle.connect_requests.specs.declared.parts.Ar.{Ar}
 use Rattle.connect_requests.specs.Pieces.{Piece, pieces_of}
 use Rattle.connect_requests.specs.Request.{Request}
-use Rattle.connect_requests.specs.Handled.{admitted, ar_in, conflict, request_behind, request_in, request_of}
+use Rattle.connect_requests.specs.Handled.{admitted, any_short, ar_in, conflict, request_behind, request_in, request_of, request_within}
 use Rattle.record_blocks.specs.declared.write_record.IodWriteReq.{IodWriteReq}
 use Rattle.im_records.specs.Indices.{is_anywhere, is_read_only, record_with}
 use Rattle.im_records.specs.Records.{is_real}
@@ -39,17 +39,17 @@ use Rattle.records.specs.writes.Taken.{keep_of}
 use Rattle.relations.specs.RelationState.{RelationState, is_named, is_session, is_started, phase_of, uuid_of}
 use Rattle.relations.specs.Phases.{keeping}
 use Rattle.relations.specs.Calls.{control_block, in_control, in_started, named_of, prm_end_of, release_of}
-use Rattle.relations.specs.Connect.{connect_of}
+use Rattle.relations.specs.Connect.{connect_within}
 use Rattle.device_core.specs.Handled.{outcome_of, kept_answer}
 use Rattle.device_core.specs.Machine.{written_as}
 use Rattle.end_laws.proofs.DeviceTurns.{bind_ok}
 
 -- ---- faults whose status has four octets
 
--- a fault that names no field of a block
+-- a fault that names no field of a block, or one of an IOCRBlockReq whose number is one octet
 abbrev pub IsPlain : CallFault → Type 0
 IsPlain (fault.ArField field) = ⊥
-IsPlain (fault.IocrField field) = ⊥
+IsPlain (fault.IocrField field) = field < 256
 IsPlain (fault.ExpectedField field) = ⊥
 IsPlain (fault.AlarmCrField field) = ⊥
 IsPlain fault.Arguments = Unit {0}
@@ -92,7 +92,7 @@ code_small operation.Write = omega arith
 status_sized : (which : Operation) (why : CallFault) → IsPlain why → IsStatus (status_of which why)
 unfolding status_of
 status_sized which (fault.ArField field) plain = absurd plain
-status_sized which (fault.IocrField field) plain = absurd plain
+status_sized which (fault.IocrField field) plain = record { code = code_small which; decode = omega arith; code1 = omega arith; code2 = plain }
 status_sized which (fault.ExpectedField field) plain = absurd plain
 status_sized which (fault.AlarmCrField field) plain = absurd plain
 status_sized which fault.Arguments plain = record { code = code_small which; decode = omega arith; code1 = omega arith; code2 = omega arith }
@@ -279,6 +279,12 @@ pieces_plain (Some standing) (piece ∷ pieces) request reads =
     let there = bind_ok (ar_in piece) (λ ar. admitted None ar >>= λ _. request_behind ar pieces) request reads in
     subst (λ (r : Result Ar CallFault). IsPlainIn (r >>= λ ar. admitted (Some standing) ar >>= λ _. request_behind ar pieces)) (sym there.1) (conflict_plain standing there.0.uuid)
 
-pub connect_plain : (link : Option RelationState) (blocks : List ℕ) (request : Request) → request_of None blocks ≡ Ok request → IsPlainIn (connect_of link blocks)
-unfolding request_of
-connect_plain link blocks request reads = pieces_plain (uuid_of link) (pieces_of blocks) request reads
+within_plain : (short : Bool) (read : Result Request CallFault) → IsPlainIn read → IsPlainIn (cond short (Err (fault.IocrField 10)) read)
+within_plain true read plain = omega arith
+within_plain false read plain = plain
+
+pub connect_plain : (smallest : ℕ) (link : Option RelationState) (blocks : List ℕ) (request : Request) → request_of None blocks ≡ Ok request
+    → IsPlainIn (connect_within smallest link blocks)
+unfolding request_of request_within
+connect_plain smallest link blocks request reads =
+    within_plain (any_short smallest (uuid_of link) (pieces_of blocks)) (request_in (uuid_of link) (pieces_of blocks)) (pieces_plain (uuid_of link) (pieces_of blocks) request reads)

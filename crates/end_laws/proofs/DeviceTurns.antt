@@ -59,7 +59,7 @@ use Rattle.relations.specs.declared.phase.Phase.TheVariants.{Started, Awaiting, 
 use Rattle.relations.specs.RelationState.{RelationState, phase_of, uuid_of, flow_of, is_started, is_awaiting, is_alarm_of}
 use Rattle.relations.specs.Phases.{Handled as Moving, Made, Parameterized, Confirmed, Named, Took, Exchanged, Passed, Ended, Unmoved, updated, passing, passing_by, answered, keeping, taking, awaiting_from}
 use Rattle.relations.specs.Calls.{control_block, named_of, in_started, done_of, prm_end_of, release_of}
-use Rattle.relations.specs.Connect.{connect_of, connect_blocks, differing_of, making}
+use Rattle.relations.specs.Connect.{connect_of, connect_within, connect_blocks, differing_of, making}
 use Rattle.relations.specs.Ready.{answer_of, is_wanted, is_answer_to, confirmed_block, confirmed_by}
 use Rattle.relations.specs.Timers.{ending_of, due_by, due_of, is_again, unit_later}
 use Rattle.relations.specs.Exchanged.{received_by, receiving, receiving_as, given_to, raised_to, heard_by, hearing, hearing_as}
@@ -76,6 +76,7 @@ use Rattle.end_laws.specs.both.Small as small
 use Rattle.end_laws.specs.both.Small.{Rules, ToDevice, ToController}
 use Rattle.end_laws.specs.both.Steps.{IsNew, Comes, SaysAtMost, IsReady, IsDull, DeviceSteps}
 use Rattle.end_laws.specs.device.Small.{phase_in, link_of, kept_in, small_of, asked_by, names_own, confirms, said_to, heard_as, IsPlannedWrite, IsPlannedAs, IsPlannedIn, IsPlanned, IsHeardBy, IsHeardAs}
+use Rattle.end_laws.proofs.DeviceConnects.{unlimited}
 
 -- ---- tests
 
@@ -616,7 +617,7 @@ module _ (refusals_are_not_done : RefusalsAreNotDone) (rules : Rules TakenRecord
 
         -- ---- Connect
 
-        connects_as : (blocks : List ℕ) (request : Result Request CallFault) → connect_of live.rest.link blocks ≡ request → request_of None blocks ≡ Ok rules.request
+        connects_as : (blocks : List ℕ) (request : Result Request CallFault) → connect_within station.options.smallest_interval live.rest.link blocks ≡ request → request_of None blocks ≡ Ok rules.request
             → Comes_to (small.Call call.header.sequence small.Connects)
             (served station live caller call operation.Connect (request >>= λ r. Ok (connect_blocks station.identity r (differing_of r station.real)))
             (updated (making station.real (partner_of caller) request) live.rest.link) [])
@@ -624,7 +625,7 @@ module _ (refusals_are_not_done : RefusalsAreNotDone) (rules : Rules TakenRecord
             serves small.Connects operation.Connect (Ok (connect_blocks station.identity request (differing_of request station.real)))
             (updated (making station.real (partner_of caller) (Ok request)) live.rest.link) []
             (λ none. ap (λ (r : Request). Some (record { phase = small.Started; request = r; taken = [] }))
-            (same_ok request rules.request (sym is ∙ (ap (λ (l : Option RelationState). connect_of l blocks) (unmapped live.rest.link none) ∙ reads)))) tt
+            (same_ok request rules.request (sym (unlimited station.options.smallest_interval live.rest.link blocks request is) ∙ (ap (λ (l : Option RelationState). connect_of l blocks) (unmapped live.rest.link none) ∙ reads)))) tt
           where
             unmapped : (link : Option RelationState) → option_map link_of link ≡ None → link ≡ None
             unmapped None e = refl
@@ -702,7 +703,7 @@ module _ (refusals_are_not_done : RefusalsAreNotDone) (rules : Rules TakenRecord
 
         new_call : (blocks : List ℕ) (which : Operation) → IsPlannedAs rules station.real call.header.sequence blocks (Some which)
             → Comes_to (asked_by call.header.sequence (Some which)) (handled_new station live caller call blocks which)
-        new_call blocks operation.Connect plan = connects_as blocks (connect_of live.rest.link blocks) refl plan
+        new_call blocks operation.Connect plan = connects_as blocks (connect_within station.options.smallest_interval live.rest.link blocks) refl plan
         new_call blocks operation.Release plan = releases blocks (release_of live.rest.link blocks)
         new_call blocks operation.Read plan = absurd plan
         new_call blocks operation.Write plan = writes_as blocks (write_of (uuid_of live.rest.link) station.real blocks) refl plan

@@ -45,7 +45,7 @@ use Rattle.relations.specs.declared.hearing.ReadyAnswer.TheVariants as to_ready
 use Rattle.relations.specs.RelationState.{RelationState, flow_of, is_alarm_of, uuid_of}
 use Rattle.relations.specs.Phases.{Ended, Exchanged, Named, Parameterized, answered, awaiting_from, keeping, updated, passing, passing_by, taking}
 use Rattle.relations.specs.Calls.{done_of, prm_end_of, release_answer, release_of}
-use Rattle.relations.specs.Connect.{connect_blocks, connect_of, differing_of, making}
+use Rattle.relations.specs.Connect.{connect_blocks, connect_within, differing_of, making}
 use Rattle.relations.specs.Ready.{answer_of as ready_answer}
 use Rattle.relations.specs.Timers.{due_by, due_of, ending_of, is_again, unit_later}
 use Rattle.relations.specs.Exchanged.{given_to, heard_by, hearing, raised_to, received_by, receiving}
@@ -63,6 +63,7 @@ use Rattle.end_laws.specs.device.Small.{IsPlanned, IsPlannedAs, IsPlannedIn}
 use Rattle.end_laws.specs.device.Owed.{IsOwed}
 use Rattle.end_laws.specs.device.Turn.{AreCalm, IsCalm, IsRaise, IsSameOr, IsTurn, Standing, Turn, standing_of}
 use Rattle.end_laws.proofs.DeviceOwing.{IsPlainIn, bind_plain, connect_plain, keeping_plain, kept_plain, outcome_sized, prm_plain, release_plain, stored_plain, write_plain}
+use Rattle.end_laws.proofs.DeviceConnects.{unlimited}
 use Rattle.end_laws.proofs.DeviceTurns.{again_is}
 use Rattle.block_codec.specs.Block.{block_of as read_block}
 use Rattle.rpc_core.specs.Response.{Answered as Response, answer_to, is_done}
@@ -449,7 +450,7 @@ module _ (rules : Rules TakenRecord Request) (activity : List ℕ) (station : St
         answered_so live.values.running.suite.address which outcome link behind plain owed (inl (record { link = same; calm = (tt, calm) }))
 
     connects_as : (blocks : List ℕ) (request : Result Request CallFault) → operation_of call.header.operation ≡ Some operation.Connect → call.blocks ≡ Some blocks
-        → looked call.header.activity call.header.sequence live.rest.calls ≡ new → connect_of live.rest.link blocks ≡ request → IsPlainIn request
+        → looked call.header.activity call.header.sequence live.rest.calls ≡ new → connect_within station.options.smallest_interval live.rest.link blocks ≡ request → IsPlainIn request
         → Comes_to (served station live caller call operation.Connect (request >>= λ r. Ok (connect_blocks station.identity r (differing_of r station.real)))
         (updated (making station.real (partner_of caller) request) live.rest.link) [])
     connects_as blocks (Ok request) connects counted fresh read plain = λ answers.
@@ -467,7 +468,7 @@ module _ (rules : Rules TakenRecord Request) (activity : List ℕ) (station : St
           request = request;
           partner = partner_of caller;
           rows = rows;
-          read = read;
+          read = unlimited station.options.smallest_interval live.rest.link blocks request read;
           made = refl;
           calm = (tt, tt);
         })))
@@ -500,7 +501,8 @@ module _ (rules : Rules TakenRecord Request) (activity : List ℕ) (station : St
         → looked call.header.activity call.header.sequence live.rest.calls ≡ new
         → IsPlannedAs rules station.real call.header.sequence blocks (Some which) → Comes_to (handled_new station live caller call blocks which)
     new_call blocks operation.Connect asks counted fresh plan =
-        connects_as blocks (connect_of live.rest.link blocks) asks counted fresh refl (connect_plain live.rest.link blocks rules.request plan)
+        connects_as blocks (connect_within station.options.smallest_interval live.rest.link blocks) asks counted fresh refl
+        (connect_plain station.options.smallest_interval live.rest.link blocks rules.request plan)
     new_call blocks operation.Release asks counted fresh plan =
         let ended = release_of live.rest.link blocks in
         serves operation.Release (release_answer live.rest.link blocks) (updated (answered Ended ended) live.rest.link) []

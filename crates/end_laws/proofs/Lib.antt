@@ -6,6 +6,7 @@ pub mod BothKept
 pub mod BothLaw
 pub mod BothGiven
 pub mod DeviceTurns
+mod DeviceConnects
 pub mod DeviceOwing
 pub mod DeviceWalk
 pub mod ControllerTurns

@@ -12,7 +12,7 @@ use Rattle.block_codec.specs.Block.{block_bytes}
 use Rattle.records.specs.declared.status.call_fault.CallFault.{CallFault}
 use Rattle.connect_requests.specs.declared.parts.Iocr.{Iocr}
 use Rattle.connect_requests.specs.Request.{Request}
-use Rattle.connect_requests.specs.Handled.{request_of}
+use Rattle.connect_requests.specs.Handled.{request_of, request_within}
 use Rattle.relations.specs.declared.phase.Partner.{Partner}
 use Rattle.relations.specs.RelationState.{RelationState, uuid_of}
 use Rattle.relations.specs.Phases.{Handled, Made, Unmoved, differing_octets}
@@ -52,12 +52,16 @@ connect_blocks identity request differing =
 
 -- ---- the call
 
--- What is asked for, or why it is refused.
+-- What is asked for, or why it is refused: of any device, and of one with a smallest interval.
 abbrev pub connect_of : Option RelationState → List ℕ → Result Request CallFault
 connect_of link blocks = request_of (uuid_of link) blocks
 
-abbrev pub connect_answer : Identity → Real → Option RelationState → List ℕ → Result (List ℕ) CallFault
-connect_answer identity real link blocks = connect_of link blocks >>= λ request. Ok (connect_blocks identity request (differing_of request real))
+abbrev pub connect_within : ℕ → Option RelationState → List ℕ → Result Request CallFault
+connect_within smallest link blocks = request_within smallest (uuid_of link) blocks
+
+abbrev pub connect_answer : Identity → Real → ℕ → Option RelationState → List ℕ → Result (List ℕ) CallFault
+connect_answer identity real smallest link blocks =
+    connect_within smallest link blocks >>= λ request. Ok (connect_blocks identity request (differing_of request real))
 
 -- The outcome of the Connect.
 abbrev pub making : Real → Partner → Result Request CallFault → Handled

@@ -1,3 +1,4 @@
+pub mod Options
 pub mod RelationState
 pub mod Farewells
 pub mod Timers

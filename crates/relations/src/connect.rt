@@ -1,10 +1,10 @@
 //! Connect (IEC 61158-6-10, 5.2.4.1 to 5.2.4.11).
 ghost use Rattle.std.specs.Prelude.{◌≡◌, ◌+◌, ◌≤◌, ◌++◌, [], length, IfErr, IfOk, Err, Ok};
 ghost use Rattle.arrayvec.specs.ArrayVec.{array_vec_len};
-ghost use Rattle.relations.specs.Connect.{connect_answer, connect_blocks, connect_of, iocr_answer, iocrs_answer, making};
+ghost use Rattle.relations.specs.Connect.{connect_answer, connect_blocks, connect_within, iocr_answer, iocrs_answer, making};
 ghost use Rattle.relations.specs.Phases.{differing_octets, updated};
 
-use crate::{Partner, Phase, Relation};
+use crate::{DeviceOptions, Partner, Phase, Relation};
 use arrayvec::ArrayVec;
 use block_codec::{AlarmCrBlockRes, ArBlockRes, Block, IocrBlockRes, write_block};
 use connect_blocks::{alarm_cr_block_res_len, ar_block_res_len, iocr_block_res_len};
@@ -97,28 +97,33 @@ fn put_answer<const N: usize>(
 
 impl Relation {
     /// Handles Connect (operation 0), with which a station asks for a relation. Writes the blocks of the answer into an
-    /// empty list, or returns why the call is refused. While a relation exists, each Connect is refused.
+    /// empty list, or returns why the call is refused. While a relation exists, each Connect is refused. One that asks for
+    /// a smaller interval than the options say is refused too.
     pub fn connect<const N: usize>(
         &mut self,
         identity: &Identity,
         real: &Real,
+        options: &DeviceOptions,
         partner: Partner,
         blocks: &[u8],
         answer: &mut ArrayVec<u8, N>,
     ) -> Result<(), CallFault>
         requires empty { answer.old.items ≡ [] }
         requires room { 1236 ≤ N }
-        ensures done { IfOk result (λ _. connect_answer identity.now real.now self.old blocks.now ≡ Ok answer.new.items) }
-        ensures refused { IfErr result (λ fault. (connect_answer identity.now real.now self.old blocks.now ≡ Err fault)
+        ensures done { IfOk result (λ _. connect_answer identity.now real.now options.now.smallest_interval self.old blocks.now
+            ≡ Ok answer.new.items) }
+        ensures refused { IfErr result (λ fault.
+            (connect_answer identity.now real.now options.now.smallest_interval self.old blocks.now ≡ Err fault)
             × (answer.new.items ≡ [])) }
-        ensures state { self.new ≡ updated (making real.now partner (connect_of self.old blocks.now)) self.old }
+        ensures state { self.new ≡ updated (making real.now partner
+            (connect_within options.now.smallest_interval self.old blocks.now)) self.old }
     {
         // Only one relation, and the controller that has it keeps it: a second controller must not take a running
         // station from the first.
         if let Some(_) = self.phase {
             return Err(refuse(&self.request.ar().uuid, blocks));
         }
-        self.request.read(blocks)?;
+        self.request.read(options.smallest_interval, blocks)?;
         let rows = diff(self.request.expected(), real);
         put_differing(&mut self.differing, &rows);
         self.exchange.open(&self.request, &rows);

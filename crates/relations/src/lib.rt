@@ -12,6 +12,7 @@ mod exchanged;
 mod farewell;
 mod hearing;
 mod laws;
+mod options;
 mod output;
 mod phase;
 mod ready;
@@ -22,6 +23,7 @@ pub use exchange::{DataExchange, OWN_REFERENCE, Received, Route, Tick, exchange_
 pub use farewell::Farewell;
 pub use hearing::ReadyAnswer;
 pub use laws::{phases_are_kept, time_is_kept};
+pub use options::DeviceOptions;
 pub use phase::{Partner, Phase};
 pub use pn_alarms::Abort;
 pub use ready::Ready;

@@ -17,12 +17,12 @@ use Rattle.records.specs.declared.status.call_fault.CallFault.{CallFault}
 use Rattle.records.specs.declared.status.operation.Operation.TheVariants.{Connect}
 use Rattle.records.specs.status.Status.{done}
 use Rattle.connect_requests.specs.Request.{Request}
-use Rattle.connect_requests.specs.Handled.{request_of}
+use Rattle.connect_requests.specs.Handled.{request_within}
 use Rattle.rpc_core.specs.Response.{Answered, answer_to}
 use Rattle.wire.specs.Codec.{◌>>=◌}
 use Rattle.relations.specs.RelationState.{RelationState}
 use Rattle.relations.specs.Phases.{differing_octets, updated}
-use Rattle.relations.specs.Connect.{connect_answer, connect_blocks, connect_of, differing_of, making}
+use Rattle.relations.specs.Connect.{connect_answer, connect_blocks, connect_within, differing_of, making}
 use Rattle.startup_law.specs.request.Request.{no_rows, request_for}
 use Rattle.device_core.specs.Handled.{Moves, answer_from, kept_behind, partner_of}
 use Rattle.device_frames.specs.Sent.{bytes_of, response_frame}
@@ -46,20 +46,20 @@ answers_so setup identity device none =
     let blocks = blocks_of setup asks.Connect in
     let address = device.values.running.suite.address in
     let link = device.rest.link in
-    let rest = kept_behind identity device.rest call (answer_from address caller call Connect (connect_answer identity setup.plan.real link blocks))
-    (updated (making setup.plan.real (partner_of caller) (connect_of link blocks)) link) in
-    (rest, ap (λ (l : Option RelationState). Moves rest (answer_from address caller call Connect (connect_answer identity setup.plan.real l blocks) ∷ [])) none)
+    let rest = kept_behind identity device.rest call (answer_from address caller call Connect (connect_answer identity setup.plan.real 1 link blocks))
+    (updated (making setup.plan.real (partner_of caller) (connect_within 1 link blocks)) link) in
+    (rest, ap (λ (l : Option RelationState). Moves rest (answer_from address caller call Connect (connect_answer identity setup.plan.real 1 l blocks) ∷ [])) none)
 
 -- if the device reads the plan's request and no module differs, it responds with these blocks
-blocks_by : (setup : Setup) (identity : Identity) → request_of None (blocks_of setup asks.Connect) ≡ Ok (request_for setup.plan setup.ar)
+blocks_by : (setup : Setup) (identity : Identity) → request_within 1 None (blocks_of setup asks.Connect) ≡ Ok (request_for setup.plan setup.ar)
     → diff_of (request_for setup.plan setup.ar).expected setup.plan.real.modules.items ≡ no_rows
-    → connect_answer identity setup.plan.real None (blocks_of setup asks.Connect) ≡ Ok (answer_blocks setup identity)
+    → connect_answer identity setup.plan.real 1 None (blocks_of setup asks.Connect) ≡ Ok (answer_blocks setup identity)
 blocks_by setup identity read same =
     ap (λ (r : Result Request CallFault). r >>= λ request. Ok (connect_blocks identity request (differing_of request setup.plan.real))) read
     ∙ ap (λ (rows : Listed DiffModule DiffSubmodule). Ok (connect_blocks identity (request_for setup.plan setup.ar) (differing_octets rows))) same
 
 -- the frame is that of this response
-pub frame_by : (setup : Setup) (identity : Identity) (address : List ℕ) → request_of None (blocks_of setup asks.Connect) ≡ Ok (request_for setup.plan setup.ar)
+pub frame_by : (setup : Setup) (identity : Identity) (address : List ℕ) → request_within 1 None (blocks_of setup asks.Connect) ≡ Ok (request_for setup.plan setup.ar)
     → diff_of (request_for setup.plan setup.ar).expected setup.plan.real.modules.items ≡ no_rows
     → answer_frame setup identity address
     ≡ response_frame identity (caller_of setup.plan.controller) address (answer_to (call_for setup asks.Connect) done (answer_blocks setup identity))
@@ -111,7 +111,7 @@ done_with header blocks = record { header = header; status = done; maximum_count
 
 -- the frame is heard as the response that it was made of
 pub heard_as_made : (setup : Setup) (identity : Identity) (address blocks : List ℕ) (controller : Controller) (header : CallHeader)
-    → request_of None (blocks_of setup asks.Connect) ≡ Ok (request_for setup.plan setup.ar)
+    → request_within 1 None (blocks_of setup asks.Connect) ≡ Ok (request_for setup.plan setup.ar)
     → diff_of (request_for setup.plan setup.ar).expected setup.plan.real.modules.items ≡ no_rows
     → controller ≡ setup.plan.controller → header ≡ header_of setup asks.Connect → blocks ≡ answer_blocks setup identity
     → heard_of controller (response_frame identity (caller_of controller) address (done_with header blocks)) ≡ Responds (done_with header blocks)

@@ -11,6 +11,7 @@ use test_stations::{Station, frame, is_padded, step};
 
 mod connects;
 mod exchange;
+mod options;
 mod records;
 mod relation;
 mod requests;

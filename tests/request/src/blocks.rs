@@ -87,8 +87,13 @@ pub(super) fn all() -> Blocks {
 
 /// What is read of a Connect with these blocks, or its first fault.
 pub(super) fn request_of(blocks: &[u8]) -> Result<ConnectRequest, CallFault> {
+    request_within(1, blocks)
+}
+
+/// The same of a device with this smallest interval.
+pub(super) fn request_within(smallest: u32, blocks: &[u8]) -> Result<ConnectRequest, CallFault> {
     let mut request = ConnectRequest::new();
-    request.read(blocks)?;
+    request.read(smallest, blocks)?;
     Ok(request)
 }
 

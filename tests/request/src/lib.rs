@@ -9,5 +9,6 @@ mod blocks;
 mod calls;
 mod cyclic;
 mod faults;
+mod intervals;
 mod opening;
 mod read;

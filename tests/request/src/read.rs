@@ -110,7 +110,7 @@ fn submodules_of(request: &ConnectRequest) -> ArrayVec<(u16, u32), 64> {
 /// What is read of a second Connect with these blocks, over what the controller's left.
 fn read_again(blocks: &[u8]) -> Result<ConnectRequest, CallFault> {
     let mut request = request_of(all().as_slice())?;
-    request.read(blocks)?;
+    request.read(1, blocks)?;
     Ok(request)
 }
 

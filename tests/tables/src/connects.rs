@@ -36,7 +36,7 @@ fn status(fault: CallFault) -> String {
 
 /// The three words of a Connect, while a relation of this ARUUID may exist.
 fn row(request: &mut ConnectRequest, blocks: &[u8], standing: &Uuid) -> String {
-    let alone = match request.read(blocks) {
+    let alone = match request.read(1, blocks) {
         Ok(()) => "ok".to_string(),
         Err(fault) => status(fault),
     };

@@ -5,7 +5,7 @@ use records::{
     Blocks, CallFault, Effect, Operation, Write, judge_write, names_relation, put_write_answer,
     read_implicit, read_within,
 };
-use relations::{Partner, Relation};
+use relations::{DeviceOptions, Partner, Relation};
 use std::mem;
 
 /// The station with its texts and its relation.
@@ -50,8 +50,15 @@ impl Device {
     ) -> Result<(), CallFault> {
         match operation {
             Operation::Connect => {
-                self.relation
-                    .connect(&self.identity, &self.real, PARTNER, blocks, answer)
+                let options = DeviceOptions::default();
+                self.relation.connect(
+                    &self.identity,
+                    &self.real,
+                    &options,
+                    PARTNER,
+                    blocks,
+                    answer,
+                )
             }
             Operation::Release => self.relation.release(blocks, answer),
             Operation::Control => self.relation.control(blocks, answer),

@@ -4,6 +4,7 @@ use Rattle.std.specs.List.{list_all, list_any}
 use Rattle.pn_values.specs.declared.real.Real.{Real}
 use Rattle.pn_values.specs.declared.identity.Identity.{Identity}
 use Rattle.device_core.specs.State as device
+use Rattle.device_core.specs.State.{plain}
 use Rattle.c_layout.specs.declared.plugged.Module.{Module}
 use Rattle.c_layout.specs.declared.plugged.Submodule.{Submodule}
 use Rattle.c_layout.specs.Modules.{are_parameters, is_module, module_of, parameters_in, submodules_in}
@@ -98,6 +99,6 @@ identity_of station = record {
 abbrev pub real_of : Station → Real
 real_of station = record { modules = record { items = map module_of (modules_in station) } }
 
--- The identity, and the modules that are plugged.
+-- The identity, the modules that are plugged, and the default options.
 abbrev pub station_of : Station → device.Station
-station_of station = record { identity = identity_of station; real = real_of station }
+station_of station = plain (identity_of station) (real_of station)

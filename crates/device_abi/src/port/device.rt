@@ -6,6 +6,7 @@ ghost use Rattle.device_frames.specs.declared.event.Event.TheVariants.{Alarm, Fr
 ghost use Rattle.relations.specs.Exchanged.{output_in};
 ghost use Rattle.relations.specs.RelationState.{phase_of, taken_of};
 ghost use Rattle.relations.specs.Outputs.{output_of};
+ghost use Rattle.device_core.specs.State.{plain};
 ghost use Rattle.device_abi.specs.port.State.{IsIdle, IsNext, IsUnreported, advanced, barred, closed, has_work as is_left, lost};
 ghost use Rattle.device_abi.specs.port.State.{past_start as too_late};
 ghost use Rattle.device_abi.specs.port.Steps.{Answers, KnowsOrNot, Passes, PassesOrNot, StartsOrNot, Takes};
@@ -18,7 +19,7 @@ use flash_model::Sector;
 use frame_codec::{Bytes, Frame, Outbox};
 use pn_values::{Identity, Real, Settings};
 use records::TakenRecord;
-use relations::Phase;
+use relations::{DeviceOptions, Phase};
 use settings_journal::Fill;
 use std::marker::Model;
 use wire::at_most;
@@ -97,13 +98,18 @@ impl Port {
     /// A device that did not start, over a chip whose content is not known yet.
     #[inline(always)]
     pub fn new(identity: Identity, real: Real) -> Port
-        ensures station { result.device.station ≡ record { identity = identity; real = real } }
+        ensures station { result.device.station ≡ plain identity real }
         ensures stage { result.stage ≡ Stage.Made }
         ensures idle { IsIdle result }
         ensures chip { image_of result.device.flash ≡ record { first = erased 4096; second = erased 4096 } }
     {
         Port {
-            device: Device::unstarted(identity, real, RecordedFlash::blank()),
+            device: Device::unstarted(
+                identity,
+                real,
+                DeviceOptions::default(),
+                RecordedFlash::blank(),
+            ),
             outbox: Outbox::new(),
             stage: Stage::Made,
             calls_past: 0,

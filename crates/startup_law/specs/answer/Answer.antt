@@ -7,7 +7,7 @@ use Rattle.plans.specs.declared.parts.Controller.{Controller}
 use Rattle.startup_law.specs.request.Request.{request_for}
 use Rattle.relations.specs.Connect.{connect_answer, connect_blocks}
 use Rattle.device_frames.specs.Sent.{Sent, bytes_of}
-use Rattle.device_core.specs.State.{Live, Rest}
+use Rattle.device_core.specs.State.{Live, Rest, plain}
 use Rattle.device_core.specs.Handled.{Moves, answer_from, handled_new}
 use Rattle.controller_frames.specs.declared.setup.Setup.{Setup}
 use Rattle.controller_frames.specs.declared.request.Request.TheVariants as asks
@@ -19,22 +19,22 @@ use Rattle.controller_core.specs.Connect.{found_in, nothing}
 abbrev pub caller_of : Controller → Caller
 caller_of controller = record { mac = controller.mac; endpoint = calls_at controller.address }
 
--- The message with which a device that has no relation, and the modules of the plan, answers the Connect of the plan
--- from this address.
+-- The message with which a device that has no relation, the modules of the plan, and the default options, answers the
+-- Connect of the plan from this address.
 abbrev pub answer_message : Setup → Identity → List ℕ → Sent
 answer_message setup identity address =
     answer_from address (caller_of setup.plan.controller) (call_for setup asks.Connect) Connect
-    (connect_answer identity setup.plan.real None (blocks_of setup asks.Connect))
+    (connect_answer identity setup.plan.real 1 None (blocks_of setup asks.Connect))
 
 -- The frame of that message.
 abbrev pub answer_frame : Setup → Identity → List ℕ → List ℕ
 answer_frame setup identity address = bytes_of identity (answer_message setup identity address)
 
--- A device of this identity, with the modules of the plan and no relation, judges a new call with the plan's Connect
--- and sends this message, from its running address, and no other.
+-- A device of this identity, with the modules of the plan, the default options and no relation, judges a new call with
+-- the plan's Connect and sends this message, from its running address, and no other.
 abbrev pub AnswersSo : Setup → Identity → Type 0
 AnswersSo setup identity = (device : Live) → device.rest.link ≡ None → (rest : Rest)
-    × (handled_new (record { identity = identity; real = setup.plan.real }) device (caller_of setup.plan.controller) (call_for setup asks.Connect) (blocks_of setup asks.Connect) Connect
+    × (handled_new (plain identity setup.plan.real) device (caller_of setup.plan.controller) (call_for setup asks.Connect) (blocks_of setup asks.Connect) Connect
     ≡ Moves rest (answer_message setup identity device.values.running.suite.address ∷ []))
 
 -- the blocks of the response if the device accepts the plan's request: no module differs

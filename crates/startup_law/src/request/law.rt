@@ -1,16 +1,16 @@
 //! The law of the plan.
-ghost use Rattle.std.specs.Prelude.{◌≡◌, true, List, ℕ, None, Ok};
+ghost use Rattle.std.specs.Prelude.{◌≡◌, ◌≤◌, ◌*◌, true, List, ℕ, None, Ok};
 ghost use Rattle.std.specs.List.{AllByRecursion};
 ghost use Rattle.connect_blocks.specs.ArBlock.{is_some_uuid};
 ghost use Rattle.module_diff.specs.Diff.{diff_of};
-ghost use Rattle.connect_requests.specs.Handled.{request_of};
+ghost use Rattle.connect_requests.specs.Handled.{request_of, request_within};
 ghost use Rattle.plans.specs.declared.parts.Parts.{Parts};
 ghost use Rattle.plans.specs.Connect.{IsRead, blocks_of, connect_of};
 ghost use Rattle.plans.specs.Plan.{IsPlan};
 ghost use Rattle.startup_law.specs.request.Request.{no_rows, request_for};
 
 use block_fields::Uuid;
-use connect_requests::layouts_are_taken;
+use connect_requests::{intervals_are_kept, layouts_are_taken};
 use plans::{Plan, packed_places_are_asked};
 
 /// What a device reads from the Connect of any plan. This is a law of the definitions; the function has no code.
@@ -31,10 +31,16 @@ pub fn requests_are_read()
 pub fn connect_is_taken(plan: &Plan, ar: &Uuid)
     // If the ARUUID is not zero, a device without a relation reads exactly the plan's request, and so accepts it.
     ensures read { is_some_uuid ar.now ≡ true → request_of None (connect_of plan.now ar.now) ≡ Ok (request_for plan.now ar.now) }
+    // A device with a smallest interval reads it in the same way, if the plan's interval is not smaller. It has one unit at
+    // least.
+    ensures within { (smallest : ℕ) → is_some_uuid ar.now ≡ true → smallest ≤ plan.now.times.send_clock_factor * plan.now.times.reduction_ratio →
+        request_within smallest None (connect_of plan.now ar.now) ≡ Ok (request_for plan.now ar.now) }
+    ensures least { 1 ≤ plan.now.times.send_clock_factor * plan.now.times.reduction_ratio }
     // If the device has the plan's modules, none of them differs.
     ensures same { diff_of (request_for plan.now ar.now).expected plan.now.real.modules.items ≡ no_rows }
 {
     requests_are_read();
+    intervals_are_kept();
     // These are called for their clauses on the plan and its Connect.
     let _modules = plan.real();
     let _octets = plan.connect(ar);

@@ -1,31 +1,35 @@
 -- A start, a run, and a start on what they left.
-use Rattle.std.proofs.Common.{◌≡◌, false, refl, sym, ap, subst, ◌∙◌, inl}
+use Rattle.std.proofs.Common.{◌≡◌, false, IfOk, refl, sym, ap, subst, ◌∙◌, inl}
 use Rattle.std.proofs.lemmas.Result.{err_from_is_err_and}
 use Rattle.settings_journal.specs.Image.{LeftByDevice}
 use Rattle.settings_journal.specs.declared.journal.BootFault.{BootFault}
 use Rattle.settings_journal.specs.declared.journal.BootFault.TheVariants.{FlashFault, Foreign}
+use Rattle.device_core.specs.State.{Station, plain}
 use Rattle.device_core.proofs.Restarts.{restarts_if, is_started_if, refuses_from, refused_if, never_refused}
 use Rattle.device_core.proofs.headline.cycle.Goals as goal
 
 pub returns-clause-headline : goal.returns-clause-headline
 returns-clause-headline g c = λ left first room starts.
     let parts = c.into_parts-identity.ensures in
-    let identity : c.into_parts-identity.result.0 ≡ c.run.new.self.station.identity = ap (λ t. t.0) parts in
-    let real : c.into_parts-identity.result.1 ≡ c.run.new.self.station.real = ap (λ t. t.1) parts in
+    let same : c.run.new.self.station ≡ plain c.args.identity c.args.real = c.run.ensures.runs.same ∙ c.in_ok-device.ensures.station in
+    let identity : c.into_parts-identity.result.0 ≡ c.args.identity = ap (λ t. t.0) parts ∙ ap (λ (s : Station). s.identity) same in
+    let real : c.into_parts-identity.result.1 ≡ c.args.real = ap (λ t. t.1) parts ∙ ap (λ (s : Station). s.real) same in
+    let again = subst (λ (s : Station). IfOk c.boot-2.result (λ device. device.station ≡ s)) (sym same) (rw (identity, real) at c.boot-2.ensures.station) in
     let powered = rw (ap (λ t. t.2) parts) at c.power_up.ensures in
-    restarts_if g.F.Flash _ (record { identity = c.args.identity; real = c.args.real }) c.args.flash first room c.args.events.now _ _ c.in_ok-device.device c.run.new.self c.power_up.result c.boot-2.result
+    restarts_if g.F.Flash _ (plain c.args.identity c.args.real) c.args.flash first room c.args.events.now _ _ c.in_ok-device.device c.run.new.self c.power_up.result c.boot-2.result
     (c.in_ok-device.ensures.known first room starts) c.in_ok-device.ensures.station c.in_ok-device.ensures.same c.in_ok-device.ensures.cause c.in_ok-device.ensures.calls
     left c.run.ensures.runs powered (c.requires.keeps c.run.new.self.flash c.power_up.result powered)
-    c.boot-2.ensures.known c.boot-2.ensures.fresh c.boot-2.ensures.starts (rw (identity, real) at c.boot-2.ensures.station) c.boot-2.ensures.same c.boot-2.ensures.cause c.boot-2.ensures.calls
+    c.boot-2.ensures.known c.boot-2.ensures.fresh c.boot-2.ensures.starts again c.boot-2.ensures.same c.boot-2.ensures.cause c.boot-2.ensures.calls
 
 pub returns-clause-fresh : goal.returns-clause-fresh
 returns-clause-fresh g c =
     let parts = c.into_parts-identity.ensures in
-    let identity : c.into_parts-identity.result.0 ≡ c.run.new.self.station.identity = ap (λ t. t.0) parts in
-    let real : c.into_parts-identity.result.1 ≡ c.run.new.self.station.real = ap (λ t. t.1) parts in
-    is_started_if g.F.Flash (record { identity = c.args.identity; real = c.args.real }) c.run.new.self c.power_up.result c.boot-2.result
-    (c.run.ensures.runs.same ∙ c.in_ok-device.ensures.station)
-    (rw (identity, real) at c.boot-2.ensures.station) c.boot-2.ensures.fresh c.boot-2.ensures.starts c.boot-2.ensures.same
+    let same : c.run.new.self.station ≡ plain c.args.identity c.args.real = c.run.ensures.runs.same ∙ c.in_ok-device.ensures.station in
+    let identity : c.into_parts-identity.result.0 ≡ c.args.identity = ap (λ t. t.0) parts ∙ ap (λ (s : Station). s.identity) same in
+    let real : c.into_parts-identity.result.1 ≡ c.args.real = ap (λ t. t.1) parts ∙ ap (λ (s : Station). s.real) same in
+    let again = subst (λ (s : Station). IfOk c.boot-2.result (λ device. device.station ≡ s)) (sym same) (rw (identity, real) at c.boot-2.ensures.station) in
+    is_started_if g.F.Flash (plain c.args.identity c.args.real) c.run.new.self c.power_up.result c.boot-2.result
+    same again c.boot-2.ensures.fresh c.boot-2.ensures.starts c.boot-2.ensures.same
 
 pub returns-clause-left : goal.returns-clause-left
 returns-clause-left g c = λ left.
@@ -56,7 +60,7 @@ pub returns-clause-refused : goal.returns-clause-refused
 returns-clause-refused g c =
     let parts = c.into_parts-identity.ensures in
     let powered = rw (ap (λ t. t.2) parts) at c.power_up.ensures in
-    refused_if g.F.Flash _ (record { identity = c.args.identity; real = c.args.real }) c.args.flash c.args.events.now _ _ c.in_ok-device.device c.run.new.self c.power_up.result c.boot-2.result
+    refused_if g.F.Flash _ (plain c.args.identity c.args.real) c.args.flash c.args.events.now _ _ c.in_ok-device.device c.run.new.self c.power_up.result c.boot-2.result
     c.in_ok-device.ensures.fresh c.in_ok-device.ensures.station c.in_ok-device.ensures.starts c.in_ok-device.ensures.same c.in_ok-device.ensures.cause c.in_ok-device.ensures.calls
     c.run.ensures.runs powered (c.requires.keeps c.run.new.self.flash c.power_up.result powered) c.boot-2.ensures.foreign c.boot-2.ensures.same c.boot-2.ensures.cause c.boot-2.ensures.calls
 

@@ -7,10 +7,10 @@ use Rattle.connect_requests.proofs.request.ConnectRequest.read_others.Goals as g
 pub returns-in_err-add_pieces : goal.returns-in_err-add_pieces
 returns-in_err-add_pieces c =
     let p = err_from_is_err_and c.from_residual.result c.from_residual.ensures.1 in
-    rw (p.1, p.2) (fails_behind c.args.ar (pieces_in c.args.most c.args.others.now) _ c.in_err-add_pieces.field-0.0 (from_nothing c.new-draft.result _ c.new-draft.ensures.nothing c.clear.ensures)
+    rw (p.1, p.2) (fails_behind c.args.smallest c.args.ar (pieces_in c.args.most c.args.others.now) _ c.in_err-add_pieces.field-0.0 (from_nothing c.new-draft.result _ c.new-draft.ensures.nothing c.clear.ensures)
     c.in_err-add_pieces.ensures.pieces)
 
 pub returns : goal.returns
 returns c =
-    rw (goes_behind c.args.ar (pieces_in c.args.most c.args.others.now) _ _ (from_nothing c.new-draft.result _ c.new-draft.ensures.nothing c.clear.ensures)
+    rw (goes_behind c.args.smallest c.args.ar (pieces_in c.args.most c.args.others.now) _ _ (from_nothing c.new-draft.result _ c.new-draft.ensures.nothing c.clear.ensures)
     c.in_ok-add_pieces.ensures.pieces) c.finish.ensures

@@ -6,7 +6,7 @@ use Rattle.relations.specs.Phases.{updated}
 use Rattle.device_core.specs.State.{with_rest}
 use Rattle.device_frames.specs.Sent.{bytes_of}
 use Rattle.device_frames.specs.Relation.{alarms_of}
-use Rattle.device_core.proofs.Exchanged.{notice_refused, notice_raised}
+use Rattle.device_core.proofs.Exchanged.{notice_leaves, notice_refused, notice_raised}
 use Rattle.device_core.proofs.Sendable.{none_sendable}
 use Rattle.device_core.proofs.device.Device.raise.Goals as goal
 
@@ -16,6 +16,13 @@ returns-then-not-raise-clause-frames g c =
     let flow = raised_to old.station.real.modules.items c.args.slot c.args.subslot c.args.octets.now old.live.rest.link in
     let none : is_some flow ≡ false = rw (← c.self.view_is) (sym c.raise.ensures.done ∙ c.if-not-raise.true) in
     ap (map (λ frame. frame.items)) c.requires.empty ∙ sym (ap (λ e. map (bytes_of old.station.identity) e.sent) (notice_refused old.station old.live flow none))
+
+pub returns-then-not-raise-clause-state : goal.returns-then-not-raise-clause-state
+returns-then-not-raise-clause-state g c =
+    let old = c.args.self.now in
+    let flow = raised_to old.station.real.modules.items c.args.slot c.args.subslot c.args.octets.now old.live.rest.link in
+    let none : is_some flow ≡ false = rw (← c.self.view_is) (sym c.raise.ensures.done ∙ c.if-not-raise.true) in
+    rw (notice_leaves old.station old.live flow none) (rw (← c.self.view_is) (rw c.raise.ensures.state refl))
 
 pub returns-clause-state : goal.returns-clause-state
 returns-clause-state g c =

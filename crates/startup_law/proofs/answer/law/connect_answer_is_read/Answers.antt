@@ -10,7 +10,7 @@ returns-clause-answered c = answers_so c.args.setup.now c.args.identity.now
 pub returns-clause-heard : goal.returns-clause-heard
 returns-clause-heard c = λ some.
     heard_as_made c.args.setup.now c.args.identity.now c.args.address c.as_slice.result.now c.controller.result.now c.header_of.result
-    (c.connect_is_taken.ensures.read some) c.connect_is_taken.ensures.same c.controller.ensures.value c.header_of.ensures
+    (c.connect_is_taken.ensures.within 1 some c.connect_is_taken.ensures.least) c.connect_is_taken.ensures.same c.controller.ensures.value c.header_of.ensures
     (c.as_slice.ensures.value ∙ (c.blocks_of-blocks.ensures.value ∙ blocks_written c.args.setup.now c.args.identity.now)) c.answers_are_read.ensures.heard
 
 pub returns-clause-found : goal.returns-clause-found
