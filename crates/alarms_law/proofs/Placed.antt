@@ -40,7 +40,7 @@ use Rattle.controller_core.specs.declared.state.State.{State}
 use Rattle.controller_core.specs.declared.state.State.TheVariants.{Looking, Addressing, Connecting, Writing, Ending, Waiting, Exchanging, Ended}
 use Rattle.controller_core.specs.Alarms.{is_alarm as is_of_relation}
 use Rattle.controller_core.specs.Answers.{is_addressed, is_answer, is_found, is_ready, is_right, is_set_answer}
-use Rattle.controller_core.specs.Connect.{found_in, is_whole, nothing}
+use Rattle.controller_core.specs.Connect.{Chosen, chosen_of, found_in, is_whole, nothing}
 use Rattle.controller_core.specs.Machine.{Turn, acks_in, addressed, answered, behind_data, brought, called, come, connected, decided, done, first, flow_later, flowed, found, given, is_again, handled, later, noticed, outputs_of, over, readied, ready_in, related_by, released, requests_of, responded, standing, stays, stopped, taken, turn_of, turned, where_due, writing}
 use Rattle.controller_core.specs.State.{Live}
 use Rattle.message_laws.specs.sending.Sized.{Found}
@@ -123,10 +123,10 @@ module _ (setup : Setup) (mac : Mac) (apart : mac ≡ setup.plan.controller.mac 
   writes_placed live number true p = record { live = record { plain = p.plain; partner = p.partner; asking = λ e. absurd cc; giving = λ e. absurd cc; addressing = λ e. absurd cc }; sent = (tt, tt) }
   writes_placed live number false p = record { live = record { plain = p.plain; partner = p.partner; asking = λ e. absurd cc; giving = λ e. absurd cc; addressing = λ e. absurd cc }; sent = (tt, tt) }
 
-  related_placed : (live : Live) (output : Option ℕ) → live.device ≡ mac → ((frame_id : ℕ) → output ≡ Some frame_id → is_alarm frame_id ≡ false) → IsPlaced mac live → PlacedTurn (related_by setup live output)
-  related_placed live (Some frame_id) is plain p =
-      writes_placed (standing setup live frame_id) 0 (nat_lt 0 (length setup.plan.records.items))
-      (record { plain = plain frame_id refl; partner = λ e. is; asking = λ e. is; giving = λ e. is; addressing = λ e. is })
+  related_placed : (live : Live) (found_so : Option Chosen) → live.device ≡ mac → ((chosen : Chosen) → found_so ≡ Some chosen → is_alarm chosen.frame_id ≡ false) → IsPlaced mac live → PlacedTurn (related_by setup live found_so)
+  related_placed live (Some chosen) is plain p =
+      writes_placed (standing setup live chosen) 0 (nat_lt 0 (length setup.plan.records.items))
+      (record { plain = plain chosen refl; partner = λ e. is; asking = λ e. is; giving = λ e. is; addressing = λ e. is })
   related_placed live None is plain p = stays_placed live p
 
   if_so : (b : Bool) (x y : Turn) → (b ≡ true → PlacedTurn x) → (b ≡ false → PlacedTurn y) → PlacedTurn (cond b x y)
@@ -138,7 +138,7 @@ module _ (setup : Setup) (mac : Mac) (apart : mac ≡ setup.plan.controller.mac 
   connected_placed live blocks (Some found_so) e is well p =
       if_so (is_whole found_so) _ _
       (λ whole. if_so found_so.differs _ _ (λ differs. released_placed _ live p)
-      (λ same. related_placed live found_so.output is (λ frame_id there. (well found_so e whole same frame_id there).1) p))
+      (λ same. related_placed live (chosen_of found_so) is (λ chosen there. (well found_so e whole same chosen there).2) p))
       (λ lacks. stays_placed live p)
   connected_placed live blocks None e is well p = stays_placed live p
 

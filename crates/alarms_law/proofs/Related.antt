@@ -16,7 +16,7 @@ use Rattle.controller_core.specs.declared.state.Cause.TheVariants as cause
 use Rattle.controller_core.specs.declared.state.State.{State}
 use Rattle.controller_core.specs.declared.state.State.TheVariants.{Ended, Waiting}
 use Rattle.controller_core.specs.Answers.{is_answer}
-use Rattle.controller_core.specs.Connect.{found_in, is_whole, nothing}
+use Rattle.controller_core.specs.Connect.{Chosen, chosen_of, found_in, is_whole, nothing}
 use Rattle.controller_core.specs.Machine.{Turn, asking, connected, decided, done, handled, next_sequence, over, phase_for, related_by, released, responded, standing, stays, writing}
 use Rattle.controller_core.specs.State.{Live}
 use Rattle.message_laws.specs.hearing.Stations.{IsNumbered, IsSetup}
@@ -82,26 +82,27 @@ module _ (setup : Setup) (good : IsSetup setup) where
   writing_right : (number : ℕ) (live : Live) → IsLive live → IsRight setup (writing (writing_from setup.plan number) live)
   writing_right number live is = asking_right (phase_for (writing_from setup.plan number)) (writing_from setup.plan number) live is (writing_few setup.plan number good.plan)
 
-  stands_live : (live : Live) (frame_id : ℕ) → IsLive live → frame_id < 65536 → IsLive (standing setup live frame_id)
-  stands_live live frame_id is small = record {
+  stands_live : (live : Live) (chosen : Chosen) → IsLive live → (chosen.frame_id < 65536) × (chosen.reference < 65536) → IsLive (standing setup live chosen)
+  stands_live live chosen is small = record {
     device = is.device;
     asked = is.asked;
-    way = record { partner = is.device; sent_id = small; sent_tag = omega arith; alarm_tag = omega arith; reference = omega arith };
+    way = record { partner = is.device; sent_id = small.0; sent_tag = omega arith; alarm_tag = omega arith; reference = small.1 };
     few = is.few;
     last = is.last;
     seen = is.seen;
     confirming = is.confirming;
   }
 
-  related_right : (live : Live) (output : Option ℕ) → IsLive live → ((frame_id : ℕ) → output ≡ Some frame_id → frame_id < 65536) → IsRight setup (related_by setup live output)
-  related_right live (Some frame_id) is small = writing_right 0 (standing setup live frame_id) (stands_live live frame_id is (small frame_id refl))
+  related_right : (live : Live) (found : Option Chosen) → IsLive live → ((chosen : Chosen) → found ≡ Some chosen → (chosen.frame_id < 65536) × (chosen.reference < 65536))
+      → IsRight setup (related_by setup live found)
+  related_right live (Some chosen) is small = writing_right 0 (standing setup live chosen) (stands_live live chosen is (small chosen refl))
   related_right live None is small = stays_right live is
 
   connected_right : (live : Live) (blocks : List ℕ) (read : Option Found) → found_in 400 blocks nothing ≡ read → IsLive live → IsChosenWell blocks → IsRight setup (connected setup live read)
   connected_right live blocks (Some found) e is well =
       either (is_whole found) _ _
       (λ whole. either found.differs _ _ (λ differs. released_right cause.ModuleDiff live is)
-      (λ same. related_right live found.output is (λ frame_id there. (well found e whole same frame_id there).0)))
+      (λ same. related_right live (chosen_of found) is (λ chosen there. let all = well found e whole same chosen there in (all.0, all.1))))
       (λ lacks. stays_right live is)
   connected_right live blocks None e is well = stays_right live is
 

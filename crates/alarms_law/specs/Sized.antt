@@ -5,7 +5,7 @@ use Rattle.std.specs.List.{AllByRecursion}
 use Rattle.pn_values.specs.declared.real.RealModule.{RealModule}
 use Rattle.pn_values.specs.declared.real.RealSubmodule.{RealSubmodule}
 use Rattle.frame_codec.specs.FrameId.{is_alarm}
-use Rattle.controller_core.specs.Connect.{found_in, is_whole, nothing}
+use Rattle.controller_core.specs.Connect.{Chosen, chosen_of, found_in, is_whole, nothing}
 use Rattle.message_laws.specs.sending.Sized.{Found}
 
 -- ---- what is plugged
@@ -25,7 +25,7 @@ AreSizedModules modules = AllByRecursion IsSizedModule modules
 -- ---- the response of a device
 
 -- If the blocks of a response have everything that a relation needs and no module differs, the FrameID that the device
--- chose for outputs has two octets and is not one of alarms.
+-- chose for outputs has two octets and is not one of alarms, and its alarm endpoint has two octets.
 abbrev pub IsChosenWell : List ℕ → Type 0
 IsChosenWell blocks = (found : Found) → found_in 400 blocks nothing ≡ Some found → is_whole found ≡ true → found.differs ≡ false
-    → (frame_id : ℕ) → found.output ≡ Some frame_id → (frame_id < 65536) × (is_alarm frame_id ≡ false)
+    → (chosen : Chosen) → chosen_of found ≡ Some chosen → (chosen.frame_id < 65536) × (chosen.reference < 65536) × (is_alarm chosen.frame_id ≡ false)

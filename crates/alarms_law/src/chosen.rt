@@ -1,4 +1,4 @@
-//! The FrameID that a device chooses for outputs.
+//! The FrameID that a device chooses for outputs, and its alarm endpoint.
 ghost use Rattle.pn_values.specs.declared.identity.Identity.{Identity};
 ghost use Rattle.pn_values.specs.declared.real.Real.{Real};
 ghost use Rattle.controller_frames.specs.declared.setup.Setup.{Setup};
@@ -8,13 +8,15 @@ ghost use Rattle.relations.specs.Connect.{connect_blocks, differing_of};
 ghost use Rattle.alarms_law.specs.Sized.{IsChosenWell};
 
 use codec_laws::blocks_are_read;
+use controller_core::blocks_are_found;
 
 /// The blocks of a device's response to the Connect of a plan meet the premise of the law of alarms. This is a law of
 /// the definitions.
 pub fn answers_choose_well()
-    // This holds whatever is plugged in the device. If a module differs, the controller finds that it does.
+    // This holds whatever is plugged in the device, also if a module differs.
     ensures { (setup : Setup) (identity : Identity) (real : Real) → IsSetup setup → IsDevice identity
         → IsChosenWell (connect_blocks identity (request_for setup.plan setup.ar) (differing_of (request_for setup.plan setup.ar) real)) }
 {
     blocks_are_read();
+    blocks_are_found();
 }

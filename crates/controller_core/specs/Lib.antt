@@ -1,7 +1,9 @@
 pub mod Cause
 pub mod State
 pub mod Answers
+pub mod AlarmRelation
+pub mod OtherBlock
+pub mod Usable
 pub mod Connect
-pub mod Reading
 pub mod Alarms
 pub mod Machine

@@ -56,7 +56,7 @@ use Rattle.controller_core.specs.declared.event.Event.{Event}
 use Rattle.controller_core.specs.declared.event.Event.TheVariants.{Frame, Tick as Ticks, Give, Stop}
 use Rattle.controller_core.specs.State.{Controlling, Live, with_live}
 use Rattle.controller_core.specs.Answers.{is_addressed, is_answer, is_found, is_ready, is_right, is_set_answer}
-use Rattle.controller_core.specs.Connect.{found_in, is_whole, nothing}
+use Rattle.controller_core.specs.Connect.{Chosen, chosen_of, found_in, is_whole, nothing}
 use Rattle.controller_core.specs.Alarms.{ack_of, header_of, is_alarm, kept_alarm}
 
 -- The next state, and the messages.
@@ -128,9 +128,16 @@ phase_for request = Ending
 abbrev pub writing : Request → Live → Turn
 writing request live = asking (phase_for request) request live
 
--- The partner, and the numbers of the frames, with the FrameID that the device chose for outputs.
-abbrev pub route_of : Mac → ℕ → Route
-route_of device frame_id = record { partner = device; sent_id = frame_id; sent_tag = high_tag; taken_id = input_frame_id; alarm_tag = high_tag; reference = 1 }
+-- The partner, and the numbers of the frames, with the FrameID of outputs and the alarm endpoint that the device chose.
+abbrev pub route_of : Mac → ℕ → ℕ → Route
+route_of device frame_id reference = record {
+  partner = device;
+  sent_id = frame_id;
+  sent_tag = high_tag;
+  taken_id = input_frame_id;
+  alarm_tag = high_tag;
+  reference = reference;
+}
 
 abbrev pub interval_of : Times → ℕ
 interval_of times = times.send_clock_factor * times.reduction_ratio
@@ -139,22 +146,23 @@ abbrev pub sending_of : Times → Sending
 sending_of times = record { interval = interval_of times; elapsed = 0 }
 
 -- The relation is established.
-abbrev pub standing : Setup → Live → ℕ → Live
-standing setup live frame_id = record live {
+abbrev pub standing : Setup → Live → Chosen → Live
+standing setup live chosen = record live {
   stands = true;
-  cyclic = related live.cyclic (route_of live.device frame_id) (sending_of setup.plan.times);
+  deviates = chosen.deviates;
+  cyclic = related live.cyclic (route_of live.device chosen.frame_id chosen.reference) (sending_of setup.plan.times);
 }
 
--- After a positive answer to the Connect: an answer without all of its blocks is dropped; if modules differ the relation
--- is released.
-abbrev pub related_by : Setup → Live → Option ℕ → Turn
-related_by setup live (Some frame_id) = writing (writing_from setup.plan 0) (standing setup live frame_id)
+-- After a positive answer to the Connect: an answer without all of its blocks is dropped; if a module is a wrong one the
+-- relation is released.
+abbrev pub related_by : Setup → Live → Option Chosen → Turn
+related_by setup live (Some chosen) = writing (writing_from setup.plan 0) (standing setup live chosen)
 related_by setup live None = stays live
 
 abbrev pub connected_by : Setup → Live → Found → Turn
 connected_by setup live found =
     if is_whole found
-    then (if found.differs then released setup cause.ModuleDiff live else related_by setup live found.output)
+    then (if found.differs then released setup cause.ModuleDiff live else related_by setup live (chosen_of found))
     else stays live
 
 abbrev pub connected : Setup → Live → Option Found → Turn
@@ -360,7 +368,7 @@ hearing_of times = record { last = None; held = 0; limit = times.data_hold_facto
 
 abbrev pub first_cyclic : Parts → Cyclic
 first_cyclic plan =
-    opened (route_of nobody 0xFFFF) (sending_of plan.times) (hearing_of plan.times) first_status
+    opened (route_of nobody 0xFFFF 1) (sending_of plan.times) (hearing_of plan.times) first_status
     (layout_in Output (data_of plan.real.modules.items)) (layout_in Input (data_of plan.real.modules.items))
 
 -- It looks for the station: the Identify counts as sent.
@@ -372,6 +380,7 @@ first plan = record {
   waited = 0;
   units = 0;
   stands = false;
+  deviates = false;
   cyclic = first_cyclic plan;
   alarms = unheard alarm_factor alarm_retries;
   alarm = None;

@@ -10,7 +10,8 @@ use Rattle.controller_core.specs.declared.state.State.{State}
 
 -- What changes from event to event: its phase; the MAC address of the station; the request that is active until it is
 -- answered, and the units since it was sent; the units since the controller was made, modulo 65,536; whether its
--- relation is established; its ends of cyclic data and of the alarms; and the last alarm that was accepted.
+-- relation is established; whether the device reported usable modules that deviate from the plan's; its ends of cyclic
+-- data and of the alarms; and the last alarm that was accepted.
 pub record Live : Type 0 where
   pub phase : State
   pub device : Mac
@@ -18,6 +19,7 @@ pub record Live : Type 0 where
   pub waited : ℕ
   pub units : ℕ
   pub stands : Bool
+  pub deviates : Bool
   pub cyclic : Cyclic
   pub alarms : ControllerEnd
   pub alarm : Option AlarmNotification

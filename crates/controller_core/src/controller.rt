@@ -19,7 +19,7 @@ use std::marker::Model;
 /// The status of good data (IEC 61158-6-10, 4.7.2.1.1).
 const GOOD: u8 = 0x80;
 
-/// The alarm endpoint of the device.
+/// The alarm endpoint of the device before it has chosen one.
 const REFERENCE: u16 = 1;
 
 /// FrameID of outputs before the device has chosen one.
@@ -39,6 +39,8 @@ pub struct Controller {
     pub(crate) units: u16,
     /// Whether the relation is established.
     pub(crate) stands: bool,
+    /// Whether the device reported usable modules that deviate from the plan's.
+    pub(crate) deviates: bool,
     pub(crate) exchange: CyclicExchange,
     pub(crate) alarms: ControllerAlarms,
     pub(crate) alarm: Option<KeptAlarm>,
@@ -60,6 +62,7 @@ impl Model for Controller {
         waited = controller.waited;
         units = controller.units;
         stands = controller.stands;
+        deviates = controller.deviates;
         cyclic = controller.exchange;
         alarms = controller.alarms;
         alarm = option_map alarm_in controller.alarm;
@@ -89,8 +92,8 @@ impl Statuses for NothingGiven {
 }
 
 /// The partner, and the numbers of the frames.
-pub(crate) fn route_of(device: Mac, frame_id: u16) -> Route
-    ensures { result ≡ route_of device frame_id }
+pub(crate) fn route_of(device: Mac, frame_id: u16, reference: u16) -> Route
+    ensures { result ≡ route_of device frame_id reference }
 {
     Route {
         partner: device,
@@ -98,7 +101,7 @@ pub(crate) fn route_of(device: Mac, frame_id: u16) -> Route
         sent_tag: TAG_HIGH,
         taken_id: INPUT_FRAME_ID,
         alarm_tag: TAG_HIGH,
-        reference: REFERENCE,
+        reference,
     }
 }
 
@@ -122,7 +125,7 @@ fn open(exchange: &mut CyclicExchange, plan: &Plan)
     let output = plan.layout(IocrType::Output);
     let input = plan.layout(IocrType::Input);
     exchange.open(
-        route_of(Mac { octets: [0; 6] }, NO_ID),
+        route_of(Mac { octets: [0; 6] }, NO_ID, REFERENCE),
         Provider::start(times.send_clock_factor, times.reduction_ratio),
         Consumer::new(times.data_hold_factor, interval_of(times)),
         &output,
@@ -154,6 +157,7 @@ impl Controller {
             waited: 0,
             units: 0,
             stands: false,
+            deviates: false,
             exchange: CyclicExchange::new(),
             alarms: ControllerAlarms::new(RTA_TIMEOUT_FACTOR, RTA_RETRIES),
             alarm: None,
@@ -187,6 +191,14 @@ impl Controller {
         ensures { result ≡ self.now.live.phase }
     {
         self.phase
+    }
+
+    /// Whether the device answered its Connect with a ModuleDiffBlock whose modules are all usable: substitutes, or the
+    /// plan's own with a diagnosis. The relation is established with them.
+    pub fn deviates(&self) -> bool
+        ensures { result ≡ self.now.live.deviates }
+    {
+        self.deviates
     }
 
     /// The input of a submodule, if it has a place: its data in the last accepted frame. All zeros if no frame was

@@ -6,15 +6,20 @@
 //! it sends.
 #![tactic(auto)]
 
+mod alarm_relation;
 mod alarms;
 mod answers;
 mod connect;
 mod controller;
 mod event;
 mod kept;
+mod law;
 mod state;
 mod step;
+mod usable;
 
+pub use alarm_relation::{AlarmRelation, put_alarm_relation};
 pub use controller::Controller;
 pub use event::Event;
+pub use law::blocks_are_found;
 pub use state::{Cause, State};

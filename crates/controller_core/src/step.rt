@@ -8,7 +8,7 @@ ghost use Rattle.controller_frames.specs.Heard.{heard_of, heard_real_time as hea
 ghost use Rattle.controller_frames.specs.Sent.{bytes_of};
 ghost use Rattle.controller_frames.specs.Reported.{reported};
 ghost use Rattle.controller_core.specs.Answers.{is_answer, is_ready};
-ghost use Rattle.controller_core.specs.Connect.{nothing, found_in as all_found};
+ghost use Rattle.controller_core.specs.Connect.{chosen_by, nothing, found_in as all_found};
 ghost use Rattle.controller_core.specs.State.{with_live};
 ghost use Rattle.controller_core.specs.Machine.{acks_of, addressed, alarmed, answered, asking, called, come, connected, connected_by};
 ghost use Rattle.controller_core.specs.Machine.{brought, decided, done, due_frames, ended_by, exchange_later, flowed, found, given};
@@ -365,22 +365,29 @@ impl Controller {
             self.release(Cause::ModuleDiff, outbox);
             return;
         }
-        if let Some(frame_id) = found.output {
-            self.relate(frame_id, outbox);
-        }
+        let Some(frame_id) = found.output else {
+            return;
+        };
+        let Some(reference) = found.alarm else {
+            return;
+        };
+        self.relate(frame_id, reference, found.deviates, outbox);
     }
 
     // The relation is established.
-    fn relate(&mut self, frame_id: u16, outbox: &mut Outbox)
+    fn relate(&mut self, frame_id: u16, reference: u16, deviates: bool, outbox: &mut Outbox)
         requires empty { outbox.old.items ≡ [] }
-        ensures state { self.new ≡ with_live self.old (related_by self.old.setup self.old.live (Some frame_id)).live }
-        ensures frames { boxed outbox.new ≡ map (bytes_of self.old.setup) (related_by self.old.setup self.old.live (Some frame_id)).sent }
+        ensures state { self.new ≡ with_live self.old (related_by self.old.setup self.old.live
+            (chosen_by (Some frame_id) (Some reference) deviates)).live }
+        ensures frames { boxed outbox.new ≡ map (bytes_of self.old.setup) (related_by self.old.setup self.old.live
+            (chosen_by (Some frame_id) (Some reference) deviates)).sent }
     {
         let times = self.setup.plan.times();
         let provider = Provider::start(times.send_clock_factor, times.reduction_ratio);
         self.exchange
-            .relate(route_of(self.device, frame_id), provider);
+            .relate(route_of(self.device, frame_id, reference), provider);
         self.stands = true;
+        self.deviates = deviates;
         let first = Request::writing_from(&self.setup.plan, 0);
         self.write(first, outbox);
     }

@@ -217,9 +217,9 @@ module _ (setup : Setup) where
     kind_goes (Addresses source) holds = record { in_step = refl; moves = inl (sym (seeking holds.seeking)); says = (tt, tt) }
     kind_goes (Ends reason) holds = over_goes setup.plan heard reason live [] tt
     kind_goes (Releases reason) holds = released_goes heard reason live
-    kind_goes (Relates frame_id) holds =
+    kind_goes (Relates chosen) holds =
         let granted = holds.0 in
-        writing_goes live (standing setup live frame_id) 0 heard (tells live.phase live.asked in_step asks.Connect granted.stood) (granted_said asks.Connect granted) (omega arith)
+        writing_goes live (standing setup live chosen) 0 heard (tells live.phase live.asked in_step asks.Connect granted.stood) (granted_said asks.Connect granted) (omega arith)
     kind_goes (Writes number) holds =
         let there = tells live.phase live.asked in_step (asks.Write number) holds.stood in
         writing_goes live live (number + 1) heard there.1 (granted_said (asks.Write number) holds) (omega (arith, there.0))

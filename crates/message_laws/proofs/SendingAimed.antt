@@ -29,6 +29,7 @@ use Rattle.controller_core.specs.declared.state.State.TheVariants.{Addressing, C
 use Rattle.controller_core.specs.State.{Live}
 use Rattle.message_laws.specs.turns.Turns.{Came, Hears, IsKind, IsReadied, IsTurn, Kind, Rests, Connects, Addresses, Ends, Releases, Relates, Writes, Waits, Forgets, Begins, Repeats, Follows, Takes, IsAcked, Gives, Flows, Breaks, Idles, came_by, turn_by}
 use Rattle.codec_laws.specs.frames.Sendable.{IsMac}
+use Rattle.controller_core.specs.Connect.{Chosen}
 use Rattle.controller_core.specs.Machine.{Turn, acks_in, asking, behind_data, brought, first, flow_later, is_again, next_sequence, over, phase_for, released, requests_of, standing, stays, taken, turn_of, where_due, writing}
 use Rattle.message_laws.specs.hearing.Stations.{IsSetup}
 use Rattle.message_laws.specs.sending.Addressed.{IsAimed, IsAimedAt, IsDirection, IsEventFrom, IsHeardFrom}
@@ -61,8 +62,8 @@ module _ (mac : Mac) where
   writing_sent setup number live good is =
       asking_sent (phase_for (writing_from setup.plan number)) (writing_from setup.plan number) live is (writing_few setup.plan number good.plan)
 
-  stands_aimed : (setup : Setup) (live : Live) (frame_id : ℕ) → IsAimed live → IsAimed (standing setup live frame_id)
-  stands_aimed setup live frame_id is = record { device = is.device; asked = is.asked; way = record { partner = is.device; sent_tag = omega arith; alarm_tag = omega arith } }
+  stands_aimed : (setup : Setup) (live : Live) (chosen : Chosen) → IsAimed live → IsAimed (standing setup live chosen)
+  stands_aimed setup live chosen is = record { device = is.device; asked = is.asked; way = record { partner = is.device; sent_tag = omega arith; alarm_tag = omega arith } }
 
   unasked : (live : Live) (phase : State) → IsAimed live → IsAimed (record live { phase = phase; asked = None })
   unasked live phase is = record { device = is.device; asked = tt; way = is.way }
@@ -110,7 +111,7 @@ module _ (mac : Mac) where
     kind_sent (Addresses source) holds = asking_sent Addressing asks.Address _ (at_station source holds.known) tt
     kind_sent (Ends why) holds = record { live = over_aimed why live is; sent = tt }
     kind_sent (Releases why) holds = released_sent setup why live good is
-    kind_sent (Relates frame_id) holds = writing_sent setup 0 (standing setup live frame_id) good (stands_aimed setup live frame_id is)
+    kind_sent (Relates chosen) holds = writing_sent setup 0 (standing setup live chosen) good (stands_aimed setup live chosen is)
     kind_sent (Writes number) holds = writing_sent setup (number + 1) live good is
     kind_sent Waits holds = record { live = unasked live Waiting is; sent = tt }
     kind_sent Forgets holds = record { live = unasked live live.phase is; sent = tt }

@@ -35,6 +35,7 @@ use Rattle.controller_core.specs.State.{Live}
 use Rattle.message_laws.specs.turns.Turns.{Came, Hears, IsKind, IsReadied, IsTurn, Kind, Rests, Connects, Addresses, Ends, Releases, Relates, Writes, Waits, Forgets, Begins, Repeats, Follows, Takes, IsAcked, Gives, Flows, Breaks, Idles, came_by, turn_by}
 use Rattle.codec_laws.specs.frames.Sendable.{IsMac}
 use Rattle.controller_core.specs.Alarms.{ack_of, header_of}
+use Rattle.controller_core.specs.Connect.{Chosen}
 use Rattle.controller_core.specs.Machine.{Turn, acks_in, asking, behind_data, brought, confirming, first, flow_later, is_again, later, next_sequence, over, phase_for, released, requests_of, standing, stays, taken, turn_of, where_due, writing}
 use Rattle.codec_laws.specs.alarms.Sendable.{IsHeader}
 use Rattle.codec_laws.specs.blocks.Writable.{IsAck}
@@ -73,11 +74,11 @@ writing_right : (setup : Setup) (number : ℕ) (live : Live) → IsSetup setup �
 writing_right setup number live good is =
     asking_right setup (phase_for (writing_from setup.plan number)) (writing_from setup.plan number) live is (writing_few setup.plan number good.plan)
 
-stands_live : (setup : Setup) (live : Live) (frame_id : ℕ) → IsLive live → frame_id < 65536 → IsLive (standing setup live frame_id)
-stands_live setup live frame_id is small = record {
+stands_live : (setup : Setup) (live : Live) (chosen : Chosen) → IsLive live → (chosen.frame_id < 65536) × (chosen.reference < 65536) → IsLive (standing setup live chosen)
+stands_live setup live chosen is small = record {
   device = is.device;
   asked = is.asked;
-  way = record { partner = is.device; sent_id = small; sent_tag = omega arith; alarm_tag = omega arith; reference = omega arith };
+  way = record { partner = is.device; sent_id = small.0; sent_tag = omega arith; alarm_tag = omega arith; reference = small.1 };
   few = is.few;
   last = is.last;
   seen = is.seen;
@@ -212,9 +213,9 @@ module _ (long : BlocksAreLong) (setup : Setup) (live : Live) (came : Came) (goo
   kind_right (Addresses source) holds = asking_right setup Addressing asks.Address _ (at_station source holds.known) tt
   kind_right (Ends why) holds = record { live = over_live why live is; sent = tt }
   kind_right (Releases why) holds = released_right setup why live good is
-  kind_right (Relates frame_id) holds =
-      let chosen : IsSized (Responds holds.0.response) = reported (Hears (Responds holds.0.response)) holds.0.comes in
-      writing_right setup 0 (standing setup live frame_id) good (stands_live setup live frame_id is (chosen frame_id holds.1))
+  kind_right (Relates chosen) holds =
+      let sized_so : IsSized (Responds holds.0.response) = reported (Hears (Responds holds.0.response)) holds.0.comes in
+      writing_right setup 0 (standing setup live chosen) good (stands_live setup live chosen is (sized_so chosen holds.1))
   kind_right (Writes number) holds = writing_right setup (number + 1) live good is
   kind_right Waits holds = record { live = unasked live Waiting is; sent = tt }
   kind_right Forgets holds = record { live = unasked live live.phase is; sent = tt }

@@ -64,7 +64,7 @@ module _ (setup : Setup) (live : Live) (heard : Heard) (cause : Cause) (h : IsEn
   unmoved_by (Addresses source) holds = absurd (either_phase Looking Addressing refl refl holds.seeking)
   unmoved_by (Ends mine) holds = absurd (holds cause h)
   unmoved_by (Releases mine) holds = absurd (holds.0 cause h)
-  unmoved_by (Relates frame_id) holds = absurd (unasked asks.Connect refl holds.0.stood)
+  unmoved_by (Relates chosen) holds = absurd (unasked asks.Connect refl holds.0.stood)
   unmoved_by (Writes number) holds = absurd (unasked (asks.Write number) refl holds.stood)
   unmoved_by Waits holds = absurd (unasked asks.PrmEnd refl holds.stood)
   unmoved_by Forgets holds = inr (subst (λ (other : Heard). IsAnswered setup live other) (same_heard holds.0 holds.1) holds.2, refl)

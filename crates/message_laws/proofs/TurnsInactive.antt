@@ -58,7 +58,7 @@ module _ (setup : Setup) (live : Live) (came : Came) (plain : IsPlain came) wher
   inactive_by (Addresses source) holds = record { alarms = refl; alarm = refl; sent = λ pdus acks nacks. (tt, tt) }
   inactive_by (Ends cause) holds = record { alarms = refl; alarm = refl; sent = λ pdus acks nacks. tt }
   inactive_by (Releases cause) holds = record { alarms = refl; alarm = refl; sent = λ pdus acks nacks. (tt, tt) }
-  inactive_by (Relates frame_id) holds = record { alarms = refl; alarm = refl; sent = λ pdus acks nacks. (tt, tt) }
+  inactive_by (Relates chosen) holds = record { alarms = refl; alarm = refl; sent = λ pdus acks nacks. (tt, tt) }
   inactive_by (Writes number) holds = record { alarms = refl; alarm = refl; sent = λ pdus acks nacks. (tt, tt) }
   inactive_by Waits holds = record { alarms = refl; alarm = refl; sent = λ pdus acks nacks. tt }
   inactive_by Forgets holds = record { alarms = refl; alarm = refl; sent = λ pdus acks nacks. tt }

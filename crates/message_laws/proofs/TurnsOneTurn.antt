@@ -28,7 +28,7 @@ use Rattle.controller_core.specs.declared.state.State.TheVariants.{Looking, Addr
 use Rattle.controller_core.specs.State.{Live}
 use Rattle.controller_core.specs.Alarms.{is_alarm}
 use Rattle.controller_core.specs.Answers.{is_addressed, is_answer, is_found, is_ready, is_right, is_set_answer}
-use Rattle.controller_core.specs.Connect.{found_in, is_whole, nothing}
+use Rattle.controller_core.specs.Connect.{Chosen, chosen_of, found_in, is_whole, nothing}
 use Rattle.controller_core.specs.Machine.{Turn, answered, brought, called, connected, decided, done, flow_later, flowed, is_again, handled, later, noticed, readied, ready_in, related_by, requests_of, responded, stays, stopped, turn_of, turned, where_due}
 use Rattle.message_laws.specs.turns.Turns.{Came, Hears, Passes, Gets, Halts, Found, IsGoing, IsGranted, IsKind, IsReadied, IsSought, IsReported, IsTurn, Kind, Rests, Connects, Addresses, Ends, Releases, Relates, Writes, Waits, Forgets, Begins, Repeats, Follows, Takes, IsAcked, Gives, Flows, Breaks, Idles, came_by, chosen_in, turn_by, turn_for}
 
@@ -110,16 +110,16 @@ module _ (setup : Setup) (live : Live) where
     granted_by request stood right granted = record { stood = stood; response = response; comes = refl; right = right; granted = granted }
 
     module _ (stood : live.asked ≡ Some asks.Connect) (right : is_answer setup asks.Connect response.header ≡ true) (granted : is_done response.status ≡ true) where
-      related_is : (output : Option ℕ) → chosen_in response.blocks ≡ output → IsTurn setup live heard_now (related_by setup live output)
-      related_is (Some frame_id) chosen = as_kind heard_now (Relates frame_id) (granted_by asks.Connect stood right granted, chosen)
-      related_is None chosen = rests heard_now
+      related_is : (found : Option Chosen) → chosen_in response.blocks ≡ found → IsTurn setup live heard_now (related_by setup live found)
+      related_is (Some chosen) is = as_kind heard_now (Relates chosen) (granted_by asks.Connect stood right granted, is)
+      related_is None is = rests heard_now
 
       connected_is : (read : Option Found) → found_in 400 response.blocks nothing ≡ read → IsTurn setup live heard_now (connected setup live read)
       connected_is (Some found) e =
           either (is_whole found)
           (either found.differs
           (as_kind heard_now (Releases why.ModuleDiff) (asked_going asks.Connect stood refl, refl))
-          (related_is found.output (ap (λ (o : Option Found). option_and_then (λ (f : Found). f.output) o) e)))
+          (related_is (chosen_of found) (ap (λ (o : Option Found). option_and_then (λ (f : Found). chosen_of f) o) e)))
           (rests heard_now)
       connected_is None e = rests heard_now
 

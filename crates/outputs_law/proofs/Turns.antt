@@ -43,7 +43,7 @@ use Rattle.controller_core.specs.declared.state.State.{State}
 use Rattle.controller_core.specs.declared.state.State.TheVariants.{Looking, Addressing, Connecting, Writing, Ending, Waiting, Exchanging, Ended}
 use Rattle.controller_core.specs.Alarms.{is_alarm}
 use Rattle.controller_core.specs.Answers.{is_addressed, is_answer, is_found, is_ready, is_right, is_set_answer}
-use Rattle.controller_core.specs.Connect.{found_in, is_whole, nothing}
+use Rattle.controller_core.specs.Connect.{Chosen, found_in, is_whole, nothing}
 use Rattle.controller_frames.specs.Requests.{writing_from}
 use Rattle.controller_core.specs.Machine.{Turn, acks_in, addressed, answered, asking, behind_data, brought, called, come, connected, decided, done, flow_later, flowed, found, given, is_again, handled, next_sequence, noticed, over, phase_for, readied, ready_in, standing, writing, related_by, released, requests_of, responded, stays, stopped, taken, ticked, turn_of, turned, where_due}
 use Rattle.controller_core.specs.State.{Live}
@@ -116,8 +116,8 @@ module _ (size : ℕ) where
   released_tells : (setup : Setup) (why : Cause) (live : Live) → IsKept size live → Tells live.cyclic.shown (released setup why live)
   released_tells setup why live k = asking_tells (Ended why) (asks.Release (next_sequence setup.plan live.asked)) (over why live) k
 
-  related_tells : (setup : Setup) (live : Live) (frame_id : ℕ) → IsKept size live → Tells live.cyclic.shown (writing (writing_from setup.plan 0) (standing setup live frame_id))
-  related_tells setup live frame_id k = record {
+  related_tells : (setup : Setup) (live : Live) (chosen : Chosen) → IsKept size live → Tells live.cyclic.shown (writing (writing_from setup.plan 0) (standing setup live chosen))
+  related_tells setup live chosen k = record {
     reported = ((tt, k.device), tt);
     same = refl;
     kept = record { device = k.device; way = record { partner = k.device; sent_tag = omega arith; alarm_tag = omega arith }; size = k.size };
@@ -217,7 +217,7 @@ module _ (size : ℕ) where
     kind_tells (Addresses source) holds = met_tells Addressing asks.Address source holds
     kind_tells (sort.Ends why) holds = over_tells why live k
     kind_tells (Releases why) holds = released_tells setup why live k
-    kind_tells (Relates frame_id) holds = related_tells setup live frame_id k
+    kind_tells (Relates chosen) holds = related_tells setup live chosen k
     kind_tells (Writes number) holds = let next = writing_from setup.plan (number + 1) in asking_tells (phase_for next) next live k
     kind_tells Waits holds = record { reported = tt; kept = k; same = refl }
     kind_tells Forgets holds = record { reported = tt; kept = k; same = refl }

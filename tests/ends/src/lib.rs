@@ -10,6 +10,7 @@ use script_runner::{RunFault, run};
 mod ends;
 mod failing;
 mod lines;
+mod makers;
 mod operations;
 mod rows;
 

@@ -10,7 +10,7 @@ use Rattle.controller_frames.specs.declared.setup.Setup.{Setup}
 use Rattle.controller_frames.specs.Heard.{Heard, Nothing, Answers, Responds, Calls, Cyclic, Alarms, heard_of}
 use Rattle.controller_core.specs.declared.event.Event.{Event}
 use Rattle.controller_core.specs.declared.event.Event.TheVariants.{Frame, Tick, Give, Stop}
-use Rattle.controller_core.specs.Connect.{found_in, nothing}
+use Rattle.controller_core.specs.Connect.{Chosen, chosen_of, found_in, nothing}
 use Rattle.controller_core.specs.State.{Live}
 use Rattle.codec_laws.specs.frames.Sendable.{IsMac}
 use Rattle.rpc_core.specs.Sendable.{IsHeader}
@@ -79,15 +79,15 @@ TypeOf {A = A} value = A
 abbrev pub Found : Type 0
 Found = TypeOf nothing
 
--- the FrameID that the device chose for outputs, if these blocks are the response to a Connect
-abbrev pub chosen_in : List ℕ → Option ℕ
-chosen_in blocks = option_and_then (λ (found : Found). found.output) (found_in 400 blocks nothing)
+-- what the device chose, if these blocks are the response to a Connect
+abbrev pub chosen_in : List ℕ → Option Chosen
+chosen_in blocks = option_and_then (λ (found : Found). chosen_of found) (found_in 400 blocks nothing)
 
--- the FrameID that these blocks choose for outputs has two octets
+-- the FrameID that these blocks choose for outputs has two octets, and so has the alarm endpoint
 abbrev pub IsChosen : List ℕ → Type 0
-IsChosen blocks = (frame_id : ℕ) → chosen_in blocks ≡ Some frame_id → frame_id < 65536
+IsChosen blocks = (chosen : Chosen) → chosen_in blocks ≡ Some chosen → (chosen.frame_id < 65536) × (chosen.reference < 65536)
 
--- what was heard has its sizes; in the response to a Connect so has the FrameID that the device chose
+-- what was heard has its sizes; in the response to a Connect so has what the device chose
 abbrev pub IsSized : Heard → Type 0
 IsSized Nothing = ⊤
 IsSized (Answers source answer) = IsMac source

@@ -26,7 +26,7 @@ use Rattle.controller_core.specs.declared.state.Cause.{Cause}
 use Rattle.controller_core.specs.declared.state.State.TheVariants.{Looking, Addressing, Connecting, Ending, Waiting, Exchanging, Ended}
 use Rattle.controller_core.specs.State.{Live}
 use Rattle.controller_core.specs.Answers.{is_answer, is_ready}
-use Rattle.controller_core.specs.Connect.{found_in, nothing}
+use Rattle.controller_core.specs.Connect.{Chosen, chosen_of, found_in, nothing}
 use Rattle.controller_core.specs.Machine.{Turn, asking, behind_data, brought, due_frames, ended_by, flow_later, given, is_again, later, over, ready_in, released, requests_of, standing, stays, stopped, taken, ticked, turned, where_due, writing}
 use Rattle.message_laws.specs.turns.Ended.{IsAnswered, may_release}
 
@@ -72,8 +72,8 @@ IsGoing live = (cause : Cause) → IsEnd cause live → ⊥
 -- ---- the kinds
 
 -- Nothing changes, and nothing is sent; a station is asked for the relation, or its address is set; the controller
--- ends, or ends and informs the device; the relation is established with the FrameID that the device chose, and the
--- first record is written; the record after this one is written; the controller waits for ApplicationReady; a Release
+-- ends, or ends and informs the device; the relation is established with what the device chose, and the first record is
+-- written; the record after this one is written; the controller waits for ApplicationReady; a Release
 -- is no longer active; ApplicationReady is answered, and data is exchanged from then on, or was before; a cyclic frame
 -- is received; an alarm is received, or the ACK of an AlarmAck; an output is set; a unit of the relation passes, or
 -- ends it, or a unit passes without a relation.
@@ -83,7 +83,7 @@ pub data Kind : Type 0 where
   Addresses : (source : Mac) → Kind
   Ends : (cause : Cause) → Kind
   Releases : (cause : Cause) → Kind
-  Relates : (frame_id : ℕ) → Kind
+  Relates : (chosen : Chosen) → Kind
   Writes : (number : ℕ) → Kind
   Waits : Kind
   Forgets : Kind
@@ -104,7 +104,7 @@ turn_by setup live (Connects source) = asking Connecting asks.Connect (record li
 turn_by setup live (Addresses source) = asking Addressing asks.Address (record live { device = source })
 turn_by setup live (Ends cause) = stays (over cause live)
 turn_by setup live (Releases cause) = released setup cause live
-turn_by setup live (Relates frame_id) = writing (writing_from setup.plan 0) (standing setup live frame_id)
+turn_by setup live (Relates chosen) = writing (writing_from setup.plan 0) (standing setup live chosen)
 turn_by setup live (Writes number) = writing (writing_from setup.plan (number + 1)) live
 turn_by setup live Waits = stays (record live { phase = Waiting; asked = None })
 turn_by setup live Forgets = stays (record live { asked = None })
@@ -143,9 +143,9 @@ TypeOf {A = A} value = A
 abbrev pub Found : Type 0
 Found = TypeOf nothing
 
--- The FrameID that the device chose for outputs, if these blocks are the answer to a Connect.
-abbrev pub chosen_in : List ℕ → Option ℕ
-chosen_in blocks = option_and_then (λ (found : Found). found.output) (found_in 400 blocks nothing)
+-- What the device chose, if these blocks are the answer to a Connect.
+abbrev pub chosen_in : List ℕ → Option Chosen
+chosen_in blocks = option_and_then (λ (found : Found). chosen_of found) (found_in 400 blocks nothing)
 
 -- ApplicationReady of the relation is received.
 pub record IsReadied (setup : Setup) (came : Came) (caller : Caller) (call : Call) (block : ControlBlock) : Type 0 where
@@ -160,7 +160,7 @@ IsKind setup live came (Connects source) = IsSought live came source
 IsKind setup live came (Addresses source) = IsSought live came source
 IsKind setup live came (Ends cause) = IsGoing live
 IsKind setup live came (Releases cause) = IsGoing live × (may_release cause ≡ true)
-IsKind setup live came (Relates frame_id) = (granted : IsGranted setup live came asks.Connect) × (chosen_in granted.response.blocks ≡ Some frame_id)
+IsKind setup live came (Relates chosen) = (granted : IsGranted setup live came asks.Connect) × (chosen_in granted.response.blocks ≡ Some chosen)
 IsKind setup live came (Writes number) = IsGranted setup live came (asks.Write number)
 IsKind setup live came Waits = IsGranted setup live came asks.PrmEnd
 IsKind setup live came Forgets = (heard : Heard) × (came ≡ Hears heard) × IsAnswered setup live heard

@@ -1,5 +1,5 @@
 -- The response of a device to the Connect of a plan.
-use Rattle.std.specs.Prelude.{◌≡◌, ℕ, true, List, [], ◌∷◌, Some, None}
+use Rattle.std.specs.Prelude.{◌≡◌, ℕ, true, false, List, [], ◌∷◌, Some, None}
 use Rattle.pn_values.specs.declared.identity.Identity.{Identity}
 use Rattle.frame_codec.specs.declared.udp.Caller.{Caller}
 use Rattle.records.specs.declared.status.operation.Operation.TheVariants.{Connect}
@@ -13,7 +13,7 @@ use Rattle.controller_frames.specs.declared.setup.Setup.{Setup}
 use Rattle.controller_frames.specs.declared.request.Request.TheVariants as asks
 use Rattle.controller_frames.specs.Requests.{blocks_of, call_for}
 use Rattle.controller_frames.specs.Sent.{calls_at}
-use Rattle.controller_core.specs.Connect.{found_in, nothing}
+use Rattle.controller_core.specs.Connect.{Chosen, found_in, nothing}
 
 -- the controller as the caller
 abbrev pub caller_of : Controller → Caller
@@ -41,6 +41,11 @@ AnswersSo setup identity = (device : Live) → device.rest.link ≡ None → (re
 abbrev pub answer_blocks : Setup → Identity → List ℕ
 answer_blocks setup identity = connect_blocks identity (request_for setup.plan setup.ar) []
 
--- These blocks have everything that a relation needs, with this FrameID for outputs, and no module that differs.
+-- These blocks have everything that a relation needs, with this FrameID for outputs and alarm endpoint 1, and no module
+-- that differs.
 abbrev pub IsAllThere : List ℕ → ℕ → Type 0
-IsAllThere blocks frame_id = found_in 400 blocks nothing ≡ Some (record nothing { relation = true; input = true; output = Some frame_id; alarm = true })
+IsAllThere blocks frame_id = found_in 400 blocks nothing ≡ Some (record nothing { relation = true; input = true; output = Some frame_id; alarm = Some 1 })
+
+-- What such blocks choose.
+abbrev pub chosen_with : ℕ → Chosen
+chosen_with frame_id = record { frame_id = frame_id; reference = 1; deviates = false }

@@ -6,6 +6,7 @@ ghost use Rattle.startup_law.specs.answer.Answer.{IsAllThere};
 use arrayvec::ArrayVec;
 use block_codec::{AlarmCrBlockRes, ArBlockRes, Block, IocrBlockRes, write_block};
 use connect_blocks::{alarm_cr_block_res_len, ar_block_res_len, iocr_block_res_len};
+use controller_core::blocks_are_found;
 
 // A block of at most 64 octets is read back, with anything after it.
 #[tactic(auto, unfolding(block_codec::specs::Block::block_size))]
@@ -45,4 +46,5 @@ pub fn answer_blocks_are_read(relation: &ArBlockRes, input: &IocrBlockRes, outpu
     block_is_read(&Block::IocrBlockRes(*input));
     block_is_read(&Block::IocrBlockRes(*output));
     block_is_read(&Block::AlarmCrBlockRes(alarm));
+    blocks_are_found();
 }

@@ -9,7 +9,7 @@ ghost use Rattle.controller_frames.specs.Requests.{call_for, writing_from};
 ghost use Rattle.controller_core.specs.declared.event.Event.TheVariants.{Frame};
 ghost use Rattle.controller_core.specs.Machine.{standing, turn_of, writing};
 ghost use Rattle.controller_core.specs.State.{Live};
-ghost use Rattle.startup_law.specs.answer.Answer.{AnswersSo, IsAllThere, answer_blocks, answer_frame};
+ghost use Rattle.startup_law.specs.answer.Answer.{AnswersSo, IsAllThere, answer_blocks, answer_frame, chosen_with};
 
 use crate::answer::blocks::answer_blocks_are_read;
 use crate::answer::reading::answers_are_read;
@@ -62,7 +62,7 @@ pub fn connect_answer_is_read(setup: &Setup, identity: &Identity, address: [u8; 
     // first record is written, or PrmEnd is sent.
     ensures goes_on { is_some_uuid setup.now.ar ≡ true → (live : Live) → live.asked ≡ Some Request.Connect
         → turn_of setup.now live (Frame (record { items = answer_frame setup.now identity.now address }))
-        ≡ writing (writing_from setup.now.plan 0) (standing setup.now live 0xC000) }
+        ≡ writing (writing_from setup.now.plan 0) (standing setup.now live (chosen_with 0xC000)) }
 {
     connect_is_taken(&setup.plan, &setup.ar);
     let relation = ArBlockRes {

@@ -1,4 +1,4 @@
--- Each block is read back.
+-- Each block is read back, and found.
 use Rattle.startup_law.proofs.AnswerFound.{input_first, output_first}
 use Rattle.startup_law.proofs.answer.blocks.answer_blocks_are_read.Goals as goal
 
@@ -9,6 +9,7 @@ returns-clause-input_first c =
     (record { read = c.block_is_read-2.ensures.read; some = c.block_is_read-2.ensures.some })
     (record { read = c.block_is_read-3.ensures.read; some = c.block_is_read-3.ensures.some })
     (record { read = c.block_is_read-4.ensures.read; some = c.block_is_read-4.ensures.some })
+    c.blocks_are_found.ensures.known c.blocks_are_found.ensures.alarm
 
 pub returns-clause-output_first : goal.returns-clause-output_first
 returns-clause-output_first c =
@@ -17,3 +18,4 @@ returns-clause-output_first c =
     (record { read = c.block_is_read-2.ensures.read; some = c.block_is_read-2.ensures.some })
     (record { read = c.block_is_read-3.ensures.read; some = c.block_is_read-3.ensures.some })
     (record { read = c.block_is_read-4.ensures.read; some = c.block_is_read-4.ensures.some })
+    c.blocks_are_found.ensures.known c.blocks_are_found.ensures.alarm
