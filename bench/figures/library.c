@@ -1,6 +1,7 @@
 /* Figures of the library through its header, for bench/figures/library.py: how deep each call goes into a stack that was painted
- * (`stack`), and a number of units of time in one call (`quiet`), units one by one (`tick`) or cyclic frames (`cyclic`) to be counted by
- * callgrind, after a script on standard input: what is executed within pn_step, and not what this program does. */
+ * (`stack`), after a script on standard input; and what is to be counted by callgrind in an exchange that the lines on standard input set
+ * up: N times a unit of time (`unit`), 32 units (`leap`), a unit with the frame that it sends (`sent`), a cyclic frame (`cyclic`), or the
+ * millisecond of an exchange (`cycle`). Callgrind counts what is executed within pn_step, and not what this program does. */
 #define _GNU_SOURCE
 #include "nandutable.h"
 #include <pthread.h>
@@ -13,7 +14,7 @@ static pn_device device;
 static pn_op op;
 static uint8_t erased[PN_SECTOR_SIZE];
 
-static const pn_station station = {
+static pn_station station = {
     .mac = {2, 0, 0, 0, 0, 1}, .vendor_id = 0x0123, .device_id = 0x0456, .instance = 1, .station_type_length = 7,
     .station_type = "pn-demo", .order_id = "                    ", .serial_number = "                ",
     .software_revision = {'V', 0, 0, 0}, .module_count = 3,
@@ -22,7 +23,7 @@ static const pn_station station = {
                 {.ident = 16, .slot = 1, .submodule_count = 1, .submodules = {{.ident = 16, .subslot = 1, .input = 2}}},
                 {.ident = 32, .slot = 2, .submodule_count = 1, .submodules = {{.ident = 32, .subslot = 1, .output = 2}}}}};
 
-/* Lines of a script on standard input, `frame HEX` and `tick N`; the deepest of each kind of call. */
+/* A call, with the octets of a frame or units of time. */
 struct line {
     int kind; /* 0 make, 1 boot, 2 frame, 3 tick, 4 next, 5 output, 6 settings */
     uint8_t octets[2000];
@@ -30,9 +31,8 @@ struct line {
     uint32_t units;
 };
 
-static void *call(void *given)
+static void call(struct line *line)
 {
-    struct line *line = given;
     static pn_settings settings;
     switch (line->kind) {
     case 0: pn_make(&device, &station); break;
@@ -43,7 +43,6 @@ static void *call(void *given)
     case 5: pn_output(&device, &op, 2, 1); break;
     default: pn_running(&device, &op, &settings); break;
     }
-    return NULL;
 }
 
 static size_t deepest[7];
@@ -87,31 +86,13 @@ static void take_all(void (*does)(struct line *))
     while (op.work != PN_NOTHING);
 }
 
-static void plain(struct line *line)
-{
-    call(line);
-}
-
-/* The last cyclic frame of the script. */
+/* The last cyclic frame of the lines. */
 static struct line cyclic;
 
 static int is_cyclic(const struct line *line)
 {
     const uint8_t *type = line->octets + (line->octets[12] == 0x81 ? 16 : 12);
     return line->kind == 2 && line->length >= 60 && type[0] == 0x88 && type[1] == 0x92 && type[2] >= 0x80 && type[2] < 0xF8;
-}
-
-/* It comes again a millisecond later, and is taken. */
-static void next_cyclic(void)
-{
-    uint8_t *counter = cyclic.octets + cyclic.length - 4;
-    unsigned number = counter[0] * 256u + counter[1] + 32u;
-    counter[0] = (uint8_t)(number >> 8);
-    counter[1] = (uint8_t)number;
-    call(&cyclic);
-    if (op.note != PN_DONE)
-        exit(2);
-    take_all(plain);
 }
 
 static void start(void (*does)(struct line *))
@@ -123,66 +104,153 @@ static void start(void (*does)(struct line *))
     does(&line);
 }
 
-static void play(void (*does)(struct line *))
+static size_t read_hex(const char *text, uint8_t *octets, size_t most)
+{
+    size_t length = 0;
+    unsigned octet;
+    for (; length < most && sscanf(text, "%2x", &octet) == 1; text += 2)
+        octets[length++] = (uint8_t)octet;
+    return length;
+}
+
+static void play(void)
 {
     static char text[70000];
     while (fgets(text, sizeof text, stdin) != NULL) {
         struct line line = {.kind = 2};
-        unsigned octet;
         if (strncmp(text, "frame ", 6) == 0) {
-            for (char *p = text + 6; line.length < sizeof line.octets && sscanf(p, "%2x", &octet) == 1; p += 2)
-                line.octets[line.length++] = (uint8_t)octet;
+            line.length = read_hex(text + 6, line.octets, sizeof line.octets);
         } else if (strncmp(text, "tick ", 5) == 0) {
             line.kind = 3;
             line.units = (uint32_t)strtoul(text + 5, NULL, 10);
         } else {
             continue;
         }
-        if (is_cyclic(&line))
-            cyclic = line;
-        does(&line);
+        on_stack(&line);
         while (line.kind == 3 && op.units != 0) {
             line.units = op.units;
-            take_all(does);
-            does(&line);
+            take_all(on_stack);
+            on_stack(&line);
         }
-        take_all(does);
-        line.kind = 5;
-        does(&line);
-        line.kind = 6;
-        does(&line);
+        take_all(on_stack);
+        for (line.kind = 5; line.kind < 7; line.kind++)
+            on_stack(&line);
     }
 }
 
-int main(int count, char **words)
+/* --- What is counted --- */
+
+static void must(int is_so, int status)
+{
+    if (!is_so)
+        exit(status);
+}
+
+/* A host that drops what the device sends. */
+static uint64_t sent;
+
+static int drop(void *context, const uint8_t *octets, uint32_t length)
+{
+    (void)context, (void)octets, (void)length;
+    sent++;
+    return 0;
+}
+
+static int program(void *context, uint32_t sector, uint32_t place, const uint8_t *octets, uint32_t length)
+{
+    (void)context, (void)sector, (void)place, (void)octets, (void)length;
+    return 0;
+}
+
+static int erase(void *context, uint32_t sector)
+{
+    (void)context, (void)sector;
+    return 0;
+}
+
+static const pn_host host = {NULL, program, erase, drop};
+
+static void carry_out(void)
+{
+    must(pn_carry_out(&device, &op, &host) == PN_OK, 3);
+}
+
+static void units_pass(uint32_t units)
+{
+    while (units != 0) {
+        must(pn_tick(&device, &op, units) == PN_OK, 4);
+        units = op.units;
+        carry_out();
+    }
+}
+
+/* The cyclic frame comes again, a number of units later, and is accepted. */
+static void next_cyclic(unsigned units)
+{
+    uint8_t *counter = cyclic.octets + cyclic.length - 4;
+    unsigned number = counter[0] * 256u + counter[1] + units;
+    counter[0] = (uint8_t)(number >> 8);
+    counter[1] = (uint8_t)number;
+    must(pn_frame(&device, &op, cyclic.octets, cyclic.length) == PN_OK && op.note == PN_DONE, 5);
+    carry_out();
+}
+
+/* The lines of bench/figures/exchange.py up to the exchange: frames, and the input of slot 1. */
+static void exchange(void)
+{
+    static char text[70000];
+    static struct line line;
+    while (fgets(text, sizeof text, stdin) != NULL) {
+        line.kind = 2;
+        if (strncmp(text, "frame ", 6) == 0) {
+            line.length = read_hex(text + 6, line.octets, sizeof line.octets);
+            must(pn_frame(&device, &op, line.octets, line.length) == PN_OK, 6);
+            if (is_cyclic(&line))
+                cyclic = line;
+        } else if (strncmp(text, "input 1 ", 8) == 0) {
+            line.length = read_hex(text + 8, line.octets, sizeof line.octets);
+            must(pn_input(&device, &op, 1, 1, line.octets, line.length) == PN_OK && op.note == PN_DONE, 7);
+        }
+        carry_out();
+    }
+    must(pn_state(&device, &op) == PN_OK && op.phase == PN_EXCHANGING && cyclic.length != 0, 8);
+    sent = 0;
+}
+
+static void count(const char *what, unsigned long turns)
+{
+    for (unsigned long i = 0; i < turns; i++) {
+        if (strcmp(what, "unit") == 0 || strcmp(what, "sent") == 0) {
+            units_pass(1);
+        } else if (strcmp(what, "leap") == 0) {
+            units_pass(32);
+        } else if (strcmp(what, "cyclic") == 0) {
+            next_cyclic(32);
+        } else {
+            next_cyclic(32);
+            units_pass(32);
+        }
+    }
+    printf("%lu\n", (unsigned long)sent);
+}
+
+int main(int words, char **word)
 {
     static const char *const names[] = {"pn_make", "pn_boot", "pn_frame", "pn_tick", "pn_next", "pn_output", "pn_running"};
-    unsigned long n = count > 2 ? strtoul(words[2], NULL, 10) : 0;
-    if (count > 1 && strcmp(words[1], "stack") == 0) {
+    if (words == 2 && strcmp(word[1], "stack") == 0) {
         start(on_stack);
-        play(on_stack);
+        play();
         for (int i = 0; i < 7; i++)
             printf("%s %zu\n", names[i], deepest[i]);
         return 0;
     }
-    /* Counted: a script brings the device so far, then n units or n times the last frame. */
-    start(plain);
-    play(plain);
-    if (count > 1 && strcmp(words[1], "tick") == 0) {
-        static struct line line = {.kind = 3};
-        for (unsigned long i = 0; i < n; i++) {
-            line.units = 1;
-            call(&line);
-            take_all(plain);
-        }
-    }
-    if (count > 1 && strcmp(words[1], "cyclic") == 0)
-        for (unsigned long i = 0; i < n; i++)
-            next_cyclic();
-    if (count > 1 && strcmp(words[1], "quiet") == 0)
-        for (unsigned long i = 0; i < n; i += 1000) {
-            static struct line line = {.kind = 3, .units = 1000};
-            call(&line);
-        }
+    /* WHAT TURNS INTERVAL OCTETS: the units of an interval, and the octets of data of a frame. */
+    must(words == 5, 2);
+    uint32_t interval = (uint32_t)strtoul(word[3], NULL, 10);
+    station.modules[1].submodules[0].input = station.modules[2].submodules[0].output = (uint16_t)(strtoul(word[4], NULL, 10) - 3);
+    memcpy(station.order_id, &interval, sizeof interval); /* for library_plain.c */
+    start(call);
+    exchange();
+    count(word[1], strtoul(word[2], NULL, 10));
     return 0;
 }

@@ -1,6 +1,8 @@
 #!/usr/bin/env python3
 """Measures the library for C through its header: its size, the symbols that it wants, how deep each call goes into the stack, and the
-instructions of a unit of time and of a cyclic frame. Its status is 1 where a call takes more than 24,576 octets of stack.
+instructions of each turn of an exchange of 40 octets, beside those of the same work in plain C behind the same calls
+(bench/figures/library_plain.c), which does it unit by unit. Its status is 1 where a call takes more than 24,576 octets of stack, where a
+turn takes more instructions than its bound, or where both do not send as many frames.
 
 Needs cc and valgrind. Use: bench/figures/library.py [ARCHIVE]   (that of the plain Rust edition if left out, which
 bench/release/library-check builds)
@@ -13,12 +15,23 @@ import sys
 import tempfile
 
 sys.path.insert(0, os.path.join(os.path.dirname(os.path.realpath(__file__)), "..", "gate"))
+import exchange
 from program import TOP, answer_help, need, refuse
 
 ARCHIVE = os.path.join(TOP, "out", "plain-rust", "target", "release", "libnandutable.a")
 CALLS = ("pn_judge", "pn_put", "pn_step")
 DEEPEST = 24_576
-TURNS = 2_000
+TURNS = 1_000
+OCTETS = 40
+
+# What is counted: its title, the units of an interval (SendClockFactor times ReductionRatio), and how many instructions a turn may take.
+KINDS = {
+    "unit": ("a pn_tick of one unit with which nothing is due, and its pn_next", (128, 512), 220),
+    "leap": ("a pn_tick of 32 units with which nothing is due, and its pn_next", (128, 512), 2_900),
+    "cyclic": ("a pn_frame of a cyclic frame of 40 octets, and its pn_next", (128, 512), 320),
+    "sent": ("a pn_tick of one unit that sends 40 octets, and its two pn_next", (1, 1), 360),
+    "cycle": ("a millisecond: 32 units, a frame in, a frame out", (32, 1), 3_500),
+}
 
 
 def run(words, given=b""):
@@ -28,20 +41,41 @@ def run(words, given=b""):
     return ran.stdout.decode()
 
 
-def script(name, until=None):
-    """The lines of an example, up to the one in front of that note."""
+def script(name):
+    """The lines of an example."""
     with open(os.path.join(TOP, "examples", name), "rb") as file:
-        text = file.read()
-    return text[: text.index(until)] if until else text
+        return file.read()
 
 
-def instructions(program, folder, what, turns, given):
-    """The instructions of the library alone: what is executed within its call, and nothing of the program that makes it."""
+def instructions(program, folder, kind, turns):
+    """The instructions within pn_step, and nothing of the program that calls it; and how many frames were sent."""
     kept = os.path.join(folder, "callgrind")
-    run(["valgrind", "--tool=callgrind", "--quiet", "--collect-atstart=no", "--toggle-collect=pn_step", f"--callgrind-out-file={kept}", program, what,
-         str(turns)], given)
+    (clock, ratio) = KINDS[kind][1]
+    lines = exchange.front(OCTETS, (clock, ratio, 7680)) + exchange.cyclic(OCTETS)(0)
+    said = run(["valgrind", "--tool=callgrind", "--quiet", "--collect-atstart=no", "--toggle-collect=pn_step", f"--callgrind-out-file={kept}", program,
+                kind, str(turns), str(clock * ratio), str(OCTETS)], lines.encode())
     with open(kept) as file:
-        return int(re.search(r"^(?:summary|totals): (\d+)", file.read(), re.MULTILINE).group(1))
+        return int(re.search(r"^(?:summary|totals): (\d+)", file.read(), re.MULTILINE).group(1)), int(said)
+
+
+def each(program, folder, kind):
+    """The instructions of a turn: what twice as many turns take beyond what half of them take. And how many frames were sent."""
+    (once, _), (twice, sent) = (instructions(program, folder, kind, turns) for turns in (TURNS, 2 * TURNS))
+    return (twice - once) / TURNS, sent
+
+
+def counted(program, plain, folder):
+    """Prints the instructions of each kind of turn. Says whether they keep their bounds."""
+    is_kept = True
+    for kind, (title, _, bound) in KINDS.items():
+        (ours, sent), (theirs, plain_sent) = (each(one, folder, kind) for one in (program, plain))
+        print(f"{title}: {ours:.0f} instructions (at most {bound}); in plain C, unit by unit, {theirs:.0f}")
+        if ours > bound:
+            print(f"PASSES ITS BOUND: {title}: {ours:.0f}, at most {bound}")
+        if sent != plain_sent:
+            print(f"NOT THE SAME WORK: {title}: {sent} frames, in plain C {plain_sent}")
+        is_kept = is_kept and ours <= bound and sent == plain_sent
+    return is_kept
 
 
 def main(words):
@@ -59,8 +93,10 @@ def main(words):
         print(f"octets: code and tables {text}, data {data}, bss {bss}")
         wanted = sorted(line.split()[-1] for line in run(["nm", "-u", whole]).splitlines() if line.split()[0] == "U")
         print(f"symbols that it wants: {' '.join(wanted)}")
-        source = os.path.join(TOP, "bench", "figures", "library.c")
-        run(["cc", "-std=gnu11", "-O2", "-pthread", "-I" + os.path.join(TOP, "include"), source, archive, "-o", program])
+        here, plain = os.path.join(TOP, "bench", "figures"), os.path.join(folder, "plain")
+        cc = ["cc", "-std=gnu11", "-O2", "-pthread", "-I" + os.path.join(TOP, "include"), os.path.join(here, "library.c")]
+        run([*cc, archive, "-o", program])
+        run([*cc, os.path.join(here, "library_plain.c"), "-o", plain])
         deepest = {}
         for name in sorted(name for name in os.listdir(os.path.join(TOP, "examples")) if name.endswith(".txt")):
             for line in run([program, "stack"], script(name)).splitlines():
@@ -68,13 +104,8 @@ def main(words):
                 deepest[call] = max(deepest.get(call, 0), int(depth))
         for call, depth in deepest.items():
             print(f"deepest stack of {call}: {depth} octets{'' if depth <= DEEPEST else f', more than {DEEPEST}'}")
-        exchanging = script("exchange.txt", b"# Release.")
-        for what, title, given in (("quiet", "a unit of time without work, of 1,000 in one pn_tick", b""),
-                                   ("tick", "a pn_tick of one unit and the pn_next after it", b""),
-                                   ("cyclic", "a pn_frame of a cyclic frame and the pn_next after it", exchanging)):
-            once, twice = (instructions(program, folder, what, turns, given) for turns in (TURNS, 2 * TURNS))
-            print(f"{title}: {(twice - once) / TURNS:.0f} instructions")
-    return 1 if max(deepest.values()) > DEEPEST else 0
+        is_kept = counted(program, plain, folder)
+    return 0 if is_kept and max(deepest.values()) <= DEEPEST else 1
 
 
 if __name__ == "__main__":
