@@ -197,7 +197,7 @@ impl<F: Flash<S>, const S: usize> Device<F, S> {
     }
 
     // A unit of time is over: the timers advance. If a timeout ends the relation, nothing more is done.
-    fn tick(&mut self, outbox: &mut Outbox) -> Note
+    pub(crate) fn tick(&mut self, outbox: &mut Outbox) -> Note
         requires empty { outbox.old.items ≡ [] }
         ensures state { self.new ≡ behind self.old (ticked self.old.live) }
         ensures frames { boxed outbox.new ≡ frames_of self.old (ticked self.old.live) }
