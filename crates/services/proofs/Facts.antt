@@ -9,7 +9,7 @@ use Rattle.frame_codec.specs.declared.udp.Endpoint.{Endpoint}
 use Rattle.frame_codec.specs.Frame.{frame_of, frame_bytes}
 use Rattle.services.specs.State.{State, disputed, is_own, is_running}
 use Rattle.services.specs.Echo.{Request, request_of, reply_frame}
-use Rattle.services.specs.Answer.{IsOtherFrame, IsOther, after_content, after_layers, after_packet, answer_to, arp_answer, arp_reply_of, content_answer, datagram_answer, echo_answer, heard, layers_answer, is_asked, is_conflict, is_group, is_sought}
+use Rattle.services.specs.Answer.{IsOtherFrame, IsOther, after_content, after_layers, after_packet, content_disputes, disputes, layers_dispute, answer_to, arp_answer, arp_reply_of, content_answer, datagram_answer, echo_answer, heard, layers_answer, is_asked, is_conflict, is_group, is_sought}
 use Rattle.services.proofs.Requests.{request_unread}
 
 -- an echo request is judged as such
@@ -105,3 +105,17 @@ module _ (state : State) (bytes : List ℕ) (meaning : Meaning) (from to : Endpo
   pub call_keeps : heard state bytes ≡ state
   unfolding heard
   call_keeps = rw (e, f) refl
+
+-- a frame that is no conflict changes nothing
+undisputed_content : (state : State) (content : Content) → content_disputes state content ≡ false → after_content state content ≡ state
+undisputed_content state (RealTime frame_id body) e = refl
+undisputed_content state (ArpPacket packet) e = refused (is_conflict state packet.sender) (disputed state) state e
+undisputed_content state (UdpDatagram from to body) e = refl
+
+undisputed_layers : (state : State) (layers : Result Meaning FrameFault) → layers_dispute state layers ≡ false → after_layers state layers ≡ state
+undisputed_layers state (Ok meaning) e = undisputed_content state meaning.content e
+undisputed_layers state (Err fault) e = refl
+
+pub undisputed : (state : State) (bytes : List ℕ) → disputes state bytes ≡ false → heard state bytes ≡ state
+unfolding heard disputes
+undisputed state bytes e = undisputed_layers state (frame_of bytes) e

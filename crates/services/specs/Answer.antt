@@ -97,6 +97,27 @@ abbrev pub datagram_answer : State → Mac → Mac → Endpoint → Endpoint →
 datagram_answer state destination source from to body =
     if is_called state destination to then option_map (λ answer. frame_bytes (call_reply_of state.mac state.address source from answer)) (unserved_answer body) else None
 
+-- A call to this station: who sent it, where its answer goes, and the body of its datagram.
+pub record Call : Type 0 where
+  pub source : Mac
+  pub caller : Endpoint
+  pub body : List ℕ
+
+abbrev pub call_by : State → Mac → Mac → Content → Option Call
+call_by state destination source (RealTime frame_id body) = None
+call_by state destination source (ArpPacket packet) = None
+call_by state destination source (UdpDatagram from to body) =
+    if is_called state destination to then Some (record { source = source; caller = from; body = body }) else None
+
+-- The call that was read of a frame, if it is one to this station.
+abbrev pub call_of : State → Result Meaning FrameFault → Option Call
+call_of state (Ok meaning) = call_by state meaning.destination meaning.source meaning.content
+call_of state (Err fault) = None
+
+-- The call that these octets bring to this station.
+unfoldable pub call_in : State → List ℕ → Option Call
+call_in state bytes = call_of state (frame_of bytes)
+
 -- The answer to a frame that was read.
 abbrev pub content_answer : State → Mac → Mac → Content → Option (List ℕ)
 content_answer state destination source (RealTime frame_id body) = None
@@ -139,3 +160,17 @@ after_layers state (Err fault) = state
 -- The state after a frame. Only a conflict changes it, whatever the frame's destination.
 unfoldable pub heard : State → List ℕ → State
 heard state bytes = after_layers state (frame_of bytes)
+
+-- Whether what a frame carries is a conflict.
+abbrev pub content_disputes : State → Content → Bool
+content_disputes state (RealTime frame_id body) = false
+content_disputes state (ArpPacket packet) = is_conflict state packet.sender
+content_disputes state (UdpDatagram from to body) = false
+
+abbrev pub layers_dispute : State → Result Meaning FrameFault → Bool
+layers_dispute state (Ok meaning) = content_disputes state meaning.content
+layers_dispute state (Err fault) = false
+
+-- Whether a frame is a conflict: a packet of ARP of another station with the running address.
+unfoldable pub disputes : State → List ℕ → Bool
+disputes state bytes = layers_dispute state (frame_of bytes)

@@ -115,6 +115,11 @@ announces state = is_due state.announcement || is_defended state
 abbrev pub sent_by_tick : State → Option (List ℕ)
 sent_by_tick state = if announces state then Some (frame_bytes (announcement_by state.mac state.address)) else None
 
+-- The list of a frame, if there is one.
+abbrev pub frames_in : Option (List ℕ) → List (List ℕ)
+frames_in None = []
+frames_in (Some frame) = frame ∷ []
+
 -- The state after a tick.
 abbrev pub ticked : State → State
 ticked state = record state {

@@ -12,7 +12,7 @@ use rpc_core::RpcFault;
 use wire::{append, append_u8, append_u16, append_u32, octets_at, split, u8_at, u16_at};
 
 /// Whether numbers are sent with the lowest octet first, by the first octet of the representation.
-pub(crate) fn is_little(representation: u8) -> bool
+pub fn is_little(representation: u8) -> bool
     ensures { result ≡ is_little_by representation }
 {
     representation / 16 == 1
@@ -20,43 +20,44 @@ pub(crate) fn is_little(representation: u8) -> bool
 
 /// The fields before the identifiers.
 #[derive(Clone, Copy)]
-pub(crate) struct Opening {
-    pub(crate) packet_type: u8,
-    pub(crate) flags: u8,
-    pub(crate) representation: u8,
+pub struct Opening {
+    pub packet_type: u8,
+    pub flags: u8,
+    /// The byte order and the character set; the others are ignored.
+    pub representation: u8,
 }
 
 /// The identifiers, as their octets are sent.
 #[derive(Clone, Copy)]
-pub(crate) struct Names {
-    pub(crate) object: [u8; 16],
-    pub(crate) interface: [u8; 16],
-    pub(crate) activity: [u8; 16],
+pub struct Names {
+    pub object: [u8; 16],
+    pub interface: [u8; 16],
+    pub activity: [u8; 16],
 }
 
 /// The interface's version and the sequence number, as their octets are sent, and the operation.
 #[derive(Clone, Copy)]
-pub(crate) struct Turn {
-    pub(crate) version: [u8; 4],
-    pub(crate) sequence: [u8; 4],
-    pub(crate) operation: u16,
+pub struct Turn {
+    pub version: [u8; 4],
+    pub sequence: [u8; 4],
+    pub operation: u16,
 }
 
 /// The length and kind of what follows the header.
 #[derive(Clone, Copy)]
-pub(crate) struct Extent {
-    pub(crate) length: u16,
-    pub(crate) fragment: u16,
-    pub(crate) authentication: u8,
+pub struct Extent {
+    pub length: u16,
+    pub fragment: u16,
+    pub authentication: u8,
 }
 
 /// All fields that are read of a header.
 #[derive(Clone, Copy)]
-pub(crate) struct Head {
-    pub(crate) opening: Opening,
-    pub(crate) names: Names,
-    pub(crate) turn: Turn,
-    pub(crate) extent: Extent,
+pub struct Head {
+    pub opening: Opening,
+    pub names: Names,
+    pub turn: Turn,
+    pub extent: Extent,
 }
 
 /// The octets after `size` octets that are ignored.
@@ -170,9 +171,9 @@ fn extent_at(little: bool, bytes: &[u8]) -> Result<(Extent, &[u8]), RpcFault>
     ))
 }
 
-/// The header, and the octets after it.
+/// Reads the header of a call. Returns the octets after it too.
 #[tactic(auto, unfolding(crate::specs::Call::head))]
-pub(crate) fn head_at(bytes: &[u8]) -> Result<(Head, &[u8]), RpcFault>
+pub fn head_at(bytes: &[u8]) -> Result<(Head, &[u8]), RpcFault>
     ensures { Gives (λ x. (x.0, x.1.now)) result (head.read bytes.now) }
 {
     let (opening, rest) = opening_at(bytes)?;
@@ -208,10 +209,10 @@ fn put_number<const N: usize>(out: &mut ArrayVec<u8, N>, little: bool, number: u
     }
 }
 
-/// Appends a number of four octets.
+/// Appends a number of four octets, in this byte order.
 #[tactic(auto, unfolding(crate::specs::Call::in_order))]
-pub(crate) fn put_long<const N: usize>(out: &mut ArrayVec<u8, N>, little: bool, number: u32)
-    requires { array_vec_len out.old + 4 ≤ N }
+pub fn put_long<const N: usize>(out: &mut ArrayVec<u8, N>, little: bool, number: u32)
+    requires room { array_vec_len out.old + 4 ≤ N }
     ensures items { out.new.items ≡ out.old.items ++ (in_order little 4).write number [] }
     ensures len { array_vec_len out.new ≡ array_vec_len out.old + 4 }
 {
@@ -279,10 +280,10 @@ fn put_extent<const N: usize>(out: &mut ArrayVec<u8, N>, little: bool, value: &E
     append_u8(out, 0);
 }
 
-/// Appends a header.
+/// Appends a header, in the byte order of its representation.
 #[tactic(auto, unfolding(crate::specs::Call::head))]
-pub(crate) fn put_head<const N: usize>(out: &mut ArrayVec<u8, N>, value: &Head)
-    requires { array_vec_len out.old + 80 ≤ N }
+pub fn put_head<const N: usize>(out: &mut ArrayVec<u8, N>, value: &Head)
+    requires room { array_vec_len out.old + 80 ≤ N }
     ensures items { out.new.items ≡ out.old.items ++ head.write value.now [] }
     ensures len { array_vec_len out.new ≡ array_vec_len out.old + 80 }
 {

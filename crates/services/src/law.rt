@@ -5,6 +5,7 @@ ghost use Rattle.pn_values.specs.IpSuite.{is_zero};
 ghost use Rattle.wire.specs.Codec.{IsSoundWhole};
 ghost use Rattle.services.specs.Message.{echo};
 ghost use Rattle.services.specs.State.{State, is_defended, is_due, observed, ticked};
+ghost use Rattle.services.specs.Answer.{disputes, heard};
 ghost use Rattle.services.specs.Run.{Event, KeepsAddress, after, ticks_in};
 
 /// When an address is announced, whatever frames are heard.
@@ -30,4 +31,10 @@ pub fn defences_are_rare()
 pub fn echo_formats_are_sound()
     // The format of an echo message of any type in its packet is sound.
     ensures { (kind : ℕ) → IsSoundWhole (echo kind) }
+{}
+
+/// Which frames change the services.
+pub fn only_conflicts_are_counted()
+    // A frame that is not a conflict changes nothing.
+    ensures { (state : State) (bytes : List ℕ) → disputes state bytes ≡ false → heard state bytes ≡ state }
 {}

@@ -1,22 +1,25 @@
 //! The machine of the services.
-ghost use Rattle.std.specs.Prelude.{◌≡◌, ℕ, List, true, false};
+ghost use Rattle.std.specs.Prelude.{◌≡◌, ◌<◌, ◌≤◌, ◌++◌, ℕ, List, length, true, false};
+ghost use Rattle.std.specs.Option.{option_map};
+ghost use Rattle.arrayvec.specs.ArrayVec.{array_vec_len};
+ghost use Rattle.frame_codec.specs.Outbox.{boxed};
 ghost use Rattle.frame_codec.specs.declared.arp.Arp.{Arp};
 ghost use Rattle.frame_codec.specs.declared.udp.Endpoint.{Endpoint};
 ghost use Rattle.frame_codec.specs.declared.fault.FrameFault.{FrameFault};
 ghost use Rattle.frame_codec.specs.Frame.{frame_bytes, frame_of};
 ghost use Rattle.frame_codec.specs.Meaning.{ArpPacket, Meaning, UdpDatagram, meaning_of};
-ghost use Rattle.services.specs.State.{announcement_for as announced, disputed, observed, sent_by_tick, started, ticked, is_running as runs, is_own as owns, is_defended as defends_by, announces as announces_by};
-ghost use Rattle.services.specs.Answer.{IsOtherFrame, after_content, after_packet, answer_to, arp_answer, arp_reply_of, content_answer, echo_answer, frame_in, heard, answers_calls as answers_calls_by, datagram_answer, is_asked as asks, is_called as calls_by, is_conflict as conflicts_with, is_group as is_group_by, is_request as requests, is_sought as seeks, resolves as resolves_by};
+ghost use Rattle.services.specs.State.{announcement_for as announced, disputed, observed, sent_by_tick, started, ticked, is_running as runs, is_own as owns, is_defended as defends_by, announces as announces_by, frames_in};
+ghost use Rattle.services.specs.Answer.{IsOtherFrame, after_content, after_packet, answer_to, arp_answer, arp_reply_of, call_by, call_in, call_reply_of, content_answer, content_disputes, disputes as disputes_by, echo_answer, frame_in, heard, answers_calls as answers_calls_by, datagram_answer, is_asked as asks, is_called as calls_by, is_conflict as conflicts_with, is_group as is_group_by, is_request as requests, is_sought as seeks, resolves as resolves_by};
 ghost use Rattle.services.specs.Echo.{Request, reply_frame, request_of};
-ghost use Rattle.services.specs.Views.{asked_by};
+ghost use Rattle.services.specs.Views.{asked_by, call_as};
 
 use crate::address::{BROADCAST, is_group, is_same, is_zero};
 use crate::echo::{EchoRequest, request_at};
-use crate::reply::{announcement, arp_reply, call_reply, echo_reply};
+use crate::reply::{arp_reply, call_reply, echo_reply, put_announcement};
 use crate::unserved::unserved;
-use crate::{Announcement, Role};
+use crate::{Announcement, Called, Role};
 use frame_codec::{
-    Arp, ArpOperation, Endpoint, Frame, Holder, Layered, Payload, RPC_PORT, Udp, read,
+    Arp, ArpOperation, Endpoint, Frame, Holder, Layered, Outbox, Payload, RPC_PORT, Udp, read,
 };
 use pn_values::Mac;
 use std::marker::Model;
@@ -117,6 +120,13 @@ impl Services {
         self.conflicts
     }
 
+    /// The running IP address that the services know; zeros if there is none.
+    pub fn address(&self) -> [u8; 4]
+        ensures { result ≡ self.now.address }
+    {
+        self.address
+    }
+
     /// Tells the services the running IP address after a step.
     pub fn observe(&mut self, address: [u8; 4])
         // A new address is announced, in place of what was still to be said of the old one.
@@ -183,12 +193,44 @@ impl Services {
         self.handle(bytes)
     }
 
-    /// Handles a tick, which is 31.25 microseconds. Returns the frame to send.
-    pub fn tick(&mut self) -> Option<Frame>
+    /// Whether a frame is a packet of ARP whose sender is another station with the running address.
+    #[tactic(auto, unfolding(crate::specs::Answer::disputes))]
+    pub fn disputes(&self, bytes: &[u8]) -> bool
+        ensures { result ≡ disputes_by self.now bytes.now }
+    {
+        match read(bytes) {
+            Ok(layered) => self.disputes_in(&layered),
+            Err(_) => false,
+        }
+    }
+
+    /// The call that a frame brings to this station, if it brings one to its MAC address, its running IP address and the
+    /// port of calls.
+    #[tactic(auto, unfolding(crate::specs::Answer::call_in))]
+    pub fn call_in<'a>(&self, bytes: &'a [u8]) -> Option<Called<'a>>
+        ensures { option_map call_as result ≡ call_in self.now bytes.now }
+    {
+        match read(bytes) {
+            Ok(layered) => self.call_of(&layered),
+            Err(_) => None,
+        }
+    }
+
+    /// The frame that takes an answer to a caller.
+    pub fn reply(&self, called: &Called<'_>, answer: &[u8]) -> Frame
+        requires { length answer.now ≤ 1472 }
+        ensures { result.items ≡ frame_bytes (call_reply_of self.now.mac self.now.address called.now.source called.now.caller answer.now) }
+    {
+        call_reply(self.mac, self.address, called.source, called.caller, answer)
+    }
+
+    /// Handles a tick, which is 31.25 microseconds. Appends the frame to send, if there is one, to the outbox.
+    pub fn tick(&mut self, outbox: &mut Outbox)
+        requires room { array_vec_len outbox.old < 4 }
         // The state follows from the machine.
         ensures state { self.new ≡ ticked self.old }
         // The frame, if there is one, is that of the machine.
-        ensures frame { frame_in result ≡ sent_by_tick self.old }
+        ensures frame { boxed outbox.new ≡ boxed outbox.old ++ frames_in (sent_by_tick self.old) }
     {
         let announces = self.announces();
         let defends = self.is_defended();
@@ -200,9 +242,7 @@ impl Services {
             self.guard.saturating_sub(1)
         };
         if announces {
-            Some(announcement(self.mac, self.address))
-        } else {
-            None
+            put_announcement(self.mac, self.address, outbox);
         }
     }
 
@@ -231,6 +271,35 @@ impl Services {
             Payload::Udp(ref datagram) => {
                 self.hear_datagram(layered.destination, layered.source, datagram)
             }
+        }
+    }
+
+    /// The call that was read of a frame, if it is one to this station.
+    fn call_of<'a>(&self, layered: &Layered<'a>) -> Option<Called<'a>>
+        ensures { option_map call_as result ≡ call_by self.now layered.now.destination layered.now.source (meaning_of layered.now).content }
+    {
+        match layered.payload {
+            Payload::Udp(ref datagram) => {
+                if !self.is_called(layered.destination, &datagram.destination) {
+                    return None;
+                }
+                Some(Called {
+                    source: layered.source,
+                    caller: datagram.source,
+                    body: datagram.body,
+                })
+            }
+            Payload::RealTime { .. } | Payload::Arp(_) => None,
+        }
+    }
+
+    /// Whether a frame that was read is a conflict.
+    fn disputes_in(&self, layered: &Layered<'_>) -> bool
+        ensures { result ≡ content_disputes self.now (meaning_of layered.now).content }
+    {
+        match layered.payload {
+            Payload::Arp(ref packet) => self.is_conflict(&packet.sender),
+            Payload::RealTime { .. } | Payload::Udp(_) => false,
         }
     }
 

@@ -1,5 +1,7 @@
 //! The frames that the services send.
-ghost use Rattle.std.specs.Prelude.{◌≡◌, ◌-◌, ◌+◌, ◌≤◌, [], ◌++◌, length, replicate};
+ghost use Rattle.std.specs.Prelude.{◌≡◌, ◌-◌, ◌+◌, ◌<◌, ◌≤◌, [], ◌∷◌, ◌++◌, length, replicate};
+ghost use Rattle.arrayvec.specs.ArrayVec.{array_vec_len};
+ghost use Rattle.frame_codec.specs.Outbox.{boxed};
 ghost use Rattle.frame_codec.specs.Frame.{frame_bytes};
 ghost use Rattle.services.specs.Message.{echo_header, icmp_packet, message_header, packet_header};
 ghost use Rattle.services.specs.Echo.{echoed, internet_link, link, reply_frame};
@@ -13,7 +15,9 @@ use crate::header::{IcmpPacket, put_packet};
 use crate::link::put_link;
 use crate::message::{ECHO_REPLY, EchoHeader, put_echo_header};
 use arrayvec::ArrayVec;
-use frame_codec::{Arp, ArpOperation, Endpoint, Frame, Holder, Layered, Payload, Udp, write};
+use frame_codec::{
+    Arp, ArpOperation, Endpoint, Frame, Holder, Layered, Outbox, Payload, Udp, write,
+};
 use pn_values::Mac;
 
 /// As many zeros as the shortest frame has octets.
@@ -113,16 +117,19 @@ pub(crate) fn call_reply(
     })
 }
 
-/// The frame that announces the address to all stations.
-pub(crate) fn announcement(mac: Mac, address: [u8; 4]) -> Frame
-    ensures { result.items ≡ frame_bytes (announcement_by mac address) }
+/// Appends the frame that announces the address to all stations. It is a function of its own, because most ticks send
+/// none.
+#[inline(never)]
+pub(crate) fn put_announcement(mac: Mac, address: [u8; 4], outbox: &mut Outbox)
+    requires { array_vec_len outbox.old < 4 }
+    ensures { boxed outbox.new ≡ boxed outbox.old ++ frame_bytes (announcement_by mac address) ∷ [] }
 {
     let sender = Holder { mac, address };
     let target = Holder {
         mac: UNKNOWN,
         address,
     };
-    write(&Layered {
+    outbox.put(&Layered {
         destination: BROADCAST,
         source: mac,
         tag: None,
@@ -131,5 +138,5 @@ pub(crate) fn announcement(mac: Mac, address: [u8; 4]) -> Frame
             sender,
             target,
         }),
-    })
+    });
 }

@@ -1,6 +1,6 @@
 //! Pings, and calls that nobody serves (C706, 12.5 and appendix E).
 ghost use Rattle.std.specs.Prelude.{◌≡◌};
-ghost use Rattle.services.specs.Unserved.{answer_bytes, answer_head as answer_head_by, is_read as is_read_by, names_interface as names_interface_by, refusal_of, request_refusal, sent_uuid as sent_uuid_by, status_of, unserved_answer};
+ghost use Rattle.services.specs.Unserved.{answer_bytes, answer_head as answer_head_by, is_read as is_read_by, mapper_uuid, names_interface as names_interface_by, refusal_of, request_refusal, sent_uuid as sent_uuid_by, status_of, unserved_answer};
 ghost use Rattle.services.specs.Answer.{frame_in};
 
 use crate::call::{Extent, Head, Names, Opening, head_at, is_little, put_head, put_long};
@@ -25,8 +25,8 @@ pub enum Refusal {
     Reject(Rejection),
 }
 
-/// The answer, as the body of a datagram.
-pub(crate) type Answer = ArrayVec<u8, 84>;
+/// The answer to a call that nobody serves, as the body of a datagram.
+pub type Refused = ArrayVec<u8, 84>;
 
 /// The interface of the endpoint mapper: E1AF8308-5D1F-11C9-91A4-08002B14A0FA.
 const MAPPER: [u8; 16] = [
@@ -46,7 +46,7 @@ impl Rejection {
 }
 
 /// An identifier as it is sent.
-fn sent_uuid(little: bool, uuid: Uuid) -> [u8; 16]
+pub fn sent_uuid(little: bool, uuid: Uuid) -> [u8; 16]
     ensures { result ≡ sent_uuid_by little uuid }
 {
     match little {
@@ -62,8 +62,15 @@ fn names_interface(head: &Head, uuid: Uuid) -> bool
     head.names.interface == sent_uuid(is_little(head.opening.representation), uuid)
 }
 
-/// Whether a call is read by its header.
-fn is_read(head: &Head, body: &[u8]) -> bool
+/// Whether a call names the interface of the endpoint mapper.
+pub fn names_mapper(head: &Head) -> bool
+    ensures { result ≡ names_interface_by head.now mapper_uuid }
+{
+    names_interface(head, Uuid::from_bytes(MAPPER))
+}
+
+/// Whether a call is read by its header: a known byte order, no authentication, no fragment, and a body that is present.
+pub fn is_read(head: &Head, body: &[u8]) -> bool
     ensures { result ≡ is_read_by head.now body.now }
 {
     head.opening.representation / 16 < 2
@@ -85,7 +92,7 @@ fn request_refusal_of(head: &Head) -> Option<Refusal>
             None
         };
     }
-    if names_interface(head, Uuid::from_bytes(MAPPER)) {
+    if names_mapper(head) {
         None
     } else {
         Some(Refusal::Reject(Rejection::Interface))
@@ -103,8 +110,8 @@ fn refused_by(head: &Head) -> Option<Refusal>
     }
 }
 
-/// The header of an answer.
-fn answer_head(head: &Head, packet_type: u8, length: u16) -> Head
+/// The header of an answer of this packet type before a body of this length, with the flags of a rejection.
+pub fn answer_head(head: &Head, packet_type: u8, length: u16) -> Head
     ensures { result ≡ answer_head_by head.now packet_type length }
 {
     let names = head.names;
@@ -127,10 +134,10 @@ fn answer_head(head: &Head, packet_type: u8, length: u16) -> Head
 
 /// The answer that a refusal is.
 #[tactic(auto, unfolding(crate::specs::Unserved::answer_bytes))]
-fn answer_of(head: &Head, refusal: Refusal) -> Answer
+pub fn refusal_bytes(head: &Head, refusal: Refusal) -> Refused
     ensures { result.items ≡ answer_bytes head.now refusal }
 {
-    let mut out = Answer::new();
+    let mut out = Refused::new();
     match refusal {
         Refusal::NoCall => put_head(&mut out, &answer_head(head, 5, 0)),
         Refusal::Reject(rejection) => {
@@ -147,7 +154,7 @@ fn answer_of(head: &Head, refusal: Refusal) -> Answer
 
 /// The answer to the body of a datagram, if it is a ping or a call that nobody serves.
 #[tactic(auto, unfolding(crate::specs::Unserved::unserved_answer))]
-pub(crate) fn unserved(body: &[u8]) -> Option<Answer>
+pub(crate) fn unserved(body: &[u8]) -> Option<Refused>
     ensures { frame_in result ≡ unserved_answer body.now }
 {
     let Ok((head, rest)) = head_at(body) else {
@@ -157,7 +164,7 @@ pub(crate) fn unserved(body: &[u8]) -> Option<Answer>
         return None;
     }
     match refused_by(&head) {
-        Some(refusal) => Some(answer_of(&head, refusal)),
+        Some(refusal) => Some(refusal_bytes(&head, refusal)),
         None => None,
     }
 }

@@ -2,12 +2,14 @@
 //! that Scapy 2.5 makes of its fields, unless the test says otherwise.
 #![cfg(test)]
 
+use frame_codec::Outbox;
 use pn_values::Mac;
 use services::{Role, Services};
 
 mod arp;
 mod calls;
 mod echo;
+mod mapper;
 mod times;
 
 /// The station.
@@ -57,8 +59,10 @@ fn controller() -> Services {
 /// The services with the address, after both of its announcements.
 fn settled(role: Role) -> Services {
     let mut services = Services::new(role, STATION, ADDRESS);
+    let mut outbox = Outbox::new();
     for _ in 0..64_001 {
-        services.tick();
+        outbox.clear();
+        services.tick(&mut outbox);
     }
     services
 }
@@ -72,7 +76,13 @@ fn answer_of(services: &mut Services, frame: &[u8]) -> Option<Vec<u8>> {
 
 /// What a tick sends.
 fn tick(services: &mut Services) -> Option<Vec<u8>> {
-    services.tick().map(|frame| frame.as_slice().to_vec())
+    let mut outbox = Outbox::new();
+    services.tick(&mut outbox);
+    assert!(outbox.len() <= 1, "at most one frame in a tick");
+    outbox
+        .as_slice()
+        .first()
+        .map(|frame| frame.as_slice().to_vec())
 }
 
 /// The ticks among this many in which the announcement is sent. Nothing else is.

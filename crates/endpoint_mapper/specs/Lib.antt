@@ -1,0 +1,4 @@
+pub mod Lookup
+pub mod Annotation
+pub mod Entry
+pub mod Mapper

@@ -1,0 +1,22 @@
+-- What a contract sees of a station.
+use Rattle.std.specs.Prelude.{ℕ, List, [], ◌++◌}
+use Rattle.device_core.specs.State as device
+use Rattle.services.specs.State as services
+
+-- A device, and the services beside it.
+pub record State (F : Type 0) : Type 0 where
+  pub device : device.State F
+  pub services : services.State
+
+-- The frames that one event sends: those of the device, and those of the services.
+pub record Frames : Type 0 where
+  pub device : List (List ℕ)
+  pub services : List (List ℕ)
+
+-- All frames, in the order in which they are sent: the services' follow the device's.
+abbrev pub in_order : Frames → List (List ℕ)
+in_order frames = frames.device ++ frames.services
+
+-- No frame.
+abbrev pub no_frames : Frames
+no_frames = record { device = []; services = [] }

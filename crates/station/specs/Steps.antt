@@ -1,0 +1,54 @@
+-- One step of a station.
+use Rattle.std.specs.Prelude.{◌≡◌, ◌≢◌, ◌<◌, ◌-◌, ◌^◌, ◌⊎◌, ℕ, false, List, [], ◌∷◌, ⊤}
+use Rattle.flash_model.specs.declared.flash.Flash.{Ghosts as Flash}
+use Rattle.pn_values.specs.declared.mac.Mac.{Mac}
+use Rattle.dcp_core.specs.declared.request.Service.TheVariants.{Identify}
+use Rattle.dcp_core.specs.Request.{Asked}
+use Rattle.rpc_core.specs.Call.{Asked as Called}
+use Rattle.rpc_core.specs.Cache.{looked, again}
+use Rattle.device_frames.specs.declared.event.Event.{Event}
+use Rattle.device_frames.specs.declared.event.Event.TheVariants.{Frame, Tick, Input, Alarm}
+use Rattle.device_frames.specs.declared.note.Note.{Note}
+use Rattle.device_frames.specs.declared.note.Note.TheVariants.{Done}
+use Rattle.device_frames.specs.Heard.{Asks, heard_of}
+use Rattle.device_core.specs.State as device
+use Rattle.device_core.specs.Steps.{Steps, Identifies, IsServed, IsAgain, IsExactStep}
+use Rattle.services.specs.State as services
+use Rattle.station.specs.State.{State, Frames}
+use Rattle.station.specs.Beside.{beside}
+
+-- A step of the device alone: all that the contract of its step says.
+pub record DeviceSteps {F : Type 0} {S : ℕ} (as_flash : Flash F S) (old : device.State F) (event : Event) (sent : List (List ℕ)) (said : Note) (new : device.State F) : Type 0 where
+  pub steps : Steps as_flash old (heard_of old.station.identity event) sent said new
+  pub exact : as_flash.failures new.flash ≡ as_flash.failures old.flash → as_flash.failures old.flash < 2 ^ 64 - 1 → IsExactStep old event sent said new
+  pub reliable : as_flash.is_reliable old.flash → old.live.values.has_failed ≡ false →
+      as_flash.is_reliable new.flash × (new.live.values.has_failed ≡ false) × IsExactStep old event sent said new
+  pub refused : said ≢ Done → (new ≡ old) × (sent ≡ [])
+  pub identify : (asker : Mac) (request : Asked) → heard_of old.station.identity event ≡ Asks asker request → request.service ≡ Identify
+      → Identifies old asker request sent said new
+  pub repeated : (call : Called) (frame : List ℕ) → IsServed old.live (heard_of old.station.identity event) call
+      → looked call.header.activity call.header.sequence old.live.rest.calls ≡ again frame → IsAgain old frame sent said new
+
+-- A station with these parts.
+abbrev pub station_of : {F : Type 0} → device.State F → services.State → State F
+station_of device services = record { device = device; services = services }
+
+-- A step of a station: a step of its device alone, with a note of its own, and what the services do beside it.
+pub record StationSteps {F : Type 0} {S : ℕ} (as_flash : Flash F S) (old : State F) (event : Event) (frames : Frames) (said : Note) (new : State F) : Type 0 where
+  pub note : Note
+  pub alone : DeviceSteps as_flash old.device event frames.device note new.device
+  pub knows : new.services ≡ (beside old.device.station.identity old.services new.device.live.values note event).services
+  pub sends : frames.services ≡ (beside old.device.station.identity old.services new.device.live.values note event).sent
+  pub says : said ≡ (beside old.device.station.identity old.services new.device.live.values note event).note
+
+-- The services send at most one frame.
+abbrev pub AtMostOne : List (List ℕ) → Type 0
+AtMostOne frames = (frames ≡ []) ⊎ ((frame : List ℕ) × (frames ≡ frame ∷ []))
+
+-- In the step of a frame the services send at most one frame, and none if the device sends one. In a tick they send at
+-- most one, and otherwise none.
+abbrev pub IsSparing : Event → Frames → Type 0
+IsSparing (Frame bytes) frames = (frames.services ≡ []) ⊎ ((frames.device ≡ []) × AtMostOne frames.services)
+IsSparing Tick frames = AtMostOne frames.services
+IsSparing (Input slot subslot value) frames = frames.services ≡ []
+IsSparing (Alarm slot subslot octets) frames = frames.services ≡ []

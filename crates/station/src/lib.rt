@@ -1,0 +1,12 @@
+//! A station: a PROFINET IO device, and the services beside it. The services hear each frame that the device drops, and
+//! each packet of ARP. They change nothing that the device keeps, so what is proved of a step of a device holds of the
+//! device in a station.
+#![tactic(auto)]
+
+mod outbox;
+mod station;
+mod step;
+
+pub use outbox::StationOutbox;
+pub use station::IoStation;
+pub use step::{step_alone, step_beside};
