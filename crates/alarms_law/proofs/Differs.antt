@@ -39,33 +39,9 @@ still_iocr value found false true differs = differs
 still_iocr value found false false differs = differs
 
 still_differs : (block_is : Block) (found : Found) → found.differs ≡ true → (with_block block_is found).differs ≡ true
-still_differs (is.ArBlockReq value) found differs = differs
-still_differs (is.ArBlockRes value) found differs = differs
-still_differs (is.IocrBlockReq value) found differs = differs
 still_differs (is.IocrBlockRes value) found differs = still_iocr value found (value.iocr_type == 1) (value.iocr_type == 2) differs
-still_differs (is.AlarmCrBlockReq value) found differs = differs
-still_differs (is.AlarmCrBlockRes value) found differs = differs
-still_differs (is.ExpectedSubmoduleBlockReq value) found differs = differs
 still_differs (is.ModuleDiffBlock value) found differs = refl
-still_differs (is.PrmEnd value) found differs = differs
-still_differs (is.PrmEndRes value) found differs = differs
-still_differs (is.ApplicationReady value) found differs = differs
-still_differs (is.ApplicationReadyRes value) found differs = differs
-still_differs (is.Release value) found differs = differs
-still_differs (is.ReleaseRes value) found differs = differs
-still_differs (is.IodReadReq value) found differs = differs
-still_differs (is.IodReadRes value) found differs = differs
-still_differs (is.IodWriteReq value) found differs = differs
-still_differs (is.IodWriteRes value) found differs = differs
-still_differs (is.Im0 value) found differs = differs
-still_differs (is.Im1 value) found differs = differs
-still_differs (is.Im2 value) found differs = differs
-still_differs (is.Im3 value) found differs = differs
-still_differs (is.Im4 value) found differs = differs
-still_differs (is.ImFilterDataSubmodule value) found differs = differs
-still_differs (is.ImFilterDataDevice value) found differs = differs
-still_differs (is.AlarmNotification value) found differs = differs
-still_differs (is.AlarmAck value) found differs = differs
+still_differs other found differs = differs
 
 some_is : {A : Type 0} (x y : A) → Some x ≡ Some y → x ≡ y
 some_is x y e = cc
