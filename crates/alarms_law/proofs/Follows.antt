@@ -30,7 +30,7 @@ use Rattle.relations.specs.RelationState.{RelationState}
 use Rattle.codec_laws.specs.alarms.Line.{more_taken, with_come}
 use Rattle.device_frames.specs.declared.event.Event.TheVariants.{Frame}
 use Rattle.device_frames.specs.Heard.{Heard, Reported, Calls, heard_of}
-use Rattle.device_frames.specs.Sent.{Sent, IdentifyAnswer, GetAnswer, SetAnswer, ArpReply, CallAnswer, Again, ReadyCall, Ends, Exchanges, bytes_of}
+use Rattle.device_frames.specs.Sent.{Sent, Again, Ends, Exchanges, bytes_of}
 use Rattle.device_core.specs.State.{Station, Live}
 use Rattle.device_core.specs.Machine.{heard_step, handled_step}
 use Rattle.controller_frames.specs.declared.request.Request.TheVariants as asks

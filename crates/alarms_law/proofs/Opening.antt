@@ -16,7 +16,7 @@ use Rattle.pn_alarms.specs.declared.fault.AlarmFault.{AlarmFault}
 use Rattle.pn_alarms.specs.declared.pdu.Header.{Header}
 use Rattle.pn_alarms.specs.Message.{ToDevice, message_of}
 use Rattle.plans.specs.declared.parts.Controller.{Controller}
-use Rattle.device_frames.specs.Heard.{Heard, Ticks, Unreadable, Elsewhere, Asks, Resolves, Reported, Cyclic, Alarms, Given, Raised, broadcast, heard_alarm, heard_content, heard_frame, heard_of, heard_request, identify_multicast, is_own, is_taken, said_by}
+use Rattle.device_frames.specs.Heard.{Heard, Elsewhere, Asks, Resolves, Reported, Cyclic, Alarms, broadcast, heard_alarm, heard_content, heard_frame, heard_of, heard_request, identify_multicast, is_own, is_taken, said_by}
 use Rattle.controller_frames.specs.declared.setup.Setup.{Setup}
 use Rattle.controller_frames.specs.Heard as controller
 use Rattle.controller_frames.specs.Heard.{heard_real_time, heard_read}

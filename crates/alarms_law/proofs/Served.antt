@@ -1,6 +1,6 @@
 -- The response of a device to the first call of its controller: only the Connect may succeed, and then its blocks
 -- choose a suitable FrameID for outputs.
-use Rattle.std.proofs.Common.{◌≡◌, inl, inr, ℕ, suc, Bool, true, List, [], ◌∷◌, Option, Some, None, Result, Ok, Err, sym, ap, subst, ◌∙◌, refl}
+use Rattle.std.proofs.Common.{◌≡◌, inl, inr, ℕ, suc, true, List, [], ◌∷◌, Option, Some, None, Result, Ok, Err, sym, ap, subst, ◌∙◌, refl}
 use Rattle.std.specs.List.{AllByRecursion}
 use Rattle.std.proofs.lemmas.Bool.{false≢true}
 use Rattle.frame_codec.specs.declared.udp.Caller.{Caller}
@@ -87,7 +87,7 @@ module _ (setup : Setup) (station : Station) (live : Live) where
 
   module _ (heard : Heard) (after : Rest) (sent : List Sent) (planned : IsPlanned (rules_of setup station) setup.activity station.real heard)
       (none : (caller : Caller) (address : List ℕ) (call : Call) → heard ≡ Reported caller address (Calls call) → call.header.sequence ≡ 0
-          → looked call.header.activity call.header.sequence live.rest.calls ≡ new → live.rest.link ≡ None) where
+      → looked call.header.activity call.header.sequence live.rest.calls ≡ new → live.rest.link ≡ None) where
     silent_served : (messages : List Sent) → sent ≡ messages → AreServed messages → AreServed sent
     silent_served messages is all = subst (λ (those : List Sent). AreServed those) (sym is) all
 

@@ -38,7 +38,7 @@ use Rattle.relations.specs.Phases.{made_of, with_flow}
 use Rattle.relations.specs.Timers.{unit_later}
 use Rattle.device_frames.specs.Heard.{Heard}
 use Rattle.device_frames.specs.Relation.{alarms_of, frames_in, where_due}
-use Rattle.device_frames.specs.Sent.{Sent, IdentifyAnswer, GetAnswer, SetAnswer, ArpReply, CallAnswer, Again, ReadyCall, Ends, Exchanges}
+use Rattle.device_frames.specs.Sent.{Sent, Ends, Exchanges}
 use Rattle.codec_laws.specs.blocks.Writable.{IsAlarm}
 use Rattle.codec_laws.specs.alarms.Sendable.{IsHeader}
 use Rattle.message_laws.specs.sending.Sized.{IsShort}

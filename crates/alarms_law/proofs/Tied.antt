@@ -29,7 +29,7 @@ use Rattle.cyclic_exchange.specs.declared.route.Route.{Route}
 use Rattle.cyclic_exchange.specs.Cyclic.{Cyclic}
 use Rattle.cyclic_exchange.specs.Units.{ending_of, tick_by}
 use Rattle.relations.specs.exchange.Flow.{Flow}
-use Rattle.relations.specs.exchange.Frames.{Inputs, Notifies, Replies as Answers}
+use Rattle.relations.specs.exchange.Frames.{Notifies, Replies as Answers}
 use Rattle.relations.specs.exchange.Notices.{behind_message, header_of, may_raise, raised_at, raised_by as raised_from}
 use Rattle.relations.specs.exchange.Units.{flow_later, tick_of}
 use Rattle.relations.specs.Exchanged.{raised_to}
@@ -38,9 +38,9 @@ use Rattle.relations.specs.Phases.{made_of, with_flow}
 use Rattle.relations.specs.Timers.{unit_later}
 use Rattle.codec_laws.specs.alarms.Line.{Line, with_sent}
 use Rattle.codec_laws.specs.alarms.World.{acks_after, line_after}
-use Rattle.device_frames.specs.Heard.{Heard, Ticks, Unreadable, Elsewhere, Asks, Resolves, Reported, Cyclic as Comes, Alarms, Given, Raised}
+use Rattle.device_frames.specs.Heard.{Heard, Raised}
 use Rattle.device_frames.specs.Relation.{alarms_of, frames_in, replies_of, where_due}
-use Rattle.device_frames.specs.Sent.{Sent, IdentifyAnswer, GetAnswer, SetAnswer, ArpReply, CallAnswer, Again, ReadyCall, Ends, Exchanges}
+use Rattle.device_frames.specs.Sent.{Sent, Exchanges}
 use Rattle.controller_frames.specs.declared.setup.Setup.{Setup}
 use Rattle.controller_frames.specs.Sent as said
 use Rattle.message_laws.specs.turns.Alarms.{Relation, Move, Raises as raising, PassesAtDevice, ComesToDevice, behind, comes_to_device, passed_at_device, raised_by, replied_by}
