@@ -30,7 +30,7 @@ use Rattle.relations.specs.RelationState.{RelationState}
 use Rattle.codec_laws.specs.alarms.Line.{more_taken, with_come}
 use Rattle.device_frames.specs.declared.event.Event.TheVariants.{Frame}
 use Rattle.device_frames.specs.Heard.{Heard, Reported, Calls, heard_of}
-use Rattle.device_frames.specs.Sent.{Sent, IdentifyAnswer, GetAnswer, SetAnswer, ArpReply, CallAnswer, Again, ReadyCall, Ends, Exchanges, bytes_of}
+use Rattle.device_frames.specs.Sent.{Sent, Again, Ends, Exchanges, bytes_of}
 use Rattle.device_core.specs.State.{Station, Live}
 use Rattle.device_core.specs.Machine.{heard_step, handled_step}
 use Rattle.controller_frames.specs.declared.request.Request.TheVariants as asks
@@ -269,12 +269,7 @@ module _ (setup : Setup) (station : Station) (live : Live) (controlling : Contro
       message_in (Again frame) owed_so heard_so noted_so well_so is = again_in frame owed_so
       message_in (Exchanges route frame) owed_so heard_so noted_so well_so is = in_by _ (noted_by frame) noted_so is heard_so.0 well_so
       message_in (Ends farewell) owed_so heard_so noted_so well_so is = in_by _ (Some notice.Abort) noted_so is heard_so.0 well_so
-      message_in (IdentifyAnswer asker running xid) owed_so heard_so noted_so well_so is = in_by _ None noted_so is heard_so.0 well_so
-      message_in (GetAnswer asker running request) owed_so heard_so noted_so well_so is = in_by _ None noted_so is heard_so.0 well_so
-      message_in (SetAnswer asker request answers) owed_so heard_so noted_so well_so is = in_by _ None noted_so is heard_so.0 well_so
-      message_in (ArpReply asker address target) owed_so heard_so noted_so well_so is = in_by _ None noted_so is heard_so.0 well_so
-      message_in (CallAnswer caller address answer) owed_so heard_so noted_so well_so is = in_by _ None noted_so is heard_so.0 well_so
-      message_in (ReadyCall address ready) owed_so heard_so noted_so well_so is = in_by _ None noted_so is heard_so.0 well_so
+      message_in other owed_so heard_so noted_so well_so is = in_by _ None noted_so is heard_so.0 well_so
 
       messages_in : (messages : List Sent) → AllByRecursion (IsOwed heard live) messages → AllByRecursion (IsHeardAs rules station.identity) messages → AllByRecursion (IsNotedAs setup station.identity) messages
           → AllByRecursion (IsWellSent setup station.identity) messages → AllByRecursion (λ message. IsSaid next.alarms.pdus next.acks (noted_in message)) messages → AllByRecursion (IsIn setup station.identity next) (map (bytes_of station.identity) messages)
@@ -400,15 +395,11 @@ module _ (setup : Setup) (station : Station) (live : Live) (controlling : Contro
   -- what is delivered is among what was said, and the alarms accepted with it
   abbrev pub IsEventIn : Event → Type 0
   IsEventIn (event.Frame bytes) = IsSaid follows.relation.alarms.pdus follows.relation.acks (noted_of setup bytes.items)
-  IsEventIn event.Tick = Unit {0}
-  IsEventIn (event.Give slot subslot value) = Unit {0}
-  IsEventIn event.Stop = Unit {0}
+  IsEventIn other = Unit {0}
 
   abbrev pub taken_at : Event → List AlarmNotification
   taken_at (event.Frame bytes) = taken_by follows.relation.live (heard_by setup.plan.controller bytes.items)
-  taken_at event.Tick = []
-  taken_at (event.Give slot subslot value) = []
-  taken_at event.Stop = []
+  taken_at other = []
 
   event_turned : (one : Event) → IsEventIn one → Turned (turn_of setup follows.relation.live one) (taken_at one)
   event_turned (event.Frame bytes) is = heard_turned (heard_by setup.plan.controller bytes.items) is
@@ -433,31 +424,17 @@ module _ (setup : Setup) (station : Station) (live : Live) (controlling : Contro
   reply_heard : (reported : List said.Sent) (route : Route) (header : Header) (kind : PduType) (k : ℕ) → header.kind ≡ kind → slice_get reported k ≡ Some (said.Replies route header)
       → IsHeard reported (reply_of header.ack_number kind)
   reply_heard reported route header pdu.Ack k is there = record { place = k; route = route; header = header; there = there; kind = is; same = refl }
-  reply_heard reported route header pdu.Nack k is there = tt
-  reply_heard reported route header pdu.Data k is there = tt
-  reply_heard reported route header pdu.Error k is there = tt
+  reply_heard reported route header other k is there = tt
 
   said_heard : (reported : List said.Sent) (message : said.Sent) (k : ℕ) → slice_get reported k ≡ Some message → IsHeard reported (reported_in message)
   said_heard reported (said.Confirms route header ack) k there = record { place = k; route = route; header = header; there = there; same = refl }
   said_heard reported (said.Replies route header) k there = reply_heard reported route header header.kind k refl there
-  said_heard reported (said.Ends route header reason) k there = tt
-  said_heard reported (said.Requests to request) k there = tt
-  said_heard reported (said.Agrees caller answer) k there = tt
-  said_heard reported (said.Cycles route shown counter) k there = tt
+  said_heard reported other k there = tt
 
   -- the Connect of the controller is the call of number 0
   first_said : (message : said.Sent) (sequence : ℕ) → said_by setup.plan message ≡ small.Call sequence small.Connects → sequence ≡ 0
-  first_said (said.Requests to asks.Identify) sequence e = absurd cc
-  first_said (said.Requests to asks.Address) sequence e = absurd cc
   first_said (said.Requests to asks.Connect) sequence e = cc
-  first_said (said.Requests to (asks.Write number)) sequence e = absurd cc
-  first_said (said.Requests to asks.PrmEnd) sequence e = absurd cc
-  first_said (said.Requests to (asks.Release number)) sequence e = absurd cc
-  first_said (said.Agrees caller answer) sequence e = absurd cc
-  first_said (said.Cycles route shown counter) sequence e = absurd cc
-  first_said (said.Confirms route header ack) sequence e = absurd cc
-  first_said (said.Replies route header) sequence e = absurd cc
-  first_said (said.Ends route header reason) sequence e = absurd cc
+  first_said other sequence e = absurd cc
 
   said_in : (next : Relation) (message : said.Sent) → (k : ℕ) × (slice_get next.reported k ≡ Some message) → IsSaidAs setup station message → IsReportedAs setup station.identity message
       → IsCalledAs setup station.identity message → IsIn setup station.identity next (said.bytes_of setup message)

@@ -76,9 +76,7 @@ of_device : (setup : Setup) (mac : Mac) (heard : controller.Heard) → IsGood ma
 of_device setup mac (controller.Answers source answer) good fit = good.0
 of_device setup mac (controller.Responds response) good fit = fit
 of_device setup mac (controller.Calls caller call) good fit = good.0
-of_device setup mac (controller.Alarms source header reported) good fit = tt
-of_device setup mac controller.Nothing good fit = tt
-of_device setup mac (controller.Cyclic source frame_id body) good fit = tt
+of_device setup mac other good fit = tt
 
 -- the controller keeps its sizes after what it hears
 module _ (goes_sized : (setup : Setup) (live : ControllerLive) (one : Event) → IsSetup setup → IsLive live → IsSizedEvent setup one → IsRight setup (turn_of setup live one))
@@ -195,9 +193,10 @@ module _ {F : Type 0} where
           (λ makes. (makes_planned setup station live before.controller.live before.sent raised taken follows heard meant.planned first step.live.rest.link step.sent makes).1)
           (turn_at heard outcomes meant) in
           let heard_so = meant.sent outcomes heard_it.steps.sendable in
-          let owes = (so.turns rules setup.activity outcomes station live heard meant.planned).owed in
-          let serves = all_served setup station live outcomes heard meant.planned
-          (unlinked_new setup station live before.controller.live before.sent raised taken follows heard meant.planned first) owes in
+          let acts = so.turns rules setup.activity outcomes station live heard meant.planned in
+          let owes = acts.owed in
+          let serves = all_served setup station live heard step.live.rest step.sent meant.planned
+          (unlinked_new setup station live before.controller.live before.sent raised taken follows heard meant.planned first) acts.does in
           let all : Follows setup station step.live before.controller.live (before.sent ++ step.frames) (raised ++ now) taken =
           device_follows setup station live before.controller.live before.sent raised taken follows heard meant.planned first outcomes now
           (so.goes_on rules setup.activity outcomes station live heard meant.planned heard_so) owes

@@ -79,12 +79,8 @@ IsAimed setup (said.Confirms route header ack) = route.partner ≡ setup.plan.co
 IsAimed setup (said.Replies route header) = route.partner ≡ setup.plan.controller.mac → ⊥
 IsAimed setup (said.Ends route header reason) = route.partner ≡ setup.plan.controller.mac → ⊥
 IsAimed setup (said.Requests to asks.Address) = to ≡ setup.plan.controller.mac → ⊥
-IsAimed setup (said.Requests to asks.Identify) = Unit {0}
-IsAimed setup (said.Requests to asks.Connect) = Unit {0}
-IsAimed setup (said.Requests to (asks.Write number)) = Unit {0}
-IsAimed setup (said.Requests to asks.PrmEnd) = Unit {0}
-IsAimed setup (said.Requests to (asks.Release sequence)) = Unit {0}
 IsAimed setup (said.Agrees caller answer) = caller.mac ≡ setup.plan.controller.mac → ⊥
+IsAimed setup other = Unit {0}
 
 -- each field of a message has its size, so that it can be sent
 abbrev pub IsSizedSaid : Setup → said.Sent → Type 0
@@ -237,14 +233,7 @@ module _ (so : HearsSo) (setup : Setup) (identity : Identity) where
   -- ApplicationReady is of the relation of the plan
   abbrev pub IsReady : sent.Sent → Type 0
   IsReady (sent.ReadyCall address ready) = CanBeCalled controllers (ready_call ready)
-  IsReady (sent.Exchanges route frame) = Unit {0}
-  IsReady (sent.Ends farewell) = Unit {0}
-  IsReady (sent.IdentifyAnswer asker running xid) = Unit {0}
-  IsReady (sent.GetAnswer asker running request) = Unit {0}
-  IsReady (sent.SetAnswer asker request answers) = Unit {0}
-  IsReady (sent.ArpReply asker address target) = Unit {0}
-  IsReady (sent.CallAnswer caller address answer) = Unit {0}
-  IsReady (sent.Again frame) = Unit {0}
+  IsReady other = Unit {0}
 
   ready_can_be : IsSetup setup → (ready : Ready) → IsUuid ready.header.activity → IsUuid ready.header.object → ready.header.interface ≡ interface_uuid controllers
       → ready.header.sequence ≡ 0 → ready.header.operation ≡ 4 → IsUuid ready.block.ar_uuid → CanBeCalled controllers (ready_call ready)
@@ -267,14 +256,7 @@ module _ (so : HearsSo) (setup : Setup) (identity : Identity) where
       (ap (λ (h : CallHeader). length h.object) owed.header ∙ ap (λ (r : Asked_for). length r.ar.object) made)
       (ap (λ (h : CallHeader). h.interface) owed.header) (ap (λ (h : CallHeader). h.sequence) owed.header) (ap (λ (h : CallHeader). h.operation) owed.header)
       (ap (λ (b : ControlBlock). length b.ar_uuid) owed.block ∙ own)
-  owed_ready good heard live (sent.Exchanges route frame) sized owed = tt
-  owed_ready good heard live (sent.Ends farewell) sized owed = tt
-  owed_ready good heard live (sent.IdentifyAnswer asker running xid) sized owed = tt
-  owed_ready good heard live (sent.GetAnswer asker running request) sized owed = tt
-  owed_ready good heard live (sent.SetAnswer asker request answers) sized owed = tt
-  owed_ready good heard live (sent.ArpReply asker address target) sized owed = tt
-  owed_ready good heard live (sent.CallAnswer caller address answer) sized owed = tt
-  owed_ready good heard live (sent.Again frame) sized owed = tt
+  owed_ready good heard live other sized owed = tt
 
   pub all_ready : IsSetup setup → (heard : Heard) (live : Live) (messages : List sent.Sent) → AreSizedIn (request_for setup.plan setup.ar) live.rest.link
       → AllByRecursion (IsOwed heard live) messages → AllByRecursion IsReady messages

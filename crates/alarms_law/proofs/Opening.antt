@@ -16,7 +16,7 @@ use Rattle.pn_alarms.specs.declared.fault.AlarmFault.{AlarmFault}
 use Rattle.pn_alarms.specs.declared.pdu.Header.{Header}
 use Rattle.pn_alarms.specs.Message.{ToDevice, message_of}
 use Rattle.plans.specs.declared.parts.Controller.{Controller}
-use Rattle.device_frames.specs.Heard.{Heard, Ticks, Unreadable, Elsewhere, Asks, Resolves, Reported, Cyclic, Alarms, Given, Raised, broadcast, heard_alarm, heard_content, heard_frame, heard_of, heard_request, identify_multicast, is_own, is_taken, said_by}
+use Rattle.device_frames.specs.Heard.{Heard, Elsewhere, Asks, Resolves, Reported, Cyclic, Alarms, broadcast, heard_alarm, heard_content, heard_frame, heard_of, heard_request, identify_multicast, is_own, is_taken, said_by}
 use Rattle.controller_frames.specs.declared.setup.Setup.{Setup}
 use Rattle.controller_frames.specs.Heard as controller
 use Rattle.controller_frames.specs.Heard.{heard_real_time, heard_read}
@@ -26,15 +26,7 @@ use Rattle.alarms_law.proofs.Lists.{holds_if}
 -- a DCP request is heard
 abbrev IsAsking : Heard → Type 0
 IsAsking (Asks source request) = Unit {0}
-IsAsking Ticks = ⊥
-IsAsking Unreadable = ⊥
-IsAsking Elsewhere = ⊥
-IsAsking (Resolves asker packet) = ⊥
-IsAsking (Reported caller address body) = ⊥
-IsAsking (Cyclic source frame_id body) = ⊥
-IsAsking (Alarms source header message) = ⊥
-IsAsking (Given slot subslot value) = ⊥
-IsAsking (Raised slot subslot octets) = ⊥
+IsAsking other = ⊥
 
 no_alarm : (source : Mac) (read : Result (Header × ToDevice) AlarmFault) → IsAsking (heard_alarm source read) → ⊥
 no_alarm source (Ok x) is = is
@@ -114,15 +106,7 @@ asks_unheard identity setup octets source request e apart =
 
 abbrev IsAlarming : Heard → Type 0
 IsAlarming (Alarms source header message) = Unit {0}
-IsAlarming (Asks source request) = ⊥
-IsAlarming Ticks = ⊥
-IsAlarming Unreadable = ⊥
-IsAlarming Elsewhere = ⊥
-IsAlarming (Resolves asker packet) = ⊥
-IsAlarming (Reported caller address body) = ⊥
-IsAlarming (Cyclic source frame_id body) = ⊥
-IsAlarming (Given slot subslot value) = ⊥
-IsAlarming (Raised slot subslot octets) = ⊥
+IsAlarming other = ⊥
 
 no_request : (source : Mac) (read : Result Asked DcpFault) → IsAlarming (heard_request source read) → ⊥
 no_request source (Ok request) is = is

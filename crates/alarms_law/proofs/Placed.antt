@@ -37,7 +37,7 @@ use Rattle.controller_core.specs.declared.event.Event.{Event}
 use Rattle.controller_core.specs.declared.event.Event.TheVariants as event
 use Rattle.controller_core.specs.declared.state.Cause.{Cause}
 use Rattle.controller_core.specs.declared.state.State.{State}
-use Rattle.controller_core.specs.declared.state.State.TheVariants.{Looking, Addressing, Connecting, Writing, Ending, Waiting, Exchanging, Ended}
+use Rattle.controller_core.specs.declared.state.State.TheVariants.{Looking, Addressing, Ending, Waiting, Exchanging, Ended}
 use Rattle.controller_core.specs.Alarms.{is_alarm as is_of_relation}
 use Rattle.controller_core.specs.Answers.{is_addressed, is_answer, is_found, is_ready, is_right, is_set_answer}
 use Rattle.controller_core.specs.Connect.{Chosen, chosen_of, found_in, is_whole, nothing}
@@ -64,9 +64,7 @@ abbrev pub IsOf : Setup → Mac → Heard → Type 0
 IsOf setup mac (Answers source answer) = source ≡ mac
 IsOf setup mac (Responds response) = IsWell setup (Responds response)
 IsOf setup mac (Calls caller call) = caller.mac ≡ mac
-IsOf setup mac Nothing = Unit {0}
-IsOf setup mac (Comes source frame_id body) = Unit {0}
-IsOf setup mac (Alarms source header reported) = Unit {0}
+IsOf setup mac other = Unit {0}
 
 module _ (setup : Setup) (mac : Mac) (apart : mac ≡ setup.plan.controller.mac → ⊥) where
   pub record PlacedTurn (turn : Turn) : Type 0 where
@@ -109,12 +107,7 @@ module _ (setup : Setup) (mac : Mac) (apart : mac ≡ setup.plan.controller.mac 
   answered_placed : (live : Live) (source : Mac) (answer : Answered) (phase : State) → live.phase ≡ phase → source ≡ mac → IsPlaced mac live → PlacedTurn (answered setup live source answer phase)
   answered_placed live source answer Looking now is p = either (is_found setup.plan answer) _ _ (found_placed live source answer is p) (stays_placed live p)
   answered_placed live source answer Addressing now is p = either (is_set_answer answer) _ _ (addressed_placed live answer (p.giving now) p) (stays_placed live p)
-  answered_placed live source answer Connecting now is p = stays_placed live p
-  answered_placed live source answer Writing now is p = stays_placed live p
-  answered_placed live source answer Ending now is p = stays_placed live p
-  answered_placed live source answer Waiting now is p = stays_placed live p
-  answered_placed live source answer Exchanging now is p = stays_placed live p
-  answered_placed live source answer (Ended cause) now is p = stays_placed live p
+  answered_placed live source answer other now is p = stays_placed live p
 
   -- ---- responses
 
@@ -180,14 +173,10 @@ module _ (setup : Setup) (mac : Mac) (apart : mac ≡ setup.plan.controller.mac 
   -- ---- calls, cyclic frames and outputs
 
   readied_placed : (live : Live) (caller : Caller) (call : Call) (block : ControlBlock) (phase : State) → caller.mac ≡ mac → IsPlaced mac live → PlacedTurn (readied live caller call block phase)
-  readied_placed live caller call block Looking is p = stays_placed live p
-  readied_placed live caller call block Addressing is p = stays_placed live p
-  readied_placed live caller call block Connecting is p = stays_placed live p
-  readied_placed live caller call block Writing is p = stays_placed live p
   readied_placed live caller call block Ending is p = record { live = record { plain = p.plain; partner = p.partner; asking = λ e. absurd cc; giving = λ e. absurd cc; addressing = λ e. absurd cc }; sent = (λ e. apart (sym is ∙ e), tt) }
   readied_placed live caller call block Waiting is p = record { live = record { plain = p.plain; partner = p.partner; asking = λ e. absurd cc; giving = λ e. absurd cc; addressing = λ e. absurd cc }; sent = (λ e. apart (sym is ∙ e), tt) }
   readied_placed live caller call block Exchanging is p = record { live = p; sent = (λ e. apart (sym is ∙ e), tt) }
-  readied_placed live caller call block (Ended cause) is p = stays_placed live p
+  readied_placed live caller call block other is p = stays_placed live p
 
   called_placed : (live : Live) (caller : Caller) (call : Call) (block : Option ControlBlock) → caller.mac ≡ mac → IsPlaced mac live → PlacedTurn (called setup live caller call block)
   called_placed live caller call (Some block) is p = either (is_ready setup block) _ _ (readied_placed live caller call block live.phase is p) (stays_placed live p)
@@ -263,13 +252,9 @@ module _ (setup : Setup) (mac : Mac) (apart : mac ≡ setup.plan.controller.mac 
   acks_placed live None up p = tt
 
   requests_placed : (device : Mac) (asked : Option Request) → (asked ≡ Some asks.Address → device ≡ mac) → AllByRecursion (IsAimed setup) (requests_of device asked)
-  requests_placed device (Some asks.Identify) own = (tt, tt)
   requests_placed device (Some asks.Address) own = (λ e. apart (sym (own refl) ∙ e), tt)
-  requests_placed device (Some asks.Connect) own = (tt, tt)
-  requests_placed device (Some (asks.Write number)) own = (tt, tt)
-  requests_placed device (Some asks.PrmEnd) own = (tt, tt)
-  requests_placed device (Some (asks.Release sequence)) own = (tt, tt)
   requests_placed device None own = tt
+  requests_placed device other own = (tt, tt)
 
   flowed_placed : (live : Live) (is_request : Bool) (tick : Brought) (reason : Option Abort) → live.stands ≡ true → IsPlaced mac live → PlacedTurn (flowed live is_request tick reason)
   flowed_placed live is_request tick (Some reason) up p = record { live = over_placed _ live p; sent = (partner_other live up p, tt) }
@@ -292,20 +277,14 @@ module _ (setup : Setup) (mac : Mac) (apart : mac ≡ setup.plan.controller.mac 
   stopped_placed : (live : Live) (phase : State) → IsPlaced mac live → PlacedTurn (stopped setup live phase)
   stopped_placed live Looking p = ends_placed _ live p
   stopped_placed live Addressing p = ends_placed _ live p
-  stopped_placed live Connecting p = released_placed _ live p
-  stopped_placed live Writing p = released_placed _ live p
-  stopped_placed live Ending p = released_placed _ live p
-  stopped_placed live Waiting p = released_placed _ live p
-  stopped_placed live Exchanging p = released_placed _ live p
   stopped_placed live (Ended cause) p = stays_placed live p
+  stopped_placed live other p = released_placed _ live p
 
   -- ---- events
 
   abbrev pub IsEventOf : Event → Type 0
   IsEventOf (event.Frame bytes) = IsOf setup mac (heard_of setup.plan.controller bytes.items)
-  IsEventOf event.Tick = Unit {0}
-  IsEventOf (event.Give slot subslot value) = Unit {0}
-  IsEventOf event.Stop = Unit {0}
+  IsEventOf other = Unit {0}
 
   pub event_placed : (live : Live) (one : Event) → IsEventOf one → IsPlaced mac live → PlacedTurn (turn_of setup live one)
   event_placed live (event.Frame bytes) is p = heard_placed live (heard_of setup.plan.controller bytes.items) is p

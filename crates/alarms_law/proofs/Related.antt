@@ -38,12 +38,9 @@ module _ (setup : Setup) (good : IsSetup setup) where
   stays_right live is = (is, tt)
 
   numbered : (request : Request) → IsFew request → IsNumbered request
-  numbered asks.Identify few = tt
-  numbered asks.Address few = tt
-  numbered asks.Connect few = tt
   numbered (asks.Write number) few = omega (arith, few)
-  numbered asks.PrmEnd few = tt
   numbered (asks.Release sequence) few = few
+  numbered other few = tt
 
   asking_right : (phase : State) (request : Request) (live : Live) → IsLive live → IsFew request → IsRight setup (asking phase request live)
   asking_right phase request live is few = (
@@ -58,13 +55,9 @@ module _ (setup : Setup) (good : IsSetup setup) where
   over_live why live is = record { device = is.device; asked = tt; way = is.way; few = is.few; last = is.last; seen = is.seen; confirming = is.confirming }
 
   sequence_few : (plan : Parts) (asked : Option Request) → IsPlan plan → AreFew asked → next_sequence plan asked < 4294967296
-  sequence_few plan None is few = omega (arith, is.few_records)
-  sequence_few plan (Some asks.Identify) is few = omega (arith, is.few_records)
-  sequence_few plan (Some asks.Address) is few = omega (arith, is.few_records)
   sequence_few plan (Some asks.Connect) is few = omega arith
   sequence_few plan (Some (asks.Write number)) is few = omega (arith, few)
-  sequence_few plan (Some asks.PrmEnd) is few = omega (arith, is.few_records)
-  sequence_few plan (Some (asks.Release sequence)) is few = omega (arith, is.few_records)
+  sequence_few plan other is few = omega (arith, is.few_records)
 
   released_right : (why : Cause) (live : Live) → IsLive live → IsRight setup (released setup why live)
   released_right why live is =

@@ -36,15 +36,7 @@ use Rattle.alarms_law.specs.Sized.{IsChosenWell}
 -- what the device hears of alarms, if it hears an alarm frame
 abbrev pub reported_at : device.Heard → Option (Notice AlarmAck)
 reported_at (device.Alarms source header message) = Some message
-reported_at device.Ticks = None
-reported_at device.Unreadable = None
-reported_at device.Elsewhere = None
-reported_at (device.Asks source request) = None
-reported_at (device.Resolves asker packet) = None
-reported_at (device.Reported caller address body) = None
-reported_at (device.Cyclic source frame_id body) = None
-reported_at (device.Given slot subslot value) = None
-reported_at (device.Raised slot subslot octets) = None
+reported_at other = None
 
 -- what a reply to data says, by its type: an ACK of the number, or that it was refused
 abbrev pub reply_of : {B : Type 0} → ℕ → PduType → Option (Notice B)
@@ -62,33 +54,21 @@ noted_by (Answers header) = reply_of header.ack_number header.kind
 abbrev pub noted_in : sent.Sent → Option (Notice AlarmNotification)
 noted_in (sent.Exchanges route frame) = noted_by frame
 noted_in (sent.Ends farewell) = Some notice.Abort
-noted_in (sent.IdentifyAnswer asker running xid) = None
-noted_in (sent.GetAnswer asker running request) = None
-noted_in (sent.SetAnswer asker request answers) = None
-noted_in (sent.ArpReply asker address target) = None
-noted_in (sent.CallAnswer caller address answer) = None
-noted_in (sent.Again frame) = None
-noted_in (sent.ReadyCall address ready) = None
+noted_in other = None
 
 -- ---- at the controller
 
 -- what the controller hears of alarms
 abbrev pub noted_at : controller.Heard → Option (Notice AlarmNotification)
 noted_at (controller.Alarms source header message) = Some message
-noted_at controller.Nothing = None
-noted_at (controller.Answers source answer) = None
-noted_at (controller.Responds response) = None
-noted_at (controller.Calls caller call) = None
-noted_at (controller.Cyclic source frame_id body) = None
+noted_at other = None
 
 -- what the controller says of alarms: an AlarmAck with its number, the reply to an alarm, or the end of the relation
 abbrev pub reported_in : said.Sent → Option (Notice AlarmAck)
 reported_in (said.Confirms route header ack) = Some (notice.Data header.send_number ack)
 reported_in (said.Replies route header) = reply_of header.ack_number header.kind
 reported_in (said.Ends route header reason) = Some notice.Abort
-reported_in (said.Requests to request) = None
-reported_in (said.Agrees caller answer) = None
-reported_in (said.Cycles route shown counter) = None
+reported_in other = None
 
 -- ---- what a controller hears of its device
 
@@ -97,18 +77,12 @@ abbrev pub IsGood : Mac → controller.Heard → Type 0
 IsGood mac (controller.Answers source answer) = (source ≡ mac) × IsMac source
 IsGood mac (controller.Calls caller call) = (caller.mac ≡ mac) × IsCaller caller × IsHeader call.header × (call.args_maximum < 4294967296)
 IsGood mac (controller.Alarms source header reported) = IsNotice reported
-IsGood mac controller.Nothing = Unit {0}
-IsGood mac (controller.Responds response) = Unit {0}
-IsGood mac (controller.Cyclic source frame_id body) = Unit {0}
+IsGood mac other = Unit {0}
 
 -- a positive response to the Connect chooses a suitable FrameID for outputs
 abbrev pub IsWell : Setup → controller.Heard → Type 0
 IsWell setup (controller.Responds response) = is_answer setup asks.Connect response.header ≡ true → is_done response.status ≡ true → IsChosenWell response.blocks
-IsWell setup controller.Nothing = Unit {0}
-IsWell setup (controller.Answers source answer) = Unit {0}
-IsWell setup (controller.Calls caller call) = Unit {0}
-IsWell setup (controller.Cyclic source frame_id body) = Unit {0}
-IsWell setup (controller.Alarms source header reported) = Unit {0}
+IsWell setup other = Unit {0}
 
 -- ---- what a device hears of its controller
 

@@ -38,7 +38,7 @@ use Rattle.relations.specs.Phases.{made_of, with_flow}
 use Rattle.relations.specs.Timers.{unit_later}
 use Rattle.device_frames.specs.Heard.{Heard}
 use Rattle.device_frames.specs.Relation.{alarms_of, frames_in, where_due}
-use Rattle.device_frames.specs.Sent.{Sent, IdentifyAnswer, GetAnswer, SetAnswer, ArpReply, CallAnswer, Again, ReadyCall, Ends, Exchanges}
+use Rattle.device_frames.specs.Sent.{Sent, Ends, Exchanges}
 use Rattle.codec_laws.specs.blocks.Writable.{IsAlarm}
 use Rattle.codec_laws.specs.alarms.Sendable.{IsHeader}
 use Rattle.message_laws.specs.sending.Sized.{IsShort}
@@ -58,13 +58,7 @@ IsSizedFrame identity route (Answers header) = (route.partner ≡ identity.mac �
 abbrev pub IsSizedSent : Identity → Sent → Type 0
 IsSizedSent identity (Exchanges route frame) = IsSizedFrame identity route frame
 IsSizedSent identity (Ends farewell) = (farewell.initiator ≡ identity.mac → ⊥) × IsHeader (said_by farewell).header
-IsSizedSent identity (IdentifyAnswer asker running xid) = Unit {0}
-IsSizedSent identity (GetAnswer asker running request) = Unit {0}
-IsSizedSent identity (SetAnswer asker request answers) = Unit {0}
-IsSizedSent identity (ArpReply asker address target) = Unit {0}
-IsSizedSent identity (CallAnswer caller address answer) = Unit {0}
-IsSizedSent identity (Again frame) = Unit {0}
-IsSizedSent identity (ReadyCall address ready) = Unit {0}
+IsSizedSent identity other = Unit {0}
 
 -- ---- a device's end of alarms
 
@@ -211,13 +205,7 @@ module _ (identity : Identity) (plan : Parts) (ar : List ℕ) (apart : identity.
         λ e. apart (sym e ∙ (ap (λ (f : Farewell). f.initiator) calm.3 ∙ ap (λ (r : Request). r.ar.initiator) way.same)),
         subst (λ (f : Farewell). IsHeader (said_by f).header) (sym calm.3) said,
       )
-  calm_sized before (IdentifyAnswer asker running xid) sized calm = tt
-  calm_sized before (GetAnswer asker running asked) sized calm = tt
-  calm_sized before (SetAnswer asker asked answers) sized calm = tt
-  calm_sized before (ArpReply asker address target) sized calm = tt
-  calm_sized before (CallAnswer caller address answer) sized calm = tt
-  calm_sized before (Again frame) sized calm = tt
-  calm_sized before (ReadyCall address ready) sized calm = tt
+  calm_sized before other sized calm = tt
 
   all_calm : (before : Option RelationState) (messages : List Sent) → AreSizedIn request before → AreCalm before messages → AreSizedSent messages
   all_calm before [] sized calm = tt

@@ -29,7 +29,7 @@ use Rattle.cyclic_exchange.specs.declared.route.Route.{Route}
 use Rattle.cyclic_exchange.specs.Cyclic.{Cyclic}
 use Rattle.cyclic_exchange.specs.Units.{ending_of, tick_by}
 use Rattle.relations.specs.exchange.Flow.{Flow}
-use Rattle.relations.specs.exchange.Frames.{Inputs, Notifies, Replies as Answers}
+use Rattle.relations.specs.exchange.Frames.{Notifies, Replies as Answers}
 use Rattle.relations.specs.exchange.Notices.{behind_message, header_of, may_raise, raised_at, raised_by as raised_from}
 use Rattle.relations.specs.exchange.Units.{flow_later, tick_of}
 use Rattle.relations.specs.Exchanged.{raised_to}
@@ -38,9 +38,9 @@ use Rattle.relations.specs.Phases.{made_of, with_flow}
 use Rattle.relations.specs.Timers.{unit_later}
 use Rattle.codec_laws.specs.alarms.Line.{Line, with_sent}
 use Rattle.codec_laws.specs.alarms.World.{acks_after, line_after}
-use Rattle.device_frames.specs.Heard.{Heard, Ticks, Unreadable, Elsewhere, Asks, Resolves, Reported, Cyclic as Comes, Alarms, Given, Raised}
+use Rattle.device_frames.specs.Heard.{Heard, Raised}
 use Rattle.device_frames.specs.Relation.{alarms_of, frames_in, replies_of, where_due}
-use Rattle.device_frames.specs.Sent.{Sent, IdentifyAnswer, GetAnswer, SetAnswer, ArpReply, CallAnswer, Again, ReadyCall, Ends, Exchanges}
+use Rattle.device_frames.specs.Sent.{Sent, Exchanges}
 use Rattle.controller_frames.specs.declared.setup.Setup.{Setup}
 use Rattle.controller_frames.specs.Sent as said
 use Rattle.message_laws.specs.turns.Alarms.{Relation, Move, Raises as raising, PassesAtDevice, ComesToDevice, behind, comes_to_device, passed_at_device, raised_by, replied_by}
@@ -53,11 +53,9 @@ use Rattle.alarms_law.proofs.Turns.{IsSameOr, IsTurn, Way, way_of}
 -- ---- what is said is among what was sent
 
 abbrev pub IsSaid : List (ℕ × AlarmNotification) → List ℕ → Option (Notice AlarmNotification) → Type 0
-IsSaid pdus acks None = Unit {0}
 IsSaid pdus acks (Some (notice.Data number alarm)) = (k : ℕ) × (slice_get pdus k ≡ Some (number, alarm))
 IsSaid pdus acks (Some (notice.Ack number)) = (k : ℕ) × (slice_get acks k ≡ Some number)
-IsSaid pdus acks (Some notice.Nack) = Unit {0}
-IsSaid pdus acks (Some notice.Abort) = Unit {0}
+IsSaid pdus acks other = Unit {0}
 
 pub record IsConfirmed (reported : List said.Sent) (number : ℕ) (ack : AlarmAck) : Type 0 where
   pub place : ℕ
@@ -75,28 +73,22 @@ pub record IsReplied (reported : List said.Sent) (number : ℕ) : Type 0 where
   pub same : header.ack_number ≡ number
 
 abbrev pub IsHeard : List said.Sent → Option (Notice AlarmAck) → Type 0
-IsHeard reported None = Unit {0}
 IsHeard reported (Some (notice.Data number ack)) = IsConfirmed reported number ack
 IsHeard reported (Some (notice.Ack number)) = IsReplied reported number
-IsHeard reported (Some notice.Nack) = Unit {0}
-IsHeard reported (Some notice.Abort) = Unit {0}
+IsHeard reported other = Unit {0}
 
 pub said_stays : (pdus more : List (ℕ × AlarmNotification)) (acks others : List ℕ) (says : Option (Notice AlarmNotification)) → Extends pdus more → Extends acks others
     → IsSaid pdus acks says → IsSaid more others says
-said_stays pdus more acks others None p a is = tt
 said_stays pdus more acks others (Some (notice.Data number alarm)) p a is = (is.0, p is.0 (number, alarm) is.1)
 said_stays pdus more acks others (Some (notice.Ack number)) p a is = (is.0, a is.0 number is.1)
-said_stays pdus more acks others (Some notice.Nack) p a is = tt
-said_stays pdus more acks others (Some notice.Abort) p a is = tt
+said_stays pdus more acks others other p a is = tt
 
 pub heard_stays : (reported more : List said.Sent) (says : Option (Notice AlarmAck)) → Extends reported more → IsHeard reported says → IsHeard more says
-heard_stays reported more None t is = tt
 heard_stays reported more (Some (notice.Data number ack)) t is =
     record { place = is.place; route = is.route; header = is.header; there = t is.place (said.Confirms is.route is.header ack) is.there; same = is.same }
 heard_stays reported more (Some (notice.Ack number)) t is =
     record { place = is.place; route = is.route; header = is.header; there = t is.place (said.Replies is.route is.header) is.there; kind = is.kind; same = is.same }
-heard_stays reported more (Some notice.Nack) t is = tt
-heard_stays reported more (Some notice.Abort) t is = tt
+heard_stays reported more other t is = tt
 
 -- ---- a turn of the device
 
@@ -121,17 +113,9 @@ abbrev pub IsTied : Relation → Option RelationState → Type 0
 IsTied r link = (l : RelationState) → link ≡ Some l → l.flow.alarms ≡ r.device
 
 calm_said : (pdus : List (ℕ × AlarmNotification)) (acks : List ℕ) (before : Option RelationState) (message : Sent) → IsCalm before message → IsSaid pdus acks (noted_in message)
-calm_said pdus acks before (Exchanges route (Inputs inputs counter)) calm = tt
 calm_said pdus acks before (Exchanges route (Notifies header alarm)) calm = absurd calm
 calm_said pdus acks before (Exchanges route (Answers header)) calm = absurd calm
-calm_said pdus acks before (IdentifyAnswer asker running xid) calm = tt
-calm_said pdus acks before (GetAnswer asker running request) calm = tt
-calm_said pdus acks before (SetAnswer asker request answers) calm = tt
-calm_said pdus acks before (ArpReply asker address target) calm = tt
-calm_said pdus acks before (CallAnswer caller address answer) calm = tt
-calm_said pdus acks before (Again frame) calm = tt
-calm_said pdus acks before (ReadyCall address ready) calm = tt
-calm_said pdus acks before (Ends farewell) calm = tt
+calm_said pdus acks before other calm = tt
 
 all_calm : (pdus : List (ℕ × AlarmNotification)) (acks : List ℕ) (before : Option RelationState) (messages : List Sent) → AreCalm before messages → AllByRecursion (λ message. IsSaid pdus acks (noted_in message)) messages
 all_calm pdus acks before [] calm = tt
@@ -167,15 +151,7 @@ rests setup r before after sent tied calm = record {
 -- no alarm is raised
 abbrev pub IsUnraised : Heard → Type 0
 IsUnraised (Raised slot subslot octets) = ⊥
-IsUnraised Ticks = Unit {0}
-IsUnraised Unreadable = Unit {0}
-IsUnraised Elsewhere = Unit {0}
-IsUnraised (Asks source request) = Unit {0}
-IsUnraised (Resolves asker packet) = Unit {0}
-IsUnraised (Reported caller address reported) = Unit {0}
-IsUnraised (Comes source frame_id body) = Unit {0}
-IsUnraised (Alarms source header message) = Unit {0}
-IsUnraised (Given slot subslot value) = Unit {0}
+IsUnraised other = Unit {0}
 
 -- ---- an alarm is raised
 
@@ -187,15 +163,7 @@ alarm_for slot subslot ident part octets =
 -- the effect of an alarm that is raised
 abbrev raised_for : List RealModule → Heard → RelationState → Option Flow
 raised_for real (Raised slot subslot octets) link = raised_at link.flow real slot subslot octets
-raised_for real Ticks link = None
-raised_for real Unreadable link = None
-raised_for real Elsewhere link = None
-raised_for real (Asks source request) link = None
-raised_for real (Resolves asker packet) link = None
-raised_for real (Reported caller address reported) link = None
-raised_for real (Comes source frame_id body) link = None
-raised_for real (Alarms source header message) link = None
-raised_for real (Given slot subslot value) link = None
+raised_for real other link = None
 
 -- the alarm may be raised: a submodule is plugged there, it has few octets, and no other one is unconfirmed
 pub record MayRaise (flow : Flow) (slot subslot : ℕ) (octets : List ℕ) (ident_at part_at : Option ℕ) (after : Flow) : Type 0 where

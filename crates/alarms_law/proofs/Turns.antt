@@ -1,6 +1,5 @@
 -- Each turn of a device, as far as the alarms of its relation are concerned.
-use Rattle.std.proofs.Common.{◌≡◌, ◌⊎◌, inl, inr, ◌∙◌, ℕ, Bool, true, false, cond, List, [], Option, Some, None, option_map, Result, Ok, Err, refl, sym, ap, subst}
-use Rattle.std.specs.List.{AllByRecursion}
+use Rattle.std.proofs.Common.{◌≡◌, ◌⊎◌, inl, inr, ◌∙◌, ℕ, Bool, true, false, cond, List, Option, Some, None, option_map, Result, Ok, Err, refl, sym, ap, subst}
 use Rattle.pn_values.specs.declared.mac.Mac.{Mac}
 use Rattle.pn_values.specs.declared.real.RealModule.{RealModule}
 use Rattle.rpc_core.specs.Cache.{Kept as Answer}
@@ -13,7 +12,6 @@ use Rattle.cyclic_exchange.specs.declared.route.Route.{Route}
 use Rattle.cyclic_exchange.specs.Cyclic.{Cyclic}
 use Rattle.cyclic_exchange.specs.Received.{behind_frame as cyclic_behind, behind_read, is_new, is_of_partner, taken_from}
 use Rattle.relations.specs.RelationState.{RelationState}
-use Rattle.relations.specs.Phases.{with_flow}
 use Rattle.device_frames.specs.Heard.{Heard}
 use Rattle.device_frames.specs.Sent.{Sent}
 use Rattle.end_laws.specs.device.Turn.{AreCalm, HearsAck, HearsData, IsCalm, Makes, Passes, Raises, Standing, standing_of}

@@ -78,11 +78,7 @@ module _ (setup : Setup) where
           → (said_to setup (controller.Responds response) ≡ small.Nothing) ⊎ (said_to setup (controller.Responds response) ≡ says) → ⊥
       by_saying e (inl none) = none_of (sym none ∙ e)
       by_saying e (inr same) = other (sym same ∙ e)
-  unanswered_well controller.Nothing says other at_most = tt
-  unanswered_well (controller.Answers source answer) says other at_most = tt
-  unanswered_well (controller.Calls caller call) says other at_most = tt
-  unanswered_well (controller.Cyclic source frame_id body) says other at_most = tt
-  unanswered_well (controller.Alarms source header reported) says other at_most = tt
+  unanswered_well another says other at_most = tt
 
   nothing_well : (heard : controller.Heard) → (said_to setup heard ≡ small.Nothing) ⊎ (said_to setup heard ≡ small.Nothing) → IsWell setup heard
   nothing_well heard at_most = unanswered_well heard small.Nothing (λ e. absurd cc) at_most
@@ -94,13 +90,10 @@ module _ (so : HearsSo) (setup : Setup) (station : Station) (good : IsSetup setu
   -- a call that is planned is one of the start-up
   planned_call : (which : Option Operation) (sequence : ℕ) (blocks : List ℕ) → IsPlannedAs (rules_of setup station) station.real sequence blocks which
       → asked_by sequence which ≡ small.Idle → ⊥
-  planned_call (Some operation.Connect) sequence blocks plan e = absurd cc
-  planned_call (Some operation.Write) sequence blocks plan e = absurd cc
-  planned_call (Some operation.Control) sequence blocks plan e = absurd cc
-  planned_call (Some operation.Release) sequence blocks plan e = absurd cc
   planned_call (Some operation.Read) sequence blocks plan e = absurd plan
   planned_call (Some operation.ReadImplicit) sequence blocks plan e = absurd plan
   planned_call None sequence blocks plan e = absurd plan
+  planned_call which sequence blocks plan e = absurd cc
 
   sized_call : (caller : Caller) (address : List ℕ) (call : Call) → heard ≡ device.Reported caller address (device.Calls call) → IsSizedCall call
   sized_call caller address call is =
@@ -145,12 +138,7 @@ module _ (so : HearsSo) (setup : Setup) (station : Station) (good : IsSetup setu
   message_well (sent.Again frame) can owed meant served = tt
   message_well (sent.ReadyCall address ready) can owed meant served =
       unanswered_well setup (heard_by setup.plan.controller (bytes_of station.identity (sent.ReadyCall address ready))) small.Readies (λ e. absurd cc) meant.1
-  message_well (sent.IdentifyAnswer asker running xid) can owed meant served = nothing_well setup _ meant.1
-  message_well (sent.GetAnswer asker running request) can owed meant served = nothing_well setup _ meant.1
-  message_well (sent.SetAnswer asker request answers) can owed meant served = nothing_well setup _ meant.1
-  message_well (sent.ArpReply asker address target) can owed meant served = nothing_well setup _ meant.1
-  message_well (sent.Ends farewell) can owed meant served = nothing_well setup _ meant.1
-  message_well (sent.Exchanges route frame) can owed meant served = nothing_well setup _ meant.1
+  message_well other can owed meant served = nothing_well setup _ meant.1
 
   pub all_well : (messages : List sent.Sent) → AllByRecursion (IsSendable station.identity) messages → AllByRecursion (IsOwed heard live) messages
       → AllByRecursion (IsHeardAs (rules_of setup station) station.identity) messages → AllByRecursion (IsServed setup station live) messages

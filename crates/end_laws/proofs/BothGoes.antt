@@ -1,7 +1,7 @@
 -- The facts about a frame persist: records that were accepted stay accepted, and what was true of an earlier point
 -- stays true.
 use Rattle.std.proofs.Common.{◌≡◌, inl, inr, ℕ, zero, suc, true, false, List, Option, Some, None, sym, subst}
-use Rattle.end_laws.specs.both.Small.{Ask, ToDevice, Call, Confirms, Idle, ToController, Answers, Readies, Nothing, Rules, RelationState, Kept, Controller, Seeking, Asking, Waiting, Exchanges, Ended}
+use Rattle.end_laws.specs.both.Small.{Ask, ToDevice, Call, Confirms, Idle, ToController, Answers, Readies, Nothing, Rules, RelationState, Kept, Controller, Asking}
 use Rattle.end_laws.specs.both.Steps.{SaysAtMost}
 use Rattle.end_laws.proofs.BothEach.{each_so}
 use Rattle.end_laws.proofs.BothHolds.{Took, Behind, IsCall, TellsDevice, TellsController, IsFine, AreFine, KeepsFine, AsksBehind}
@@ -22,10 +22,7 @@ module _ {T Q : Type 0} where
 
     pub asks_on : (state : Controller) → AsksBehind kept link state → AsksBehind kept_now link_now state
     asks_on (Asking sequence) behind = behind_on sequence behind
-    asks_on Seeking behind = tt
-    asks_on Waiting behind = tt
-    asks_on Exchanges behind = tt
-    asks_on Ended behind = tt
+    asks_on other behind = tt
 
     module _ (rules : Rules T Q) (Was WasNow : Type 0) (Good GoodNow : List ℕ → Type 0) (was_on : Was → WasNow) (good_on : (frame : List ℕ) → Good frame → GoodNow frame) where
       device_on : (heard : ToDevice) → TellsDevice rules Was kept link heard → TellsDevice rules WasNow kept_now link_now heard

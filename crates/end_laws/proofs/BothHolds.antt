@@ -3,7 +3,7 @@
 -- ApplicationReady. `Handed`: the controller received one.
 use Rattle.std.proofs.Common.{◌≡◌, ◌⊎◌, ◌<◌, ◌≤◌, ℕ, zero, suc, true, false, List, ◌++◌, length, Option, Some, None}
 use Rattle.std.specs.List.{AllByRecursion}
-use Rattle.end_laws.specs.both.Small.{Ask, Releases, ToDevice, Call, Confirms, Idle, ToController, Answers, Readies, Nothing, Rules, Started, Exchanging, RelationState, Kept, Controller, Seeking, Asking, Waiting, Exchanges, Ended, World}
+use Rattle.end_laws.specs.both.Small.{Ask, Releases, ToDevice, Call, Confirms, Idle, ToController, Answers, Readies, Nothing, Rules, Started, Exchanging, RelationState, Kept, Controller, Asking, Exchanges, World}
 use Rattle.end_laws.specs.both.Steps.{IsAsked}
 
 -- there is a response
@@ -79,10 +79,7 @@ module _ {T Q : Type 0} where
   -- what was accepted before the controller makes a call
   abbrev pub AsksBehind : Option Kept → Option (RelationState T Q) → Controller → Type 0
   AsksBehind kept link (Asking sequence) = Behind sequence kept link
-  AsksBehind kept link Seeking = Unit {0}
-  AsksBehind kept link Waiting = Unit {0}
-  AsksBehind kept link Exchanges = Unit {0}
-  AsksBehind kept link Ended = Unit {0}
+  AsksBehind kept link other = Unit {0}
 
   abbrev pub ConfirmedIn : Type 0 → Option (RelationState T Q) → Type 0
   ConfirmedIn Past None = Unit {0}

@@ -49,8 +49,7 @@ module _ {T Q : Type 0} (rules : Rules T Q) where
   does_by sequence Connects true kept link after new (inl releases) comes holds = absurd cc
   does_by sequence Connects true kept link after new (inr asked) comes holds = comes (first_unrelated sequence kept link asked.0 new holds)
   does_by sequence (Writes number) true kept link after new call comes holds = comes
-  does_by sequence Parameterized true kept link after new call comes holds = comes
-  does_by sequence Releases true kept link after new call comes holds = comes
+  does_by sequence other true kept link after new call comes holds = comes
 
   -- no sequence number is below the first
   never_first : (sequence : ℕ) (kept : Option Kept) → sequence ≡ 0 → IsNew sequence kept → IsSomeKept kept → ⊥
@@ -152,18 +151,16 @@ module _ {T Q : Type 0} (rules : Rules T Q) where
   -- a positive response says what was accepted
   reported_by : (sequence : ℕ) (ask : Ask) (kept : Option Kept) (link after : Option (RelationState T Q))
       → IsCall rules sequence ask kept link → Does true ask link after → sequence ≤ length rules.records → TookIn sequence after
-  reported_by sequence Connects kept link after (inl releases) comes few = absurd cc
   reported_by sequence Connects kept link after (inr asked) comes few =
       subst (λ (l : Option (RelationState T Q)). TookIn sequence l) (sym comes) (omega (arith, asked.0))
-  reported_by sequence (Writes number) kept link after (inl releases) comes few = absurd cc
   reported_by sequence (Writes number) kept link after (inr asked) comes few =
       let is : sequence ≡ suc number = omega (arith, asked.0.1) in
       let took = behind_suc sequence number kept link is asked.1 in
       let there : TookIn number (Some comes.link) = subst (λ (l : Option (RelationState T Q)). TookIn number l) comes.was took.taken in
       subst (λ (l : Option (RelationState T Q)). TookIn sequence l) (sym comes.becomes) (omega (arith, is, there, length-append comes.link.taken (comes.value ∷ [])))
-  reported_by sequence Parameterized kept link after (inl releases) comes few = absurd cc
   reported_by sequence Parameterized kept link after (inr asked) comes few = absurd (omega (arith, asked.0, few))
   reported_by sequence Releases kept link after call comes few = subst (λ (l : Option (RelationState T Q)). TookIn sequence l) (sym comes) tt
+  reported_by sequence other kept link after (inl releases) comes few = absurd cc
 
   -- while ApplicationReady waits for its response, all records were accepted
   past_ready : (sequence : ℕ) (link : RelationState T Q) → link.phase ≡ Awaiting → (link.phase ≡ Started) ⊎ ((length rules.records < sequence) × (link.taken ≡ rules.records)) → link.taken ≡ rules.records

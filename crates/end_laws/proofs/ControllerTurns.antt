@@ -25,11 +25,11 @@ use Rattle.controller_core.specs.declared.state.Cause.{Cause}
 use Rattle.controller_core.specs.declared.state.State.{State}
 use Rattle.controller_core.specs.declared.state.State.TheVariants.{Looking, Addressing, Connecting, Writing, Ending, Ended}
 use Rattle.controller_core.specs.declared.event.Event.{Event}
-use Rattle.controller_core.specs.declared.event.Event.TheVariants.{Frame, Tick, Give, Stop}
+use Rattle.controller_core.specs.declared.event.Event.TheVariants.{Frame}
 use Rattle.controller_core.specs.State.{Live}
 use Rattle.controller_core.specs.Answers.{is_answer, is_call}
 use Rattle.controller_core.specs.Machine.{Turn, stays, over, next_sequence, released, writing, standing, behind_data, confirming, taken, is_again, where_due, requests_of, acks_in, acks_of, outputs_of, flow_later, due_frames, brought, turn_of}
-use Rattle.message_laws.specs.turns.Turns.{Came, Hears, Passes, Gets, Halts, IsGranted, IsKind, IsReadied, IsTurn, Kind, Rests, Connects, Addresses, Ends, Releases, Relates, Writes, Waits, Forgets, Begins, Repeats, Follows, Takes, IsAcked, Gives, Flows, Breaks, Idles, came_by, turn_by}
+use Rattle.message_laws.specs.turns.Turns.{Came, Hears, IsGranted, IsKind, IsReadied, IsTurn, Kind, Rests, Connects, Addresses, Ends, Releases, Relates, Writes, Waits, Forgets, Begins, Repeats, Takes, Flows, Breaks, Idles, came_by, turn_by}
 use Rattle.end_laws.specs.both.Small as small
 use Rattle.end_laws.specs.both.Small.{Controller, ToController, ToDevice}
 use Rattle.end_laws.specs.both.Steps.{SaysToDevice}
@@ -185,15 +185,11 @@ module _ (setup : Setup) where
 
   abbrev said_of : Came → ToController
   said_of (Hears heard) = said_to setup heard
-  said_of Passes = small.Nothing
-  said_of (Gets slot subslot value) = small.Nothing
-  said_of Halts = small.Nothing
+  said_of other = small.Nothing
 
   said_is : (event : Event) → said_of (came_by setup event) ≡ said_in setup (heard_of setup.plan.controller) event
   said_is (Frame bytes) = refl
-  said_is Tick = refl
-  said_is (Give slot subslot value) = refl
-  said_is Stop = refl
+  said_is event = refl
 
   module _ (live : Live) (came : Came) (in_step : IsInStep setup.plan live.phase live.asked) where
     abbrev heard : ToController
@@ -240,10 +236,7 @@ module _ (setup : Setup) where
         record { in_step = refl; moves = inr (inr (inr (inr (readied_said caller call block holds.1, refl)))); says = (refl, tt) }
     kind_goes (Repeats caller call block) holds =
         record { in_step = in_step; moves = inl refl; says = (ap (λ (p : State). state_of setup.plan p live.asked) holds.0, tt) }
-    kind_goes (Follows source frame_id body) holds = same_goes setup.plan heard live _ [] in_step refl refl tt
     kind_goes (Takes number alarm) holds = taken_goes heard live (behind_data live number) alarm (taken_as live.alarms.seen number) in_step refl refl
-    kind_goes (IsAcked number) holds = same_goes setup.plan heard live _ [] in_step refl refl tt
-    kind_goes (Gives slot subslot value) holds = same_goes setup.plan heard live _ [] in_step refl refl tt
     kind_goes Flows holds = record {
       in_step = in_step;
       moves = inl refl;
@@ -255,6 +248,7 @@ module _ (setup : Setup) where
       moves = inl refl;
       says = due_say (small_of setup.plan live) (is_again live) (requests_of live.device live.asked) (requests_say live.device live.phase live.asked live.asked refl in_step);
     }
+    kind_goes other holds = same_goes setup.plan heard live _ [] in_step refl refl tt
 
   pub event_goes : (live : Live) (event : Event) → IsTurn setup live (came_by setup event) (turn_of setup live event) → IsInStep setup.plan live.phase live.asked
       → GoesOn setup.plan (said_in setup (heard_of setup.plan.controller) event) live (turn_of setup live event)

@@ -1,5 +1,5 @@
 -- The status of each response in a start-up has four octets.
-use Rattle.std.proofs.Common.{◌≡◌, ◌<◌, ℕ, Bool, true, false, not, cond, List, [], ◌∷◌, ◌++◌, length, take, Option, Some, None, Result, Ok, Err, sym, subst, arith}
+use Rattle.std.proofs.Common.{◌≡◌, ◌<◌, ℕ, Bool, true, false, not, cond, List, [], ◌∷◌, ◌++◌, length, take, Option, Some, None, Result, Ok, Err, refl, sym, subst, arith}
 use Rattle.std.specs.Prelude.{◌==◌, ◌||◌, nat_lt, nat_eq}
 use Rattle.std.specs.List.{AllByRecursion}
 use Rattle.std.specs.Cmp.Lexicographic.{pointwise}
@@ -7,8 +7,6 @@ use Rattle.wire.specs.Codec.{◌>>=◌}
 use Rattle.wire.specs.Checks.{or_fault}
 use Rattle.wire.specs.Formats.{big_number}
 use Rattle.pn_values.specs.declared.real.Real.{Real}
-use Rattle.pn_values.specs.declared.set_item.BlockError.{BlockError}
-use Rattle.pn_values.specs.declared.set_item.BlockError.TheVariants as error
 use Rattle.rpc_core.specs.Sendable.{IsStatus}
 use Rattle.block_fields.specs.declared.fault.BlockFault.{BlockFault}
 use Rattle.connect_blocks.specs.declared.control.ControlBlock.{ControlBlock}
@@ -41,8 +39,10 @@ use Rattle.relations.specs.Phases.{keeping}
 use Rattle.relations.specs.Calls.{control_block, in_control, in_started, named_of, prm_end_of, release_of}
 use Rattle.relations.specs.Connect.{connect_within}
 use Rattle.device_core.specs.Handled.{outcome_of, kept_answer}
-use Rattle.device_core.specs.Machine.{written_as}
-use Rattle.end_laws.proofs.DeviceTurns.{bind_ok}
+
+pub bind_ok : {A B : Type 0} (r : Result A CallFault) (f : A → Result B CallFault) (y : B) → (r >>= f) ≡ Ok y → (x : A) × (r ≡ Ok x) × (f x ≡ Ok y)
+bind_ok (Ok x) f y e = (x, refl, e)
+bind_ok (Err why) f y e = absurd cc
 
 -- ---- faults whose status has four octets
 
@@ -52,42 +52,11 @@ IsPlain (fault.ArField field) = ⊥
 IsPlain (fault.IocrField field) = field < 256
 IsPlain (fault.ExpectedField field) = ⊥
 IsPlain (fault.AlarmCrField field) = ⊥
-IsPlain fault.Arguments = Unit {0}
-IsPlain fault.BlockHeader = Unit {0}
-IsPlain fault.BlockForm = Unit {0}
-IsPlain fault.BlockType = Unit {0}
-IsPlain fault.BlockMissing = Unit {0}
-IsPlain fault.IocrMissing = Unit {0}
-IsPlain fault.AlarmCrMissing = Unit {0}
-IsPlain fault.AlarmCrRepeated = Unit {0}
-IsPlain fault.OtherRelationExists = Unit {0}
-IsPlain fault.TooManyModules = Unit {0}
-IsPlain fault.TooManySubmodules = Unit {0}
-IsPlain fault.UnknownRelation = Unit {0}
-IsPlain fault.UnknownSession = Unit {0}
-IsPlain fault.RelationExists = Unit {0}
-IsPlain fault.ControlCommand = Unit {0}
-IsPlain fault.Phase = Unit {0}
-IsPlain fault.LayoutOutside = Unit {0}
-IsPlain fault.LayoutOverlap = Unit {0}
-IsPlain fault.LayoutUnknown = Unit {0}
-IsPlain fault.LayoutMissing = Unit {0}
-IsPlain fault.Index = Unit {0}
-IsPlain fault.WriteLength = Unit {0}
-IsPlain fault.Place = Unit {0}
-IsPlain fault.Api = Unit {0}
-IsPlain fault.JournalExhausted = Unit {0}
-IsPlain fault.FlashFault = Unit {0}
-IsPlain fault.TooManyRecords = Unit {0}
-IsPlain fault.Access = Unit {0}
+IsPlain why = Unit {0}
 
 code_small : (which : Operation) → code_of which < 256
 code_small operation.Connect = omega arith
-code_small operation.Release = omega arith
-code_small operation.Control = omega arith
-code_small operation.Read = omega arith
-code_small operation.ReadImplicit = omega arith
-code_small operation.Write = omega arith
+code_small which = omega arith
 
 status_sized : (which : Operation) (why : CallFault) → IsPlain why → IsStatus (status_of which why)
 unfolding status_of
@@ -95,34 +64,7 @@ status_sized which (fault.ArField field) plain = absurd plain
 status_sized which (fault.IocrField field) plain = record { code = code_small which; decode = omega arith; code1 = omega arith; code2 = plain }
 status_sized which (fault.ExpectedField field) plain = absurd plain
 status_sized which (fault.AlarmCrField field) plain = absurd plain
-status_sized which fault.Arguments plain = record { code = code_small which; decode = omega arith; code1 = omega arith; code2 = omega arith }
-status_sized which fault.BlockHeader plain = record { code = code_small which; decode = omega arith; code1 = omega arith; code2 = omega arith }
-status_sized which fault.BlockForm plain = record { code = code_small which; decode = omega arith; code1 = omega arith; code2 = omega arith }
-status_sized which fault.BlockType plain = record { code = code_small which; decode = omega arith; code1 = omega arith; code2 = omega arith }
-status_sized which fault.BlockMissing plain = record { code = code_small which; decode = omega arith; code1 = omega arith; code2 = omega arith }
-status_sized which fault.IocrMissing plain = record { code = code_small which; decode = omega arith; code1 = omega arith; code2 = omega arith }
-status_sized which fault.AlarmCrMissing plain = record { code = code_small which; decode = omega arith; code1 = omega arith; code2 = omega arith }
-status_sized which fault.AlarmCrRepeated plain = record { code = code_small which; decode = omega arith; code1 = omega arith; code2 = omega arith }
-status_sized which fault.OtherRelationExists plain = record { code = code_small which; decode = omega arith; code1 = omega arith; code2 = omega arith }
-status_sized which fault.TooManyModules plain = record { code = code_small which; decode = omega arith; code1 = omega arith; code2 = omega arith }
-status_sized which fault.TooManySubmodules plain = record { code = code_small which; decode = omega arith; code1 = omega arith; code2 = omega arith }
-status_sized which fault.UnknownRelation plain = record { code = code_small which; decode = omega arith; code1 = omega arith; code2 = omega arith }
-status_sized which fault.UnknownSession plain = record { code = code_small which; decode = omega arith; code1 = omega arith; code2 = omega arith }
-status_sized which fault.RelationExists plain = record { code = code_small which; decode = omega arith; code1 = omega arith; code2 = omega arith }
-status_sized which fault.ControlCommand plain = record { code = code_small which; decode = omega arith; code1 = omega arith; code2 = omega arith }
-status_sized which fault.Phase plain = record { code = code_small which; decode = omega arith; code1 = omega arith; code2 = omega arith }
-status_sized which fault.LayoutOutside plain = record { code = code_small which; decode = omega arith; code1 = omega arith; code2 = omega arith }
-status_sized which fault.LayoutOverlap plain = record { code = code_small which; decode = omega arith; code1 = omega arith; code2 = omega arith }
-status_sized which fault.LayoutUnknown plain = record { code = code_small which; decode = omega arith; code1 = omega arith; code2 = omega arith }
-status_sized which fault.LayoutMissing plain = record { code = code_small which; decode = omega arith; code1 = omega arith; code2 = omega arith }
-status_sized which fault.Index plain = record { code = code_small which; decode = omega arith; code1 = omega arith; code2 = omega arith }
-status_sized which fault.WriteLength plain = record { code = code_small which; decode = omega arith; code1 = omega arith; code2 = omega arith }
-status_sized which fault.Place plain = record { code = code_small which; decode = omega arith; code1 = omega arith; code2 = omega arith }
-status_sized which fault.Api plain = record { code = code_small which; decode = omega arith; code1 = omega arith; code2 = omega arith }
-status_sized which fault.JournalExhausted plain = record { code = code_small which; decode = omega arith; code1 = omega arith; code2 = omega arith }
-status_sized which fault.FlashFault plain = record { code = code_small which; decode = omega arith; code1 = omega arith; code2 = omega arith }
-status_sized which fault.TooManyRecords plain = record { code = code_small which; decode = omega arith; code1 = omega arith; code2 = omega arith }
-status_sized which fault.Access plain = record { code = code_small which; decode = omega arith; code1 = omega arith; code2 = omega arith }
+status_sized which why plain = record { code = code_small which; decode = omega arith; code1 = omega arith; code2 = omega arith }
 
 -- if a call is refused, it is for such a fault
 abbrev pub IsPlainIn : {A : Type 0} → Result A CallFault → Type 0
@@ -252,15 +194,6 @@ keeping_plain value (Some link) = keep_plain value link.taken
 pub kept_plain : (header : IodWriteReq) (kept : Result (List TakenRecord) CallFault) → IsPlainIn kept → IsPlainIn (kept_answer header kept)
 kept_plain header (Ok taken) plain = tt
 kept_plain header (Err why) plain = plain
-
-pub stored_plain : (header : IodWriteReq) (answer : BlockError) → IsPlainIn (written_as header answer)
-stored_plain header error.Done = tt
-stored_plain header error.Exhausted = tt
-stored_plain header error.Local = tt
-stored_plain header error.Option = tt
-stored_plain header error.Suboption = tt
-stored_plain header error.Value = tt
-stored_plain header error.InOperation = tt
 
 -- ---- a Connect that is accepted if there is no relation
 

@@ -1,9 +1,9 @@
--- One turn of a device: what becomes of its relation and of the responses that it stores, and where its messages come
--- from.
-use Rattle.std.proofs.Common.{◌≡◌, inl, inr, ap, ◌+◌, ◌-◌, ℕ, Bool, true, false, cond, List, [], ◌∷◌, ◌++◌, length, Option, Some, None, option_map, Result, Ok, Err, refl, sym, subst}
-use Rattle.std.specs.Prelude.{◌%◌, ◌&&◌, is_some, nat_eq}
+-- One turn of a device: what it does, what becomes of its relation and of the responses that it stores, and where its
+-- messages come from.
+use Rattle.std.proofs.Common.{◌≡◌, ◌⊎◌, inl, inr, ap, ◌+◌, ◌-◌, ℕ, Bool, true, false, cond, List, [], ◌∷◌, ◌++◌, length, Option, Some, None, option_map, Result, Ok, Err, refl, sym, subst, not, ◌∙◌}
+use Rattle.std.specs.Prelude.{◌%◌, ◌&&◌, is_some, nat_eq, nat_lt, ◌==◌}
 use Rattle.std.specs.List.{AllByRecursion}
-use Rattle.std.specs.Cmp.Lexicographic.{pointwise}
+use Rattle.std.specs.Cmp.Lexicographic.{pointwise, same_text}
 use Rattle.wire.specs.Codec.{◌>>=◌}
 use Rattle.pn_values.specs.declared.mac.Mac.{Mac}
 use Rattle.pn_values.specs.declared.set_item.BlockError.{BlockError}
@@ -14,11 +14,10 @@ use Rattle.dcp_core.specs.declared.request.Service.TheVariants as service
 use Rattle.dcp_core.specs.Request.{Asked}
 use Rattle.dcp_core.specs.Identify.{matches}
 use Rattle.dcp_core.specs.Set.{plan_of}
-use Rattle.rpc_core.specs.Cache.{Reported as Looked, new, again, old, kept_of, looked}
 use Rattle.rpc_core.specs.Call.{Asked as Call}
 use Rattle.connect_blocks.specs.declared.control.ControlBlock.{ControlBlock}
 use Rattle.block_codec.specs.declared.block.Block.TheVariants as variant
-use Rattle.block_codec.specs.Block.{block_bytes}
+use Rattle.block_codec.specs.Block.{block_bytes, block_of as read_block}
 use Rattle.records.specs.declared.status.call_fault.CallFault.{CallFault}
 use Rattle.records.specs.declared.status.operation.Operation.{Operation}
 use Rattle.records.specs.declared.status.operation.Operation.TheVariants as operation
@@ -32,47 +31,36 @@ use Rattle.records.specs.declared.writes.write.Write.{Write}
 use Rattle.records.specs.writes.Handled.{write_of}
 use Rattle.pn_alarms.specs.declared.abort.Abort.{Abort}
 use Rattle.pn_alarms.specs.declared.device.PduFate.TheVariants as fate
-use Rattle.pn_alarms.specs.declared.receiver.Taken.{Taken as TakenAs}
 use Rattle.pn_alarms.specs.Message.{ToDevice as Message}
 use Rattle.cyclic_exchange.specs.declared.received.Received.{Received}
 use Rattle.cyclic_exchange.specs.declared.received.Received.TheVariants as received
 use Rattle.cyclic_exchange.specs.declared.route.Route.{Route}
 use Rattle.relations.specs.exchange.Flow.{Flow}
 use Rattle.relations.specs.exchange.Frames.{Frame, alarm_frame}
-use Rattle.relations.specs.declared.farewell.Farewell.{Farewell}
 use Rattle.relations.specs.declared.hearing.ReadyAnswer.{ReadyAnswer}
 use Rattle.relations.specs.declared.hearing.ReadyAnswer.TheVariants as to_ready
-use Rattle.relations.specs.RelationState.{RelationState, flow_of, is_alarm_of, uuid_of}
-use Rattle.relations.specs.Phases.{Ended, Exchanged, Named, Parameterized, answered, awaiting_from, keeping, updated, passing, passing_by, taking}
-use Rattle.relations.specs.Calls.{done_of, prm_end_of, release_answer, release_of}
-use Rattle.relations.specs.Connect.{connect_blocks, connect_within, differing_of, making}
-use Rattle.relations.specs.Ready.{answer_of as ready_answer}
+use Rattle.relations.specs.RelationState.{RelationState, flow_of, is_alarm_of, uuid_of, is_started, is_awaiting, phase_of}
+use Rattle.relations.specs.Phases.{Ended, Exchanged, Named, Parameterized, answered, awaiting_from, keeping, updated, passing, passing_by, taking, Confirmed, made_of, with_flow, restarted, with_taken}
+use Rattle.relations.specs.Calls.{done_of, prm_end_of, release_of, control_block, in_started, named_of}
+use Rattle.relations.specs.Connect.{connect_blocks, connect_of, differing_of, making, rows_of}
+use Rattle.relations.specs.Ready.{answer_of as ready_answer, confirmed_block, confirmed_by, is_wanted, is_answer_to, ready_of}
 use Rattle.relations.specs.Timers.{due_by, due_of, ending_of, is_again, unit_later}
-use Rattle.relations.specs.Exchanged.{given_to, heard_by, hearing, raised_to, received_by, receiving}
+use Rattle.relations.specs.Exchanged.{given_to, heard_by, hearing, raised_to, received_by, receiving, hearing_as, receiving_as}
 use Rattle.device_frames.specs.Heard.{Heard, Ticks, Unreadable, Elsewhere, Asks, Resolves, Reported, Cyclic, Alarms, Given, Raised, Said, Calls, Responds, Garbled}
-use Rattle.device_frames.specs.Relation.{alarms_of, frames_in, inputs_of, ready_calls, replies_of, where_due}
-use Rattle.device_frames.specs.Sent.{Sent, IdentifyAnswer, GetAnswer, SetAnswer, ArpReply, Again, Ends}
+use Rattle.device_frames.specs.Relation.{alarms_of, frames_in, inputs_of, ready_calls, replies_of, where_due, due_frames}
+use Rattle.device_frames.specs.Sent.{Sent, IdentifyAnswer, GetAnswer, SetAnswer, ArpReply, Again, Ends, CallAnswer, ReadyCall}
 use Rattle.device_frames.specs.declared.note.Note.{Note}
 use Rattle.device_frames.specs.declared.note.Note.TheVariants as note
 use Rattle.settings_store.specs.Machine.{Outcome, carried}
-use Rattle.device_core.specs.State.{Station, Live}
-use Rattle.device_core.specs.Handled.{Handled, Refuses, Sets, Moves, is_running, is_request, outcome_of, answer_from, served, ready_behind, partner_of, kept_answer, handled_effect, handled_write, handled_new, handled_looked, handled_blocks, handled_call, handled_answer, handled_said, handled_received, handled_input, handled_notice, handled_pdu, handled_message, handled_request, handled}
-use Rattle.device_core.specs.Machine.{resets, farewells_at, finished, first_answer, items_in, handled_step, heard_step, written_as}
+use Rattle.device_core.specs.State.{Station, Live, Rest}
+use Rattle.device_core.specs.Handled.{Handled, Refuses, Sets, Moves, is_running, is_request, outcome_of, served, ready_behind, partner_of, kept_answer, handled_effect, handled_write, handled_new, handled_looked, handled_blocks, handled_call, handled_answer, handled_said, handled_received, handled_input, handled_notice, handled_pdu, handled_message, handled_request, handled}
+use Rattle.device_core.specs.Machine.{resets, farewells_at, finished, items_in, handled_step, heard_step, link_after}
 use Rattle.end_laws.specs.both.Small.{Rules}
-use Rattle.end_laws.specs.device.Small.{IsPlanned, IsPlannedAs, IsPlannedIn}
 use Rattle.end_laws.specs.device.Owed.{IsOwed}
-use Rattle.end_laws.specs.device.Turn.{AreCalm, IsCalm, IsRaise, IsSameOr, IsTurn, Standing, Turn, standing_of}
-use Rattle.end_laws.proofs.DeviceOwing.{IsPlainIn, bind_plain, connect_plain, keeping_plain, kept_plain, outcome_sized, prm_plain, release_plain, stored_plain, write_plain}
-use Rattle.end_laws.proofs.DeviceConnects.{unlimited}
-use Rattle.end_laws.proofs.DeviceTurns.{again_is}
-use Rattle.block_codec.specs.Block.{block_of as read_block}
+use Rattle.end_laws.proofs.DeviceOwing.{IsPlainIn, connect_plain, keeping_plain, outcome_sized, prm_plain, release_plain, write_plain, IsPlain, bind_ok}
 use Rattle.rpc_core.specs.Response.{Answered as Response, answer_to, is_done}
-use Rattle.relations.specs.Ready.{confirmed_block, confirmed_by, is_wanted}
 use Rattle.relations.specs.Farewells.{farewell_of}
-use Rattle.relations.specs.Phases.{Handled as Moving, Made, Confirmed, Took, Passed, Unmoved, made_of, with_flow}
-use Rattle.relations.specs.Connect.{rows_of}
-use Rattle.relations.specs.Exchanged.{hearing_as, receiving_as}
-use Rattle.relations.specs.exchange.Notices.{behind_message, raised_at}
+use Rattle.relations.specs.exchange.Notices.{behind_message}
 use Rattle.relations.specs.exchange.Process.{with_cyclic}
 use Rattle.relations.specs.exchange.Received.{behind_frame, received_as}
 use Rattle.relations.specs.exchange.Units.{flow_later, tick_of}
@@ -84,485 +72,624 @@ use Rattle.pn_alarms.specs.declared.pdu.Header.{Header}
 use Rattle.pn_alarms.specs.Numbers.{is_last}
 use Rattle.pn_alarms.specs.Receiver.{taken_as}
 use Rattle.pn_values.specs.declared.real.RealModule.{RealModule}
-use Rattle.device_frames.specs.Relation.{due_frames}
-use Rattle.device_core.specs.State.{Rest}
-use Rattle.device_core.specs.Machine.{link_after}
-use Rattle.device_core.specs.Handled.{kept_behind}
+use Rattle.rpc_core.specs.Cache.{Kept as Answer, Reported as Looked, new, again, old, kept_of, reported_by, looked}
+use Rattle.std.proofs.lemmas.Bool.{eqb-true}
+use Rattle.block_codec.specs.declared.block_type.BlockType.TheVariants as kind
+use Rattle.records.specs.declared.status.call_fault.CallFault.TheVariants as fault
+use Rattle.records.specs.writes.Taken.{keep_of}
+use Rattle.records.specs.writes.Answer.{answer_of}
+use Rattle.relations.specs.declared.phase.Phase.{Phase}
+use Rattle.relations.specs.declared.phase.Phase.TheVariants.{Started, Awaiting, Exchanging}
+use Rattle.relations.specs.declared.ready.Ready.{Ready}
+use Rattle.end_laws.specs.both.Small as small
+use Rattle.end_laws.specs.device.Small.{IsPlanned, IsPlannedAs, IsPlannedIn, IsPlannedWrite, confirms, heard_as, link_of, names_own}
+use Rattle.end_laws.specs.device.Does.{AreReadied, GoesBy, IsEffect, IsOther, readied_from}
+use Rattle.end_laws.specs.device.Turn.{AreCalm, IsCalm, IsRaise, IsSameOr, IsTurn, Raises, Turn, standing_of}
 
--- ---- a relation that keeps what outputs and alarms depend on
+-- ---- what is sent
 
--- a change of a relation that keeps what outputs and alarms depend on
-abbrev IsMild : Moving → Type 0
-IsMild (Made request partner rows) = ⊥
-IsMild (Exchanged flow) = ⊥
-IsMild Passed = ⊥
-IsMild Parameterized = Unit {0}
-IsMild Confirmed = Unit {0}
-IsMild Named = Unit {0}
-IsMild (Took taken) = Unit {0}
-IsMild Ended = Unit {0}
-IsMild Unmoved = Unit {0}
+due_each : (P : Sent → Type 0) (b : Bool) (sent : List Sent) → AllByRecursion P sent → AllByRecursion P (where_due b sent)
+due_each P true sent all = all
+due_each P false sent all = tt
 
-mild_stays : (handled : Moving) (link : Option RelationState) → IsMild handled → IsSameOr link (updated handled link)
-mild_stays (Made request partner rows) link mild = absurd mild
-mild_stays (Exchanged flow) link mild = absurd mild
-mild_stays Passed link mild = absurd mild
-mild_stays Parameterized None mild = inl refl
-mild_stays Parameterized (Some link) mild = inl refl
-mild_stays Confirmed None mild = inl refl
-mild_stays Confirmed (Some link) mild = inl refl
-mild_stays Named None mild = inl refl
-mild_stays Named (Some link) mild = inl refl
-mild_stays (Took taken) None mild = inl refl
-mild_stays (Took taken) (Some link) mild = inl refl
-mild_stays Ended link mild = inr refl
-mild_stays Unmoved link mild = inl refl
-
-answered_mild : {A : Type 0} (handled : Moving) (result : Result A CallFault) → IsMild handled → IsMild (answered handled result)
-answered_mild handled (Ok value) mild = mild
-answered_mild handled (Err why) mild = tt
-
-keeps_mildly : (link : Option RelationState) (kept : Result (List TakenRecord) CallFault) → IsSameOr link (updated (answered Named kept) (updated (taking kept) link))
-keeps_mildly None (Ok taken) = inl refl
-keeps_mildly (Some link) (Ok taken) = inl refl
-keeps_mildly None (Err why) = inl refl
-keeps_mildly (Some link) (Err why) = inl refl
-
-reset_stays : (b : Bool) (link : Option RelationState) → IsSameOr link (link_after b link)
-reset_stays true link = inr refl
-reset_stays false link = inl refl
+each_behind : (P : Sent → Type 0) (sent more : List Sent) → AllByRecursion P sent → AllByRecursion P more → AllByRecursion P (sent ++ more)
+each_behind P [] more all others = others
+each_behind P (message ∷ sent) more all others = (all.0, each_behind P sent more all.1 others)
 
 farewells_calm : (b : Bool) (link : Option RelationState) → AreCalm link (farewells_at b link)
 farewells_calm true (Some link) = ((Other, link, refl, refl), tt)
 farewells_calm true None = tt
 farewells_calm false link = tt
 
-ready_calm : (before : Option RelationState) (address : List ℕ) (link : Option RelationState) → AreCalm before (ready_calls address link)
-ready_calm before address None = tt
-ready_calm before address (Some link) = (tt, tt)
+readied_calm : (before : Option RelationState) (address : List ℕ) (ready : Option Ready) → AreCalm before (readied_from address ready)
+readied_calm before address None = tt
+readied_calm before address (Some ready) = (tt, tt)
 
-due_calm : (before : Option RelationState) (b : Bool) (sent : List Sent) → AreCalm before sent → AreCalm before (where_due b sent)
-due_calm before true sent calm = calm
-due_calm before false sent calm = tt
-
--- a refused response to ApplicationReady ends the relation
-refused_is : (response : Response) (link : Option RelationState) (farewell : Farewell) → ready_answer response link ≡ to_ready.Refused farewell
-    → (reason : Abort) × (l : RelationState) × (link ≡ Some l) × (farewell ≡ farewell_of reason l)
-unfolding ready_answer
-refused_is response None farewell e = absurd cc
-refused_is response (Some link) farewell e = by_wanted (is_wanted response link) e
-  where
-    by_name : (b : Bool) → cond b to_ready.Confirmed to_ready.NotWanted ≡ to_ready.Refused farewell → ⊥
-    by_name true f = absurd cc
-    by_name false f = absurd cc
-
-    by_block : (block : Option ControlBlock) → confirmed_by link.request.ar.uuid block ≡ to_ready.Refused farewell → ⊥
-    by_block None f = absurd cc
-    by_block (Some block) f = by_name (pointwise nat_eq block.ar_uuid link.request.ar.uuid) f
-
-    same_farewell : (x y : Farewell) → to_ready.Refused x ≡ to_ready.Refused y → x ≡ y
-    same_farewell x y f = cc
-
-    by_done : (b : Bool) → cond b (confirmed_by link.request.ar.uuid (confirmed_block (read_block response.blocks))) (to_ready.Refused (farewell_of Other link)) ≡ to_ready.Refused farewell
-        → (reason : Abort) × (l : RelationState) × (Some link ≡ Some l) × (farewell ≡ farewell_of reason l)
-    by_done true f = absurd (by_block (confirmed_block (read_block response.blocks)) f)
-    by_done false f = (Other, link, refl, sym (same_farewell (farewell_of Other link) farewell f))
-
-    by_wanted : (b : Bool) → cond b (cond (is_done response.status) (confirmed_by link.request.ar.uuid (confirmed_block (read_block response.blocks))) (to_ready.Refused (farewell_of Other link))) to_ready.NotWanted
-        ≡ to_ready.Refused farewell → (reason : Abort) × (l : RelationState) × (Some link ≡ Some l) × (farewell ≡ farewell_of reason l)
-    by_wanted true f = by_done (is_done response.status) f
-    by_wanted false f = absurd cc
-
--- the exchanged data became this
-becomes_same : (link : Option RelationState) (flow : Flow) → ((l : RelationState) → link ≡ Some l → standing_of (with_flow flow l) ≡ standing_of l) → IsSameOr link (updated (Exchanged flow) link)
-becomes_same None flow same = inl refl
-becomes_same (Some link) flow same = inl (ap (λ (s : Standing). Some s) (same link refl))
+-- ---- a relation before and after
 
 some_is : {A : Type 0} (x y : A) → Some x ≡ Some y → x ≡ y
 some_is x y e = cc
 
-given_same : (slot subslot : ℕ) (value : List ℕ) (link : Option RelationState) (flow : Flow) → given_to slot subslot value link ≡ Some flow → (l : RelationState) → link ≡ Some l
-    → standing_of (with_flow flow l) ≡ standing_of l
-given_same slot subslot value None flow e l is = absurd cc
-given_same slot subslot value (Some link) flow e l is =
-    subst (λ (other : RelationState). standing_of (with_flow flow other) ≡ standing_of other) (some_is link l is) (by_size (has_size (length value) (cell_at at_data slot subslot link.flow.cyclic.shown.cells)) e)
+-- the relation is the same, for outputs and alarms and for a start-up, or it has ended
+abbrev IsKept : Option RelationState → Option RelationState → Type 0
+IsKept before after = IsSameOr before after × ((option_map link_of after ≡ option_map link_of before) ⊎ (option_map link_of after ≡ None))
+
+reset_keeps : (b : Bool) (link : Option RelationState) → IsKept link (link_after b link)
+reset_keeps true link = (inr refl, inr refl)
+reset_keeps false link = (inl refl, inl refl)
+
+exchanged_same : (link : Option RelationState) (flow : Flow) → option_map link_of (updated (Exchanged flow) link) ≡ option_map link_of link
+exchanged_same None flow = refl
+exchanged_same (Some link) flow = refl
+
+given_keeps : (slot subslot : ℕ) (value : List ℕ) (link : Option RelationState) (flow : Flow) → given_to slot subslot value link ≡ Some flow → IsKept link (updated (Exchanged flow) link)
+given_keeps slot subslot value None flow e = absurd cc
+given_keeps slot subslot value (Some link) flow e = by_size (has_size (length value) (cell_at at_data slot subslot link.flow.cyclic.shown.cells)) e
   where
     by_size : (b : Bool)
         → option_map (with_cyclic link.flow) (cond b (Some (record link.flow.cyclic { shown = changed at_data slot subslot (with_value value) link.flow.cyclic.shown })) None) ≡ Some flow
-        → standing_of (with_flow flow link) ≡ standing_of link
-    by_size true f = ap (λ (other : Flow). standing_of (with_flow other link)) (sym (some_is _ flow f))
+        → IsKept (Some link) (Some (with_flow flow link))
+    by_size true f = (inl (ap (λ (other : Flow). Some (standing_of (with_flow other link))) (sym (some_is _ flow f))), inl refl)
     by_size false f = absurd cc
 
-raised_link : (real : List RealModule) (slot subslot : ℕ) (octets : List ℕ) (link : Option RelationState) (flow : Flow) → raised_to real slot subslot octets link ≡ Some flow
-    → (l : RelationState) × (link ≡ Some l) × (raised_at l.flow real slot subslot octets ≡ Some flow)
-raised_link real slot subslot octets None flow e = absurd cc
-raised_link real slot subslot octets (Some link) flow e = (link, refl, e)
-
--- ---- turns
+raise_is : (real : List RealModule) (slot subslot : ℕ) (octets : List ℕ) (link : Option RelationState) (flow : Flow) → raised_to real slot subslot octets link ≡ Some flow
+    → Raises real link (Raised slot subslot octets) (updated (Exchanged flow) link) (alarms_of (flow_of (updated (Exchanged flow) link)))
+raise_is real slot subslot octets None flow e = absurd cc
+raise_is real slot subslot octets (Some link) flow e =
+    record { slot = slot; subslot = subslot; octets = octets; is = refl; link = link; was = refl; flow = flow; raised = e; becomes = refl; sends = refl }
 
 raise_as : (station : Station) (live : Live) (slot subslot : ℕ) (octets : List ℕ) (flow : Option Flow) (answers : List BlockError)
     → raised_to station.real.modules.items slot subslot octets live.rest.link ≡ flow
     → IsRaise station.real.modules.items live.rest.link slot subslot octets (finished station.identity live.rest (handled_notice live flow) answers).rest.link
     (finished station.identity live.rest (handled_notice live flow) answers).sent
-raise_as station live slot subslot octets (Some flow) answers raised =
-    let there = raised_link station.real.modules.items slot subslot octets live.rest.link flow raised in
-    inl (record {
-      slot = slot;
-      subslot = subslot;
-      octets = octets;
-      is = refl;
-      link = there.0;
-      was = there.1;
-      flow = flow;
-      raised = there.2;
-      becomes = ap (λ (l : Option RelationState). updated (Exchanged flow) l) there.1;
-      sends = ap (λ (l : Option RelationState). alarms_of (flow_of (updated (Exchanged flow) l))) there.1;
-    })
+raise_as station live slot subslot octets (Some flow) answers raised = inl (raise_is station.real.modules.items slot subslot octets live.rest.link flow raised)
 raise_as station live slot subslot octets None answers raised = inr (record { unraised = raised; same = refl; silent = refl })
 
-each_behind : {A : Type 0} (P : A → Type 0) (xs more : List A) → AllByRecursion P xs → AllByRecursion P more → AllByRecursion P (xs ++ more)
-each_behind P [] more all others = others
-each_behind P (x ∷ xs) more all others = (all.0, each_behind P xs more all.1 others)
+-- ---- calls of a relation
 
-module _ (rules : Rules TakenRecord Request) (activity : List ℕ) (station : Station) (live : Live) (heard : Heard) where
-  abbrev AreOwed : List Sent → Type 0
-  AreOwed sent = AllByRecursion (IsOwed heard live) sent
+err_ok : {A B : Type 0} (why : B) (value : A) → ◌≡◌ {A = Result A B} (Err why) (Ok value) → ⊥
+err_ok why value e = absurd cc
+
+same_ok : {A B : Type 0} (x y : A) → ◌≡◌ {A = Result A B} (Ok x) (Ok y) → x ≡ y
+same_ok x y e = cc
+
+-- a PrmEnd is accepted for a relation that waits for it
+abbrev IsStarted : Option RelationState → Type 0
+IsStarted None = ⊥
+IsStarted (Some link) = link.phase ≡ Started
+
+started_is : (link : Option RelationState) → is_started (phase_of link) ≡ true → IsStarted link
+started_is None e = absurd cc
+started_is (Some link) e = by_phase link.phase e
+  where
+    by_phase : (phase : Phase) → is_started (Some phase) ≡ true → phase ≡ Started
+    by_phase Started f = refl
+    by_phase Awaiting f = absurd cc
+    by_phase Exchanging f = absurd cc
+
+started_by : (link : Option RelationState) (nothing : Unit {0}) (b : Bool) → is_started (phase_of link) ≡ b
+    → ◌≡◌ {A = Result (Unit {0}) CallFault} (cond (not b) (Err fault.Phase) (Ok nothing)) (Ok nothing) → is_started (phase_of link) ≡ true
+started_by link nothing true f g = f
+started_by link nothing false f g = absurd cc
+
+prm_started : (link : Option RelationState) (blocks : List ℕ) (block : ControlBlock) → prm_end_of link blocks ≡ Ok block → IsStarted link
+unfolding prm_end_of
+prm_started link blocks block e =
+    let first = bind_ok (control_block kind.PrmEnd blocks) (λ b. named_of link b 1 >>= λ _. in_started link >>= λ _. Ok b) block e in
+    let second = bind_ok (named_of link first.0 1) (λ _. in_started link >>= λ _. Ok first.0) block first.2 in
+    let third = bind_ok (in_started link) (λ _. Ok first.0) block second.2 in
+    started_is link (started_by link third.0 (is_started (phase_of link)) refl third.1)
+
+-- a Release is accepted for a relation that exists
+never_released : (blocks : List ℕ) (block : ControlBlock) → release_of None blocks ≡ Ok block → ⊥
+unfolding release_of
+never_released blocks block e =
+    let first = bind_ok (control_block kind.Release blocks) (λ b. named_of None b 4 >>= λ _. Ok b) block e in
+    err_ok _ block first.2
+
+-- a record that is stored is one more
+kept_is : (value : TakenRecord) (records taken : List TakenRecord) → keep_of value records ≡ Ok taken → taken ≡ records ++ value ∷ []
+unfolding keep_of
+kept_is value records taken e = by_room (nat_lt (length records) 64) e
+  where
+    by_room : (b : Bool) → cond b (Ok (records ++ value ∷ [])) (Err fault.TooManyRecords) ≡ Ok taken → taken ≡ records ++ value ∷ []
+    by_room true f = sym (same_ok (records ++ value ∷ []) taken f)
+    by_room false f = absurd cc
+
+again_is : (sequence : ℕ) (kept : Option Answer) (frame : List ℕ) → reported_by sequence kept ≡ again frame
+    → (answer : Answer) × (kept ≡ Some answer) × (answer.sequence ≡ sequence) × (answer.frame ≡ frame)
+again_is sequence None frame e = absurd cc
+again_is sequence (Some kept) frame e = by_same (sequence == kept.sequence) refl e
+  where
+    same_frame : (x y : List ℕ) → again x ≡ again y → x ≡ y
+    same_frame x y h = cc
+
+    by_order : (b : Bool) → cond b old new ≡ again frame → ⊥
+    by_order true h = absurd cc
+    by_order false h = absurd cc
+
+    by_same : (b : Bool) → (sequence == kept.sequence) ≡ b → cond b (again kept.frame) (cond (nat_lt sequence kept.sequence) old new) ≡ again frame
+        → (answer : Answer) × (Some kept ≡ Some answer) × (answer.sequence ≡ sequence) × (answer.frame ≡ frame)
+    by_same true f g = (kept, refl, sym (eqb-true sequence kept.sequence f), same_frame kept.frame frame g)
+    by_same false f g = absurd (by_order (nat_lt sequence kept.sequence) g)
+
+-- ---- the response to ApplicationReady
+
+and_true : (a b : Bool) → (a && b) ≡ true → (a ≡ true) × (b ≡ true)
+and_true true b e = (refl, e)
+and_true false b e = absurd cc
+
+awaiting_is : (phase : Phase) → is_awaiting phase ≡ true → phase ≡ Awaiting
+awaiting_is Started e = absurd cc
+awaiting_is Awaiting e = refl
+awaiting_is Exchanging e = absurd cc
+
+-- what a response means: it confirms a relation that waits for it, or it is not positive
+abbrev IsMeaning : Response → Option RelationState → ReadyAnswer → Type 0
+IsMeaning response link to_ready.NotWanted = Unit {0}
+IsMeaning response link to_ready.Garbled = Unit {0}
+IsMeaning response link to_ready.Confirmed = (l : RelationState) × (link ≡ Some l) × (l.phase ≡ Awaiting) × (confirms response ≡ true)
+IsMeaning response link (to_ready.Refused farewell) = (l : RelationState) × (link ≡ Some l) × (farewell ≡ farewell_of Other l) × (confirms response ≡ false)
+
+abbrev block_in : Response → Option ControlBlock
+block_in response = confirmed_block (read_block response.blocks)
+
+abbrev is_numbered : Response → Bool
+is_numbered response = response.header.sequence == 0 && response.header.operation == 4
+
+meaning : (response : Response) (link : Option RelationState) → IsMeaning response link (ready_answer response link)
+unfolding ready_answer
+meaning response None = tt
+meaning response (Some link) = by_tests (is_wanted response link) (is_done response.status) refl refl
+  where
+    unconfirmed : (a b done : Bool) → done ≡ false → (a && (done && b)) ≡ false
+    unconfirmed true b done e = rw e refl
+    unconfirmed false b done e = refl
+
+    by_name : (found : ControlBlock) (b : Bool) → block_in response ≡ Some found → pointwise nat_eq found.ar_uuid link.request.ar.uuid ≡ b → is_wanted response link ≡ true → is_done response.status ≡ true
+        → IsMeaning response (Some link) (cond b to_ready.Confirmed to_ready.NotWanted)
+    by_name found false there named wanted done = tt
+    by_name found true there named wanted done =
+        let parts = and_true (is_awaiting link.phase) (is_answer_to link.request.ar.uuid response.header) wanted in
+        let own = and_true (pointwise nat_eq response.header.activity link.request.ar.uuid) (is_numbered response) parts.1 in
+        let same = same_text response.header.activity link.request.ar.uuid (sym own.0) in
+        (link, refl, awaiting_is link.phase parts.0, rw (own.1, done, there, same, named) refl)
+
+    by_block : (found : Option ControlBlock) → block_in response ≡ found → is_wanted response link ≡ true → is_done response.status ≡ true → IsMeaning response (Some link) (confirmed_by link.request.ar.uuid found)
+    by_block None there wanted done = tt
+    by_block (Some found) there wanted done = by_name found (pointwise nat_eq found.ar_uuid link.request.ar.uuid) there refl wanted done
+
+    by_tests : (wanted done : Bool) → is_wanted response link ≡ wanted → is_done response.status ≡ done
+        → IsMeaning response (Some link) (cond wanted (cond done (confirmed_by link.request.ar.uuid (block_in response)) (to_ready.Refused (farewell_of Other link))) to_ready.NotWanted)
+    by_tests false done wanted e = tt
+    by_tests true false wanted done = (link, refl, refl, unconfirmed (is_numbered response) (names_own response.header.activity (block_in response)) (is_done response.status) done)
+    by_tests true true wanted done = by_block (block_in response) refl wanted done
+
+-- ---- turns
+
+module _ (rules : Rules TakenRecord Request) (activity : List ℕ) (station : Station) (live : Live) where
+  abbrev before : Option RelationState
+  before = live.rest.link
+
+  abbrev from : List ℕ
+  from = live.values.running.suite.address
+
+  abbrev AreOthers : Option RelationState → List Sent → Type 0
+  AreOthers after sent = AllByRecursion (IsOther live after) sent
 
   -- what was judged is completed, whatever the results of its items are
-  abbrev Comes_to : Handled → Type 0
-  Comes_to what = (answers : List BlockError)
+  abbrev Comes_to : Heard → Handled → Type 0
+  Comes_to heard what = (answers : List BlockError)
       → Turn station live heard (finished station.identity live.rest what answers).rest (finished station.identity live.rest what answers).sent
 
-  due_owed : (b : Bool) (sent : List Sent) → AreOwed sent → AreOwed (where_due b sent)
-  due_owed true sent all = all
-  due_owed false sent all = tt
+  frames_other : (after : Option RelationState) (route : Route) (frame : Option Frame) → AreOthers after (frames_in route frame)
+  frames_other after route (Some frame) = (tt, tt)
+  frames_other after route None = tt
 
-  frames_owed : (route : Route) (frame : Option Frame) → AreOwed (frames_in route frame)
-  frames_owed route (Some frame) = (tt, tt)
-  frames_owed route None = tt
+  alarms_other : (after : Option RelationState) (flow : Option Flow) → AreOthers after (alarms_of flow)
+  alarms_other after None = tt
+  alarms_other after (Some flow) = frames_other after flow.cyclic.route (alarm_frame flow)
 
-  alarms_owed : (flow : Option Flow) → AreOwed (alarms_of flow)
-  alarms_owed None = tt
-  alarms_owed (Some flow) = frames_owed flow.cyclic.route (alarm_frame flow)
+  farewells_other : (after : Option RelationState) (b : Bool) (link : Option RelationState) → AreOthers after (farewells_at b link)
+  farewells_other after true (Some link) = (tt, tt)
+  farewells_other after true None = tt
+  farewells_other after false link = tt
 
-  inputs_owed : (units : ℕ) (flow : Option Flow) → AreOwed (inputs_of units flow)
-  inputs_owed units None = tt
-  inputs_owed units (Some flow) = (tt, tt)
+  -- ApplicationReady again, while its response is awaited
+  again_other : (link : RelationState) (b : Bool) → before ≡ Some link → is_again link ≡ b → AreOthers (Some (unit_later link)) (where_due b (ready_calls from (Some (unit_later link))))
+  again_other link true was is = (
+    (
+      record { link = link; is = was; header = refl; block = refl },
+      record { link = unit_later link; is = refl; awaits = awaiting_is link.phase (and_true (is_awaiting link.phase) (link.waited + 1 == 32000) is).0 },
+    ),
+    tt,
+  )
+  again_other link false was is = tt
 
-  replies_owed : (taken : TakenAs) (flow : Option Flow) → AreOwed (replies_of taken flow)
-  replies_owed taken None = tt
-  replies_owed taken (Some flow) = (tt, tt)
+  module _ (heard : Heard) where
+    other_owed : (after : Option RelationState) (sent : List Sent) → AreOthers after sent → AllByRecursion (IsOwed heard live) sent
+    other_owed after [] others = tt
+    other_owed after (CallAnswer caller address answer ∷ sent) others = absurd others.0
+    other_owed after (Again frame ∷ sent) others = absurd others.0
+    other_owed after (ReadyCall address ready ∷ sent) others = (others.0.0, other_owed after sent others.1)
+    other_owed after (message ∷ sent) others = (tt, other_owed after sent others.1)
 
-  farewells_owed : (b : Bool) (link : Option RelationState) → AreOwed (farewells_at b link)
-  farewells_owed true (Some link) = (tt, tt)
-  farewells_owed true None = tt
-  farewells_owed false link = tt
+    -- something that is no call
+    goes : (after : Rest) (sent : List Sent) → IsTurn station.real.modules.items live.rest.calls before heard after.link sent → GoesBy live heard after sent → Turn station live heard after sent
+    goes after sent is by = record { does = inr (inl by); is = is; answers = inl by.calls; owed = other_owed after.link sent by.others }
 
-  -- ApplicationReady, after PrmEnd and again
-  readies_owed : (address : List ℕ) (link : Option RelationState) → live.rest.link ≡ link → AreOwed (ready_calls address (option_map awaiting_from link))
-  readies_owed address None is = tt
-  readies_owed address (Some link) is = (record { link = link; is = is; header = refl; block = refl }, tt)
+    refuses : (why : Note) → Comes_to heard (Refuses why)
+    refuses why answers = record { does = inl (record { same = refl; silent = refl }); is = inl (record { link = inl refl; calm = tt }); answers = inl refl; owed = tt }
 
-  again_owed : (address : List ℕ) (link : RelationState) (b : Bool) → live.rest.link ≡ Some link → AreOwed (where_due b (ready_calls address (Some (unit_later link))))
-  again_owed address link true is = (record { link = link; is = is; header = refl; block = refl }, tt)
-  again_owed address link false is = tt
+    module _ (idle : heard_as heard ≡ small.Idle) where
+      stays : (after : Rest) (sent : List Sent) → after.calls ≡ live.rest.calls → IsKept before after.link → AreCalm before sent → AreOthers after.link sent → Turn station live heard after sent
+      stays after sent calls kept calm others =
+          goes after sent (inl (record { link = kept.0; calm = calm })) (record { idle = idle; calls = calls; link = kept.1; others = others })
 
-  stays : (after : Rest) (sent : List Sent) → after.calls ≡ live.rest.calls → IsSameOr live.rest.link after.link → AreCalm live.rest.link sent → AreOwed sent
-      → Turn station live heard after sent
-  stays after sent calls same calm owed = record { is = inl (record { link = same; calm = calm }); answers = inl calls; owed = owed }
+      tells : (message : Sent) → IsCalm before message → IsOther live before message → Comes_to heard (Moves live.rest (message ∷ []))
+      tells message calm other answers = stays live.rest (message ∷ []) refl (inl refl, inl refl) (calm, tt) (other, tt)
 
-  refuses : (why : Note) → Comes_to (Refuses why)
-  refuses why answers = stays live.rest [] refl (inl refl) tt tt
+      -- the relation became this
+      becomes : (link : Option RelationState) (sent : List Sent) → IsTurn station.real.modules.items live.rest.calls before heard link sent → option_map link_of link ≡ option_map link_of before
+          → AreOthers link sent → Comes_to heard (Moves (record live.rest { link = link }) sent)
+      becomes link sent is same others answers = goes (record live.rest { link = link }) sent is (record { idle = idle; calls = refl; link = inl same; others = others })
 
-  stays_with : (rest : Rest) (sent : List Sent) → rest.calls ≡ live.rest.calls → IsSameOr live.rest.link rest.link → AreCalm live.rest.link sent → AreOwed sent → Comes_to (Moves rest sent)
-  stays_with rest sent calls same calm owed answers = stays rest sent calls same calm owed
-
-  exchanges_on : (link : Option RelationState) (sent : List Sent) → IsSameOr live.rest.link link → AreCalm live.rest.link sent → AreOwed sent → Comes_to (Moves (record live.rest { link = link }) sent)
-  exchanges_on link sent same calm owed = stays_with (record live.rest { link = link }) sent refl same calm owed
+      -- the relation ended
+      ends : (lamp units : ℕ) (sent : List Sent) → AreCalm before sent → AreOthers None sent → Comes_to heard (Moves (record live.rest { lamp = lamp; link = None; units = units }) sent)
+      ends lamp units sent calm others answers = stays (record live.rest { lamp = lamp; link = None; units = units }) sent refl (inr refl, inr refl) calm others
 
   -- ---- DCP and ARP
 
-  sets : (asker : Mac) (request : Asked) (in_operation : Bool) → Comes_to (Sets asker request in_operation)
-  sets asker request in_operation answers =
+  sets : (asker : Mac) (request asked : Asked) (in_operation : Bool) → Comes_to (Asks asker asked) (Sets asker request in_operation)
+  sets asker request asked in_operation answers =
       let end = finished station.identity live.rest (Sets asker request in_operation) answers in
-      let ends = resets (plan_of in_operation request) answers in
-      let farewells = farewells_at ends live.rest.link in
-      stays end.rest end.sent refl (reset_stays ends live.rest.link)
-      (each_behind (IsCalm live.rest.link) farewells (SetAnswer asker request answers ∷ []) (farewells_calm ends live.rest.link) (tt, tt))
-      (each_behind (IsOwed heard live) farewells (SetAnswer asker request answers ∷ []) (farewells_owed ends live.rest.link) (tt, tt))
+      let reset = resets (plan_of in_operation request) answers in
+      let answer = SetAnswer asker request answers ∷ [] in
+      stays (Asks asker asked) refl end.rest end.sent refl (reset_keeps reset before)
+      (each_behind (IsCalm before) (farewells_at reset before) answer (farewells_calm reset before) (tt, tt))
+      (each_behind (IsOther live end.rest.link) (farewells_at reset before) answer (farewells_other end.rest.link reset before) (tt, tt))
 
-  identifies : (asker : Mac) (request : Asked) (b : Bool) → Comes_to (cond b (Moves live.rest (IdentifyAnswer asker live.values.running request.xid ∷ [])) (Refuses note.Filter))
-  identifies asker request true = stays_with live.rest (IdentifyAnswer asker live.values.running request.xid ∷ []) refl (inl refl) (tt, tt) (tt, tt)
-  identifies asker request false = refuses note.Filter
+  identifies : (asker : Mac) (request : Asked) (b : Bool)
+      → Comes_to (Asks asker request) (cond b (Moves live.rest (IdentifyAnswer asker live.values.running request.xid ∷ [])) (Refuses note.Filter))
+  identifies asker request true = tells (Asks asker request) refl (IdentifyAnswer asker live.values.running request.xid) tt tt
+  identifies asker request false = refuses (Asks asker request) note.Filter
 
-  requests : (asker : Mac) (which : Service) (request : Asked) → Comes_to (handled_request station live asker which request)
+  requests : (asker : Mac) (which : Service) (request : Asked) → Comes_to (Asks asker request) (handled_request station live asker which request)
   requests asker service.Identify request = identifies asker request (matches station.identity live.values.running request)
-  requests asker service.Get request = stays_with live.rest (GetAnswer asker live.values.running request ∷ []) refl (inl refl) (tt, tt) (tt, tt)
-  requests asker service.Set request = sets asker request (is_some live.rest.link)
+  requests asker service.Get request = tells (Asks asker request) refl (GetAnswer asker live.values.running request) tt tt
+  requests asker service.Set request = sets asker request request (is_some before)
 
-  resolves : (asker : Mac) (packet : Arp) (b : Bool) → Comes_to (cond b (Moves live.rest (ArpReply asker live.values.running.suite.address packet.sender ∷ [])) (Refuses note.NotMine))
-  resolves asker packet true = stays_with live.rest (ArpReply asker live.values.running.suite.address packet.sender ∷ []) refl (inl refl) (tt, tt) (tt, tt)
-  resolves asker packet false = refuses note.NotMine
+  resolves : (asker : Mac) (packet : Arp) (b : Bool) → Comes_to (Resolves asker packet) (cond b (Moves live.rest (ArpReply asker from packet.sender ∷ [])) (Refuses note.NotMine))
+  resolves asker packet true = tells (Resolves asker packet) refl (ArpReply asker from packet.sender) tt tt
+  resolves asker packet false = refuses (Resolves asker packet) note.NotMine
 
   -- ---- what is exchanged
 
-  receives : (source : Mac) (frame_id : ℕ) (body : List ℕ) (link : Option RelationState) → live.rest.link ≡ link → heard ≡ Cyclic source frame_id body
-      → Comes_to (handled_received live (received_by source frame_id body link) (updated (receiving source frame_id body link) link))
-  receives source frame_id body None was is = refuses note.NoRelation
-  receives source frame_id body (Some link) was is = by_fate (received_as link.flow source frame_id body) refl
+  -- the exchange of this relation became another
+  flows : (link : RelationState) (flow : Flow) → before ≡ Some link → option_map link_of (Some (with_flow flow link)) ≡ option_map link_of before
+  flows link flow was = sym (ap (λ (l : Option RelationState). option_map link_of l) was)
+
+  receives : (source : Mac) (frame_id : ℕ) (body : List ℕ) (link : Option RelationState) → before ≡ link
+      → Comes_to (Cyclic source frame_id body) (handled_received live (received_by source frame_id body link) (updated (receiving source frame_id body link) link))
+  receives source frame_id body None was = refuses (Cyclic source frame_id body) note.NoRelation
+  receives source frame_id body (Some link) was = by_fate (received_as link.flow source frame_id body) refl
     where
       by_fate : (came : Received) → received_as link.flow source frame_id body ≡ came
-          → Comes_to (handled_received live came (updated (receiving_as came (behind_frame link.flow source frame_id body)) (Some link)))
-      by_fate received.Foreign e = refuses note.NoRelation
-      by_fate received.Short e = refuses note.Fault
-      by_fate received.Stale e = refuses note.StaleCycle
-      by_fate received.Taken e = λ answers. record {
-        is = inr (inr (inr (inr (inr (inr (record { source = source; frame_id = frame_id; body = body; is = is; link = link; was = was; taken = e; becomes = refl; silent = refl }))))));
-        answers = inl refl;
-        owed = tt;
-      }
+          → Comes_to (Cyclic source frame_id body) (handled_received live came (updated (receiving_as came (behind_frame link.flow source frame_id body)) (Some link)))
+      by_fate received.Foreign e = refuses (Cyclic source frame_id body) note.NoRelation
+      by_fate received.Short e = refuses (Cyclic source frame_id body) note.Fault
+      by_fate received.Stale e = refuses (Cyclic source frame_id body) note.StaleCycle
+      by_fate received.Taken e = becomes (Cyclic source frame_id body) refl (Some (with_flow (behind_frame link.flow source frame_id body) link)) []
+          (inr (inr (inr (inr (inr (inr (record { source = source; frame_id = frame_id; body = body; is = refl; link = link; was = was; taken = e; becomes = refl; silent = refl })))))))
+          (flows link (behind_frame link.flow source frame_id body) was) tt
 
-  gives : (slot subslot : ℕ) (value : List ℕ) (flow : Option Flow) → given_to slot subslot value live.rest.link ≡ flow → Comes_to (handled_input live flow)
-  gives slot subslot value (Some flow) is =
-      exchanges_on (updated (Exchanged flow) live.rest.link) [] (becomes_same live.rest.link flow (given_same slot subslot value live.rest.link flow is)) tt tt
-  gives slot subslot value None is = refuses note.Refused
+  gives : (slot subslot : ℕ) (value : List ℕ) (flow : Option Flow) → given_to slot subslot value before ≡ flow → Comes_to (Given slot subslot value) (handled_input live flow)
+  gives slot subslot value (Some flow) is = λ answers.
+      stays (Given slot subslot value) refl (record live.rest { link = updated (Exchanged flow) before }) [] refl (given_keeps slot subslot value before flow is) tt tt
+  gives slot subslot value None is = refuses (Given slot subslot value) note.Refused
 
   -- ---- alarms
 
-  raises : (slot subslot : ℕ) (octets : List ℕ) (flow : Option Flow) → heard ≡ Raised slot subslot octets → raised_to station.real.modules.items slot subslot octets live.rest.link ≡ flow
-      → Comes_to (handled_notice live flow)
-  raises slot subslot octets (Some flow) is raised = λ answers.
-      let there = raised_link station.real.modules.items slot subslot octets live.rest.link flow raised in
-      record {
-        is = inr (inr (inl (record {
-          slot = slot;
-          subslot = subslot;
-          octets = octets;
-          is = is;
-          link = there.0;
-          was = there.1;
-          flow = flow;
-          raised = there.2;
-          becomes = ap (λ (l : Option RelationState). updated (Exchanged flow) l) there.1;
-          sends = ap (λ (l : Option RelationState). alarms_of (flow_of (updated (Exchanged flow) l))) there.1;
-        })));
-        answers = inl refl;
-        owed = alarms_owed (flow_of (updated (Exchanged flow) live.rest.link));
-      }
-  raises slot subslot octets None is raised = refuses note.Refused
+  raises : (slot subslot : ℕ) (octets : List ℕ) (flow : Option Flow) → raised_to station.real.modules.items slot subslot octets before ≡ flow
+      → Comes_to (Raised slot subslot octets) (handled_notice live flow)
+  raises slot subslot octets (Some flow) raised =
+      let link = updated (Exchanged flow) before in
+      becomes (Raised slot subslot octets) refl link (alarms_of (flow_of link)) (inr (inr (inl (raise_is station.real.modules.items slot subslot octets before flow raised))))
+      (exchanged_same before flow) (alarms_other link (flow_of link))
+  raises slot subslot octets None raised = refuses (Raised slot subslot octets) note.Refused
 
-  acks : (source : Mac) (header : Header) (number : ℕ) (link : RelationState) (b : Bool) → live.rest.link ≡ Some link → heard ≡ Alarms source header (notice.Ack number)
-      → Comes_to (handled_pdu live (cond b fate.Done fate.Ignored) (updated (hearing_as (cond b fate.Done fate.Ignored) (behind_message link.flow (notice.Ack number))) (Some link)))
-  acks source header number link true was is = λ answers. record {
-    is = inr (inr (inr (inl (record { source = source; header = header; number = number; is = is; link = link; was = was; becomes = refl; silent = refl }))));
-    answers = inl refl;
-    owed = tt;
-  }
-  acks source header number link false was is = refuses note.Filter
+  acks : (source : Mac) (header : Header) (number : ℕ) (link : RelationState) (b : Bool) → before ≡ Some link
+      → Comes_to (Alarms source header (notice.Ack number)) (handled_pdu live (cond b fate.Done fate.Ignored) (updated (hearing_as (cond b fate.Done fate.Ignored) (behind_message link.flow (notice.Ack number))) (Some link)))
+  acks source header number link true was =
+      let flow = behind_message link.flow (notice.Ack number) in
+      becomes (Alarms source header (notice.Ack number)) refl (Some (with_flow flow link)) []
+      (inr (inr (inr (inl (record { source = source; header = header; number = number; is = refl; link = link; was = was; becomes = refl; silent = refl }))))) (flows link flow was) tt
+  acks source header number link false was = refuses (Alarms source header (notice.Ack number)) note.Filter
 
-  pdus : (source : Mac) (header : Header) (message : Message) (link : Option RelationState) → live.rest.link ≡ link → heard ≡ Alarms source header message
-      → Comes_to (handled_pdu live (heard_by message link) (updated (hearing message link) link))
-  pdus source header message None was is = refuses note.Filter
-  pdus source header (notice.Data number ack) (Some link) was is = λ answers. record {
-    is = inr (inr (inr (inr (inl (record { source = source; header = header; number = number; ack = ack; is = is; link = link; was = was; becomes = refl; sends = refl })))));
-    answers = inl refl;
-    owed = replies_owed (taken_as link.flow.alarms.seen number) (Some (behind_message link.flow (notice.Data number ack)));
-  }
-  pdus source header (notice.Ack number) (Some link) was is = acks source header number link (is_last link.flow.alarms.sender.sending.last number) was is
-  pdus source header notice.Nack (Some link) was is = refuses note.Filter
-  pdus source header notice.Abort (Some link) was is = exchanges_on None [] (inr refl) tt tt
+  pdus : (source : Mac) (header : Header) (message : Message) (link : Option RelationState) → before ≡ link
+      → Comes_to (Alarms source header message) (handled_pdu live (heard_by message link) (updated (hearing message link) link))
+  pdus source header message None was = refuses (Alarms source header message) note.Filter
+  pdus source header (notice.Data number ack) (Some link) was =
+      let flow = behind_message link.flow (notice.Data number ack) in
+      becomes (Alarms source header (notice.Data number ack)) refl (Some (with_flow flow link)) (replies_of (taken_as link.flow.alarms.seen number) (Some flow))
+      (inr (inr (inr (inr (inl (record { source = source; header = header; number = number; ack = ack; is = refl; link = link; was = was; becomes = refl; sends = refl })))))) (flows link flow was) (tt, tt)
+  pdus source header (notice.Ack number) (Some link) was = acks source header number link (is_last link.flow.alarms.sender.sending.last number) was
+  pdus source header notice.Nack (Some link) was = refuses (Alarms source header notice.Nack) note.Filter
+  pdus source header notice.Abort (Some link) was = ends (Alarms source header notice.Abort) refl live.rest.lamp live.rest.units [] tt tt
 
-  alarms : (source : Mac) (header : Header) (message : Message) (b : Bool) → heard ≡ Alarms source header message → Comes_to (cond b (handled_message live message) (Refuses note.NoRelation))
-  alarms source header message true is = pdus source header message live.rest.link refl is
-  alarms source header message false is = refuses note.NoRelation
+  alarms : (source : Mac) (header : Header) (message : Message) (b : Bool) → Comes_to (Alarms source header message) (cond b (handled_message live message) (Refuses note.NoRelation))
+  alarms source header message true = pdus source header message before refl
+  alarms source header message false = refuses (Alarms source header message) note.NoRelation
 
   -- ---- units
 
-  ticks_as : (lamp units : ℕ) (address : List ℕ) (link : RelationState) (ending : Option Abort) → live.rest.link ≡ Some link → heard ≡ Ticks
-      → Comes_to (Moves (record live.rest { lamp = lamp; link = updated (passing_by ending) (Some link); units = units }) (due_frames address units (due_by link ending) (updated (passing_by ending) (Some link))))
-  ticks_as lamp units address link (Some reason) was is = stays_with (record live.rest { lamp = lamp; link = None; units = units }) _ refl (inr refl) ((reason, link, was, refl), tt) (tt, tt)
-  ticks_as lamp units address link None was is = λ answers.
+  ticks_as : (lamp units : ℕ) (link : RelationState) (ending : Option Abort) → before ≡ Some link
+      → Comes_to Ticks (Moves (record live.rest { lamp = lamp; link = updated (passing_by ending) (Some link); units = units }) (due_frames from units (due_by link ending) (updated (passing_by ending) (Some link))))
+  ticks_as lamp units link (Some reason) was = ends Ticks refl lamp units _ ((reason, link, was, refl), tt) (tt, tt)
+  ticks_as lamp units link None was = λ answers.
       let tick = tick_of link.flow in
+      let later = Some (unit_later link) in
       let alarm = where_due tick.is_alarm (alarms_of (Some (flow_later link.flow))) in
-      let readies = where_due (is_again link) (ready_calls address (Some (unit_later link))) in
+      let readies = where_due (is_again link) (ready_calls from later) in
       let inputs = where_due tick.is_cyclic (inputs_of units (Some (flow_later link.flow))) in
-      record {
-        is = inr (inr (inr (inr (inr (inl (record {
-          is = is;
-          link = link;
-          was = was;
-          becomes = refl;
-          others = readies ++ inputs;
-          sends = refl;
-          calm = each_behind (IsCalm live.rest.link) readies inputs (due_calm live.rest.link (is_again link) _ (ready_calm live.rest.link address (Some (unit_later link))))
-              (due_calm live.rest.link tick.is_cyclic _ ((link, was, refl), tt));
-        }))))));
-        answers = inl refl;
-        owed = each_behind (IsOwed heard live) alarm (readies ++ inputs) (due_owed tick.is_alarm _ (alarms_owed (Some (flow_later link.flow))))
-            (each_behind (IsOwed heard live) readies inputs (again_owed address link (is_again link) was) (due_owed tick.is_cyclic _ (inputs_owed units (Some (flow_later link.flow)))));
-      }
+      goes Ticks (record live.rest { lamp = lamp; link = later; units = units }) (alarm ++ (readies ++ inputs))
+      (inr (inr (inr (inr (inr (inl (record {
+        is = refl;
+        link = link;
+        was = was;
+        becomes = refl;
+        others = readies ++ inputs;
+        sends = refl;
+        calm = each_behind (IsCalm before) readies inputs (due_each (IsCalm before) (is_again link) _ (tt, tt)) (due_each (IsCalm before) tick.is_cyclic _ ((link, was, refl), tt));
+      })))))))
+      (record {
+        idle = refl;
+        calls = refl;
+        link = inl (sym (ap (λ (l : Option RelationState). option_map link_of l) was));
+        others = each_behind (IsOther live later) alarm (readies ++ inputs) (due_each (IsOther live later) tick.is_alarm _ (alarms_other later (Some (flow_later link.flow))))
+            (each_behind (IsOther live later) readies inputs (again_other link (is_again link) was refl) (due_each (IsOther live later) tick.is_cyclic _ (tt, tt)));
+      })
 
-  ticks_with : (lamp units : ℕ) (address : List ℕ) (link : Option RelationState) → live.rest.link ≡ link → heard ≡ Ticks
-      → Comes_to (Moves (record live.rest { lamp = lamp; link = updated (passing link) link; units = units }) (due_frames address units (due_of link) (updated (passing link) link)))
-  ticks_with lamp units address None was is = stays_with (record live.rest { lamp = lamp; link = None; units = units }) [] refl (inr refl) tt tt
-  ticks_with lamp units address (Some link) was is = ticks_as lamp units address link (ending_of link) was is
+  ticks_with : (lamp units : ℕ) (link : Option RelationState) → before ≡ link
+      → Comes_to Ticks (Moves (record live.rest { lamp = lamp; link = updated (passing link) link; units = units }) (due_frames from units (due_of link) (updated (passing link) link)))
+  ticks_with lamp units None was = ends Ticks refl lamp units [] tt tt
+  ticks_with lamp units (Some link) was = ticks_as lamp units link (ending_of link) was
+
+  -- ---- the response to ApplicationReady
+
+  answers_as : (caller : Caller) (address : List ℕ) (response : Response) (answer : ReadyAnswer) → IsMeaning response before answer
+      → Comes_to (Reported caller address (Responds response)) (handled_answer live answer)
+  answers_as caller address response to_ready.NotWanted is = refuses (Reported caller address (Responds response)) note.Filter
+  answers_as caller address response to_ready.Garbled is = refuses (Reported caller address (Responds response)) note.Filter
+  answers_as caller address response to_ready.Confirmed is = λ answers. record {
+    does = inr (inr (inl (record {
+      confirms = ap (λ (b : Bool). cond b small.Confirms small.Idle) is.3;
+      link = is.0;
+      was = is.1;
+      awaits = is.2;
+      becomes = ap (λ (l : Option RelationState). record live.rest { link = updated Confirmed l }) is.1;
+      silent = refl;
+    })));
+    is = inl (record { link = inl (confirmed_same before); calm = tt });
+    answers = inl refl;
+    owed = tt;
+  }
+    where
+      confirmed_same : (link : Option RelationState) → option_map standing_of (updated Confirmed link) ≡ option_map standing_of link
+      confirmed_same None = refl
+      confirmed_same (Some link) = refl
+  answers_as caller address response (to_ready.Refused farewell) is =
+      ends (Reported caller address (Responds response)) (ap (λ (b : Bool). cond b small.Confirms small.Idle) is.3) live.rest.lamp live.rest.units (Ends farewell ∷ [])
+      ((Other, is.0, is.1, is.2), tt) (tt, tt)
 
   -- ---- calls
 
-  answers_as : (response : Response) (answer : ReadyAnswer) → ready_answer response live.rest.link ≡ answer → Comes_to (handled_answer live answer)
-  answers_as response to_ready.NotWanted is = refuses note.Filter
-  answers_as response to_ready.Garbled is = refuses note.Filter
-  answers_as response to_ready.Confirmed is = exchanges_on (updated Confirmed live.rest.link) [] (mild_stays Confirmed live.rest.link tt) tt tt
-  answers_as response (to_ready.Refused farewell) is = exchanges_on None (Ends farewell ∷ []) (inr refl) (refused_is response live.rest.link farewell is, tt) (tt, tt)
+  module _ (caller : Caller) (address : List ℕ) (call : Call) where
+    abbrev heard : Heard
+    heard = Reported caller address (Calls call)
 
-  module _ (caller : Caller) (address : List ℕ) (call : Call) (is : heard ≡ Reported caller address (Calls call)) where
-    answer_owed : (from : List ℕ) (which : Operation) (outcome : Result (List ℕ) CallFault) → IsPlainIn outcome → IsOwed heard live (answer_from from caller call which outcome)
-    answer_owed from which outcome plain = record {
+    -- what a call does, for outputs and alarms
+    effect_turns : (blocks : List ℕ) (outcome : Result (List ℕ) CallFault) (which : Operation) (link : Option RelationState) (sent : List Sent) → operation_of call.header.operation ≡ Some which
+        → call.blocks ≡ Some blocks → looked call.header.activity call.header.sequence live.rest.calls ≡ new → IsEffect station caller blocks outcome which before link → AreCalm before sent
+        → IsTurn station.real.modules.items live.rest.calls before heard link sent
+    effect_turns blocks (Err why) which link sent asks counted fresh same calm = inl (record { link = inl (ap (λ (l : Option RelationState). option_map standing_of l) same); calm = calm })
+    effect_turns blocks (Ok octets) operation.Connect link sent asks counted fresh it calm = inr (inl (record {
+      caller = caller;
       address = address;
       call = call;
-      is = is;
-      header = refl;
-      maximum = refl;
-      status = outcome_sized which outcome plain;
-    }
+      blocks = blocks;
+      is = refl;
+      connects = asks;
+      counted = counted;
+      fresh = fresh;
+      request = it.request;
+      partner = partner_of caller;
+      rows = rows_of it.request station.real;
+      read = it.read;
+      made = it.made;
+      calm = calm;
+    }))
+    effect_turns blocks (Ok octets) operation.Release link sent asks counted fresh it calm = inl (record { link = inr it.gone; calm = calm })
+    effect_turns blocks (Ok octets) operation.Read link sent asks counted fresh it calm = absurd it
+    effect_turns blocks (Ok octets) operation.ReadImplicit link sent asks counted fresh it calm = absurd it
+    effect_turns blocks (Ok octets) which link sent asks counted fresh it calm =
+        inl (record { link = inl (ap (λ (l : Option RelationState). option_map standing_of l) it.becomes ∙ sym (ap (λ (l : Option RelationState). option_map standing_of l) it.was)); calm = calm })
 
-    -- the call is answered like this; then this is the relation
-    answered_so : (from : List ℕ) (which : Operation) (outcome : Result (List ℕ) CallFault) (link : Option RelationState) (behind : List Sent) → IsPlainIn outcome → AreOwed behind
-        → IsTurn station.real.modules.items live.rest.calls live.rest.link heard link (answer_from from caller call which outcome ∷ behind)
-        → Turn station live heard (kept_behind station.identity live.rest call (answer_from from caller call which outcome) link) (answer_from from caller call which outcome ∷ behind)
-    answered_so from which outcome link behind plain owed turn = record {
-      is = turn;
-      answers = inr (record {
-        call = call;
-        caller = caller;
-        address = from;
-        answer = answer_to call (outcome_of which outcome).0 (outcome_of which outcome).1;
-        others = behind;
-        keeps = refl;
-        sends = refl;
-      });
-      owed = (answer_owed from which outcome plain, owed);
-    }
+    readied_owed : (after : Option RelationState) (ready : Option Ready) → AreReadied live after ready → AllByRecursion (IsOwed heard live) (readied_from from ready)
+    readied_owed after None readied = tt
+    readied_owed after (Some ready) readied = (readied.0, tt)
 
-    serves : (which : Operation) (outcome : Result (List ℕ) CallFault) (link : Option RelationState) (behind : List Sent) → IsPlainIn outcome → AreOwed behind → IsSameOr live.rest.link link → AreCalm live.rest.link behind
-        → Comes_to (served station live caller call which outcome link behind)
-    serves which outcome link behind plain owed same calm answers =
-        answered_so live.values.running.suite.address which outcome link behind plain owed (inl (record { link = same; calm = (tt, calm) }))
-
-    connects_as : (blocks : List ℕ) (request : Result Request CallFault) → operation_of call.header.operation ≡ Some operation.Connect → call.blocks ≡ Some blocks
-        → looked call.header.activity call.header.sequence live.rest.calls ≡ new → connect_within station.options.smallest_interval live.rest.link blocks ≡ request → IsPlainIn request
-        → Comes_to (served station live caller call operation.Connect (request >>= λ r. Ok (connect_blocks station.identity r (differing_of r station.real)))
-        (updated (making station.real (partner_of caller) request) live.rest.link) [])
-    connects_as blocks (Ok request) connects counted fresh read plain = λ answers.
-        let rows = rows_of request station.real in
-        answered_so live.values.running.suite.address operation.Connect (Ok (connect_blocks station.identity request (differing_of request station.real))) (Some (made_of request (partner_of caller) rows)) [] tt tt
-        (inr (inl (record {
+    module _ (blocks : List ℕ) (counted : call.blocks ≡ Some blocks) (fresh : looked call.header.activity call.header.sequence live.rest.calls ≡ new) where
+      -- the call is answered like this; then this is the relation
+      serves : (which : Operation) (outcome : Result (List ℕ) CallFault) (link : Option RelationState) (ready : Option Ready) → operation_of call.header.operation ≡ Some which → IsPlainIn outcome
+          → IsEffect station caller blocks outcome which before link → AreReadied live link ready → Comes_to heard (served station live caller call which outcome link (readied_from from ready))
+      serves which outcome link ready asks plain effect readied = λ answers. record {
+        does = inr (inr (inr (inr (record {
           caller = caller;
           address = address;
           call = call;
+          is = refl;
           blocks = blocks;
-          is = is;
-          connects = connects;
           counted = counted;
           fresh = fresh;
-          request = request;
-          partner = partner_of caller;
-          rows = rows;
-          read = unlimited station.options.smallest_interval live.rest.link blocks request read;
-          made = refl;
-          calm = (tt, tt);
-        })))
-    connects_as blocks (Err why) connects counted fresh read plain = serves operation.Connect (Err why) live.rest.link [] plain tt (inl refl) tt
+          which = which;
+          asks = asks;
+          outcome = outcome;
+          status = outcome_sized which outcome plain;
+          effect = effect;
+          ready = ready;
+          readied = readied;
+          keeps = refl;
+          sends = refl;
+        }))));
+        is = effect_turns blocks outcome which link _ asks counted fresh effect (tt, readied_calm before from ready);
+        answers = inr (record {
+          call = call;
+          caller = caller;
+          address = from;
+          answer = answer_to call (outcome_of which outcome).0 (outcome_of which outcome).1;
+          others = readied_from from ready;
+          keeps = refl;
+          sends = refl;
+        });
+        owed = (record { address = address; call = call; is = refl; header = refl; maximum = refl; status = outcome_sized which outcome plain }, readied_owed link ready readied);
+      }
 
-    effect_as : (header : IodWriteReq) (effect : Effect) → Comes_to (handled_effect station live caller call header effect)
-    effect_as header (Stores value) = λ answers.
-        let outcome = written_as header (first_answer answers) in
-        answered_so live.values.running.suite.address operation.Write outcome (updated (answered Named outcome) live.rest.link) [] (stored_plain header (first_answer answers)) tt
-        (inl (record { link = mild_stays (answered Named outcome) live.rest.link (answered_mild Named outcome tt); calm = (tt, tt) }))
-    effect_as header (Keeps parameter) =
-        let kept = keeping parameter live.rest.link in
-        serves operation.Write (kept_answer header kept) (updated (answered Named kept) (updated (taking kept) live.rest.link)) []
-        (kept_plain header kept (keeping_plain parameter live.rest.link)) tt (keeps_mildly live.rest.link kept) tt
+      fails : (which : Operation) (why : CallFault) (link : Option RelationState) → operation_of call.header.operation ≡ Some which → IsPlain why → before ≡ link
+          → Comes_to heard (served station live caller call which (Err why) link [])
+      fails which why link asks plain was = serves which (Err why) link None asks plain (sym was) tt
 
-    writes_as : (write : Result Write CallFault) → IsPlainIn write → Comes_to (handled_write station live caller call write)
-    writes_as (Ok write) plain = effect_as write.request write.effect
-    writes_as (Err why) plain = serves operation.Write (Err why) live.rest.link [] plain tt (inl refl) tt
+      connects_as : (request : Result Request CallFault) → operation_of call.header.operation ≡ Some operation.Connect → connect_of before blocks ≡ request → IsPlainIn request
+          → Comes_to heard (served station live caller call operation.Connect (request >>= λ r. Ok (connect_blocks station.identity r (differing_of r station.real)))
+          (updated (making station.real (partner_of caller) request) before) [])
+      connects_as (Ok request) asks read plain =
+          serves operation.Connect (Ok (connect_blocks station.identity request (differing_of request station.real))) (Some (made_of request (partner_of caller) (rows_of request station.real))) None asks tt
+          (record { request = request; read = read; made = refl; answer = refl }) tt
+      connects_as (Err why) asks read plain = fails operation.Connect why before asks plain refl
 
-    controls_as : (ended : Result ControlBlock CallFault) → IsPlainIn ended
-        → Comes_to (served station live caller call operation.Control (ended >>= λ block. Ok (block_bytes (variant.PrmEndRes (done_of block)))) (updated (answered Parameterized ended) live.rest.link)
-        (ready_behind live.values.running.suite.address (updated (answered Parameterized ended) live.rest.link) ended))
-    controls_as (Ok block) plain =
-        let from = live.values.running.suite.address in
-        serves operation.Control (Ok (block_bytes (variant.PrmEndRes (done_of block)))) (option_map awaiting_from live.rest.link) (ready_calls from (option_map awaiting_from live.rest.link))
-        tt (readies_owed from live.rest.link refl) (mild_stays Parameterized live.rest.link tt) (ready_calm live.rest.link from (option_map awaiting_from live.rest.link))
-    controls_as (Err why) plain = serves operation.Control (Err why) live.rest.link [] plain tt (inl refl) tt
+      keeps_as : (header : IodWriteReq) (write : Write) (value : TakenRecord) (link : Option RelationState) (kept : Result (List TakenRecord) CallFault) → operation_of call.header.operation ≡ Some operation.Write
+          → write_of (uuid_of before) station.real blocks ≡ Ok write → write.effect ≡ Keeps value → before ≡ link → keeping value link ≡ kept → IsPlainIn kept
+          → Comes_to heard (served station live caller call operation.Write (kept_answer header kept) (updated (answered Named kept) (updated (taking kept) link)) [])
+      keeps_as header write value link (Err why) asks judged keeps was is plain = fails operation.Write why link asks plain was
+      keeps_as header write value None (Ok taken) asks judged keeps was is plain = absurd cc
+      keeps_as header write value (Some link) (Ok taken) asks judged keeps was is plain = serves operation.Write (Ok (answer_of header)) (Some (restarted (with_taken taken link))) None asks tt
+          (record {
+            link = link;
+            was = was;
+            write = write;
+            judged = judged;
+            value = value;
+            keeps = keeps;
+            becomes = ap (λ (records : List TakenRecord). Some (restarted (with_taken records link))) (kept_is value link.taken taken is);
+          }) tt
 
-    new_call : (blocks : List ℕ) (which : Operation) → operation_of call.header.operation ≡ Some which → call.blocks ≡ Some blocks
-        → looked call.header.activity call.header.sequence live.rest.calls ≡ new
-        → IsPlannedAs rules station.real call.header.sequence blocks (Some which) → Comes_to (handled_new station live caller call blocks which)
-    new_call blocks operation.Connect asks counted fresh plan =
-        connects_as blocks (connect_within station.options.smallest_interval live.rest.link blocks) asks counted fresh refl
-        (connect_plain station.options.smallest_interval live.rest.link blocks rules.request plan)
-    new_call blocks operation.Release asks counted fresh plan =
-        let ended = release_of live.rest.link blocks in
-        serves operation.Release (release_answer live.rest.link blocks) (updated (answered Ended ended) live.rest.link) []
-        (bind_plain ended (λ block. Ok (block_bytes (variant.ReleaseRes (done_of block)))) (release_plain live.rest.link blocks) (λ block. tt)) tt
-        (mild_stays (answered Ended ended) live.rest.link (answered_mild Ended ended tt)) tt
-    new_call blocks operation.Read asks counted fresh plan = absurd plan
-    new_call blocks operation.Write asks counted fresh plan = writes_as (write_of (uuid_of live.rest.link) station.real blocks) (write_plain (uuid_of live.rest.link) station.real blocks)
-    new_call blocks operation.Control asks counted fresh plan = controls_as (prm_end_of live.rest.link blocks) (prm_plain live.rest.link blocks)
-    new_call blocks operation.ReadImplicit asks counted fresh plan = absurd plan
+      effect_as : (write : Write) (effect : Effect) (planned : TakenRecord) → operation_of call.header.operation ≡ Some operation.Write → write_of (uuid_of before) station.real blocks ≡ Ok write
+          → write.effect ≡ effect → write.effect ≡ Keeps planned → Comes_to heard (handled_effect station live caller call write.request effect)
+      effect_as write (Stores text) planned asks judged is keeps = absurd (stores_none (sym is ∙ keeps))
+        where
+          stores_none : Stores text ≡ Keeps planned → ⊥
+          stores_none e = absurd cc
+      effect_as write (Keeps value) planned asks judged is keeps =
+          keeps_as write.request write value before (keeping value before) asks judged is refl refl (keeping_plain value before)
+
+      writes_as : (write : Result Write CallFault) → operation_of call.header.operation ≡ Some operation.Write → write_of (uuid_of before) station.real blocks ≡ write → IsPlainIn write
+          → IsPlannedWrite rules station.real call.header.sequence blocks → Comes_to heard (handled_write station live caller call write)
+      writes_as (Ok write) asks judged plain plan = effect_as write write.effect plan.value asks judged refl (plan.keeps (uuid_of before) write judged)
+      writes_as (Err why) asks judged plain plan = fails operation.Write why before asks plain refl
+
+      controls_as : (link : Option RelationState) (ended : Result ControlBlock CallFault) → operation_of call.header.operation ≡ Some operation.Control → before ≡ link → prm_end_of link blocks ≡ ended → IsPlainIn ended
+          → Comes_to heard (served station live caller call operation.Control (ended >>= λ block. Ok (block_bytes (variant.PrmEndRes (done_of block)))) (updated (answered Parameterized ended) link)
+          (ready_behind from (updated (answered Parameterized ended) link) ended))
+      controls_as link (Err why) asks was is plain = fails operation.Control why link asks plain was
+      controls_as None (Ok block) asks was is plain = absurd (prm_started None blocks block is)
+      controls_as (Some link) (Ok block) asks was is plain =
+          serves operation.Control (Ok (block_bytes (variant.PrmEndRes (done_of block)))) (Some (awaiting_from link)) (Some (ready_of (awaiting_from link))) asks tt
+          (record { link = link; was = was; started = prm_started (Some link) blocks block is; becomes = refl })
+          (record { link = link; is = was; header = refl; block = refl }, record { link = awaiting_from link; is = refl; awaits = refl })
+
+      releases_as : (link : Option RelationState) (ended : Result ControlBlock CallFault) → operation_of call.header.operation ≡ Some operation.Release → before ≡ link → release_of link blocks ≡ ended → IsPlainIn ended
+          → Comes_to heard (served station live caller call operation.Release (ended >>= λ block. Ok (block_bytes (variant.ReleaseRes (done_of block)))) (updated (answered Ended ended) link) [])
+      releases_as link (Err why) asks was is plain = fails operation.Release why link asks plain was
+      releases_as None (Ok block) asks was is plain = absurd (never_released blocks block is)
+      releases_as (Some link) (Ok block) asks was is plain =
+          serves operation.Release (Ok (block_bytes (variant.ReleaseRes (done_of block)))) None None asks tt (record { link = link; was = was; gone = refl }) tt
+
+      new_call : (which : Operation) → operation_of call.header.operation ≡ Some which → IsPlannedAs rules station.real call.header.sequence blocks (Some which)
+          → Comes_to heard (handled_new station live caller call blocks which)
+      new_call operation.Connect asks plan = connects_as (connect_of before blocks) asks refl (connect_plain before blocks rules.request plan)
+      new_call operation.Release asks plan = releases_as before (release_of before blocks) asks refl refl (release_plain before blocks)
+      new_call operation.Write asks plan = writes_as (write_of (uuid_of before) station.real blocks) asks refl (write_plain (uuid_of before) station.real blocks) plan
+      new_call operation.Control asks plan = controls_as before (prm_end_of before blocks) asks refl refl (prm_plain before blocks)
+      new_call which asks plan = absurd plan
+
+    repeats : (frame : List ℕ) → looked call.header.activity call.header.sequence live.rest.calls ≡ again frame → Comes_to heard (Moves live.rest (Again frame ∷ []))
+    repeats frame reported = λ answers.
+        let there = again_is call.header.sequence (kept_of call.header.activity live.rest.calls) frame reported in
+        record {
+          does = inr (inr (inr (inl (record {
+            caller = caller;
+            address = address;
+            call = call;
+            is = refl;
+            kept = there.0;
+            there = there.1;
+            number = there.2;
+            same = refl;
+            sends = ap (λ (f : List ℕ). Again f ∷ []) (sym there.3);
+          }))));
+          is = inl (record { link = inl refl; calm = (tt, tt) });
+          answers = inl refl;
+          owed = (record { caller = caller; address = address; call = call; is = refl; kept = there.0; there = there.1; same = there.3 }, tt);
+        }
 
     looked_call : (blocks : List ℕ) (which : Operation) (reported : Looked) → operation_of call.header.operation ≡ Some which → call.blocks ≡ Some blocks
         → looked call.header.activity call.header.sequence live.rest.calls ≡ reported
-        → IsPlannedAs rules station.real call.header.sequence blocks (Some which) → Comes_to (handled_looked station live caller call blocks which reported)
-    looked_call blocks which new asks counted reported plan = new_call blocks which asks counted reported plan
-    looked_call blocks which (again frame) asks counted reported plan =
-        let there = again_is call.header.sequence (kept_of call.header.activity live.rest.calls) frame reported in
-        stays_with live.rest (Again frame ∷ []) refl (inl refl) (tt, tt)
-        (record { caller = caller; address = address; call = call; is = is; kept = there.0; there = there.1; same = there.3 }, tt)
-    looked_call blocks which old asks counted reported plan = refuses note.OldCall
+        → IsPlannedAs rules station.real call.header.sequence blocks (Some which) → Comes_to heard (handled_looked station live caller call blocks which reported)
+    looked_call blocks which new asks counted reported plan = new_call blocks counted reported which asks plan
+    looked_call blocks which (again frame) asks counted reported plan = repeats frame reported
+    looked_call blocks which old asks counted reported plan = refuses heard note.OldCall
 
     counted_call : (which : Operation) (counted : Option (List ℕ)) (blocks : List ℕ) → operation_of call.header.operation ≡ Some which → call.blocks ≡ counted → counted ≡ Some blocks
-        → IsPlannedAs rules station.real call.header.sequence blocks (Some which) → Comes_to (handled_blocks station live caller call which counted)
+        → IsPlannedAs rules station.real call.header.sequence blocks (Some which) → Comes_to heard (handled_blocks station live caller call which counted)
     counted_call which None blocks asks counted there plan = absurd cc
     counted_call which (Some found) blocks asks counted there plan =
         looked_call found which (looked call.header.activity call.header.sequence live.rest.calls) asks counted refl
         (subst (λ (b : List ℕ). IsPlannedAs rules station.real call.header.sequence b (Some which)) (sym (some_is found blocks there)) plan)
 
     called : (which : Option Operation) (blocks : List ℕ) → operation_of call.header.operation ≡ which → call.blocks ≡ Some blocks
-        → IsPlannedAs rules station.real call.header.sequence blocks which → Comes_to (handled_call station live caller call which)
+        → IsPlannedAs rules station.real call.header.sequence blocks which → Comes_to heard (handled_call station live caller call which)
     called None blocks asks there plan = absurd plan
     called (Some which) blocks asks there plan = counted_call which call.blocks blocks asks refl there plan
 
-  says : (caller : Caller) (address : List ℕ) (said : Said) → heard ≡ Reported caller address said → IsPlannedIn rules activity station.real said → Comes_to (handled_said station live caller said)
-  says caller address (Calls call) is plan = called caller address call is (operation_of call.header.operation) plan.blocks refl plan.counted plan.asks
-  says caller address (Responds response) is plan = answers_as response (ready_answer response live.rest.link) refl
-  says caller address Garbled is plan = refuses note.Fault
+  says : (caller : Caller) (address : List ℕ) (said : Said) → IsPlannedIn rules activity station.real said
+      → Comes_to (Reported caller address said) (handled_said station live caller said)
+  says caller address (Calls call) plan = called caller address call (operation_of call.header.operation) plan.blocks refl plan.counted plan.asks
+  says caller address (Responds response) plan = answers_as caller address response (ready_answer response before) (meaning response before)
+  says caller address Garbled plan = refuses (Reported caller address Garbled) note.Fault
 
-  reported : (caller : Caller) (address : List ℕ) (said : Said) (b : Bool) → heard ≡ Reported caller address said → IsPlannedIn rules activity station.real said
-      → Comes_to (cond b (handled_said station live caller said) (Refuses note.NotMine))
-  reported caller address said true is plan = says caller address said is plan
-  reported caller address said false is plan = refuses note.NotMine
+  reported : (caller : Caller) (address : List ℕ) (said : Said) (b : Bool) → IsPlannedIn rules activity station.real said
+      → Comes_to (Reported caller address said) (cond b (handled_said station live caller said) (Refuses note.NotMine))
+  reported caller address said true plan = says caller address said plan
+  reported caller address said false plan = refuses (Reported caller address said) note.NotMine
 
-  turns : (what : Heard) → heard ≡ what → IsPlanned rules activity station.real what → Comes_to (handled station live what)
-  turns (Asks asker request) is plan = requests asker request.service request
-  turns (Resolves asker packet) is plan = resolves asker packet (is_request packet.operation && is_running live.values.running packet.target.address)
-  turns (Reported caller address said) is plan = reported caller address said (is_running live.values.running address) is plan
-  turns (Alarms source header message) is plan = alarms source header message (is_alarm_of source header.destination header.source live.rest.link) is
-  turns (Cyclic source frame_id body) is plan = receives source frame_id body live.rest.link refl is
-  turns (Given slot subslot value) is plan = gives slot subslot value (given_to slot subslot value live.rest.link) refl
-  turns (Raised slot subslot octets) is plan = raises slot subslot octets (raised_to station.real.modules.items slot subslot octets live.rest.link) is refl
-  turns Ticks is plan = ticks_with (live.rest.lamp - 1) ((live.rest.units + 1) % 65536) live.values.running.suite.address live.rest.link refl is
-  turns Unreadable is plan = refuses note.Fault
-  turns Elsewhere is plan = refuses note.NotMine
+  turns : (heard : Heard) → IsPlanned rules activity station.real heard → Comes_to heard (handled station live heard)
+  turns (Asks asker request) plan = requests asker request.service request
+  turns (Resolves asker packet) plan = resolves asker packet (is_request packet.operation && is_running live.values.running packet.target.address)
+  turns (Reported caller address said) plan = reported caller address said (is_running live.values.running address) plan
+  turns (Alarms source header message) plan = alarms source header message (is_alarm_of source header.destination header.source before)
+  turns (Cyclic source frame_id body) plan = receives source frame_id body before refl
+  turns (Given slot subslot value) plan = gives slot subslot value (given_to slot subslot value before) refl
+  turns (Raised slot subslot octets) plan = raises slot subslot octets (raised_to station.real.modules.items slot subslot octets before) refl
+  turns Ticks plan = ticks_with (live.rest.lamp - 1) ((live.rest.units + 1) % 65536) before refl
+  turns Unreadable plan = refuses Unreadable note.Fault
+  turns Elsewhere plan = refuses Elsewhere note.NotMine
 
 -- a step, whatever the flash did
 pub step_turns : (rules : Rules TakenRecord Request) (activity : List ℕ) (outcomes : List Outcome) (station : Station) (live : Live) (heard : Heard)
     → IsPlanned rules activity station.real heard → Turn station live heard (heard_step outcomes station live heard).live.rest (heard_step outcomes station live heard).sent
 unfolding heard_step handled_step
 step_turns rules activity outcomes station live heard plan =
-    turns rules activity station live heard heard refl plan (carried outcomes live.values (items_in (handled station live heard))).answers
+    turns rules activity station live heard plan (carried outcomes live.values (items_in (handled station live heard))).answers
 
 pub step_raises : (outcomes : List Outcome) (station : Station) (live : Live) (slot subslot : ℕ) (octets : List ℕ)
     → IsRaise station.real.modules.items live.rest.link slot subslot octets (heard_step outcomes station live (Raised slot subslot octets)).live.rest.link

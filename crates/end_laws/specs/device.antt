@@ -1,3 +1,4 @@
 pub mod Small
 pub mod Owed
+pub mod Does
 pub mod Turn

@@ -101,15 +101,8 @@ octets_length shown = length-map-range_with_len (octet_at shown.cells) 0 shown.d
 
 -- a message that is not a repeated response, or one that brings nothing
 abbrev pub IsKnown : Outputs Image Image → Sent → Type 0
-IsKnown rules (IdentifyAnswer asker running xid) = Unit {0}
-IsKnown rules (GetAnswer asker running request) = Unit {0}
-IsKnown rules (SetAnswer asker request answers) = Unit {0}
-IsKnown rules (ArpReply asker address target) = Unit {0}
-IsKnown rules (CallAnswer caller address answer) = Unit {0}
 IsKnown rules (Again frame) = BringsNone rules frame
-IsKnown rules (ReadyCall address ready) = Unit {0}
-IsKnown rules (Ends farewell) = Unit {0}
-IsKnown rules (Exchanges route frame) = Unit {0}
+IsKnown rules other = Unit {0}
 
 and_false : (a b : Bool) → b ≡ false → (a && b) ≡ false
 and_false true b e = e
@@ -133,11 +126,7 @@ IsAddressed (Leaves route header reason) = IsWay route
 -- the outputs that are sent are those of the current image
 abbrev pub IsNow : Image → Message → Type 0
 IsNow shown (Cycles route other counter) = other ≡ shown
-IsNow shown (Requests device request) = Unit {0}
-IsNow shown (Agrees caller answer) = Unit {0}
-IsNow shown (Confirms route header ack) = Unit {0}
-IsNow shown (Replies route header) = Unit {0}
-IsNow shown (Leaves route header reason) = Unit {0}
+IsNow shown other = Unit {0}
 
 module _ (setup : Setup) (identity : Identity) where
   abbrev rules : Outputs Image Image
@@ -317,9 +306,7 @@ module _ (setup : Setup) (identity : Identity) where
 
     alarm_id : (kind : PduType) → (big_number 2 (big_bytes 2 (frame_id_of kind)) == 0xC000) ≡ false
     alarm_id pdu.Data = refl
-    alarm_id pdu.Ack = refl
-    alarm_id pdu.Nack = refl
-    alarm_id pdu.Error = refl
+    alarm_id kind = refl
 
     multicast_six : IsMac identify_multicast
     unfolding identify_multicast

@@ -27,11 +27,7 @@ ArePlacedOnce setup = (slot subslot : ℕ) → times_listed Data slot subslot (p
 -- the outputs that the controller sends after a move
 abbrev pub shown_with : Live → Move → Image
 shown_with live (move.Give slot subslot value) = (given live slot subslot value.items).cyclic.shown
-shown_with live (move.Deliver end number) = live.cyclic.shown
-shown_with live (move.Tick end) = live.cyclic.shown
-shown_with live (move.Input slot subslot value) = live.cyclic.shown
-shown_with live (move.Alarm slot subslot octets) = live.cyclic.shown
-shown_with live move.Stop = live.cyclic.shown
+shown_with live other = live.cyclic.shown
 
 -- one more move
 last_more : (place : Place) (last : Option (List ℕ)) (moves : List Move) (one : Move) → last_given place last (moves ++ one ∷ []) ≡ given_by place one (last_given place last moves)
@@ -110,11 +106,7 @@ fit_by place (move.Give slot subslot value) last fit = by_test ((place.slot == s
     by_test true true e = e
     by_test true false e = fit
     by_test false c e = fit
-fit_by place (move.Deliver end number) last fit = fit
-fit_by place (move.Tick end) last fit = fit
-fit_by place (move.Input slot subslot value) last fit = fit
-fit_by place (move.Alarm slot subslot octets) last fit = fit
-fit_by place move.Stop last fit = fit
+fit_by place other last fit = fit
 
 all_fit : (place : Place) (last : Option (List ℕ)) (moves : List Move) → IsFit place last → IsFit place (last_given place last moves)
 all_fit place last [] fit = fit

@@ -25,11 +25,9 @@ EthernetHeader = ValueOf ethernet
 tag_fits : (tag : Option ℕ) (content : Content) → IsTag tag → tag_and_type.Fits (tag, type_of content)
 unfolding tag_and_type
 tag_fits None (RealTime frame_id body) is = (omega arith, refl)
-tag_fits None (ArpPacket packet) is = (omega arith, refl)
-tag_fits None (UdpDatagram from to body) is = (omega arith, refl)
 tag_fits (Some tag) (RealTime frame_id body) is = (omega arith, (omega (arith, is), omega arith))
-tag_fits (Some tag) (ArpPacket packet) is = (omega arith, (omega (arith, is), omega arith))
-tag_fits (Some tag) (UdpDatagram from to body) is = (omega arith, (omega (arith, is), omega arith))
+tag_fits None other is = (omega arith, refl)
+tag_fits (Some tag) other is = (omega arith, (omega (arith, is), omega arith))
 
 header_fits : (meaning : Meaning) → IsMac meaning.destination → IsMac meaning.source → IsTag meaning.tag → ethernet.Fits (header_of meaning)
 unfolding ethernet mac

@@ -339,16 +339,9 @@ module _ (setup : Setup) (station : Station) where
           (more_kept (BringsNone rules) (kept_for station.identity answers.call answer) live.rest.calls (message_silent setup station.identity sound apart answer first.0 tt) silent)
 
       owed_known : (message : Sent) → IsOwed heard live message → IsKnown rules message
-      owed_known (IdentifyAnswer asker running xid) owed = tt
-      owed_known (GetAnswer asker running request) owed = tt
-      owed_known (SetAnswer asker request answers) owed = tt
-      owed_known (ArpReply asker address target) owed = tt
-      owed_known (CallAnswer caller address answer) owed = tt
       owed_known (Again frame) owed =
           subst (λ (f : List ℕ). BringsNone rules f) owed.same (kept_at (BringsNone rules) owed.call.header.activity live.rest.calls silent owed.kept owed.there)
-      owed_known (ReadyCall address ready) owed = tt
-      owed_known (Ends farewell) owed = tt
-      owed_known (Exchanges route frame) owed = tt
+      owed_known other owed = tt
 
       all_known : (sent : List Sent) → AllByRecursion (IsOwed heard live) sent → AllByRecursion (IsKnown rules) sent
       all_known [] owed = tt

@@ -119,6 +119,4 @@ six_heard sound mine octets = six_read sound mine octets (frame_of octets) refl
 -- any event at a controller
 pub six_event : IsSoundWhole layers → (setup : Setup) (event : Event) → IsSixAt setup event
 six_event sound setup (Frame bytes) = six_heard sound setup.plan.controller bytes.items
-six_event sound setup Tick = tt
-six_event sound setup (Give slot subslot value) = tt
-six_event sound setup Stop = tt
+six_event sound setup other = tt

@@ -66,25 +66,18 @@ IsSaid shown message = IsNow shown message × IsAddressed message
 
 -- the station that is heard has a MAC address of six octets
 abbrev pub IsSix : Heard → Type 0
-IsSix Nothing = Unit {0}
 IsSix (Answers source answer) = IsMac source
-IsSix (Responds response) = Unit {0}
 IsSix (Calls caller call) = IsMac caller.mac
-IsSix (Comes source frame_id body) = Unit {0}
-IsSix (Alarms source header reported) = Unit {0}
+IsSix other = Unit {0}
 
 abbrev pub IsSixAt : Setup → Event → Type 0
 IsSixAt setup (Frame bytes) = IsSix (heard_of setup.plan.controller bytes.items)
-IsSixAt setup Ticks = Unit {0}
-IsSixAt setup (Give slot subslot value) = Unit {0}
-IsSixAt setup Stop = Unit {0}
+IsSixAt setup other = Unit {0}
 
 -- the outputs that are sent after an event; a value that is set is among them
 abbrev pub shown_behind : Live → Event → Image
-shown_behind live (Frame bytes) = live.cyclic.shown
-shown_behind live Ticks = live.cyclic.shown
 shown_behind live (Give slot subslot value) = (given live slot subslot value.items).cyclic.shown
-shown_behind live Stop = live.cyclic.shown
+shown_behind live other = live.cyclic.shown
 
 -- the station that is heard then has a MAC address of six octets, and no output is set
 abbrev IsSixIn : Came → Type 0
@@ -219,20 +212,18 @@ module _ (size : ℕ) where
     kind_tells (Releases why) holds = released_tells setup why live k
     kind_tells (Relates chosen) holds = related_tells setup live chosen k
     kind_tells (Writes number) holds = let next = writing_from setup.plan (number + 1) in asking_tells (phase_for next) next live k
-    kind_tells Waits holds = record { reported = tt; kept = k; same = refl }
-    kind_tells Forgets holds = record { reported = tt; kept = k; same = refl }
     kind_tells (Begins caller call block) holds = record { reported = ((tt, readied_tells caller call block holds.1), tt); kept = k; same = refl }
     kind_tells (Repeats caller call block) holds = record { reported = ((tt, readied_tells caller call block holds.1), tt); kept = k; same = refl }
     kind_tells (Follows source frame_id body) holds =
         let keeps = frame_keeps live.cyclic source frame_id body in
         record { reported = tt; kept = with_cyclic live (behind_frame live.cyclic source frame_id body) keeps.0 (ap (λ (image : Image). image.data_length) keeps.1) k; same = keeps.1 }
     kind_tells (Takes number alarm) holds = taken_tells (behind_data live number) alarm (taken_as live.alarms.seen number) k
-    kind_tells (IsAcked number) holds = record { reported = tt; kept = k; same = refl }
     kind_tells (Gives slot subslot value) holds = absurd (subst (λ (c : Came). IsSixIn c) holds six)
     kind_tells Flows holds = flowed_tells (flow_later live) (is_again live) (brought live) None k
     kind_tells (Breaks reason) holds = flowed_tells (flow_later live) (is_again live) (brought live) (Some reason) k
     kind_tells Idles holds =
         record { reported = due_tells live.cyclic.shown (is_again live) (requests_of live.device live.asked) (request_tells live.cyclic.shown live.device live.asked k.device); same = refl; kept = k }
+    kind_tells other holds = record { reported = tt; kept = k; same = refl }
 
     came_tells : (turn : Turn) → IsTurn setup live came turn → Tells live.cyclic.shown turn
     came_tells turn of = subst (λ (t : Turn). Tells live.cyclic.shown t) (sym of.is) (kind_tells of.kind of.holds)

@@ -1,5 +1,5 @@
--- One turn of a device: what becomes of its relation, of the responses that it stores, and what it sends, as far as
--- outputs and alarms are concerned.
+-- One turn of a device: what it does, and what becomes of its relation, of the responses that it stores, and what it
+-- sends, as far as outputs and alarms are concerned.
 use Rattle.std.specs.Prelude.{◌≡◌, ◌⊎◌, ◌++◌, ℕ, List, [], ◌∷◌, Option, Some, None, option_map, Ok}
 use Rattle.std.specs.List.{AllByRecursion}
 use Rattle.pn_values.specs.declared.identity.Identity.{Identity}
@@ -42,6 +42,7 @@ use Rattle.device_frames.specs.Sent.{Sent, IdentifyAnswer, GetAnswer, SetAnswer,
 use Rattle.device_core.specs.State.{Live, Rest, Station}
 use Rattle.device_core.specs.Handled.{kept_for}
 use Rattle.end_laws.specs.device.Owed.{IsOwed}
+use Rattle.end_laws.specs.device.Does.{Does}
 
 -- ---- what stays the same of a relation
 
@@ -201,8 +202,9 @@ pub record Answers (identity : Identity) (before after : List Kept) (sent : List
 
 -- ---- a turn
 
--- one turn of a device: its kind, the response that it stores, and that each message is owed
+-- one turn of a device: what it does, its kind, the response that it stores, and that each message is owed
 pub record Turn (station : Station) (live : Live) (heard : Heard) (after : Rest) (sent : List Sent) : Type 0 where
+  pub does : Does station live heard after sent
   pub is : IsTurn station.real.modules.items live.rest.calls live.rest.link heard after.link sent
   pub answers : (after.calls ≡ live.rest.calls) ⊎ Answers station.identity live.rest.calls after.calls sent
   pub owed : AllByRecursion (IsOwed heard live) sent

@@ -11,6 +11,7 @@ ghost use Rattle.end_laws.specs.both.Small.{Rules};
 ghost use Rattle.end_laws.specs.both.Steps.{DeviceSteps};
 ghost use Rattle.end_laws.specs.device.Small.{IsHeardAs, IsPlanned, heard_as, small_of};
 
+use crate::device::turn::device_turns;
 use records::refusals_are_not_done;
 
 /// A device refines its small machine, as far as a start-up is concerned. This is a law of the machine by which each
@@ -25,5 +26,6 @@ pub fn device_goes_on()
         → DeviceSteps rules (heard_as heard) (small_of activity live) (small_of activity (heard_step outcomes station live heard).live)
         (heard_step outcomes station live heard).frames }
 {
+    device_turns();
     refusals_are_not_done();
 }

@@ -11,6 +11,8 @@ ghost use Rattle.end_laws.specs.both.Small.{Rules};
 ghost use Rattle.end_laws.specs.device.Small.{IsPlanned};
 ghost use Rattle.end_laws.specs.device.Owed.{IsOwed};
 
+use crate::device::turn::device_turns;
+
 /// A device sends only what it owes, as far as responses and ApplicationReady are concerned. This is a law of the
 /// machine by which each step of a device is specified.
 pub fn device_sends_what_it_owes()
@@ -19,4 +21,6 @@ pub fn device_sends_what_it_owes()
     ensures { (rules : Rules TakenRecord Request) (activity : List ℕ) (outcomes : List Outcome) (station : Station) (live : Live)
         (heard : Heard) → IsPlanned rules activity station.real heard
         → AllByRecursion (IsOwed heard live) (heard_step outcomes station live heard).sent }
-{}
+{
+    device_turns();
+}

@@ -10,12 +10,15 @@ ghost use Rattle.end_laws.specs.both.Small.{Rules};
 ghost use Rattle.end_laws.specs.device.Small.{IsPlanned};
 ghost use Rattle.end_laws.specs.device.Turn.{IsRaise, Turn};
 
-/// Each turn of a device, as far as outputs and alarms are concerned. This is a law of the machine by which each step
-/// of a device is specified. The laws of outputs and of alarms use it.
+/// Each turn of a device: the operation and the outcome of each response, what is sent, and the relation afterwards. This
+/// is a law of the machine by which each step of a device is specified. The laws of start-up, of outputs and of alarms use
+/// it.
 pub fn device_turns()
-    // If each call that a device hears is one of the start-up: what its outputs and alarms depend on stays the same, or
-    // changes as a Connect, a cyclic frame, an alarm frame, an alarm or a unit of time changes it; a response that is
-    // newly stored was sent now; and each message is owed. This holds whatever the flash did.
+    // If each call that a device hears is one of the start-up: it does nothing, something that is no call, what the
+    // response to ApplicationReady confirms, or what a call with this operation and this outcome does to the relation, or
+    // it repeats a response; what its outputs and alarms depend on stays the same, or changes as a Connect, a cyclic frame,
+    // an alarm frame, an alarm or a unit of time changes it; a response that is newly stored was sent now; and each message
+    // is owed. This holds whatever the flash did.
     ensures turn { (rules : Rules TakenRecord Request) (activity : List ℕ) (outcomes : List Outcome) (station : Station) (live : Live)
         (heard : Heard) → IsPlanned rules activity station.real heard
         → Turn station live heard (heard_step outcomes station live heard).live.rest (heard_step outcomes station live heard).sent }

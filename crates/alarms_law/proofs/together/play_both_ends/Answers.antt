@@ -1,5 +1,5 @@
 -- This follows from the laws of both ends, for the world that was begun.
-use Rattle.std.proofs.Common.{sym, subst}
+use Rattle.std.proofs.Common.{subst}
 use Rattle.pn_values.specs.declared.real.Real.{Real}
 use Rattle.alarms_law.specs.Sized.{AreSizedModules}
 use Rattle.alarms_law.proofs.Both.{Laws, cut_so, on_bad, on_good, played_so}

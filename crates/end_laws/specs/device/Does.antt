@@ -1,0 +1,159 @@
+-- What one turn of a device does: nothing; something that is no call; that a response confirms ApplicationReady; that a
+-- response is sent again; or that a call is answered, with its operation, its outcome and the relation afterwards.
+use Rattle.std.specs.Prelude.{◌≡◌, ◌⊎◌, ◌++◌, ℕ, List, [], ◌∷◌, Option, Some, None, option_map, Result, Ok, Err}
+use Rattle.std.specs.List.{AllByRecursion}
+use Rattle.frame_codec.specs.declared.udp.Caller.{Caller}
+use Rattle.rpc_core.specs.Cache.{Kept, kept_more, kept_of, looked, new}
+use Rattle.rpc_core.specs.Call.{Asked as Call}
+use Rattle.rpc_core.specs.Sendable.{IsStatus}
+use Rattle.connect_requests.specs.Request.{Request}
+use Rattle.records.specs.declared.status.call_fault.CallFault.{CallFault}
+use Rattle.records.specs.declared.status.operation.Operation.{Operation}
+use Rattle.records.specs.declared.status.operation.Operation.TheVariants as operation
+use Rattle.records.specs.status.Operation.{operation_of}
+use Rattle.records.specs.declared.writes.taken.TakenRecord.{TakenRecord}
+use Rattle.records.specs.declared.writes.write.Effect.TheVariants.{Keeps}
+use Rattle.records.specs.declared.writes.write.Write.{Write}
+use Rattle.records.specs.writes.Handled.{write_of}
+use Rattle.relations.specs.declared.phase.Phase.TheVariants.{Started, Awaiting}
+use Rattle.relations.specs.declared.ready.Ready.{Ready}
+use Rattle.relations.specs.Connect.{connect_blocks, connect_of, differing_of, rows_of}
+use Rattle.relations.specs.Phases.{awaiting_from, exchanging_from, made_of, restarted, with_taken}
+use Rattle.relations.specs.RelationState.{RelationState, uuid_of}
+use Rattle.device_frames.specs.Heard.{Heard, Calls, Reported}
+use Rattle.device_frames.specs.Sent.{Sent, CallAnswer, Again, ReadyCall}
+use Rattle.device_core.specs.Handled.{answer_from, kept_for, outcome_of, partner_of}
+use Rattle.device_core.specs.State.{Live, Rest, Station}
+use Rattle.end_laws.specs.both.Small as small
+use Rattle.end_laws.specs.device.Owed.{IsOfRelation}
+use Rattle.end_laws.specs.device.Small.{heard_as, link_of}
+
+-- ---- messages
+
+-- the relation waits for the response to ApplicationReady
+pub record IsAwaiting (relation : Option RelationState) : Type 0 where
+  pub link : RelationState
+  pub is : relation ≡ Some link
+  pub awaits : link.phase ≡ Awaiting
+
+-- ApplicationReady of the relation that existed, which waits for its response afterwards
+abbrev pub IsReadied : Live → Option RelationState → Ready → Type 0
+IsReadied live after ready = IsOfRelation live.rest.link ready × IsAwaiting after
+
+-- a message that is not a response to a call
+abbrev pub IsOther : Live → Option RelationState → Sent → Type 0
+IsOther live after (CallAnswer caller address answer) = ⊥
+IsOther live after (Again frame) = ⊥
+IsOther live after (ReadyCall address ready) = IsReadied live after ready
+IsOther live after message = Unit {0}
+
+-- ---- turns without a call
+
+-- nothing changes, and nothing is sent
+pub record Rests (live : Live) (after : Rest) (sent : List Sent) : Type 0 where
+  pub same : after ≡ live.rest
+  pub silent : sent ≡ []
+
+-- something happens that says nothing of a start-up: the relation keeps its phase, its request and its records, or ends
+pub record GoesBy (live : Live) (heard : Heard) (after : Rest) (sent : List Sent) : Type 0 where
+  pub idle : heard_as heard ≡ small.Idle
+  pub calls : after.calls ≡ live.rest.calls
+  pub link : (option_map link_of after.link ≡ option_map link_of live.rest.link) ⊎ (option_map link_of after.link ≡ None)
+  pub others : AllByRecursion (IsOther live after.link) sent
+
+-- the response that confirms ApplicationReady, while the relation waits for it
+pub record Confirms (live : Live) (heard : Heard) (after : Rest) (sent : List Sent) : Type 0 where
+  pub confirms : heard_as heard ≡ small.Confirms
+  pub link : RelationState
+  pub was : live.rest.link ≡ Some link
+  pub awaits : link.phase ≡ Awaiting
+  pub becomes : after ≡ record live.rest { link = Some (exchanging_from link) }
+  pub silent : sent ≡ []
+
+-- ---- calls
+
+-- the call that was answered last: its response is sent again
+pub record Repeats (live : Live) (heard : Heard) (after : Rest) (sent : List Sent) : Type 0 where
+  pub caller : Caller
+  pub address : List ℕ
+  pub call : Call
+  pub is : heard ≡ Reported caller address (Calls call)
+  pub kept : Kept
+  pub there : kept_of call.header.activity live.rest.calls ≡ Some kept
+  pub number : kept.sequence ≡ call.header.sequence
+  pub same : after ≡ live.rest
+  pub sends : sent ≡ Again kept.frame ∷ []
+
+-- a Connect is accepted, and its response says what differs
+pub record Connected (station : Station) (caller : Caller) (blocks octets : List ℕ) (before after : Option RelationState) : Type 0 where
+  pub request : Request
+  pub read : connect_of before blocks ≡ Ok request
+  pub made : after ≡ Some (made_of request (partner_of caller) (rows_of request station.real))
+  pub answer : octets ≡ connect_blocks station.identity request (differing_of request station.real)
+
+-- a Write is accepted, and the relation has one more record
+pub record Written (station : Station) (blocks : List ℕ) (before after : Option RelationState) : Type 0 where
+  pub link : RelationState
+  pub was : before ≡ Some link
+  pub write : Write
+  pub judged : write_of (uuid_of before) station.real blocks ≡ Ok write
+  pub value : TakenRecord
+  pub keeps : write.effect ≡ Keeps value
+  pub becomes : after ≡ Some (restarted (with_taken (link.taken ++ value ∷ []) link))
+
+-- a PrmEnd is accepted
+pub record Parameterized (before after : Option RelationState) : Type 0 where
+  pub link : RelationState
+  pub was : before ≡ Some link
+  pub started : link.phase ≡ Started
+  pub becomes : after ≡ Some (awaiting_from link)
+
+-- a Release is accepted
+pub record Released (before after : Option RelationState) : Type 0 where
+  pub link : RelationState
+  pub was : before ≡ Some link
+  pub gone : after ≡ None
+
+-- what a call does to the relation, by its outcome and its operation
+abbrev pub IsEffect : Station → Caller → List ℕ → Result (List ℕ) CallFault → Operation → Option RelationState → Option RelationState → Type 0
+IsEffect station caller blocks (Err fault) which before after = after ≡ before
+IsEffect station caller blocks (Ok octets) operation.Connect before after = Connected station caller blocks octets before after
+IsEffect station caller blocks (Ok octets) operation.Write before after = Written station blocks before after
+IsEffect station caller blocks (Ok octets) operation.Control before after = Parameterized before after
+IsEffect station caller blocks (Ok octets) operation.Release before after = Released before after
+IsEffect station caller blocks (Ok octets) operation.Read before after = ⊥
+IsEffect station caller blocks (Ok octets) operation.ReadImplicit before after = ⊥
+
+-- ApplicationReady behind a response, if there is one
+abbrev pub AreReadied : Live → Option RelationState → Option Ready → Type 0
+AreReadied live after None = Unit {0}
+AreReadied live after (Some ready) = IsReadied live after ready
+
+abbrev pub readied_from : List ℕ → Option Ready → List Sent
+readied_from address None = []
+readied_from address (Some ready) = ReadyCall address ready ∷ []
+
+-- a new call is answered, and the response is stored
+pub record Serves (station : Station) (live : Live) (heard : Heard) (after : Rest) (sent : List Sent) : Type 0 where
+  pub caller : Caller
+  pub address : List ℕ
+  pub call : Call
+  pub is : heard ≡ Reported caller address (Calls call)
+  pub blocks : List ℕ
+  pub counted : call.blocks ≡ Some blocks
+  pub fresh : looked call.header.activity call.header.sequence live.rest.calls ≡ new
+  pub which : Operation
+  pub asks : operation_of call.header.operation ≡ Some which
+  pub outcome : Result (List ℕ) CallFault
+  pub status : IsStatus (outcome_of which outcome).0
+  pub effect : IsEffect station caller blocks outcome which live.rest.link after.link
+  pub ready : Option Ready
+  pub readied : AreReadied live after.link ready
+  pub keeps : after.calls ≡ kept_more 4 (kept_for station.identity call (answer_from live.values.running.suite.address caller call which outcome)) live.rest.calls
+  pub sends : sent ≡ answer_from live.values.running.suite.address caller call which outcome ∷ readied_from live.values.running.suite.address ready
+
+-- ---- a turn
+
+abbrev pub Does : Station → Live → Heard → Rest → List Sent → Type 0
+Does station live heard after sent =
+    Rests live after sent ⊎ (GoesBy live heard after sent ⊎ (Confirms live heard after sent ⊎ (Repeats live heard after sent ⊎ Serves station live heard after sent)))
