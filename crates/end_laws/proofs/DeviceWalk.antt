@@ -42,7 +42,7 @@ use Rattle.relations.specs.declared.hearing.ReadyAnswer.TheVariants as to_ready
 use Rattle.relations.specs.RelationState.{RelationState, flow_of, is_alarm_of, uuid_of, is_started, is_awaiting, phase_of}
 use Rattle.relations.specs.Phases.{Ended, Exchanged, Named, Parameterized, answered, awaiting_from, keeping, updated, passing, passing_by, taking, Confirmed, made_of, with_flow, restarted, with_taken}
 use Rattle.relations.specs.Calls.{done_of, prm_end_of, release_of, control_block, in_started, named_of}
-use Rattle.relations.specs.Connect.{connect_blocks, connect_of, differing_of, making, rows_of}
+use Rattle.relations.specs.Connect.{connect_blocks, connect_within, differing_of, making, rows_of}
 use Rattle.relations.specs.Ready.{answer_of as ready_answer, confirmed_block, confirmed_by, is_wanted, is_answer_to, ready_of}
 use Rattle.relations.specs.Timers.{due_by, due_of, ending_of, is_again, unit_later}
 use Rattle.relations.specs.Exchanged.{given_to, heard_by, hearing, raised_to, received_by, receiving, hearing_as, receiving_as}
@@ -57,6 +57,7 @@ use Rattle.device_core.specs.Handled.{Handled, Refuses, Sets, Moves, is_running,
 use Rattle.device_core.specs.Machine.{resets, farewells_at, finished, items_in, handled_step, heard_step, link_after}
 use Rattle.end_laws.specs.both.Small.{Rules}
 use Rattle.end_laws.specs.device.Owed.{IsOwed}
+use Rattle.end_laws.proofs.DeviceConnects.{unlimited}
 use Rattle.end_laws.proofs.DeviceOwing.{IsPlainIn, connect_plain, keeping_plain, outcome_sized, prm_plain, release_plain, write_plain, IsPlain, bind_ok}
 use Rattle.rpc_core.specs.Response.{Answered as Response, answer_to, is_done}
 use Rattle.relations.specs.Farewells.{farewell_of}
@@ -559,12 +560,12 @@ module _ (rules : Rules TakenRecord Request) (activity : List ℕ) (station : St
           → Comes_to heard (served station live caller call which (Err why) link [])
       fails which why link asks plain was = serves which (Err why) link None asks plain (sym was) tt
 
-      connects_as : (request : Result Request CallFault) → operation_of call.header.operation ≡ Some operation.Connect → connect_of before blocks ≡ request → IsPlainIn request
+      connects_as : (request : Result Request CallFault) → operation_of call.header.operation ≡ Some operation.Connect → connect_within station.options.smallest_interval before blocks ≡ request → IsPlainIn request
           → Comes_to heard (served station live caller call operation.Connect (request >>= λ r. Ok (connect_blocks station.identity r (differing_of r station.real)))
           (updated (making station.real (partner_of caller) request) before) [])
       connects_as (Ok request) asks read plain =
           serves operation.Connect (Ok (connect_blocks station.identity request (differing_of request station.real))) (Some (made_of request (partner_of caller) (rows_of request station.real))) None asks tt
-          (record { request = request; read = read; made = refl; answer = refl }) tt
+          (record { request = request; read = unlimited station.options.smallest_interval before blocks request read; made = refl; answer = refl }) tt
       connects_as (Err why) asks read plain = fails operation.Connect why before asks plain refl
 
       keeps_as : (header : IodWriteReq) (write : Write) (value : TakenRecord) (link : Option RelationState) (kept : Result (List TakenRecord) CallFault) → operation_of call.header.operation ≡ Some operation.Write
@@ -616,7 +617,8 @@ module _ (rules : Rules TakenRecord Request) (activity : List ℕ) (station : St
 
       new_call : (which : Operation) → operation_of call.header.operation ≡ Some which → IsPlannedAs rules station.real call.header.sequence blocks (Some which)
           → Comes_to heard (handled_new station live caller call blocks which)
-      new_call operation.Connect asks plan = connects_as (connect_of before blocks) asks refl (connect_plain before blocks rules.request plan)
+      new_call operation.Connect asks plan = connects_as (connect_within station.options.smallest_interval before blocks) asks refl
+          (connect_plain station.options.smallest_interval before blocks rules.request plan)
       new_call operation.Release asks plan = releases_as before (release_of before blocks) asks refl refl (release_plain before blocks)
       new_call operation.Write asks plan = writes_as (write_of (uuid_of before) station.real blocks) asks refl (write_plain (uuid_of before) station.real blocks) plan
       new_call operation.Control asks plan = controls_as before (prm_end_of before blocks) asks refl refl (prm_plain before blocks)
