@@ -1,11 +1,10 @@
--- The controller of the plan that a host wrote.
+-- The configuration of the controller of the plan that a host wrote.
 use Rattle.std.proofs.Common.{◌∙◌, ap, sym}
 use Rattle.plans.specs.declared.parts.Parts.{Parts}
-use Rattle.controller_core.specs.Machine.{fresh}
+use Rattle.controller_frames.specs.declared.setup.Setup.{Setup}
 use Rattle.controller_abi.specs.Plans.{parts_of}
-use Rattle.controller_abi.specs.State.{opened}
 use Rattle.controller_abi.proofs.Ranges.{not_long, plan_is, planned_in, written_in}
-use Rattle.controller_abi.proofs.plan.port_of.Goals as goal
+use Rattle.controller_abi.proofs.plan.unstarted.Goals as goal
 
 pub planned-requires : goal.planned-requires
 planned-requires c = (planned_in c.args.written.now c.requires).0
@@ -20,12 +19,12 @@ pub real_in-requires-clause-small : goal.real_in-requires-clause-small
 real_in-requires-clause-small c = (written_in c.args.written.now (planned_in c.args.written.now c.requires).0).small_modules
 
 -- The modules beside the plan are those of the plan.
-pub new-requires : goal.new-requires
-new-requires c =
+pub unstarted-requires : goal.unstarted-requires
+unstarted-requires c =
     let plan = plan_is (parts_of c.args.written.now) c.in-Ok.plan c.in-Ok.ensures in
     c.real_in.ensures ∙ sym (ap (λ (parts : Parts). parts.real) plan)
 
 pub returns : goal.returns
 returns c =
     let plan = plan_is (parts_of c.args.written.now) c.in-Ok.plan c.in-Ok.ensures in
-    c.new.ensures ∙ (λ i. opened (fresh (plan i) (c.from_bytes.ensures i) (c.from_bytes-in-Ok.ensures i)))
+    c.unstarted.ensures ∙ (λ i. record { plan = plan i; ar = c.from_bytes.ensures i; activity = c.from_bytes-in-Ok.ensures i })
