@@ -1,11 +1,12 @@
 #!/usr/bin/env python3
 """Measures the library for C through its header: its size, the symbols that it wants, how deep each call goes into the stack, and the
 instructions of each turn of an exchange of 40 octets, beside those of the same work in plain C behind the same calls
-(bench/figures/library_plain.c), which does it unit by unit. Its status is 1 where a call takes more than 24,576 octets of stack, where a
-turn takes more instructions than its bound, or where both do not send as many frames.
+(bench/figures/library_plain.c), which does it unit by unit. Then how deep each call of the library of a controller goes, from its start to
+the exchange of data. Its status is 1 where a call takes more than 24,576 octets of stack, where a turn takes more instructions than its
+bound, or where both do not send as many frames.
 
 Needs cc and valgrind. Use: bench/figures/library.py [ARCHIVE]   (that of the plain Rust edition if left out, which
-bench/release/library-check builds)
+bench/release/library-check builds; the archive of a controller is that of the plain Rust edition, and is made here)
 """
 
 import os
@@ -18,7 +19,9 @@ sys.path.insert(0, os.path.join(os.path.dirname(os.path.realpath(__file__)), "..
 import exchange
 from program import TOP, answer_help, need, refuse
 
-ARCHIVE = os.path.join(TOP, "out", "plain-rust", "target", "release", "libnandutable.a")
+EDITION = os.path.join(TOP, "out", "plain-rust")
+ARCHIVE = os.path.join(EDITION, "target", "release", "libnandutable.a")
+CONTROLLER = os.path.join(EDITION, "target", "release", "libnandutable_controller.a")
 CALLS = ("pn_judge", "pn_put", "pn_step")
 DEEPEST = 24_576
 TURNS = 1_000
@@ -34,8 +37,8 @@ KINDS = {
 }
 
 
-def run(words, given=b""):
-    ran = subprocess.run(words, input=given, capture_output=True)
+def run(words, given=b"", folder=None):
+    ran = subprocess.run(words, input=given, capture_output=True, cwd=folder)
     if ran.returncode != 0:
         sys.exit(f"library: {' '.join(words[:2])} ..: status {ran.returncode} {ran.stderr.decode()[-300:]}")
     return ran.stdout.decode()
@@ -78,12 +81,35 @@ def counted(program, plain, folder):
     return is_kept
 
 
+def painted(program, given, deepest):
+    """Plays these lines. Notes the deepest stack of each call, and returns what else the program printed."""
+    others = []
+    for line in run([program, "stack"], given).splitlines():
+        call, number = line.split()
+        if call.startswith("pn_"):
+            deepest[call] = max(deepest.get(call, 0), int(number))
+        else:
+            others.append(line)
+    return others
+
+
+def controller(folder, deepest):
+    """The stack of each call of a controller, from its start to the exchange of data."""
+    run(["cargo", "build", "--release", "--quiet", "-p", "nandutable_controller"], folder=EDITION)
+    program = os.path.join(folder, "controller")
+    source = os.path.join(TOP, "bench", "figures", "library_controller.c")
+    run(["cc", "-std=gnu11", "-O2", "-pthread", "-I" + os.path.join(TOP, "include"), source, CONTROLLER, "-o", program])
+    lines = run([os.path.join(TOP, "bench", "figures", "controller.py"), "--lines", "a start-up", "1"])
+    if painted(program, (lines + "tick 32\n").encode(), deepest) != ["state 7"]:
+        sys.exit("library: the controller does not exchange data after the lines of a start-up")
+
+
 def main(words):
     answer_help(__doc__, words)
     if len(words) > 1 or words and not os.path.exists(words[0]):
         return refuse(words)
     archive = words[0] if words else ARCHIVE
-    need("cc", "valgrind", "ld", "nm", "size")
+    need("cc", "cargo", "valgrind", "ld", "nm", "size")
     if not os.path.exists(archive):
         sys.exit(f"library: {archive} is not built: bench/release/library-check builds it")
     with tempfile.TemporaryDirectory() as folder:
@@ -99,9 +125,8 @@ def main(words):
         run([*cc, os.path.join(here, "library_plain.c"), "-o", plain])
         deepest = {}
         for name in sorted(name for name in os.listdir(os.path.join(TOP, "examples")) if name.endswith(".txt")):
-            for line in run([program, "stack"], script(name)).splitlines():
-                call, depth = line.split()
-                deepest[call] = max(deepest.get(call, 0), int(depth))
+            painted(program, script(name), deepest)
+        controller(folder, deepest)
         for call, depth in deepest.items():
             print(f"deepest stack of {call}: {depth} octets{'' if depth <= DEEPEST else f', more than {DEEPEST}'}")
         is_kept = counted(program, plain, folder)
