@@ -29,7 +29,7 @@ use Rattle.controller_core.specs.declared.event.Event.TheVariants.{Frame}
 use Rattle.controller_core.specs.State.{Live}
 use Rattle.controller_core.specs.Answers.{is_answer, is_call}
 use Rattle.controller_core.specs.Machine.{Turn, stays, over, next_sequence, released, writing, standing, behind_data, confirming, taken, is_again, where_due, requests_of, acks_in, acks_of, outputs_of, flow_later, due_frames, brought, turn_of}
-use Rattle.message_laws.specs.turns.Turns.{Came, Hears, IsGranted, IsKind, IsReadied, IsTurn, Kind, Rests, Connects, Addresses, Ends, Releases, Relates, Writes, Waits, Forgets, Begins, Repeats, Takes, Flows, Breaks, Idles, came_by, turn_by}
+use Rattle.end_laws.specs.turns.Turns.{Came, Hears, IsGranted, IsKind, IsReadied, IsTurn, Kind, Rests, Connects, Addresses, Ends, Releases, Relates, Writes, Waits, Forgets, Begins, Repeats, Takes, Flows, Breaks, Idles, came_by, turn_by}
 use Rattle.end_laws.specs.both.Small as small
 use Rattle.end_laws.specs.both.Small.{Controller, ToController, ToDevice}
 use Rattle.end_laws.specs.both.Steps.{SaysToDevice}

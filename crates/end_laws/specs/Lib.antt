@@ -1,3 +1,6 @@
+pub mod hearing
+pub mod turns
+pub mod sending
 pub mod both
 pub mod device
 pub mod controller

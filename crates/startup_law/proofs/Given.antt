@@ -36,9 +36,9 @@ use Rattle.controller_core.specs.declared.event.Event.{Event}
 use Rattle.controller_core.specs.Machine.{first, step_of, turn_of}
 use Rattle.controller_core.specs.State.{Controlling, Live as ControllerLive}
 use Rattle.codec_laws.specs.frames.Sendable.{IsHolder, IsMac, IsTag, carrying}
-use Rattle.message_laws.specs.hearing.Hearing.{IsUncalled, IsUnreported, all_hears, comes, mine_reported, own_reported}
-use Rattle.message_laws.specs.hearing.Stations.{IsAddress, IsCalled, IsCaller, IsDevice, IsNumbered, IsSetup, ready_call}
-use Rattle.message_laws.specs.sending.Addressed.{IsAimed, IsAimedAt, IsEventFrom}
+use Rattle.end_laws.specs.hearing.Hearing.{IsUncalled, IsUnreported, all_hears, comes, mine_reported, own_reported}
+use Rattle.end_laws.specs.hearing.Stations.{IsAddress, IsCalled, IsCaller, IsDevice, IsNumbered, IsSetup, ready_call}
+use Rattle.end_laws.specs.sending.Addressed.{IsAimed, IsAimedAt, IsEventFrom}
 use Rattle.end_laws.specs.both.Small as small
 use Rattle.end_laws.specs.both.Small.{Exchanges, Exchanging, RelationState, Move, Rules, World}
 use Rattle.end_laws.specs.both.StartUp.{Begins, IsRun, last_of}

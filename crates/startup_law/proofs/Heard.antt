@@ -55,9 +55,9 @@ use Rattle.controller_frames.specs.Sent.{answer_frame, call_frame, calls_at, ide
 use Rattle.controller_core.specs.Answers.{is_ready}
 use Rattle.controller_core.specs.Machine.{ready_in}
 use Rattle.codec_laws.specs.frames.Sendable.{IsHolder, IsMac, IsTag, carrying}
-use Rattle.message_laws.specs.hearing.Hearing.{IsUncalled, IsUnreported, all_hears, comes, mine_reported, own_reported}
-use Rattle.message_laws.specs.hearing.Stations.{IsAddress, IsCalled, IsCaller, IsDevice, IsNumbered, IsSetup, ready_call}
-use Rattle.message_laws.specs.sending.Addressed.{IsAimedAt, IsHeardFrom}
+use Rattle.end_laws.specs.hearing.Hearing.{IsUncalled, IsUnreported, all_hears, comes, mine_reported, own_reported}
+use Rattle.end_laws.specs.hearing.Stations.{IsAddress, IsCalled, IsCaller, IsDevice, IsNumbered, IsSetup, ready_call}
+use Rattle.end_laws.specs.sending.Addressed.{IsAimedAt, IsHeardFrom}
 use Rattle.end_laws.specs.both.Small as small
 use Rattle.end_laws.specs.both.Small.{ToController, ToDevice}
 use Rattle.end_laws.specs.both.Steps.{CallsWhile, SaysToDevice}

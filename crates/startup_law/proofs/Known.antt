@@ -30,8 +30,8 @@ use Rattle.network_world.specs.declared.moves.End.TheVariants.{Device, Controlle
 use Rattle.network_world.specs.declared.moves.Move.{Move}
 use Rattle.network_world.specs.declared.moves.Move.TheVariants as move
 use Rattle.network_world.specs.World.{World, AtDevice, Happens, at_controller}
-use Rattle.message_laws.specs.hearing.Stations.{IsDevice, IsSetup}
-use Rattle.message_laws.specs.sending.Addressed.{IsAimed, IsEventFrom}
+use Rattle.end_laws.specs.hearing.Stations.{IsDevice, IsSetup}
+use Rattle.end_laws.specs.sending.Addressed.{IsAimed, IsEventFrom}
 use Rattle.end_laws.specs.both.Small as small
 use Rattle.end_laws.specs.both.Small.{Rules, ToDevice}
 use Rattle.end_laws.specs.both.StartUp.{Begins as BeginsSmall, IsRun, last_of}

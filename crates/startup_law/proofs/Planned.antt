@@ -47,7 +47,7 @@ use Rattle.controller_frames.specs.declared.request.Request.TheVariants as asks
 use Rattle.controller_frames.specs.declared.setup.Setup.{Setup}
 use Rattle.controller_frames.specs.Requests.{blocks_of, call_for, write_blocks, write_of as write_asked}
 use Rattle.codec_laws.specs.blocks.Writable.{CanBeWritten}
-use Rattle.message_laws.specs.hearing.Stations.{IsCalled}
+use Rattle.end_laws.specs.hearing.Stations.{IsCalled}
 use Rattle.end_laws.specs.both.Small.{Rules}
 use Rattle.end_laws.specs.device.Small.{IsPlanned, IsPlannedAs, IsPlannedCall, IsPlannedIn, IsPlannedWrite}
 use Rattle.startup_law.specs.Played.{ArePlaced, IsParameter, IsPlaced}

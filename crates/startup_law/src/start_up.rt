@@ -14,14 +14,14 @@ use crate::connect_is_taken;
 use codec_laws::blocks_are_read;
 use connect_requests::ConnectRequest;
 use controller_frames::Setup;
-use end_laws::{controller_goes_on, device_goes_on, device_sends_what_it_owes, start_up_is_kept};
+use end_laws::{
+    calls_are_heard, calls_can_be_sent, controller_goes_on, datagrams_alone_are_calls,
+    device_goes_on, device_sends_what_it_owes, frames_are_messages, messages_are_addressed,
+    packets_are_heard, ready_answers_are_heard, ready_calls_are_heard, responses_are_heard,
+    start_up_is_kept, stations_are_real,
+};
 use flash_model::Flash;
 use frame_codec::formats_are_sound;
-use message_laws::{
-    calls_are_heard, calls_can_be_sent, datagrams_alone_are_calls, frames_are_messages,
-    messages_are_addressed, packets_are_heard, ready_answers_are_heard, ready_calls_are_heard,
-    responses_are_heard, stations_are_real,
-};
 use plans::{Plan, PlanRecord};
 use pn_values::Identity;
 use records::TakenRecord;

@@ -1,7 +1,7 @@
 //! Worlds that are begun and played in one call (`play_both_ends`), over a network that loses frames. Each frame has its number among all
 //! that were sent; a frame that is not delivered is lost. What both ends must show was worked out by hand.
 use crate::otherwise::{RECORDS, as_planned, station};
-use alarms_law::play_both_ends;
+use exchange_laws::play_both_ends;
 use configurator::plan_from_json;
 use controller_core::State;
 use controller_frames::Setup;

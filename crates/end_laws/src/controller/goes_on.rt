@@ -9,7 +9,7 @@ ghost use Rattle.controller_core.specs.Machine.{first, turn_of};
 ghost use Rattle.end_laws.specs.both.Small.{Seeking};
 ghost use Rattle.end_laws.specs.controller.Small.{GoesOn, IsInStep, said_in, small_of};
 
-use message_laws::turns_are_of_a_kind;
+use crate::turns::turns_are_of_a_kind;
 
 /// A controller refines its small machine, as far as a start-up is concerned. This is a law of the machine by which
 /// each step of a controller is specified.

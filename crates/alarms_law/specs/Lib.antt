@@ -1,3 +1,0 @@
-pub mod Sized
-pub mod Over
-pub mod Together

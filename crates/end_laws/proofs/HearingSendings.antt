@@ -1,0 +1,145 @@
+-- Each call of a controller for its plan can be sent.
+use Rattle.std.proofs.Common.{◌≡◌, ◌≤◌, ◌<◌, ◌+◌, ℕ, zero, suc, List, [], ◌∷◌, ◌++◌, length, Option, Some, None, true, refl, ap, ◌∙◌, arith}
+use Rattle.std.specs.List.{slice_get}
+use Rattle.std.proofs.lemmas.Bool.{leb-true}
+use Rattle.std.proofs.lemmas.List.{length-append}
+use Rattle.block_fields.specs.Fields.{body, version}
+use Rattle.connect_blocks.specs.Control.{command, control}
+use Rattle.connect_blocks.specs.ArBlock.{ar_block_req, ar_uuid, initiator_mac}
+use Rattle.connect_blocks.specs.declared.control.ControlBlock.{ControlBlock}
+use Rattle.record_blocks.specs.declared.write_record.IodWriteReq.{IodWriteReq}
+use Rattle.record_blocks.specs.RecordHeader.{record_header}
+use Rattle.record_blocks.specs.WriteRecord.{iod_write_req}
+use Rattle.block_codec.specs.declared.block.Block.{Block}
+use Rattle.block_codec.specs.declared.block.Block.TheVariants as is
+use Rattle.block_codec.specs.Block.{block_bytes, block_size, fields_of}
+use Rattle.rpc_core.specs.declared.interface.Interface.TheVariants.{Controller, Device}
+use Rattle.rpc_core.specs.Interface.{interface_uuid}
+use Rattle.plans.specs.declared.parts.Parts.{Parts}
+use Rattle.plans.specs.declared.parts.PlanRecord.{PlanRecord}
+use Rattle.plans.specs.declared.parts.Station.{Station}
+use Rattle.plans.specs.Connect.{ar_block, blocks_of, bytes_of, connect_of, does_connect_fit, size_of, some_uuid}
+use Rattle.plans.specs.Plan.{AreShort, IsPlan}
+use Rattle.controller_frames.specs.declared.request.Request.{Request}
+use Rattle.controller_frames.specs.declared.request.Request.TheVariants as asks
+use Rattle.controller_frames.specs.declared.setup.Setup.{Setup}
+use Rattle.controller_frames.specs.Requests.{blocks_of as blocks_for, call_for, control_of, header_of, object_of, operation_of, sequence_of, write_blocks, write_of}
+use Rattle.relations.specs.declared.ready.Ready.{Ready}
+use Rattle.rpc_core.specs.Call.{Asked as Call}
+use Rattle.controller_frames.specs.Sent.{ready_answer, ready_done}
+use Rattle.rpc_core.specs.Sendable.{CanBeAnswered, CanBeCalled, IsHeader, IsUuid}
+use Rattle.end_laws.specs.hearing.Stations.{IsCalled, IsNumbered, IsSetup, ready_call}
+use Rattle.end_laws.proofs.HearingGiven.{BlocksAreLong}
+
+-- ---- the header
+
+object_long : (station : Station) → length (object_of station) ≡ 16
+unfolding object_of
+object_long station = refl
+
+sequence_small : (plan : Parts) (request : Request) → IsPlan plan → IsNumbered request → sequence_of plan request < 4294967296
+sequence_small plan asks.Identify is numbered = omega arith
+sequence_small plan asks.Address is numbered = omega arith
+sequence_small plan asks.Connect is numbered = omega arith
+sequence_small plan (asks.Write number) is numbered = omega (arith, numbered)
+sequence_small plan asks.PrmEnd is numbered = omega (arith, is.few_records)
+sequence_small plan (asks.Release sequence) is numbered = numbered
+
+operation_small : (request : Request) → operation_of request < 65536
+operation_small asks.Identify = omega arith
+operation_small asks.Address = omega arith
+operation_small asks.Connect = omega arith
+operation_small (asks.Write number) = omega arith
+operation_small asks.PrmEnd = omega arith
+operation_small (asks.Release sequence) = omega arith
+
+header_is : (setup : Setup) (request : Request) → IsSetup setup → IsNumbered request → IsHeader (header_of setup request)
+header_is setup request good numbered = record {
+  object = object_long setup.plan.station;
+  interface = refl;
+  activity = good.activity;
+  sequence = sequence_small setup.plan request good.plan numbered;
+  operation = operation_small request;
+}
+
+-- ---- the blocks
+
+-- the length of the ARBlockReq depends only on the length of the ARUUID
+ar_size : (parts : Parts) (ar : List ℕ) → length ar ≡ 16 → block_size (is.ArBlockReq (ar_block parts ar)) ≡ block_size (is.ArBlockReq (ar_block parts some_uuid))
+unfolding block_size fields_of body version ar_block_req ar_uuid initiator_mac
+ar_size parts ar sixteen = rw sixteen refl
+
+control_size : (block : ControlBlock) → length block.ar_uuid ≡ 16 → block_size (is.PrmEnd block) ≡ 32
+unfolding block_size fields_of body version control command
+control_size block sixteen = omega (arith, sixteen)
+
+release_size : (block : ControlBlock) → length block.ar_uuid ≡ 16 → block_size (is.Release block) ≡ 32
+unfolding block_size fields_of body version control command
+release_size block sixteen = omega (arith, sixteen)
+
+ready_size : (block : ControlBlock) → length block.ar_uuid ≡ 16 → block_size (is.ApplicationReady block) ≡ 32
+unfolding block_size fields_of body version control command
+ready_size block sixteen = omega (arith, sixteen)
+
+done_size : (block : ControlBlock) → length block.ar_uuid ≡ 16 → block_size (is.ApplicationReadyRes block) ≡ 32
+unfolding block_size fields_of body version control command
+done_size block sixteen = omega (arith, sixteen)
+
+write_size : (block : IodWriteReq) → length block.header.ar_uuid ≡ 16 → block_size (is.IodWriteReq block) ≤ 100
+unfolding block_size fields_of body version iod_write_req record_header
+write_size block sixteen = omega (arith, sixteen)
+
+module _ (long : BlocksAreLong) where
+  bytes_long : (blocks : List Block) → length (bytes_of blocks) ≡ size_of blocks
+  bytes_long [] = refl
+  bytes_long (block ∷ blocks) = omega (arith, length-append (block_bytes block) (bytes_of blocks), long block, bytes_long blocks)
+
+  connect_few : (setup : Setup) → IsSetup setup → length (connect_of setup.plan setup.ar) ≤ 1372
+  connect_few setup good =
+      let fits = leb-true (size_of (blocks_of setup.plan some_uuid)) 1372 good.plan.connect in
+      omega (arith, bytes_long (blocks_of setup.plan setup.ar), ar_size setup.plan setup.ar good.ar, fits)
+
+  record_few : (setup : Setup) (number : ℕ) (entries : List PlanRecord) (at : ℕ) → IsSetup setup → AreShort entries → length (write_blocks setup number (slice_get entries at)) ≤ 1372
+  record_few setup number [] at good short = omega arith
+  record_few setup number (entry ∷ entries) zero good short =
+      omega (arith, length-append (block_bytes (is.IodWriteReq (write_of setup number entry))) entry.data.items, long (is.IodWriteReq (write_of setup number entry)), write_size (write_of setup number entry) good.ar, short.0)
+  record_few setup number (entry ∷ entries) (suc at) good short = record_few setup number entries at good short.1
+
+  blocks_few : (setup : Setup) (request : Request) → IsSetup setup → length (blocks_for setup request) ≤ 1372
+  blocks_few setup asks.Identify good = omega arith
+  blocks_few setup asks.Address good = omega arith
+  blocks_few setup asks.Connect good = connect_few setup good
+  blocks_few setup (asks.Write number) good = record_few setup number setup.plan.records.items number good good.plan.short_records
+  blocks_few setup asks.PrmEnd good = omega (arith, long (is.PrmEnd (control_of setup 1)), control_size (control_of setup 1) good.ar)
+  blocks_few setup (asks.Release sequence) good = omega (arith, long (is.Release (control_of setup 4)), release_size (control_of setup 4) good.ar)
+
+  pub call_can : (setup : Setup) (request : Request) → IsSetup setup → IsCalled request → IsNumbered request → CanBeCalled Device (call_for setup request)
+  call_can setup request good called numbered = record {
+    header = header_is setup request good numbered;
+    named = refl;
+    maximum = omega arith;
+    blocks = blocks_for setup request;
+    whole = refl;
+    few = blocks_few setup request good;
+  }
+
+  ready_few : (block : ControlBlock) → length block.ar_uuid ≡ 16 → length (block_bytes (is.ApplicationReady block)) ≤ 1372
+  ready_few block sixteen = omega (arith, long (is.ApplicationReady block), ready_size block sixteen)
+
+  pub ready_can : (ready : Ready) → IsHeader ready.header → ready.header.interface ≡ interface_uuid Controller → IsUuid ready.block.ar_uuid → CanBeCalled Controller (ready_call ready)
+  ready_can ready header named sixteen = record {
+    header = header;
+    named = named;
+    maximum = omega arith;
+    blocks = block_bytes (is.ApplicationReady ready.block);
+    whole = refl;
+    few = ready_few ready.block sixteen;
+  }
+
+  pub answer_can : (call : Call) (block : ControlBlock) → IsHeader call.header → call.args_maximum < 4294967296 → IsUuid block.ar_uuid → CanBeAnswered (ready_answer call block)
+  answer_can call block header maximum sixteen = record {
+    header = header;
+    status = record { code = omega arith; decode = omega arith; code1 = omega arith; code2 = omega arith };
+    maximum = maximum;
+    few = omega (arith, long (is.ApplicationReadyRes (ready_done block)), done_size (ready_done block) sixteen);
+  }

@@ -1,0 +1,151 @@
+-- The lengths of what a controller sends.
+use Rattle.std.proofs.Common.{◌≡◌, ◌≤◌, ◌<◌, ◌+◌, ◌%◌, ◌&&◌, nat_eq, nat_lt, ℕ, Bool, true, false, List, [], ◌∷◌, ◌++◌, length, Option, Some, None, Result, Ok, Err, if◌then◌else◌, unwrap_or, refl, sym, ap, ◌∙◌, arith}
+use Rattle.std.specs.List.{AllByRecursion}
+use Rattle.std.specs.Cmp.Lexicographic.{pointwise, same_text}
+use Rattle.std.proofs.lemmas.Bool.{and_parts, ltb-true}
+use Rattle.std.proofs.lemmas.List.{length-append}
+use Rattle.wire.specs.Formats.{big_bytes}
+use Rattle.std.proofs.lemmas.List.FromFn.{length-map-range_with_len}
+use Rattle.std.proofs.Math.Nat.{mod-lt}
+use Rattle.block_fields.specs.Fields.{body, version}
+use Rattle.connect_blocks.specs.Control.{command, control}
+use Rattle.connect_blocks.specs.declared.control.ControlBlock.{ControlBlock}
+use Rattle.block_codec.specs.declared.block.Block.{Block}
+use Rattle.block_codec.specs.declared.block.Block.TheVariants as is
+use Rattle.block_codec.specs.Block.{block_bytes, block_size, fields_of}
+use Rattle.rpc_core.specs.Call.{Asked as Call}
+use Rattle.pn_values.specs.declared.mac.Mac.{Mac}
+use Rattle.cyclic_data.specs.declared.tail.CyclicTail.{CyclicTail}
+use Rattle.cyclic_data.specs.declared.tail.ShortFrame.{ShortFrame}
+use Rattle.cyclic_data.specs.declared.place.PlaceKind.TheVariants.{Data as data_at}
+use Rattle.cyclic_data.specs.Image.{Shown, cell_at, has_size, octets_of}
+use Rattle.cyclic_data.specs.Tail.{cyclic_frame, cyclic_of, cyclic_tail}
+use Rattle.pn_alarms.specs.Numbers.{next_number}
+use Rattle.cyclic_exchange.specs.Cyclic.{Cyclic}
+use Rattle.cyclic_exchange.specs.Frames.{cyclic_body}
+use Rattle.cyclic_exchange.specs.Process.{provided_at}
+use Rattle.cyclic_exchange.specs.Received.{behind_frame, behind_read, is_new, is_of_partner}
+use Rattle.plans.specs.declared.parts.Parts.{Parts}
+use Rattle.plans.specs.Plan.{IsPlan}
+use Rattle.controller_frames.specs.declared.request.Request.{Request}
+use Rattle.controller_frames.specs.declared.request.Request.TheVariants as asks
+use Rattle.controller_frames.specs.Heard.{Heard}
+use Rattle.controller_frames.specs.Requests.{writing_from}
+use Rattle.controller_frames.specs.Sent.{Sent, ready_answer, ready_done}
+use Rattle.controller_core.specs.Machine.{next_sequence, where_due}
+use Rattle.end_laws.specs.turns.Turns.{Came, Hears, Passes, Gets, Halts}
+use Rattle.rpc_core.specs.Sendable.{CanBeAnswered, IsHeader}
+use Rattle.end_laws.specs.hearing.Stations.{IsNumbered}
+use Rattle.end_laws.specs.sending.Sized.{AreFew, IsFew, IsShort}
+
+abbrev pub BlocksAreLong : Type 0
+BlocksAreLong = (block : Block) → length (block_bytes block) ≡ block_size block
+
+-- ---- cyclic frames
+
+octets_long : (shown : Shown) → length (octets_of shown) ≡ shown.data_length
+unfolding octets_of
+octets_long shown = length-map-range_with_len _ 0 shown.data_length
+
+pub body_few : (shown : Shown) (counter : ℕ) → shown.data_length ≤ 1440 → length (cyclic_body shown counter) ≤ 1498
+unfolding cyclic_frame cyclic_tail
+body_few shown counter few =
+    let long : length (cyclic_body shown counter) ≡ length (octets_of shown) + 4 =
+    length-append (octets_of shown) (big_bytes 2 counter ++ (big_bytes 1 0x35 ++ (big_bytes 1 0 ++ []))) in
+    omega (arith, long, octets_long shown, few)
+
+-- ---- numbers
+
+pub next_short : (last : Option ℕ) → IsShort last → next_number last < 65536
+next_short None is = omega arith
+next_short (Some number) is = let below : (number + 1) % 0x8000 < 0x8000 = mod-lt (number + 1) (omega arith) in omega (arith, below)
+
+-- ---- the response to ApplicationReady
+
+done_size : (block : ControlBlock) → length block.ar_uuid ≡ 16 → block_size (is.ApplicationReadyRes block) ≡ 32
+unfolding block_size fields_of body version control command
+done_size block sixteen = omega (arith, sixteen)
+
+pub answer_can : BlocksAreLong → (call : Call) (block : ControlBlock) → IsHeader call.header → call.args_maximum < 4294967296 → length block.ar_uuid ≡ 16
+    → CanBeAnswered (ready_answer call block)
+answer_can long call block header maximum sixteen = record {
+  header = header;
+  status = record { code = omega arith; decode = omega arith; code1 = omega arith; code2 = omega arith };
+  maximum = maximum;
+  few = omega (arith, long (is.ApplicationReadyRes (ready_done block)), done_size (ready_done block) sixteen);
+}
+
+-- a block of the relation has its ARUUID
+pub named_so : (block ar : List ℕ) (session : Bool) → (pointwise nat_eq block ar && session) ≡ true → length ar ≡ 16 → length block ≡ 16
+named_so block ar session e sixteen =
+    let parts = and_parts (pointwise nat_eq block ar) session e in
+    ap length (same_text block ar (sym parts.0)) ∙ sixteen
+
+-- ---- requests
+
+pub numbered : (request : Request) → IsFew request → IsNumbered request
+numbered (asks.Write number) is = omega (arith, is)
+numbered (asks.Release sequence) is = is
+numbered request is = tt
+
+picked_few : (number : ℕ) (test : Bool) → (test ≡ true → number < 32) → IsFew (if test then asks.Write number else asks.PrmEnd)
+picked_few number true few = few refl
+picked_few number false few = tt
+
+pub writing_few : (plan : Parts) (number : ℕ) → IsPlan plan → IsFew (writing_from plan number)
+writing_few plan number is =
+    picked_few number (nat_lt number (length plan.records.items)) (λ e. let below = ltb-true number (length plan.records.items) e in omega (arith, below, is.few_records))
+
+pub sequence_few : (plan : Parts) (asked : Option Request) → IsPlan plan → AreFew asked → next_sequence plan asked < 4294967296
+sequence_few plan (Some asks.Connect) is few = omega arith
+sequence_few plan (Some (asks.Write number)) is few = omega (arith, few)
+sequence_few plan asked is few = omega (arith, is.few_records)
+
+-- ---- messages
+
+pub all_append : (P : Sent → Type 0) (xs ys : List Sent) → AllByRecursion P xs → AllByRecursion P ys → AllByRecursion P (xs ++ ys)
+all_append P [] ys one other = other
+all_append P (x ∷ xs) ys one other = (one.0, all_append P xs ys one.1 other)
+
+pub due_all : (P : Sent → Type 0) (test : Bool) (sent : List Sent) → AllByRecursion P sent → AllByRecursion P (where_due test sent)
+due_all P true sent is = is
+due_all P false sent is = tt
+
+-- ---- what arrives
+
+-- what holds of what is heard
+abbrev pub CameSo : (Heard → Type 0) → Came → Type 0
+CameSo P (Hears heard) = P heard
+CameSo P Passes = Unit {0}
+CameSo P (Gets slot subslot value) = Unit {0}
+CameSo P Halts = Unit {0}
+
+-- ---- cyclic frames
+
+-- neither a frame that is heard nor a value that is set changes the route or the length of what is sent
+pub record Stays (before after : Cyclic) : Type 0 where
+  pub route : after.route ≡ before.route
+  pub long : after.shown.data_length ≡ before.shown.data_length
+
+stays_so : (cyclic : Cyclic) → Stays cyclic cyclic
+stays_so cyclic = record { route = refl; long = refl }
+
+stays_if : (before : Cyclic) (test : Bool) (one other : Cyclic) → Stays before one → Stays before other → Stays before (if test then one else other)
+stays_if before true one other first second = first
+stays_if before false one other first second = second
+
+read_stays : (cyclic : Cyclic) (read : Result (List ℕ × CyclicTail) ShortFrame) → Stays cyclic (behind_read cyclic read)
+read_stays cyclic (Ok x) = stays_if cyclic (is_new cyclic x.1) _ cyclic (record { route = refl; long = refl }) (stays_so cyclic)
+read_stays cyclic (Err short) = stays_so cyclic
+
+pub frame_stays : (cyclic : Cyclic) (source : Mac) (frame_id : ℕ) (body : List ℕ) → Stays cyclic (behind_frame cyclic source frame_id body)
+frame_stays cyclic source frame_id body =
+    stays_if cyclic (is_of_partner cyclic.route source frame_id) _ cyclic (read_stays cyclic (cyclic_of cyclic.taken.data_length body)) (stays_so cyclic)
+
+option_stays : (before : Cyclic) (test : Bool) (one : Cyclic) → Stays before one → Stays before (unwrap_or (if test then Some one else None) before)
+option_stays before true one is = is
+option_stays before false one is = stays_so before
+
+pub given_stays : (cyclic : Cyclic) (slot subslot : ℕ) (value : List ℕ) → Stays cyclic (unwrap_or (provided_at cyclic slot subslot value) cyclic)
+given_stays cyclic slot subslot value =
+    option_stays cyclic (has_size (length value) (cell_at data_at slot subslot cyclic.shown.cells)) _ (record { route = refl; long = refl })

@@ -1,0 +1,268 @@
+-- The state of a controller has its sizes, and so has what it sends.
+use Rattle.std.proofs.Common.{◌≡◌, ◌⊎◌, inl, inr, ◌≤◌, ◌<◌, ◌+◌, ◌==◌, ℕ, Bool, true, false, length, Option, Some, None, if◌then◌else◌, unwrap_or, refl, sym, subst, arith}
+use Rattle.std.specs.List.{AllByRecursion}
+use Rattle.std.proofs.Math.Nat.{max-le}
+use Rattle.pn_alarms.specs.declared.pdu.PduType.{PduType}
+use Rattle.pn_alarms.specs.declared.pdu.PduType.TheVariants as pdu
+use Rattle.pn_alarms.specs.declared.message.Notice.TheVariants as notice
+use Rattle.pn_alarms.specs.Numbers.{ack_number, is_last, next_number, send_number}
+use Rattle.pn_alarms.specs.Sending.{Sending, acked}
+use Rattle.pn_values.specs.declared.mac.Mac.{Mac}
+use Rattle.dcp_core.specs.Response.{Answered}
+use Rattle.rpc_core.specs.Call.{Asked as Call}
+use Rattle.frame_codec.specs.declared.udp.Caller.{Caller}
+use Rattle.connect_blocks.specs.declared.control.ControlBlock.{ControlBlock}
+use Rattle.record_blocks.specs.declared.alarm_ack.AlarmAck.{AlarmAck}
+use Rattle.record_blocks.specs.declared.alarm_notification.AlarmNotification.{AlarmNotification}
+use Rattle.pn_alarms.specs.declared.receiver.Taken.{Taken}
+use Rattle.pn_alarms.specs.declared.receiver.Taken.TheVariants.{New, Again, Refused}
+use Rattle.pn_alarms.specs.Receiver.{taken_as}
+use Rattle.cyclic_exchange.specs.Cyclic.{Cyclic}
+use Rattle.cyclic_exchange.specs.Process.{provided_at}
+use Rattle.cyclic_exchange.specs.Received.{behind_frame}
+use Rattle.controller_frames.specs.declared.request.Request.{Request}
+use Rattle.controller_frames.specs.declared.request.Request.TheVariants as asks
+use Rattle.controller_frames.specs.declared.setup.Setup.{Setup}
+use Rattle.controller_frames.specs.Heard.{Alarms, Answers, Calls, Responds}
+use Rattle.controller_frames.specs.Requests.{writing_from}
+use Rattle.controller_frames.specs.Sent.{Agrees, ready_answer}
+use Rattle.controller_core.specs.declared.event.Event.{Event}
+use Rattle.controller_core.specs.declared.event.Event.TheVariants.{Frame, Give, Stop, Tick}
+use Rattle.controller_core.specs.declared.state.Cause.{Cause}
+use Rattle.controller_core.specs.declared.state.State.{State}
+use Rattle.controller_core.specs.declared.state.State.TheVariants.{Addressing, Connecting, Ended, Exchanging, Waiting}
+use Rattle.controller_core.specs.State.{Live}
+use Rattle.end_laws.specs.turns.Turns.{Came, Hears, IsKind, IsReadied, IsTurn, Kind, Rests, Connects, Addresses, Ends, Releases, Relates, Writes, Waits, Forgets, Begins, Repeats, Follows, Takes, IsAcked, Gives, Flows, Breaks, Idles, came_by, turn_by}
+use Rattle.codec_laws.specs.frames.Sendable.{IsMac}
+use Rattle.controller_core.specs.Alarms.{ack_of, header_of}
+use Rattle.controller_core.specs.Connect.{Chosen}
+use Rattle.controller_core.specs.Machine.{Turn, acks_in, asking, behind_data, brought, confirming, first, flow_later, is_again, later, next_sequence, over, phase_for, released, requests_of, standing, stays, taken, turn_of, where_due, writing}
+use Rattle.codec_laws.specs.alarms.Sendable.{IsHeader}
+use Rattle.codec_laws.specs.blocks.Writable.{IsAck}
+use Rattle.end_laws.specs.hearing.Stations.{IsSetup}
+use Rattle.end_laws.specs.sending.Messages.{CanBeSent, IsWay}
+use Rattle.end_laws.specs.sending.Sized.{AreFew, IsAckOrNone, IsFew, IsLive, IsNoted, IsShort, IsSized, IsSizedEvent}
+use Rattle.end_laws.proofs.SendingSizes.{BlocksAreLong, CameSo, Stays, all_append, answer_can, body_few, due_all, frame_stays, given_stays, named_so, next_short, numbered, sequence_few, writing_few}
+
+-- a turn after which everything has its size
+pub record IsRight (setup : Setup) (turn : Turn) : Type 0 where
+  pub live : IsLive turn.live
+  pub sent : AllByRecursion (CanBeSent setup) turn.sent
+
+came_sized : (setup : Setup) (event : Event) → IsSizedEvent setup event → CameSo IsSized (came_by setup event)
+came_sized setup (Frame bytes) sized = sized
+came_sized setup Tick sized = tt
+came_sized setup (Give slot subslot value) sized = tt
+came_sized setup Stop sized = tt
+
+-- ---- requests
+
+asking_right : (setup : Setup) (phase : State) (request : Request) (live : Live) → IsLive live → IsFew request → IsRight setup (asking phase request live)
+asking_right setup phase request live is few = record {
+  live = record { device = is.device; asked = few; way = is.way; few = is.few; last = is.last; seen = is.seen; confirming = is.confirming };
+  sent = ((is.device, numbered request few), tt);
+}
+
+over_live : (cause_is : Cause) (live : Live) → IsLive live → IsLive (over cause_is live)
+over_live cause_is live is = record { device = is.device; asked = tt; way = is.way; few = is.few; last = is.last; seen = is.seen; confirming = is.confirming }
+
+released_right : (setup : Setup) (cause_is : Cause) (live : Live) → IsSetup setup → IsLive live → IsRight setup (released setup cause_is live)
+released_right setup cause_is live good is =
+    asking_right setup (Ended cause_is) (asks.Release (next_sequence setup.plan live.asked)) (over cause_is live) (over_live cause_is live is) (sequence_few setup.plan live.asked good.plan is.asked)
+
+writing_right : (setup : Setup) (number : ℕ) (live : Live) → IsSetup setup → IsLive live → IsRight setup (writing (writing_from setup.plan number) live)
+writing_right setup number live good is =
+    asking_right setup (phase_for (writing_from setup.plan number)) (writing_from setup.plan number) live is (writing_few setup.plan number good.plan)
+
+stands_live : (setup : Setup) (live : Live) (chosen : Chosen) → IsLive live → (chosen.frame_id < 65536) × (chosen.reference < 65536) → IsLive (standing setup live chosen)
+stands_live setup live chosen is small = record {
+  device = is.device;
+  asked = is.asked;
+  way = record { partner = is.device; sent_id = small.0; sent_tag = omega arith; alarm_tag = omega arith; reference = small.1 };
+  few = is.few;
+  last = is.last;
+  seen = is.seen;
+  confirming = is.confirming;
+}
+
+unasked : (live : Live) (phase : State) → IsLive live → IsLive (record live { phase = phase; asked = None })
+unasked live phase is = record { device = is.device; asked = tt; way = is.way; few = is.few; last = is.last; seen = is.seen; confirming = is.confirming }
+
+-- ---- ApplicationReady
+
+begun_live : (live : Live) → IsLive live → IsLive (record live { phase = Exchanging; asked = None; cyclic = record live.cyclic { begun = true; hearing = record live.cyclic.hearing { held = 0 } } })
+begun_live live is = record { device = is.device; asked = tt; way = is.way; few = is.few; last = is.last; seen = is.seen; confirming = is.confirming }
+
+-- ---- alarms
+
+sent_short : (last : Option ℕ) → IsShort last → send_number last < 65536
+sent_short None is = omega arith
+sent_short (Some number) is = is
+
+seen_short : (last : Option ℕ) → IsShort last → ack_number last < 65536
+seen_short None is = omega arith
+seen_short (Some number) is = is
+
+header_is : (live : Live) (kind : PduType) → IsLive live → IsHeader (header_of live.alarms live.cyclic.route kind)
+header_is live kind is = record { destination = is.way.reference; source = omega arith; send_number = sent_short live.alarms.sending.last is.last; ack_number = seen_short live.alarms.seen is.seen }
+
+short_if : (test : Bool) (one other : Option ℕ) → IsShort one → IsShort other → IsShort (if test then one else other)
+short_if true one other first second = first
+short_if false one other first second = second
+
+data_live : (live : Live) (number : ℕ) → IsLive live → number < 65536 → IsLive (behind_data live number)
+data_live live number is small = record {
+  device = is.device;
+  asked = is.asked;
+  way = is.way;
+  few = is.few;
+  last = is.last;
+  seen = short_if (number == next_number live.alarms.seen) (Some number) live.alarms.seen small is.seen;
+  confirming = is.confirming;
+}
+
+ack_is : (alarm : AlarmNotification) → IsNoted alarm → IsAck (ack_of alarm)
+ack_is alarm is = record {
+  alarm_type = is.alarm_type;
+  api = is.api;
+  slot_number = is.slot_number;
+  subslot_number = is.subslot_number;
+  alarm_specifier = is.alarm_specifier;
+  pnio_status = omega arith;
+}
+
+confirming_live : (live : Live) (alarm : AlarmNotification) → IsLive live → IsNoted alarm → IsLive (confirming live alarm)
+confirming_live live alarm is noted = record {
+  device = is.device;
+  asked = is.asked;
+  way = is.way;
+  few = is.few;
+  last = next_short live.alarms.sending.last is.last;
+  seen = is.seen;
+  confirming = ack_is alarm noted;
+}
+
+taken_right : (setup : Setup) (live : Live) (alarm : AlarmNotification) (as_is : Taken) → IsLive live → IsNoted alarm → IsRight setup (taken live alarm as_is)
+taken_right setup live alarm New is noted = record {
+  live = confirming_live live alarm is noted;
+  sent = (
+    (is.way, inl refl, header_is live pdu.Ack is),
+    ((is.way, refl, header_is (confirming live alarm) pdu.Data (confirming_live live alarm is noted), ack_is alarm noted), tt),
+  );
+}
+taken_right setup live alarm Again is noted = record { live = is; sent = ((is.way, inl refl, header_is live pdu.Ack is), tt) }
+taken_right setup live alarm Refused is noted = record { live = is; sent = ((is.way, inr refl, header_is live pdu.Nack is), tt) }
+
+last_if : (test : Bool) (one other : Sending) → IsShort one.last → IsShort other.last → IsShort (if test then one else other).last
+last_if true one other first second = first
+last_if false one other first second = second
+
+acked_last : (live : Live) (number : ℕ) → IsLive live → IsShort (acked live.alarms.sending number).last
+acked_last live number is = last_if (is_last live.alarms.sending.last number) _ live.alarms.sending is.last is.last
+
+-- ---- cyclic frames
+
+kept_live : (live : Live) (cyclic : Cyclic) → IsLive live → Stays live.cyclic cyclic → IsLive (record live { cyclic = cyclic })
+kept_live live cyclic is stays = record {
+  device = is.device;
+  asked = is.asked;
+  way = subst IsWay (sym stays.route) is.way;
+  few = subst (λ (n : ℕ). n ≤ 1440) (sym stays.long) is.few;
+  last = is.last;
+  seen = is.seen;
+  confirming = is.confirming;
+}
+
+-- ---- units
+
+later_live : (live : Live) → IsLive live → IsLive (later live)
+later_live live is = record { device = is.device; asked = is.asked; way = is.way; few = is.few; last = is.last; seen = is.seen; confirming = is.confirming }
+
+flow_live : (live : Live) → IsLive live → IsLive (flow_later live)
+flow_live live is = record { device = is.device; asked = is.asked; way = is.way; few = is.few; last = is.last; seen = is.seen; confirming = is.confirming }
+
+request_all : (setup : Setup) (device : Mac) (asked : Option Request) → length device.octets ≡ 6 → AreFew asked → AllByRecursion (CanBeSent setup) (requests_of device asked)
+request_all setup device (Some request) mac few = ((mac, numbered request few), tt)
+request_all setup device None mac few = tt
+
+acks_all : (setup : Setup) (live : Live) (ack : Option AlarmAck) → IsLive live → IsAckOrNone ack → AllByRecursion (CanBeSent setup) (acks_in live ack)
+acks_all setup live (Some ack) is good = ((is.way, refl, header_is live pdu.Data is, good), tt)
+acks_all setup live None is good = tt
+
+-- ---- each kind
+
+module _ (long : BlocksAreLong) (setup : Setup) (live : Live) (came : Came) (good : IsSetup setup) (is : IsLive live) (sized : CameSo IsSized came) where
+  reported : (other : Came) → came ≡ other → CameSo IsSized other
+  reported other e = subst (λ (c : Came). CameSo IsSized c) e sized
+
+  with_station : (source : Mac) → IsMac source → IsLive (record live { device = source })
+  with_station source six = record { device = six; asked = is.asked; way = is.way; few = is.few; last = is.last; seen = is.seen; confirming = is.confirming }
+
+  at_station : (source : Mac) → (source ≡ live.device) ⊎ ((answer : Answered) × (came ≡ Hears (Answers source answer))) → IsLive (record live { device = source })
+  at_station source (inl same) = with_station source (subst IsMac (sym same) is.device)
+  at_station source (inr heard) = with_station source (reported (Hears (Answers source heard.0)) heard.1)
+
+  agrees : (caller : Caller) (call : Call) (block : ControlBlock) → IsReadied setup came caller call block → CanBeSent setup (Agrees caller (ready_answer call block))
+  agrees caller call block ready =
+      let heard : IsSized (Calls caller call) = reported (Hears (Calls caller call)) ready.comes in
+      (heard.0, answer_can long call block heard.1 heard.2 (named_so block.ar_uuid setup.ar (block.session_key == 1) ready.right good.ar))
+
+  kind_right : (kind : Kind) → IsKind setup live came kind → IsRight setup (turn_by setup live kind)
+  kind_right Rests holds = record { live = is; sent = tt }
+  kind_right (Connects source) holds = asking_right setup Connecting asks.Connect _ (at_station source holds.known) tt
+  kind_right (Addresses source) holds = asking_right setup Addressing asks.Address _ (at_station source holds.known) tt
+  kind_right (Ends why) holds = record { live = over_live why live is; sent = tt }
+  kind_right (Releases why) holds = released_right setup why live good is
+  kind_right (Relates chosen) holds =
+      let sized_so : IsSized (Responds holds.0.response) = reported (Hears (Responds holds.0.response)) holds.0.comes in
+      writing_right setup 0 (standing setup live chosen) good (stands_live setup live chosen is (sized_so chosen holds.1))
+  kind_right (Writes number) holds = writing_right setup (number + 1) live good is
+  kind_right Waits holds = record { live = unasked live Waiting is; sent = tt }
+  kind_right Forgets holds = record { live = unasked live live.phase is; sent = tt }
+  kind_right (Begins caller call block) holds = record { live = begun_live live is; sent = (agrees caller call block holds.1, tt) }
+  kind_right (Repeats caller call block) holds = record { live = is; sent = (agrees caller call block holds.1, tt) }
+  kind_right (Follows source frame_id body) holds =
+      record { live = kept_live live (behind_frame live.cyclic source frame_id body) is (frame_stays live.cyclic source frame_id body); sent = tt }
+  kind_right (Takes number alarm) holds =
+      let noted : IsSized (Alarms holds.1 holds.2 (notice.Data number alarm)) = reported (Hears (Alarms holds.1 holds.2 (notice.Data number alarm))) holds.3 in
+      taken_right setup (behind_data live number) alarm (taken_as live.alarms.seen number) (data_live live number is noted.0) noted.1
+  kind_right (IsAcked number) holds = record {
+    live = record { device = is.device; asked = is.asked; way = is.way; few = is.few; last = acked_last live number is; seen = is.seen; confirming = is.confirming };
+    sent = tt;
+  }
+  kind_right (Gives slot subslot value) holds =
+      record { live = kept_live live (unwrap_or (provided_at live.cyclic slot subslot value) live.cyclic) is (given_stays live.cyclic slot subslot value); sent = tt }
+  kind_right Flows holds =
+      let after = flow_later live in
+      let flows = flow_live live is in
+      let tick = brought live in
+      record {
+        live = flows;
+        sent =
+            all_append (CanBeSent setup) (where_due tick.is_alarm (acks_in after after.alarms.confirming)) _
+            (due_all (CanBeSent setup) tick.is_alarm _ (acks_all setup after after.alarms.confirming flows flows.confirming))
+            (all_append (CanBeSent setup) (where_due (is_again live) (requests_of after.device after.asked)) _
+            (due_all (CanBeSent setup) (is_again live) _ (request_all setup after.device after.asked is.device is.asked))
+            (due_all (CanBeSent setup) tick.is_cyclic _ ((flows.way, body_few after.cyclic.shown after.units flows.few), tt)));
+      }
+  kind_right (Breaks reason) holds =
+      let flows = flow_live live is in
+      record { live = over_live _ (flow_later live) flows; sent = ((flows.way, header_is (flow_later live) pdu.Error flows), tt) }
+  kind_right Idles holds =
+      record { live = later_live live is; sent = due_all (CanBeSent setup) (is_again live) _ (request_all setup live.device live.asked is.device is.asked) }
+
+pub turn_right : BlocksAreLong → (setup : Setup) (live : Live) (event : Event) → IsTurn setup live (came_by setup event) (turn_of setup live event)
+    → IsSetup setup → IsLive live → IsSizedEvent setup event → IsRight setup (turn_of setup live event)
+turn_right long setup live event turn good is sized =
+    subst (λ (t : Turn). IsRight setup t) (sym turn.is) (kind_right long setup live (came_by setup event) good is (came_sized setup event sized) turn.kind turn.holds)
+
+pub first_live : (setup : Setup) → IsSetup setup → IsLive (first setup.plan)
+first_live setup good = record {
+  device = refl;
+  asked = tt;
+  way = record { partner = refl; sent_id = omega arith; sent_tag = omega arith; alarm_tag = omega arith; reference = omega arith };
+  few = max-le {a = 40} (omega arith) good.plan.output;
+  last = tt;
+  seen = tt;
+  confirming = tt;
+}

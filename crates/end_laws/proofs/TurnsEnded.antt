@@ -1,0 +1,274 @@
+-- What a controller that ended receives, and what it sends.
+use Rattle.std.proofs.Common.{◌≡◌, ◌⊎◌, inl, inr, ◌++◌, ℕ, Bool, true, false, List, [], ◌∷◌, length, map, Option, Some, None, refl, sym, ap, subst, ◌∙◌}
+use Rattle.std.specs.Prelude.{if◌then◌else◌, unwrap_or}
+use Rattle.std.proofs.lemmas.Bool.{false≢true}
+use Rattle.std.specs.List.{AllByRecursion}
+use Rattle.pn_values.specs.declared.mac.Mac.{Mac}
+use Rattle.cyclic_data.specs.declared.place.PlaceKind.TheVariants.{Data}
+use Rattle.cyclic_data.specs.Image.{Shown, cell_at, changed, has_size}
+use Rattle.cyclic_exchange.specs.Cyclic.{Cyclic}
+use Rattle.cyclic_exchange.specs.Process.{with_good}
+use Rattle.controller_frames.specs.declared.setup.Setup.{Setup}
+use Rattle.controller_frames.specs.declared.request.Request.{Request}
+use Rattle.controller_frames.specs.declared.request.Request.TheVariants as asks
+use Rattle.controller_frames.specs.Heard.{Heard, heard_of}
+use Rattle.controller_frames.specs.Sent.{bytes_of}
+use Rattle.controller_core.specs.declared.event.Event.{Event}
+use Rattle.controller_core.specs.declared.event.Event.TheVariants.{Frame, Tick, Give, Stop}
+use Rattle.controller_core.specs.declared.state.Cause.{Cause}
+use Rattle.controller_core.specs.declared.state.State.{State}
+use Rattle.controller_core.specs.declared.state.State.TheVariants.{Looking, Addressing, Ending, Waiting, Exchanging, Ended}
+use Rattle.controller_core.specs.State.{Controlling, Live, with_live}
+use Rattle.controller_core.specs.Machine.{Turn, flow_later, flowed, brought, given, is_again, later, requests_of, stays, step_of, stopped, ticked, turned}
+use Rattle.controller_core.specs.Machine.{where_due as sent_where_due}
+use Rattle.end_laws.specs.turns.Runs.{frames_of}
+use Rattle.end_laws.specs.turns.Ended.{CountsUnits, DropsWhatComes, HasEnded, IsAnswered, IsDropped, IsSilent, KeepsItsCause, RepeatsItsRelease, is_unit, may_release, release_in, release_of, where_due}
+use Rattle.end_laws.specs.turns.Turns.{Hears, Passes, Gets, IsEnd, IsKind, IsReported, Kind, Rests, Connects, Addresses, Ends, Releases, Relates, Writes, Waits, Forgets, Begins, Repeats, Follows, Takes, IsAcked, Gives, Flows, Breaks, Idles, turn_by}
+use Rattle.end_laws.proofs.TurnsOneTurn.{is_over, is_release, not_over, turn_is, unreported}
+use Rattle.end_laws.proofs.TurnsWhole.{reached_on, whole_end}
+
+-- ---- a frame
+
+-- It is dropped, or is the response to the Release.
+abbrev IsUnmoved : Setup → Live → Heard → Turn → Type 0
+IsUnmoved setup live heard turn = (turn ≡ stays live) ⊎ (IsAnswered setup live heard × (turn ≡ stays (record live { asked = None })))
+
+module _ (setup : Setup) (live : Live) (heard : Heard) (cause : Cause) (h : IsEnd cause live) where
+  -- No other request than the Release is active.
+  unasked : (request : Request) → is_release request ≡ false → live.asked ≡ Some request → ⊥
+  unasked request other stood = unreported request cause other (subst (λ (o : Option Request). IsReported cause o) stood h.asked)
+
+  -- It is in no other phase.
+  other_phase : (phase : State) → is_over phase ≡ false → live.phase ≡ phase → ⊥
+  other_phase phase stands is = not_over phase cause stands (sym is ∙ h.phase)
+
+  either_phase : (one other : State) → is_over one ≡ false → is_over other ≡ false → (live.phase ≡ one) ⊎ (live.phase ≡ other) → ⊥
+  either_phase one other stands too (inl is) = other_phase one stands is
+  either_phase one other stands too (inr is) = other_phase other too is
+
+  up_not : live.stands ≡ true → ⊥
+  up_not up = false≢true (sym h.down ∙ up)
+
+  same_heard : (other : Heard) → Hears heard ≡ Hears other → other ≡ heard
+  same_heard other e = cc
+
+  not_gets : (slot subslot : ℕ) (value : List ℕ) → Hears heard ≡ Gets slot subslot value → ⊥
+  not_gets slot subslot value e = cc
+
+  not_passes : Hears heard ≡ Passes → ⊥
+  not_passes e = cc
+
+  unmoved_by : (kind : Kind) → IsKind setup live (Hears heard) kind → IsUnmoved setup live heard (turn_by setup live kind)
+  unmoved_by Rests holds = inl refl
+  unmoved_by (Connects source) holds = absurd (either_phase Looking Addressing refl refl holds.seeking)
+  unmoved_by (Addresses source) holds = absurd (either_phase Looking Addressing refl refl holds.seeking)
+  unmoved_by (Ends mine) holds = absurd (holds cause h)
+  unmoved_by (Releases mine) holds = absurd (holds.0 cause h)
+  unmoved_by (Relates chosen) holds = absurd (unasked asks.Connect refl holds.0.stood)
+  unmoved_by (Writes number) holds = absurd (unasked (asks.Write number) refl holds.stood)
+  unmoved_by Waits holds = absurd (unasked asks.PrmEnd refl holds.stood)
+  unmoved_by Forgets holds = inr (subst (λ (other : Heard). IsAnswered setup live other) (same_heard holds.0 holds.1) holds.2, refl)
+  unmoved_by (Begins caller call block) holds = absurd (either_phase Ending Waiting refl refl holds.0)
+  unmoved_by (Repeats caller call block) holds = absurd (other_phase Exchanging refl holds.0)
+  unmoved_by (Follows source frame_id body) holds = absurd (up_not holds)
+  unmoved_by (Takes number alarm) holds = absurd (up_not holds.0)
+  unmoved_by (IsAcked number) holds = absurd (up_not holds.0)
+  unmoved_by (Gives slot subslot value) holds = absurd (not_gets slot subslot value holds)
+  unmoved_by Flows holds = absurd (not_passes holds.0)
+  unmoved_by (Breaks reason) holds = absurd (not_passes holds.0)
+  unmoved_by Idles holds = absurd (not_passes holds.0)
+
+heard_as : (setup : Setup) (live : Live) (heard : Heard) (cause : Cause) → IsEnd cause live → IsUnmoved setup live heard (turned setup live heard)
+heard_as setup live heard cause h =
+    let turn = turn_is setup live (Hears heard) in
+    subst (λ (t : Turn). IsUnmoved setup live heard t) (sym turn.is) (unmoved_by setup live heard cause h turn.kind turn.holds)
+
+-- ---- an output, a stop and a unit
+
+shown_as : (is : Bool) (cyclic : Cyclic) (shown : Shown)
+    → unwrap_or (if is then Some (record cyclic { shown = shown }) else None) cyclic
+    ≡ record cyclic { shown = (unwrap_or (if is then Some (record cyclic { shown = shown }) else None) cyclic).shown }
+shown_as true cyclic shown = refl
+shown_as false cyclic shown = refl
+
+given_as : (live : Live) (slot subslot : ℕ) (value : List ℕ)
+    → given live slot subslot value ≡ record live { cyclic = record live.cyclic { shown = (given live slot subslot value).cyclic.shown } }
+given_as live slot subslot value =
+    ap (λ (cyclic : Cyclic). record live { cyclic = cyclic })
+    (shown_as (has_size (length value) (cell_at Data slot subslot live.cyclic.shown.cells)) live.cyclic (changed Data slot subslot (with_good value) live.cyclic.shown))
+
+stopped_as : (setup : Setup) (live : Live) (cause : Cause) → live.phase ≡ Ended cause → stopped setup live live.phase ≡ stays live
+stopped_as setup live cause e = ap (λ (phase : State). stopped setup live phase) e
+
+-- A unit of a controller that has no relation.
+abbrev unit_of : Live → Turn
+unit_of live = record { live = later live; sent = sent_where_due (is_again live) (requests_of live.device live.asked) }
+
+ticked_as : (live : Live) → live.stands ≡ false → ticked live ≡ unit_of live
+ticked_as live down =
+    ap (λ (is : Bool). if is then flowed (flow_later live) (is_again live) (brought live) (brought live).ending else unit_of live) down
+
+unit_frames : (setup : Setup) (device : Mac) (asked : Option Request) (is : Bool) (cause : Cause) → IsReported cause asked
+    → map (bytes_of setup) (sent_where_due is (requests_of device asked)) ≡ where_due is (release_in setup device asked)
+unit_frames setup device None true cause reported = refl
+unit_frames setup device None false cause reported = refl
+unit_frames setup device (Some (asks.Release sequence)) true cause reported = refl
+unit_frames setup device (Some (asks.Release sequence)) false cause reported = refl
+unit_frames setup device (Some request) is cause reported = absurd reported
+
+unit_frames_of : (setup : Setup) (live : Live) (cause : Cause) → IsEnd cause live
+    → map (bytes_of setup) (ticked live).sent ≡ where_due (is_again live) (release_in setup live.device live.asked)
+unit_frames_of setup live cause h =
+    ap (λ (turn : Turn). map (bytes_of setup) turn.sent) (ticked_as live h.down) ∙ unit_frames setup live.device live.asked (is_again live) cause h.asked
+
+-- ---- one event
+
+frame_drops : (setup : Setup) (live : Live) (heard : Heard) (turn : Turn) → IsUnmoved setup live heard turn
+    → (map (bytes_of setup) turn.sent ≡ []) × ((turn.live ≡ live) ⊎ (IsAnswered setup live heard × (turn.live ≡ record live { asked = None })))
+frame_drops setup live heard turn (inl e) = (ap (λ (t : Turn). map (bytes_of setup) t.sent) e, inl (ap (λ (t : Turn). t.live) e))
+frame_drops setup live heard turn (inr x) = (ap (λ (t : Turn). map (bytes_of setup) t.sent) x.1, inr (x.0, ap (λ (t : Turn). t.live) x.1))
+
+no_unit : true ≡ false → ⊥
+no_unit e = cc
+
+drops : (controller : Controlling) (cause : Cause) (event : Event) → IsEnd cause controller.live → is_unit event ≡ false
+    → ((step_of controller event).frames ≡ []) × IsDropped controller.setup event controller.live (step_of controller event).controller.live
+unfolding step_of
+drops controller cause (Frame bytes) h other =
+    let heard = heard_of controller.setup.plan.controller bytes.items in
+    frame_drops controller.setup controller.live heard (turned controller.setup controller.live heard) (heard_as controller.setup controller.live heard cause h)
+drops controller cause Tick h other = absurd (no_unit other)
+drops controller cause (Give slot subslot value) h other = (refl, given_as controller.live slot subslot value.items)
+drops controller cause Stop h other =
+    let stays_so = stopped_as controller.setup controller.live cause h.phase in (
+      ap (λ (t : Turn). map (bytes_of controller.setup) t.sent) stays_so,
+      ap (λ (t : Turn). t.live) stays_so,
+    )
+
+units : (controller : Controlling) (cause : Cause) → IsEnd cause controller.live
+    → ((step_of controller Tick).controller ≡ with_live controller (later controller.live))
+    × ((step_of controller Tick).frames ≡ where_due (is_again controller.live) (release_of controller))
+unfolding step_of
+units controller cause h = (
+  ap (λ (t : Turn). with_live controller t.live) (ticked_as controller.live h.down),
+  unit_frames_of controller.setup controller.live cause h,
+)
+
+-- ---- what an event leaves
+
+-- The phase is kept, and so is the active Release, unless it is no longer active.
+record IsLeft (setup : Setup) (before after : Live) : Type 0 where
+  phase : after.phase ≡ before.phase
+  release : (release_in setup after.device after.asked ≡ release_in setup before.device before.asked) ⊎ (release_in setup after.device after.asked ≡ None)
+
+same_left : (setup : Setup) (before after : Live) → after ≡ before → IsLeft setup before after
+same_left setup before after e =
+    record { phase = ap (λ (live : Live). live.phase) e; release = inl (ap (λ (live : Live). release_in setup live.device live.asked) e) }
+
+frame_left : (setup : Setup) (heard : Heard) (before after : Live) → (after ≡ before) ⊎ (IsAnswered setup before heard × (after ≡ record before { asked = None }))
+    → IsLeft setup before after
+frame_left setup heard before after (inl e) = same_left setup before after e
+frame_left setup heard before after (inr x) =
+    record { phase = ap (λ (live : Live). live.phase) x.1; release = inr (ap (λ (live : Live). release_in setup live.device live.asked) x.1) }
+
+later_left : (controller : Controlling) (after : Controlling) → after ≡ with_live controller (later controller.live) → IsLeft controller.setup controller.live after.live
+later_left controller after e = record {
+  phase = ap (λ (c : Controlling). c.live.phase) e;
+  release = inl (ap (λ (c : Controlling). release_in controller.setup c.live.device c.live.asked) e);
+}
+
+given_left : (setup : Setup) (before after : Live) → after ≡ record before { cyclic = record before.cyclic { shown = after.cyclic.shown } } → IsLeft setup before after
+given_left setup before after e =
+    record { phase = ap (λ (live : Live). live.phase) e; release = inl (ap (λ (live : Live). release_in setup live.device live.asked) e) }
+
+left : (controller : Controlling) (cause : Cause) (event : Event) → IsEnd cause controller.live
+    → IsLeft controller.setup controller.live (step_of controller event).controller.live
+left controller cause (Frame bytes) h =
+    frame_left controller.setup (heard_of controller.setup.plan.controller bytes.items) controller.live (step_of controller (Frame bytes)).controller.live
+    (drops controller cause (Frame bytes) h refl).1
+left controller cause Tick h = later_left controller (step_of controller Tick).controller (units controller cause h).0
+left controller cause (Give slot subslot value) h =
+    given_left controller.setup controller.live (step_of controller (Give slot subslot value)).controller.live (drops controller cause (Give slot subslot value) h refl).1
+left controller cause Stop h = same_left controller.setup controller.live (step_of controller Stop).controller.live (drops controller cause Stop h refl).1
+
+ended_on : (controller : Controlling) (cause : Cause) (event : Event) → HasEnded cause controller → HasEnded cause (step_of controller event).controller
+ended_on controller cause event h = record {
+  reached = reached_on controller event h.reached;
+  phase = (left controller cause event (whole_end cause controller h)).phase ∙ h.phase;
+}
+
+-- ---- what is sent
+
+due_are : (is : Bool) (release : Option (List ℕ)) → AllByRecursion (λ frame. Some frame ≡ release) (where_due is release)
+due_are is None = tt
+due_are true (Some frame) = (refl, tt)
+due_are false (Some frame) = tt
+
+none_are : (release : Option (List ℕ)) (frames : List (List ℕ)) → frames ≡ [] → AllByRecursion (λ frame. Some frame ≡ release) frames
+none_are release frames e = subst (λ (xs : List (List ℕ)). AllByRecursion (λ frame. Some frame ≡ release) xs) (sym e) tt
+
+sent_are : (controller : Controlling) (cause : Cause) (event : Event) → IsEnd cause controller.live
+    → AllByRecursion (λ frame. Some frame ≡ release_of controller) (step_of controller event).frames
+sent_are controller cause (Frame bytes) h = none_are (release_of controller) (step_of controller (Frame bytes)).frames (drops controller cause (Frame bytes) h refl).0
+sent_are controller cause Tick h =
+    subst (λ (xs : List (List ℕ)). AllByRecursion (λ frame. Some frame ≡ release_of controller) xs) (sym (units controller cause h).1)
+    (due_are (is_again controller.live) (release_of controller))
+sent_are controller cause (Give slot subslot value) h =
+    none_are (release_of controller) (step_of controller (Give slot subslot value)).frames (drops controller cause (Give slot subslot value) h refl).0
+sent_are controller cause Stop h = none_are (release_of controller) (step_of controller Stop).frames (drops controller cause Stop h refl).0
+
+some_none : (frame : List ℕ) → Some frame ≡ None → ⊥
+some_none frame e = cc
+
+-- Frames of a Release that is still active, or of none.
+carried : (release before : Option (List ℕ)) (frames : List (List ℕ)) → (release ≡ before) ⊎ (release ≡ None)
+    → AllByRecursion (λ frame. Some frame ≡ release) frames → AllByRecursion (λ frame. Some frame ≡ before) frames
+carried release before [] same all = tt
+carried release before (frame ∷ frames) (inl e) all = (all.0 ∙ e, carried release before frames (inl e) all.1)
+carried release before (frame ∷ frames) (inr e) all = absurd (some_none frame (all.0 ∙ e))
+
+all_behind : (release : Option (List ℕ)) (xs ys : List (List ℕ)) → AllByRecursion (λ frame. Some frame ≡ release) xs → AllByRecursion (λ frame. Some frame ≡ release) ys
+    → AllByRecursion (λ frame. Some frame ≡ release) (xs ++ ys)
+all_behind release [] ys all more = more
+all_behind release (x ∷ xs) ys all more = (all.0, all_behind release xs ys all.1 more)
+
+all_sent : (events : List Event) (controller : Controlling) (cause : Cause) → HasEnded cause controller
+    → AllByRecursion (λ frame. Some frame ≡ release_of controller) (frames_of events controller)
+unfolding step_of
+all_sent [] controller cause h = tt
+all_sent (event ∷ events) controller cause h =
+    let end = whole_end cause controller h in
+    let next = (step_of controller event).controller in
+    all_behind (release_of controller) (step_of controller event).frames (frames_of events next)
+    (sent_are controller cause event end)
+    (carried (release_of next) (release_of controller) (frames_of events next) (left controller cause event end).release
+    (all_sent events next cause (ended_on controller cause event h)))
+
+none_stands : (setup : Setup) (device : Mac) (asked : Option Request) (cause : Cause) → may_release cause ≡ false → IsReported cause asked → release_in setup device asked ≡ None
+none_stands setup device (Some (asks.Release sequence)) cause other reported = absurd (no_unit (sym reported ∙ other))
+none_stands setup device asked cause other reported = refl
+
+none_sent : (release : Option (List ℕ)) (frames : List (List ℕ)) → release ≡ None → AllByRecursion (λ frame. Some frame ≡ release) frames → frames ≡ []
+none_sent release [] e all = refl
+none_sent release (frame ∷ frames) e all = absurd (some_none frame (all.0 ∙ e))
+
+-- ---- the law
+
+pub keeps_its_cause : KeepsItsCause
+keeps_its_cause controller cause [] h = h
+keeps_its_cause controller cause (event ∷ events) h = keeps_its_cause (step_of controller event).controller cause events (ended_on controller cause event h)
+
+pub repeats_its_release : RepeatsItsRelease
+repeats_its_release controller cause events h = all_sent events controller cause h
+
+pub is_silent : IsSilent
+is_silent controller cause events h other =
+    none_sent (release_of controller) (frames_of events controller)
+    (none_stands controller.setup controller.live.device controller.live.asked cause other (whole_end cause controller h).asked)
+    (all_sent events controller cause h)
+
+pub drops_what_comes : DropsWhatComes
+drops_what_comes controller cause event h other = drops controller cause event (whole_end cause controller h) other
+
+pub counts_units : CountsUnits
+counts_units controller cause h = units controller cause (whole_end cause controller h)

@@ -1,0 +1,217 @@
+-- Each turn of a controller is of one of the kinds.
+use Rattle.std.proofs.Common.{◌≡◌, inl, inr, ◌&&◌, ℕ, Bool, true, false, List, Option, Some, None, refl, sym, ap, subst, ◌∙◌}
+use Rattle.std.specs.Prelude.{if◌then◌else◌, option_and_then}
+use Rattle.std.proofs.lemmas.Bool.{and_parts, false≢true}
+use Rattle.pn_values.specs.declared.mac.Mac.{Mac}
+use Rattle.frame_codec.specs.declared.udp.Caller.{Caller}
+use Rattle.dcp_core.specs.Response.{Answered}
+use Rattle.dcp_core.specs.Answered.{is_agreed}
+use Rattle.rpc_core.specs.Call.{Asked as Call}
+use Rattle.rpc_core.specs.Response.{Answered as Response, is_done}
+use Rattle.connect_blocks.specs.declared.control.ControlBlock.{ControlBlock}
+use Rattle.pn_alarms.specs.declared.abort.Abort.{Abort}
+use Rattle.pn_alarms.specs.declared.message.Notice.TheVariants as notice
+use Rattle.pn_alarms.specs.declared.pdu.Header.{Header}
+use Rattle.pn_alarms.specs.Message.{ToController}
+use Rattle.cyclic_exchange.specs.Received.{behind_frame}
+use Rattle.controller_frames.specs.declared.setup.Setup.{Setup}
+use Rattle.controller_frames.specs.declared.request.Request.{Request}
+use Rattle.controller_frames.specs.declared.request.Request.TheVariants as asks
+use Rattle.controller_frames.specs.Heard.{Heard, Nothing, Answers, Responds, Calls, Alarms, heard_of}
+use Rattle.controller_frames.specs.Heard.{Cyclic as Comes}
+use Rattle.controller_core.specs.declared.event.Event.{Event}
+use Rattle.controller_core.specs.declared.event.Event.TheVariants.{Frame, Tick, Give, Stop}
+use Rattle.controller_core.specs.declared.state.Cause.{Cause}
+use Rattle.controller_core.specs.declared.state.Cause.TheVariants as why
+use Rattle.controller_core.specs.declared.state.State.{State}
+use Rattle.controller_core.specs.declared.state.State.TheVariants.{Looking, Addressing, Ending, Waiting, Exchanging, Ended}
+use Rattle.controller_core.specs.State.{Live}
+use Rattle.controller_core.specs.Alarms.{is_alarm}
+use Rattle.controller_core.specs.Answers.{is_addressed, is_answer, is_found, is_ready, is_right, is_set_answer}
+use Rattle.controller_core.specs.Connect.{Chosen, chosen_of, found_in, is_whole, nothing}
+use Rattle.controller_core.specs.Machine.{Turn, answered, brought, called, connected, decided, done, flow_later, flowed, is_again, handled, later, noticed, readied, ready_in, related_by, requests_of, responded, stays, stopped, turn_of, turned, where_due}
+use Rattle.end_laws.specs.turns.Turns.{Came, Hears, Passes, Gets, Halts, Found, IsGoing, IsGranted, IsKind, IsReadied, IsSought, IsReported, IsTurn, Kind, Rests, Connects, Addresses, Ends, Releases, Relates, Writes, Waits, Forgets, Begins, Repeats, Follows, Takes, IsAcked, Gives, Flows, Breaks, Idles, came_by, chosen_in, turn_by, turn_for}
+
+-- No other phase is an end.
+abbrev pub is_over : State → Bool
+is_over (Ended cause) = true
+is_over phase = false
+
+pub not_over : (phase : State) (cause : Cause) → is_over phase ≡ false → phase ≡ Ended cause → ⊥
+not_over phase cause stands e = absurd (false≢true (sym stands ∙ ap (λ (p : State). is_over p) e))
+
+-- At a complete end no request is active except a Release.
+abbrev pub is_release : Request → Bool
+is_release (asks.Release sequence) = true
+is_release request = false
+
+pub unreported : (request : Request) (cause : Cause) → is_release request ≡ false → IsReported cause (Some request) → ⊥
+unreported (asks.Release sequence) cause other reported = false≢true (sym other)
+unreported request cause other reported = reported
+
+module _ (setup : Setup) (live : Live) where
+  going : (phase : State) → live.phase ≡ phase → is_over phase ≡ false → IsGoing live
+  going phase is stands = λ cause end. not_over phase cause stands (sym is ∙ end.phase)
+
+  asked_going : (request : Request) → live.asked ≡ Some request → is_release request ≡ false → IsGoing live
+  asked_going request stood other = λ cause end. unreported request cause other (subst (λ (o : Option Request). IsReported cause o) stood end.asked)
+
+  up_going : live.stands ≡ true → IsGoing live
+  up_going up = λ cause end. false≢true (sym end.down ∙ up)
+
+  as_kind : (came : Came) (kind : Kind) → IsKind setup live came kind → IsTurn setup live came (turn_by setup live kind)
+  as_kind came kind holds = record { kind = kind; holds = holds; is = refl }
+
+  rests : (came : Came) → IsTurn setup live came (stays live)
+  rests came = as_kind came Rests tt
+
+  either : {came : Came} (is : Bool) {x y : Turn} → IsTurn setup live came x → IsTurn setup live came y → IsTurn setup live came (if is then x else y)
+  either true one other = one
+  either false one other = other
+
+  if_so : {came : Came} (is : Bool) {x y : Turn} → (is ≡ true → IsTurn setup live came x) → IsTurn setup live came y → IsTurn setup live came (if is then x else y)
+  if_so true one other = one refl
+  if_so false one other = other
+
+  -- ---- DCP answers
+
+  answered_is : (source : Mac) (answer : Answered) (phase : State) → live.phase ≡ phase
+      → IsTurn setup live (Hears (Answers source answer)) (answered setup live source answer phase)
+  answered_is source answer Looking is =
+      let came = Hears (Answers source answer) in
+      let sought : IsSought live came source = record { seeking = inl is; known = inr (answer, refl) } in
+      either (is_found setup.plan answer)
+      (either (is_right setup.plan answer)
+      (either (is_addressed setup.plan answer) (as_kind came (Connects source) sought) (as_kind came (Addresses source) sought))
+      (as_kind came (Ends why.WrongDevice) (going Looking is refl)))
+      (rests came)
+  answered_is source answer Addressing is =
+      let came = Hears (Answers source answer) in
+      either (is_set_answer answer)
+      (either (is_agreed answer)
+      (as_kind came (Connects live.device) (record { seeking = inr is; known = inl refl }))
+      (as_kind came (Ends why.Refused) (going Addressing is refl)))
+      (rests came)
+  answered_is source answer phase is = rests (Hears (Answers source answer))
+
+  -- ---- responses
+
+  module _ (response : Response) where
+    abbrev heard_now : Came
+    heard_now = Hears (Responds response)
+
+    forgets : (sequence : ℕ) → live.asked ≡ Some (asks.Release sequence) → is_answer setup (asks.Release sequence) response.header ≡ true
+        → IsTurn setup live heard_now (stays (record live { asked = None }))
+    forgets sequence stood right =
+        as_kind heard_now Forgets (Responds response, refl, record { response = response; sequence = sequence; stood = stood; comes = refl; right = right })
+
+    abbrev granted_by : (request : Request) → live.asked ≡ Some request → is_answer setup request response.header ≡ true → is_done response.status ≡ true
+        → IsGranted setup live heard_now request
+    granted_by request stood right granted = record { stood = stood; response = response; comes = refl; right = right; granted = granted }
+
+    module _ (stood : live.asked ≡ Some asks.Connect) (right : is_answer setup asks.Connect response.header ≡ true) (granted : is_done response.status ≡ true) where
+      related_is : (found : Option Chosen) → chosen_in response.blocks ≡ found → IsTurn setup live heard_now (related_by setup live found)
+      related_is (Some chosen) is = as_kind heard_now (Relates chosen) (granted_by asks.Connect stood right granted, is)
+      related_is None is = rests heard_now
+
+      connected_is : (read : Option Found) → found_in 400 response.blocks nothing ≡ read → IsTurn setup live heard_now (connected setup live read)
+      connected_is (Some found) e =
+          either (is_whole found)
+          (either found.differs
+          (as_kind heard_now (Releases why.ModuleDiff) (asked_going asks.Connect stood refl, refl))
+          (related_is (chosen_of found) (ap (λ (o : Option Found). option_and_then (λ (f : Found). chosen_of f) o) e)))
+          (rests heard_now)
+      connected_is None e = rests heard_now
+
+    done_is : (request : Request) → live.asked ≡ Some request → is_answer setup request response.header ≡ true → is_done response.status ≡ true
+        → IsTurn setup live heard_now (done setup live response.blocks request)
+    done_is asks.Identify stood right granted = rests heard_now
+    done_is asks.Address stood right granted = rests heard_now
+    done_is asks.Connect stood right granted = connected_is stood right granted (found_in 400 response.blocks nothing) refl
+    done_is (asks.Write number) stood right granted = as_kind heard_now (Writes number) (granted_by (asks.Write number) stood right granted)
+    done_is asks.PrmEnd stood right granted = as_kind heard_now Waits (granted_by asks.PrmEnd stood right granted)
+    done_is (asks.Release sequence) stood right granted = forgets sequence stood right
+
+    handled_is : (request : Request) → live.asked ≡ Some request → is_answer setup request response.header ≡ true → is_release request ≡ false
+        → IsTurn setup live heard_now (handled setup live response request)
+    handled_is request stood right other =
+        if_so (is_done response.status) (λ granted. done_is request stood right granted) (as_kind heard_now (Ends why.Refused) (asked_going request stood other))
+
+    decided_is : (request : Request) → live.asked ≡ Some request → is_answer setup request response.header ≡ true
+        → IsTurn setup live heard_now (decided setup live response request)
+    decided_is (asks.Release sequence) stood right = forgets sequence stood right
+    decided_is request stood right = handled_is request stood right refl
+
+    responded_is : (asked : Option Request) → live.asked ≡ asked → IsTurn setup live heard_now (responded setup live response asked)
+    responded_is (Some request) stood = if_so (is_answer setup request response.header) (λ right. decided_is request stood right) (rests heard_now)
+    responded_is None stood = rests heard_now
+
+  -- ---- ApplicationReady
+
+  readied_is : (caller : Caller) (call : Call) (block : ControlBlock) (phase : State) → live.phase ≡ phase → IsReadied setup (Hears (Calls caller call)) caller call block
+      → IsTurn setup live (Hears (Calls caller call)) (readied live caller call block phase)
+  readied_is caller call block Ending is ready = as_kind (Hears (Calls caller call)) (Begins caller call block) (inl is, ready)
+  readied_is caller call block Waiting is ready = as_kind (Hears (Calls caller call)) (Begins caller call block) (inr is, ready)
+  readied_is caller call block Exchanging is ready = as_kind (Hears (Calls caller call)) (Repeats caller call block) (is, ready)
+  readied_is caller call block phase is ready = rests (Hears (Calls caller call))
+
+  called_is : (caller : Caller) (call : Call) (block : Option ControlBlock) → ready_in call ≡ block
+      → IsTurn setup live (Hears (Calls caller call)) (called setup live caller call block)
+  called_is caller call (Some block) is =
+      if_so (is_ready setup block) (λ right. readied_is caller call block live.phase refl (record { comes = refl; is = is; right = right })) (rests (Hears (Calls caller call)))
+  called_is caller call None is = rests (Hears (Calls caller call))
+
+  -- ---- alarms, and cyclic frames
+
+  noticed_is : (source : Mac) (header : Header) (reported : ToController) → live.stands ≡ true → IsTurn setup live (Hears (Alarms source header reported)) (noticed live reported)
+  noticed_is source header (notice.Data number alarm) up = as_kind _ (Takes number alarm) (up, source, header, refl)
+  noticed_is source header (notice.Ack number) up = as_kind _ (IsAcked number) (up, source, header, refl)
+  noticed_is source header notice.Nack up = rests _
+  noticed_is source header notice.Abort up = as_kind _ (Ends why.Aborted) (up_going up)
+
+  come_is : (source : Mac) (frame_id : ℕ) (body : List ℕ) (is : Bool) → live.stands ≡ is
+      → IsTurn setup live (Hears (Comes source frame_id body)) (stays (if is then record live { cyclic = behind_frame live.cyclic source frame_id body } else live))
+  come_is source frame_id body true up = as_kind (Hears (Comes source frame_id body)) (Follows source frame_id body) up
+  come_is source frame_id body false down = rests (Hears (Comes source frame_id body))
+
+  turned_is : (heard : Heard) → IsTurn setup live (Hears heard) (turned setup live heard)
+  turned_is Nothing = rests (Hears Nothing)
+  turned_is (Answers source answer) = answered_is source answer live.phase refl
+  turned_is (Responds response) = responded_is response live.asked refl
+  turned_is (Calls caller call) = called_is caller call (ready_in call) refl
+  turned_is (Comes source frame_id body) = come_is source frame_id body live.stands refl
+  turned_is (Alarms source header reported) =
+      if_so (live.stands && is_alarm live.cyclic.route source header)
+      (λ e. noticed_is source header reported (and_parts live.stands (is_alarm live.cyclic.route source header) e).0)
+      (rests (Hears (Alarms source header reported)))
+
+  -- ---- units, and the application
+
+  flowed_is : (ending : Option Abort) → live.stands ≡ true → (brought live).ending ≡ ending
+      → IsTurn setup live Passes (flowed (flow_later live) (is_again live) (brought live) ending)
+  flowed_is (Some reason) up e = as_kind Passes (Breaks reason) (refl, up, e)
+  flowed_is None up e = as_kind Passes Flows (refl, up, e)
+
+  ticked_is : (is : Bool) → live.stands ≡ is
+      → IsTurn setup live Passes (if is then flowed (flow_later live) (is_again live) (brought live) (brought live).ending
+      else record { live = later live; sent = where_due (is_again live) (requests_of live.device live.asked) })
+  ticked_is true up = flowed_is (brought live).ending up refl
+  ticked_is false down = as_kind Passes Idles (refl, down)
+
+  stopped_is : (phase : State) → live.phase ≡ phase → IsTurn setup live Halts (stopped setup live phase)
+  stopped_is Looking is = as_kind Halts (Ends why.Stopped) (going Looking is refl)
+  stopped_is Addressing is = as_kind Halts (Ends why.Stopped) (going Addressing is refl)
+  stopped_is (Ended cause) is = rests Halts
+  stopped_is phase is = as_kind Halts (Releases why.Stopped) (going phase is refl, refl)
+
+  pub turn_is : (came : Came) → IsTurn setup live came (turn_for setup live came)
+  turn_is (Hears heard) = turned_is heard
+  turn_is Passes = ticked_is live.stands refl
+  turn_is (Gets slot subslot value) = as_kind (Gets slot subslot value) (Gives slot subslot value) refl
+  turn_is Halts = stopped_is live.phase refl
+
+  pub event_is : (event : Event) → IsTurn setup live (came_by setup event) (turn_of setup live event)
+  event_is (Frame bytes) = turn_is (Hears (heard_of setup.plan.controller bytes.items))
+  event_is Tick = turn_is Passes
+  event_is (Give slot subslot value) = turn_is (Gets slot subslot value.items)
+  event_is Stop = turn_is Halts

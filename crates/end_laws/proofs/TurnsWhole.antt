@@ -1,0 +1,130 @@
+-- The end of a controller is complete, however it was reached: its relation is over, and no request is active except
+-- its Release.
+use Rattle.std.proofs.Common.{◌≡◌, ◌+◌, ◌++◌, ℕ, false, true, List, [], ◌∷◌, Option, None, refl, sym, ap, subst, ◌∙◌}
+use Rattle.record_blocks.specs.declared.alarm_notification.AlarmNotification.{AlarmNotification}
+use Rattle.pn_alarms.specs.declared.receiver.Taken.{Taken}
+use Rattle.pn_alarms.specs.declared.receiver.Taken.TheVariants.{New, Again, Refused}
+use Rattle.pn_alarms.specs.Receiver.{taken_as}
+use Rattle.plans.specs.declared.parts.Parts.{Parts}
+use Rattle.controller_frames.specs.declared.setup.Setup.{Setup}
+use Rattle.controller_frames.specs.declared.request.Request.{Request}
+use Rattle.controller_frames.specs.declared.request.Request.TheVariants as asks
+use Rattle.controller_frames.specs.Requests.{writing_from}
+use Rattle.controller_frames.specs.Sent.{Sent}
+use Rattle.controller_core.specs.declared.event.Event.{Event}
+use Rattle.controller_core.specs.declared.state.Cause.{Cause}
+use Rattle.controller_core.specs.declared.state.State.TheVariants.{Ended}
+use Rattle.controller_core.specs.State.{Controlling, Live}
+use Rattle.controller_core.specs.Machine.{Turn, behind_data, cause_of, confirming, first, flow_later, fresh, over, phase_for, released, standing, stays, step_of, taken, turn_of, writing}
+use Rattle.end_laws.specs.turns.Ended.{HasEnded, may_release}
+use Rattle.end_laws.specs.turns.Runs.{IsReached, behind_all}
+use Rattle.end_laws.specs.turns.Turns.{Came, IsEnd, IsKind, IsReported, Kind, Rests, Connects, Addresses, Ends, Releases, Relates, Writes, Waits, Forgets, Begins, Repeats, Follows, Takes, IsAcked, Gives, Flows, Breaks, Idles, came_by, turn_by}
+use Rattle.end_laws.proofs.TurnsOneTurn.{event_is, is_over, not_over}
+
+-- After a turn the controller has not ended, or its end is complete.
+pub record Kept (turn : Turn) : Type 0 where
+  pub whole : (cause : Cause) → turn.live.phase ≡ Ended cause → IsEnd cause turn.live
+
+same_cause : (mine cause : Cause) → Ended mine ≡ Ended cause → mine ≡ cause
+same_cause mine cause e = cc
+
+-- ---- the parts of a turn
+
+-- A turn that changes neither the phase, nor whether the relation is established, nor the active request.
+same : (live next : Live) (sent : List Sent) → next.phase ≡ live.phase → next.stands ≡ live.stands → next.asked ≡ live.asked
+    → Kept (stays live) → Kept (record { live = next; sent = sent })
+same live next sent phase stands asked k = record {
+  whole = λ cause e. let i = k.whole cause (sym phase ∙ e) in
+      record { phase = e; down = stands ∙ i.down; asked = subst (λ (o : Option Request). IsReported cause o) (sym asked) i.asked };
+}
+
+goes_on : (live : Live) (sent : List Sent) → is_over live.phase ≡ false → Kept (record { live = live; sent = sent })
+goes_on live sent stands = record { whole = λ cause e. absurd (not_over live.phase cause stands e) }
+
+-- No request is active any more.
+unasked : (live : Live) → Kept (stays live) → Kept (stays (record live { asked = None }))
+unasked live k = record { whole = λ cause e. let i = k.whole cause e in record { phase = e; down = i.down; asked = tt } }
+
+ends : (mine : Cause) (live : Live) (sent : List Sent) → Kept (record { live = over mine live; sent = sent })
+ends mine live sent = record { whole = λ cause e. record { phase = e; down = refl; asked = tt } }
+
+releases : (setup : Setup) (mine : Cause) (live : Live) → may_release mine ≡ true → Kept (released setup mine live)
+releases setup mine live reported = record {
+  whole = λ cause e. record { phase = e; down = refl; asked = subst (λ (c : Cause). may_release c ≡ true) (same_cause mine cause e) reported };
+}
+
+-- ---- each kind
+
+goes_by : (request : Request) → is_over (phase_for request) ≡ false
+goes_by (asks.Write number) = refl
+goes_by request = refl
+
+writing_kept : (request : Request) (live : Live) → Kept (writing request live)
+writing_kept request live = goes_on (writing request live).live (writing request live).sent (goes_by request)
+
+taken_kept : (live : Live) (alarm : AlarmNotification) (as_what : Taken) → Kept (stays live) → Kept (taken live alarm as_what)
+taken_kept live alarm New k = same live (confirming live alarm) (taken live alarm New).sent refl refl refl k
+taken_kept live alarm Again k = same live live (taken live alarm Again).sent refl refl refl k
+taken_kept live alarm Refused k = same live live (taken live alarm Refused).sent refl refl refl k
+
+kept_by : (setup : Setup) (live : Live) (came : Came) (kind : Kind) → IsKind setup live came kind → Kept (stays live) → Kept (turn_by setup live kind)
+kept_by setup live came Rests holds k = k
+kept_by setup live came (Connects source) holds k = goes_on _ _ refl
+kept_by setup live came (Addresses source) holds k = goes_on _ _ refl
+kept_by setup live came (Ends cause) holds k = ends cause live []
+kept_by setup live came (Releases cause) holds k = releases setup cause live holds.1
+kept_by setup live came (Relates chosen) holds k = writing_kept (writing_from setup.plan 0) (standing setup live chosen)
+kept_by setup live came (Writes number) holds k = writing_kept (writing_from setup.plan (number + 1)) live
+kept_by setup live came Waits holds k = goes_on _ _ refl
+kept_by setup live came Forgets holds k = unasked live k
+kept_by setup live came (Begins caller call block) holds k = goes_on _ _ refl
+kept_by setup live came (Repeats caller call block) holds k = same live live _ refl refl refl k
+kept_by setup live came (Follows source frame_id body) holds k = same live _ _ refl refl refl k
+kept_by setup live came (Takes number alarm) holds k =
+    taken_kept (behind_data live number) alarm (taken_as live.alarms.seen number) (same live (behind_data live number) [] refl refl refl k)
+kept_by setup live came (IsAcked number) holds k = same live _ _ refl refl refl k
+kept_by setup live came (Gives slot subslot value) holds k = same live _ _ refl refl refl k
+kept_by setup live came Flows holds k = same live _ _ refl refl refl k
+kept_by setup live came (Breaks reason) holds k = ends (cause_of reason) (flow_later live) _
+kept_by setup live came Idles holds k = same live _ _ refl refl refl k
+
+turn_kept : (setup : Setup) (live : Live) (event : Event) → Kept (stays live) → Kept (turn_of setup live event)
+turn_kept setup live event k =
+    let turn = event_is setup live event in
+    subst (λ (t : Turn). Kept t) (sym turn.is) (kept_by setup live (came_by setup event) turn.kind turn.holds k)
+
+-- ---- any events
+
+step_kept : (controller : Controlling) (event : Event) → Kept (stays controller.live) → Kept (stays (step_of controller event).controller.live)
+unfolding step_of
+step_kept controller event k = record { whole = (turn_kept controller.setup controller.live event k).whole }
+
+all_kept : (events : List Event) (controller : Controlling) → Kept (stays controller.live) → Kept (stays (behind_all events controller).live)
+all_kept [] controller k = k
+all_kept (event ∷ events) controller k = all_kept events (step_of controller event).controller (step_kept controller event k)
+
+first_kept : (plan : Parts) (ar activity : List ℕ) → Kept (stays (fresh plan ar activity).live)
+first_kept plan ar activity = goes_on (first plan) [] refl
+
+reached_kept : (controller : Controlling) → IsReached controller → Kept (stays controller.live)
+reached_kept controller r =
+    subst (λ (c : Controlling). Kept (stays c.live)) (sym r.made) (all_kept r.events (fresh r.plan r.ar r.activity) (first_kept r.plan r.ar r.activity))
+
+-- A controller that ended has a complete end.
+pub whole_end : (cause : Cause) (controller : Controlling) → HasEnded cause controller → IsEnd cause controller.live
+whole_end cause controller h = (reached_kept controller h.reached).whole cause h.phase
+
+-- ---- a run goes on
+
+runs_on : (events more : List Event) (controller : Controlling) → behind_all (events ++ more) controller ≡ behind_all more (behind_all events controller)
+runs_on [] more controller = refl
+runs_on (event ∷ events) more controller = runs_on events more (step_of controller event).controller
+
+pub reached_on : (controller : Controlling) (event : Event) → IsReached controller → IsReached (step_of controller event).controller
+reached_on controller event r = record {
+  plan = r.plan;
+  ar = r.ar;
+  activity = r.activity;
+  events = r.events ++ event ∷ [];
+  made = ap (λ (c : Controlling). (step_of c event).controller) r.made ∙ sym (runs_on r.events (event ∷ []) (fresh r.plan r.ar r.activity));
+}

@@ -1,0 +1,26 @@
+-- This follows from the laws of the crates below.
+use Rattle.std.proofs.Common.{arith}
+use Rattle.pn_alarms.specs.declared.message.Notice.TheVariants as notice
+use Rattle.pn_alarms.specs.declared.pdu.PduType.TheVariants as pdu
+use Rattle.pn_alarms.specs.Carried.{alarm_pdu}
+use Rattle.codec_laws.specs.alarms.Sendable.{empty_pdu}
+use Rattle.end_laws.proofs.HearingExchanges.{pdu_at_controller}
+use Rattle.end_laws.proofs.hearing.alarms.alarms_are_heard.Goals as goal
+
+pub returns-clause-alarm : goal.returns-clause-alarm
+returns-clause-alarm c =
+    λ mine identity route header alarm is way kind good whole.
+    pdu_at_controller c.frames_are_read.ensures.real_time c.pdus_are_read.ensures.long mine route.partner identity.mac route.alarm_tag pdu.Data (alarm_pdu header alarm) header (notice.Data header.send_number alarm)
+    way.partner is way.alarm_tag (omega (arith, c.alarms_are_read.ensures.long alarm, whole.few)) (λ more. c.alarms_are_read.ensures.read header alarm more kind good whole)
+
+pub returns-clause-ack : goal.returns-clause-ack
+returns-clause-ack c =
+    λ mine identity route header is way kind good.
+    pdu_at_controller c.frames_are_read.ensures.real_time c.pdus_are_read.ensures.long mine route.partner identity.mac route.alarm_tag header.kind (empty_pdu header) header (notice.Ack header.ack_number)
+    way.partner is way.alarm_tag (omega arith) (λ more. c.replies_are_read.ensures.controller_ack header more kind good)
+
+pub returns-clause-nack : goal.returns-clause-nack
+returns-clause-nack c =
+    λ mine identity route header is way kind good.
+    pdu_at_controller c.frames_are_read.ensures.real_time c.pdus_are_read.ensures.long mine route.partner identity.mac route.alarm_tag header.kind (empty_pdu header) header notice.Nack
+    way.partner is way.alarm_tag (omega arith) (λ more. c.replies_are_read.ensures.controller_nack header more kind good)

@@ -1,0 +1,104 @@
+-- The state of a controller and what it hears, with each field of its size.
+use Rattle.std.specs.Prelude.{◌≡◌, ◌≤◌, ◌<◌, ℕ, List, Option, Some, None, option_and_then, ⊤}
+use Rattle.record_blocks.specs.declared.alarm_ack.AlarmAck.{AlarmAck}
+use Rattle.record_blocks.specs.declared.alarm_notification.AlarmNotification.{AlarmNotification}
+use Rattle.pn_alarms.specs.declared.message.Notice.TheVariants as notice
+use Rattle.pn_alarms.specs.Message.{ToController}
+use Rattle.controller_frames.specs.declared.request.Request.{Request}
+use Rattle.controller_frames.specs.declared.request.Request.TheVariants as asks
+use Rattle.controller_frames.specs.declared.setup.Setup.{Setup}
+use Rattle.controller_frames.specs.Heard.{Heard, Nothing, Answers, Responds, Calls, Cyclic, Alarms, heard_of}
+use Rattle.controller_core.specs.declared.event.Event.{Event}
+use Rattle.controller_core.specs.declared.event.Event.TheVariants.{Frame, Tick, Give, Stop}
+use Rattle.controller_core.specs.Connect.{Chosen, chosen_of, found_in, nothing}
+use Rattle.controller_core.specs.State.{Live}
+use Rattle.codec_laws.specs.frames.Sendable.{IsMac}
+use Rattle.rpc_core.specs.Sendable.{IsHeader}
+use Rattle.codec_laws.specs.blocks.Writable.{IsAck}
+use Rattle.end_laws.specs.hearing.Stations.{IsCaller}
+use Rattle.end_laws.specs.sending.Messages.{IsWay}
+
+-- ---- the state of a controller
+
+-- a pending request: a plan has at most 32 records
+abbrev pub IsFew : Request → Type 0
+IsFew asks.Identify = ⊤
+IsFew asks.Address = ⊤
+IsFew asks.Connect = ⊤
+IsFew (asks.Write number) = number < 32
+IsFew asks.PrmEnd = ⊤
+IsFew (asks.Release sequence) = sequence < 4294967296
+
+-- the pending request, if there is one, has its sizes
+abbrev pub AreFew : Option Request → Type 0
+AreFew None = ⊤
+AreFew (Some request) = IsFew request
+
+-- a number of two octets, if there is one
+abbrev pub IsShort : Option ℕ → Type 0
+IsShort None = ⊤
+IsShort (Some number) = number < 65536
+
+-- an AlarmAck that can be written, if there is one
+abbrev pub IsAckOrNone : Option AlarmAck → Type 0
+IsAckOrNone None = ⊤
+IsAckOrNone (Some ack) = IsAck ack
+
+-- a controller whose station, request, route, image and alarm numbers have their sizes
+pub record IsLive (live : Live) : Type 0 where
+  pub device : IsMac live.device
+  pub asked : AreFew live.asked
+  pub way : IsWay live.cyclic.route
+  pub few : live.cyclic.shown.data_length ≤ 1440
+  pub last : IsShort live.alarms.sending.last
+  pub seen : IsShort live.alarms.seen
+  pub confirming : IsAckOrNone live.alarms.confirming
+
+-- ---- what it hears
+
+-- an alarm for which an AlarmAck can be written
+pub record IsNoted (alarm : AlarmNotification) : Type 0 where
+  pub alarm_type : alarm.alarm_type < 65536
+  pub api : alarm.api < 4294967296
+  pub slot_number : alarm.slot_number < 65536
+  pub subslot_number : alarm.subslot_number < 65536
+  pub alarm_specifier : alarm.alarm_specifier < 65536
+
+-- what an alarm frame says has its sizes
+abbrev pub IsNotice : ToController → Type 0
+IsNotice (notice.Data number alarm) = (number < 65536) × IsNoted alarm
+IsNotice notice.Nack = ⊤
+IsNotice (notice.Ack number) = ⊤
+IsNotice notice.Abort = ⊤
+
+-- the type of what is found in the response to a Connect
+abbrev TypeOf : {A : Type 0} → A → Type 0
+TypeOf {A = A} value = A
+
+-- what a controller finds in the response to a Connect
+abbrev pub Found : Type 0
+Found = TypeOf nothing
+
+-- what the device chose, if these blocks are the response to a Connect
+abbrev pub chosen_in : List ℕ → Option Chosen
+chosen_in blocks = option_and_then (λ (found : Found). chosen_of found) (found_in 400 blocks nothing)
+
+-- the FrameID that these blocks choose for outputs has two octets, and so has the alarm endpoint
+abbrev pub IsChosen : List ℕ → Type 0
+IsChosen blocks = (chosen : Chosen) → chosen_in blocks ≡ Some chosen → (chosen.frame_id < 65536) × (chosen.reference < 65536)
+
+-- what was heard has its sizes; in the response to a Connect so has what the device chose
+abbrev pub IsSized : Heard → Type 0
+IsSized Nothing = ⊤
+IsSized (Answers source answer) = IsMac source
+IsSized (Responds response) = IsChosen response.blocks
+IsSized (Calls caller call) = IsCaller caller × IsHeader call.header × (call.args_maximum < 4294967296)
+IsSized (Cyclic source frame_id body) = ⊤
+IsSized (Alarms source header reported) = IsNotice reported
+
+-- what the event brings has its sizes
+abbrev pub IsSizedEvent : Setup → Event → Type 0
+IsSizedEvent setup (Frame bytes) = IsSized (heard_of setup.plan.controller bytes.items)
+IsSizedEvent setup Tick = ⊤
+IsSizedEvent setup (Give slot subslot value) = ⊤
+IsSizedEvent setup Stop = ⊤

@@ -1,0 +1,182 @@
+-- Each turn of a controller is of one of these kinds: its next state, what it sends, and when it makes such a turn.
+use Rattle.std.specs.Prelude.{◌≡◌, ◌⊎◌, ◌+◌, ◌∷◌, [], ℕ, true, false, List, option_and_then, Option, Some, None}
+use Rattle.pn_values.specs.declared.mac.Mac.{Mac}
+use Rattle.frame_codec.specs.declared.udp.Caller.{Caller}
+use Rattle.dcp_core.specs.Response.{Answered}
+use Rattle.rpc_core.specs.Call.{Asked as Call}
+use Rattle.rpc_core.specs.Response.{Answered as Response, is_done}
+use Rattle.connect_blocks.specs.declared.control.ControlBlock.{ControlBlock}
+use Rattle.record_blocks.specs.declared.alarm_notification.AlarmNotification.{AlarmNotification}
+use Rattle.pn_alarms.specs.declared.abort.Abort.{Abort}
+use Rattle.pn_alarms.specs.declared.message.Notice.TheVariants as notice
+use Rattle.pn_alarms.specs.declared.pdu.Header.{Header}
+use Rattle.pn_alarms.specs.Controller.{with_ack}
+use Rattle.pn_alarms.specs.Receiver.{taken_as}
+use Rattle.cyclic_exchange.specs.Opening.{begun_of}
+use Rattle.cyclic_exchange.specs.Received.{behind_frame}
+use Rattle.controller_frames.specs.declared.setup.Setup.{Setup}
+use Rattle.controller_frames.specs.declared.request.Request.{Request}
+use Rattle.controller_frames.specs.declared.request.Request.TheVariants as asks
+use Rattle.controller_frames.specs.Heard.{Heard, Answers, Responds, Calls, Alarms, heard_of}
+use Rattle.controller_frames.specs.Requests.{writing_from}
+use Rattle.controller_frames.specs.Sent.{Agrees, ready_answer}
+use Rattle.controller_core.specs.declared.event.Event.{Event}
+use Rattle.controller_core.specs.declared.event.Event.TheVariants.{Frame, Tick, Give, Stop}
+use Rattle.controller_core.specs.declared.state.Cause.{Cause}
+use Rattle.controller_core.specs.declared.state.State.TheVariants.{Looking, Addressing, Connecting, Ending, Waiting, Exchanging, Ended}
+use Rattle.controller_core.specs.State.{Live}
+use Rattle.controller_core.specs.Answers.{is_answer, is_ready}
+use Rattle.controller_core.specs.Connect.{Chosen, chosen_of, found_in, nothing}
+use Rattle.controller_core.specs.Machine.{Turn, asking, behind_data, brought, due_frames, ended_by, flow_later, given, is_again, later, over, ready_in, released, requests_of, standing, stays, stopped, taken, ticked, turned, where_due, writing}
+use Rattle.end_laws.specs.turns.Ended.{IsAnswered, may_release}
+
+-- ---- what comes
+
+-- A frame is received, with any octets; a unit passes; an output is set; or the application stops the controller.
+pub data Came : Type 0 where
+  Hears : (heard : Heard) → Came
+  Passes : Came
+  Gets : (slot subslot : ℕ) → (value : List ℕ) → Came
+  Halts : Came
+
+abbrev pub came_by : Setup → Event → Came
+came_by setup (Frame bytes) = Hears (heard_of setup.plan.controller bytes.items)
+came_by setup Tick = Passes
+came_by setup (Give slot subslot value) = Gets slot subslot value.items
+came_by setup Stop = Halts
+
+abbrev pub turn_for : Setup → Live → Came → Turn
+turn_for setup live (Hears heard) = turned setup live heard
+turn_for setup live Passes = ticked live
+turn_for setup live (Gets slot subslot value) = stays (given live slot subslot value)
+turn_for setup live Halts = stopped setup live live.phase
+
+-- ---- a complete end
+
+-- The request after a controller ended for this cause: none, or the Release, if the device may be informed by one.
+abbrev pub IsReported : Cause → Option Request → Type 0
+IsReported cause None = Unit {0}
+IsReported cause (Some (asks.Release sequence)) = may_release cause ≡ true
+IsReported cause (Some _) = ⊥
+
+-- It ended, its relation is over, and no request is active except its Release.
+pub record IsEnd (cause : Cause) (live : Live) : Type 0 where
+  pub phase : live.phase ≡ Ended cause
+  pub down : live.stands ≡ false
+  pub asked : IsReported cause live.asked
+
+-- It did not reach such an end.
+abbrev pub IsGoing : Live → Type 0
+IsGoing live = (cause : Cause) → IsEnd cause live → ⊥
+
+-- ---- the kinds
+
+-- Nothing changes, and nothing is sent; a station is asked for the relation, or its address is set; the controller
+-- ends, or ends and informs the device; the relation is established with what the device chose, and the first record is
+-- written; the record after this one is written; the controller waits for ApplicationReady; a Release
+-- is no longer active; ApplicationReady is answered, and data is exchanged from then on, or was before; a cyclic frame
+-- is received; an alarm is received, or the ACK of an AlarmAck; an output is set; a unit of the relation passes, or
+-- ends it, or a unit passes without a relation.
+pub data Kind : Type 0 where
+  Rests : Kind
+  Connects : (source : Mac) → Kind
+  Addresses : (source : Mac) → Kind
+  Ends : (cause : Cause) → Kind
+  Releases : (cause : Cause) → Kind
+  Relates : (chosen : Chosen) → Kind
+  Writes : (number : ℕ) → Kind
+  Waits : Kind
+  Forgets : Kind
+  Begins : (caller : Caller) → (call : Call) → (block : ControlBlock) → Kind
+  Repeats : (caller : Caller) → (call : Call) → (block : ControlBlock) → Kind
+  Follows : (source : Mac) → (frame_id : ℕ) → (body : List ℕ) → Kind
+  Takes : (number : ℕ) → (alarm : AlarmNotification) → Kind
+  IsAcked : (number : ℕ) → Kind
+  Gives : (slot subslot : ℕ) → (value : List ℕ) → Kind
+  Flows : Kind
+  Breaks : (reason : Abort) → Kind
+  Idles : Kind
+
+-- The turn of each kind.
+abbrev pub turn_by : Setup → Live → Kind → Turn
+turn_by setup live Rests = stays live
+turn_by setup live (Connects source) = asking Connecting asks.Connect (record live { device = source })
+turn_by setup live (Addresses source) = asking Addressing asks.Address (record live { device = source })
+turn_by setup live (Ends cause) = stays (over cause live)
+turn_by setup live (Releases cause) = released setup cause live
+turn_by setup live (Relates chosen) = writing (writing_from setup.plan 0) (standing setup live chosen)
+turn_by setup live (Writes number) = writing (writing_from setup.plan (number + 1)) live
+turn_by setup live Waits = stays (record live { phase = Waiting; asked = None })
+turn_by setup live Forgets = stays (record live { asked = None })
+turn_by setup live (Begins caller call block) = record {
+  live = record live { phase = Exchanging; asked = None; cyclic = begun_of live.cyclic };
+  sent = Agrees caller (ready_answer call block) ∷ [];
+}
+turn_by setup live (Repeats caller call block) = record { live = live; sent = Agrees caller (ready_answer call block) ∷ [] }
+turn_by setup live (Follows source frame_id body) = stays (record live { cyclic = behind_frame live.cyclic source frame_id body })
+turn_by setup live (Takes number alarm) = taken (behind_data live number) alarm (taken_as live.alarms.seen number)
+turn_by setup live (IsAcked number) = stays (record live { alarms = with_ack live.alarms number })
+turn_by setup live (Gives slot subslot value) = stays (given live slot subslot value)
+turn_by setup live Flows = record { live = flow_later live; sent = due_frames (flow_later live) (brought live).is_alarm (is_again live) (brought live).is_cyclic }
+turn_by setup live (Breaks reason) = ended_by (flow_later live) reason
+turn_by setup live Idles = record { live = later live; sent = where_due (is_again live) (requests_of live.device live.asked) }
+
+-- ---- when each kind occurs
+
+-- It looks for its station, which is the known one, or one that answered.
+pub record IsSought (live : Live) (came : Came) (source : Mac) : Type 0 where
+  pub seeking : (live.phase ≡ Looking) ⊎ (live.phase ≡ Addressing)
+  pub known : (source ≡ live.device) ⊎ ((answer : Answered) × (came ≡ Hears (Answers source answer)))
+
+-- The active request is answered positively.
+pub record IsGranted (setup : Setup) (live : Live) (came : Came) (request : Request) : Type 0 where
+  pub stood : live.asked ≡ Some request
+  pub response : Response
+  pub comes : came ≡ Hears (Responds response)
+  pub right : is_answer setup request response.header ≡ true
+  pub granted : is_done response.status ≡ true
+
+-- What a controller finds in the answer to a Connect.
+abbrev TypeOf : {A : Type 0} → A → Type 0
+TypeOf {A = A} value = A
+
+abbrev pub Found : Type 0
+Found = TypeOf nothing
+
+-- What the device chose, if these blocks are the answer to a Connect.
+abbrev pub chosen_in : List ℕ → Option Chosen
+chosen_in blocks = option_and_then (λ (found : Found). chosen_of found) (found_in 400 blocks nothing)
+
+-- ApplicationReady of the relation is received.
+pub record IsReadied (setup : Setup) (came : Came) (caller : Caller) (call : Call) (block : ControlBlock) : Type 0 where
+  pub comes : came ≡ Hears (Calls caller call)
+  pub is : ready_in call ≡ Some block
+  pub right : is_ready setup block ≡ true
+
+-- When a controller makes a turn of a kind.
+abbrev pub IsKind : Setup → Live → Came → Kind → Type 0
+IsKind setup live came Rests = Unit {0}
+IsKind setup live came (Connects source) = IsSought live came source
+IsKind setup live came (Addresses source) = IsSought live came source
+IsKind setup live came (Ends cause) = IsGoing live
+IsKind setup live came (Releases cause) = IsGoing live × (may_release cause ≡ true)
+IsKind setup live came (Relates chosen) = (granted : IsGranted setup live came asks.Connect) × (chosen_in granted.response.blocks ≡ Some chosen)
+IsKind setup live came (Writes number) = IsGranted setup live came (asks.Write number)
+IsKind setup live came Waits = IsGranted setup live came asks.PrmEnd
+IsKind setup live came Forgets = (heard : Heard) × (came ≡ Hears heard) × IsAnswered setup live heard
+IsKind setup live came (Begins caller call block) = ((live.phase ≡ Ending) ⊎ (live.phase ≡ Waiting)) × IsReadied setup came caller call block
+IsKind setup live came (Repeats caller call block) = (live.phase ≡ Exchanging) × IsReadied setup came caller call block
+IsKind setup live came (Follows source frame_id body) = live.stands ≡ true
+IsKind setup live came (Takes number alarm) =
+    (live.stands ≡ true) × (source : Mac) × (header : Header) × (came ≡ Hears (Alarms source header (notice.Data number alarm)))
+IsKind setup live came (IsAcked number) = (live.stands ≡ true) × (source : Mac) × (header : Header) × (came ≡ Hears (Alarms source header (notice.Ack number)))
+IsKind setup live came (Gives slot subslot value) = came ≡ Gets slot subslot value
+IsKind setup live came Flows = (came ≡ Passes) × (live.stands ≡ true) × ((brought live).ending ≡ None)
+IsKind setup live came (Breaks reason) = (came ≡ Passes) × (live.stands ≡ true) × ((brought live).ending ≡ Some reason)
+IsKind setup live came Idles = (came ≡ Passes) × (live.stands ≡ false)
+
+-- A turn of one of these kinds.
+pub record IsTurn (setup : Setup) (live : Live) (came : Came) (turn : Turn) : Type 0 where
+  pub kind : Kind
+  pub holds : IsKind setup live came kind
+  pub is : turn ≡ turn_by setup live kind

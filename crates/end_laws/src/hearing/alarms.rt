@@ -1,0 +1,94 @@
+//! Alarm frames.
+ghost use Rattle.std.specs.Prelude.{◌≡◌, ◌<◌, ◌⊎◌, ℕ};
+ghost use Rattle.pn_values.specs.declared.identity.Identity.{Identity};
+ghost use Rattle.record_blocks.specs.declared.alarm_ack.AlarmAck.{AlarmAck};
+ghost use Rattle.record_blocks.specs.declared.alarm_notification.AlarmNotification.{AlarmNotification};
+ghost use Rattle.pn_alarms.specs.declared.abort.Abort.{Abort};
+ghost use Rattle.pn_alarms.specs.declared.message.Notice.TheVariants as notice;
+ghost use Rattle.pn_alarms.specs.declared.pdu.Header.{Header};
+ghost use Rattle.pn_alarms.specs.declared.pdu.PduType.TheVariants as pdu;
+ghost use Rattle.cyclic_exchange.specs.declared.route.Route.{Route};
+ghost use Rattle.relations.specs.exchange.Frames.{Notifies, Replies as Answers};
+ghost use Rattle.plans.specs.declared.parts.Controller.{Controller};
+ghost use Rattle.relations.specs.declared.farewell.Farewell.{Farewell};
+ghost use Rattle.relations.specs.Farewells.{said_by};
+ghost use Rattle.device_frames.specs.Heard.{Alarms, heard_of as device_hears};
+ghost use Rattle.device_frames.specs.Sent.{Ends as Farewells, Exchanges, bytes_of as device_bytes};
+ghost use Rattle.controller_frames.specs.declared.setup.Setup.{Setup};
+ghost use Rattle.controller_frames.specs.Heard.{Alarms as Alarmed, heard_of as controller_hears};
+ghost use Rattle.controller_frames.specs.Sent.{Confirms, Ends, Replies, bytes_of as controller_bytes, end_pdu};
+ghost use Rattle.codec_laws.specs.frames.Sendable.{IsMac};
+ghost use Rattle.codec_laws.specs.alarms.Sendable.{IsHeader};
+ghost use Rattle.codec_laws.specs.blocks.Writable.{IsAck, IsAlarm};
+ghost use Rattle.end_laws.specs.hearing.Hearing.{comes, mine_hears, own_hears};
+ghost use Rattle.end_laws.specs.hearing.Stations.{IsDevice, IsRoute, IsSetup};
+
+use codec_laws::{
+    acks_are_read, alarms_are_read, ends_are_read, frames_are_read, pdus_are_read, replies_are_read,
+};
+
+/// What the controller hears of an alarm, and of the reply to an AlarmAck. These are laws of the definitions.
+pub fn alarms_are_heard()
+    // The controller hears data with its number, and the alarm itself.
+    ensures alarm { (mine : Controller) (identity : Identity) (route : Route) (header : Header) (alarm : AlarmNotification)
+        → IsDevice identity → IsRoute route → header.kind ≡ pdu.Data → IsHeader header → IsAlarm alarm
+        → controller_hears mine (device_bytes identity (Exchanges route (Notifies header alarm)))
+        ≡ mine_hears mine route.partner (Alarmed identity.mac header (notice.Data header.send_number alarm)) }
+    // In an ACK the controller hears the number of the data that arrived.
+    ensures ack { (mine : Controller) (identity : Identity) (route : Route) (header : Header)
+        → IsDevice identity → IsRoute route → header.kind ≡ pdu.Ack → IsHeader header
+        → controller_hears mine (device_bytes identity (Exchanges route (Answers header)))
+        ≡ mine_hears mine route.partner (Alarmed identity.mac header (notice.Ack header.ack_number)) }
+    // In a NACK the controller hears that data was refused.
+    ensures nack { (mine : Controller) (identity : Identity) (route : Route) (header : Header)
+        → IsDevice identity → IsRoute route → header.kind ≡ pdu.Nack → IsHeader header
+        → controller_hears mine (device_bytes identity (Exchanges route (Answers header)))
+        ≡ mine_hears mine route.partner (Alarmed identity.mac header notice.Nack) }
+{
+    frames_are_read();
+    pdus_are_read();
+    alarms_are_read();
+    replies_are_read();
+}
+
+/// What the device hears of an AlarmAck, and of the reply to an alarm. These are laws of the definitions.
+pub fn confirmations_are_heard()
+    // The device hears data with its number, and the AlarmAck itself.
+    ensures confirms { (identity : Identity) (setup : Setup) (route : Route) (header : Header) (ack : AlarmAck)
+        → IsSetup setup → IsRoute route → header.kind ≡ pdu.Data → IsHeader header → IsAck ack
+        → device_hears identity (comes (controller_bytes setup (Confirms route header ack)))
+        ≡ own_hears identity route.partner (Alarms setup.plan.controller.mac header (notice.Data header.send_number ack)) }
+    // In an ACK the device hears the number of the alarm that arrived.
+    ensures ack { (identity : Identity) (setup : Setup) (route : Route) (header : Header)
+        → IsSetup setup → IsRoute route → header.kind ≡ pdu.Ack → IsHeader header
+        → device_hears identity (comes (controller_bytes setup (Replies route header)))
+        ≡ own_hears identity route.partner (Alarms setup.plan.controller.mac header (notice.Ack header.ack_number)) }
+    // In a NACK the device hears that data was refused.
+    ensures nack { (identity : Identity) (setup : Setup) (route : Route) (header : Header)
+        → IsSetup setup → IsRoute route → header.kind ≡ pdu.Nack → IsHeader header
+        → device_hears identity (comes (controller_bytes setup (Replies route header)))
+        ≡ own_hears identity route.partner (Alarms setup.plan.controller.mac header notice.Nack) }
+{
+    frames_are_read();
+    pdus_are_read();
+    acks_are_read();
+    replies_are_read();
+}
+
+/// What either end hears of the ERR with which the other ends the relation. These are laws of the definitions.
+pub fn ends_are_heard()
+    // In the controller's ERR the device hears that the controller ends the relation, whatever the reason.
+    ensures device { (identity : Identity) (setup : Setup) (route : Route) (header : Header) (reason : Abort) → IsSetup setup →
+        IsRoute route → IsHeader header
+        → device_hears identity (comes (controller_bytes setup (Ends route header reason)))
+        ≡ own_hears identity route.partner (Alarms setup.plan.controller.mac (end_pdu header reason).header notice.Abort) }
+    // In the device's ERR the controller hears that the device ends the relation.
+    ensures controller { (mine : Controller) (identity : Identity) (farewell : Farewell)
+        → IsDevice identity → IsMac farewell.initiator → farewell.tag < 65536 → IsHeader (said_by farewell).header
+        → controller_hears mine (device_bytes identity (Farewells farewell))
+        ≡ mine_hears mine farewell.initiator (Alarmed identity.mac (said_by farewell).header notice.Abort) }
+{
+    frames_are_read();
+    pdus_are_read();
+    ends_are_read();
+}

@@ -1,0 +1,34 @@
+//! The laws of a controller.
+ghost use Rattle.end_laws.specs.turns.Alarms.{AreTakenInOrder, LackAtMostTheLast, ShowsTheLast};
+ghost use Rattle.end_laws.specs.turns.Ended.{CountsUnits, DropsWhatComes, IsSilent, KeepsItsCause, RepeatsItsRelease};
+
+/// What remains of a controller that ended, for any events after its end. These are laws of the definition that
+/// specifies `Controller::step`; the function has no code.
+pub fn ended_is_kept()
+    // For any events, an ended controller stays ended, for the same cause.
+    ensures cause { KeepsItsCause }
+    // Each frame that an ended controller sends is its active Release, octet by octet; without an active Release it
+    // sends none.
+    ensures release { RepeatsItsRelease }
+    // A controller that ended for another cause than modules that differ or a stop by the application sends nothing.
+    ensures silent { IsSilent }
+    // For an event other than a unit of time no frame is sent. It changes nothing, except that the response to the
+    // active Release ends that, and that an output is stored.
+    ensures dropped { DropsWhatComes }
+    // A unit is counted, and the active Release is sent when the units since it was last sent reach 32,000.
+    ensures units { CountsUnits }
+{}
+
+/// The alarms of a relation between a device's end, by the definition that specifies `DeviceAlarms`, and a controller,
+/// over a network that may lose, repeat or reorder frames. These are laws of the definitions; the function has no code.
+pub fn alarms_are_taken_in_order()
+    // While at most 32,768 alarms are raised, the alarms that the controller accepted are a prefix of those that were
+    // raised.
+    ensures prefix { AreTakenInOrder }
+    // While at most 32,768 alarms are raised, at most the last one is missing.
+    ensures last { LackAtMostTheLast }
+    // The controller reports the last alarm that it accepted.
+    ensures shown { ShowsTheLast }
+{
+    codec_laws::alarms_are_taken_in_order();
+}

@@ -1,0 +1,93 @@
+-- A world that is begun and played meets all laws of both ends.
+use Rattle.std.proofs.Common.{◌≡◌, ◌<◌, ◌≤◌, ◌+◌, ℕ, true, false, List, length, take, Some, Result, Ok, Err, refl, sym, subst}
+use Rattle.std.specs.Prelude.{OnErr, OnOk}
+use Rattle.flash_model.specs.declared.flash.Flash.{Ghosts as Flash}
+use Rattle.pn_values.specs.declared.identity.Identity.{Identity}
+use Rattle.startup_law.specs.request.Request.{request_for}
+use Rattle.relations.specs.Exchanged.{output_in}
+use Rattle.relations.specs.RelationState.{RelationState}
+use Rattle.relations.specs.declared.phase.Phase.TheVariants.{Exchanging as in_exchange}
+use Rattle.device_core.specs.State.{State}
+use Rattle.controller_frames.specs.declared.setup.Setup.{Setup}
+use Rattle.controller_core.specs.declared.state.State.TheVariants.{Exchanging}
+use Rattle.end_laws.specs.turns.Alarms.{last_of}
+use Rattle.codec_laws.specs.alarms.World.{IsPrefixOf}
+use Rattle.network_world.specs.declared.moves.Move.{Move}
+use Rattle.network_world.specs.World.{World, Played}
+use Rattle.end_laws.specs.both.StartUp.{WasExchanging, WasHanded}
+use Rattle.startup_law.specs.Played.{AreMade, Begins, CanMeet, IsRunOf, last_world, viewed}
+use Rattle.startup_law.specs.View.{rules_of, view_of}
+use Rattle.exchange_laws.specs.Given.{AreOfOneFrame, zero_for}
+use Rattle.exchange_laws.specs.Shown.{has_accepted}
+use Rattle.exchange_laws.specs.Sized.{AreSizedModules}
+use Rattle.exchange_laws.specs.Over.{IsOneOfTheLastTwo, raised_over, taken_over}
+use Rattle.exchange_laws.specs.Together.{IsBegunAndCut, IsBegunAndPlayed}
+
+-- what follows from the case of success follows for any result
+pub on_good : {A E : Type 0} (P Q : Type 0) (result : Result A E) → (P → Q) → OnOk result P → OnOk result Q
+on_good P Q (Ok value) so holds = so holds
+on_good P Q (Err error) so holds = holds
+
+pub on_bad : {A E : Type 0} (P Q : Type 0) (result : Result A E) → (P → Q) → OnErr result P → OnErr result Q
+on_bad P Q (Ok value) so holds = holds
+on_bad P Q (Err error) so holds = so holds
+
+-- the laws of both ends
+pub record Laws {F : Type 0} {S : ℕ} (as_flash : Flash F S) (setup : Setup) (identity : Identity) : Type 0 where
+  pub run : (before after : World F) (moves : List Move) → Played as_flash before moves after → IsRunOf as_flash before moves after
+  pub handed : CanMeet setup identity → (first : World F) (run : List (Move × World F)) → Begins setup identity first → AreMade as_flash first run
+      → (last_world first run).controller.live.phase ≡ Exchanging → WasHanded (rules_of first.controller.setup first.device.station) (view_of first) (viewed run)
+  pub exchanging : CanMeet setup identity → (first : World F) (run : List (Move × World F)) → Begins setup identity first → AreMade as_flash first run
+      → (link : RelationState) → (last_world first run).device.live.rest.link ≡ Some link → link.phase ≡ in_exchange → WasExchanging (viewed run)
+  pub relation : CanMeet setup identity → (first : World F) (run : List (Move × World F)) → Begins setup identity first → AreMade as_flash first run
+      → (link : RelationState) → (last_world first run).device.live.rest.link ≡ Some link → link.request ≡ request_for setup.plan setup.ar
+  pub zeros : CanMeet setup identity → (first : World F) (run : List (Move × World F)) → Begins setup identity first → AreMade as_flash first run
+      → (link : RelationState) → (last_world first run).device.live.rest.link ≡ Some link → has_accepted link ≡ false
+      → (slot subslot : ℕ) → output_in slot subslot (Some link) ≡ zero_for setup slot subslot
+  pub values : CanMeet setup identity → (first : World F) (run : List (Move × World F)) → Begins setup identity first → AreMade as_flash first run
+      → (link : RelationState) → (last_world first run).device.live.rest.link ≡ Some link → has_accepted link ≡ true → AreOfOneFrame setup identity first run link
+  pub front : CanMeet setup identity → (first : World F) (run : List (Move × World F)) → Begins setup identity first → AreMade as_flash first run
+      → AreSizedModules first.device.station.real.modules.items → length (raised_over first run) ≤ 32768 → IsPrefixOf (taken_over first run) (raised_over first run)
+  pub lacks : CanMeet setup identity → (first : World F) (run : List (Move × World F)) → Begins setup identity first → AreMade as_flash first run
+      → AreSizedModules first.device.station.real.modules.items → length (raised_over first run) ≤ 32768 → length (raised_over first run) ≤ length (taken_over first run) + 1
+  pub shown : CanMeet setup identity → (first : World F) (run : List (Move × World F)) → Begins setup identity first → AreMade as_flash first run
+      → AreSizedModules first.device.station.real.modules.items → (last_world first run).controller.live.alarm ≡ last_of (taken_over first run)
+  pub alarm : CanMeet setup identity → (first : World F) (run : List (Move × World F)) → Begins setup identity first → AreMade as_flash first run
+      → AreSizedModules first.device.station.real.modules.items → length (raised_over first run) ≤ 32768
+      → IsOneOfTheLastTwo (raised_over first run) (last_world first run).controller.live.alarm
+
+module _ {F : Type 0} {S : ℕ} (as_flash : Flash F S) (setup : Setup) (identity : Identity) (laws : Laws as_flash setup identity) (meets : CanMeet setup identity)
+    (device : State F) (known : device.station.identity ≡ identity) (sized : AreSizedModules device.station.real.modules.items)
+    (first : World F) (begins : Begins setup device.station.identity first) (of_device : first.device ≡ device) where
+  begun : Begins setup identity first
+  begun = subst (λ (i : Identity). Begins setup i first) known begins
+
+  real : AreSizedModules first.device.station.real.modules.items
+  real = subst (λ (d : State F). AreSizedModules d.station.real.modules.items) (sym of_device) sized
+
+  pub played_so : (moves : List Move) (last : World F) → Played as_flash first moves last → IsBegunAndPlayed as_flash setup device moves last
+  played_so moves last played =
+      let of = laws.run first last moves played in
+      let run = of.run in
+      let made = of.made in
+      subst (λ (w : World F). IsBegunAndPlayed as_flash setup device moves w) of.last (record {
+        first = first;
+        begins = begins;
+        of_device = of_device;
+        run = run;
+        are = of.are;
+        made = made;
+        ends = refl;
+        handed = laws.handed meets first run begun made;
+        exchanging = laws.exchanging meets first run begun made;
+        relation = laws.relation meets first run begun made;
+        zeros = laws.zeros meets first run begun made;
+        values = λ link is some. subst (λ (i : Identity). AreOfOneFrame setup i first run link) (sym known) (laws.values meets first run begun made link is some);
+        front = laws.front meets first run begun made real;
+        lacks = laws.lacks meets first run begun made real;
+        shown = laws.shown meets first run begun made real;
+        alarm = laws.alarm meets first run begun made real;
+      })
+
+  pub cut_so : (moves : List Move) (last : World F) → ((count : ℕ) × (count < length moves) × Played as_flash first (take count moves) last) → IsBegunAndCut as_flash setup device moves last
+  cut_so moves last cut = record { count = cut.0; before = cut.1; played = played_so (take cut.0 moves) last cut.2 }

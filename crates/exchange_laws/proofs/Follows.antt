@@ -1,0 +1,512 @@
+-- Both ends of a network, as the alarms of a relation that some moves led to.
+use Rattle.std.proofs.Common.{◌≡◌, ◌⊎◌, inl, inr, ◌==◌, ◌++◌, ℕ, Bool, true, false, cond, List, [], ◌∷◌, map, length, Option, Some, None, option_map, Result, Ok, refl, sym, ap, subst, ◌∙◌, append-nil, append_assoc, arith}
+use Rattle.std.specs.Prelude.{nat_lt, slice_get}
+use Rattle.std.specs.List.{AllByRecursion}
+use Rattle.std.proofs.lemmas.Bool.{eq-eqb, false≢true, ltb-false}
+use Rattle.settings_store.specs.Machine.{Outcome}
+use Rattle.pn_values.specs.declared.identity.Identity.{Identity}
+use Rattle.pn_values.specs.declared.mac.Mac.{Mac}
+use Rattle.record_blocks.specs.declared.alarm_ack.AlarmAck.{AlarmAck}
+use Rattle.record_blocks.specs.declared.alarm_notification.AlarmNotification.{AlarmNotification}
+use Rattle.frame_codec.specs.declared.udp.Caller.{Caller}
+use Rattle.rpc_core.specs.Cache.{Kept as Answer, again, kept_of, looked, new, old, reported_by}
+use Rattle.rpc_core.specs.Call.{Asked as Call}
+use Rattle.records.specs.declared.status.operation.Operation.{Operation}
+use Rattle.records.specs.declared.status.operation.Operation.TheVariants as operation
+use Rattle.connect_requests.specs.Request.{Request}
+use Rattle.records.specs.declared.writes.taken.TakenRecord.{TakenRecord}
+use Rattle.pn_alarms.specs.declared.message.Notice.{Notice}
+use Rattle.pn_alarms.specs.declared.message.Notice.TheVariants as notice
+use Rattle.pn_alarms.specs.declared.pdu.Header.{Header}
+use Rattle.pn_alarms.specs.declared.pdu.PduType.{PduType}
+use Rattle.pn_alarms.specs.declared.pdu.PduType.TheVariants as pdu
+use Rattle.pn_alarms.specs.declared.receiver.Taken.{Taken}
+use Rattle.pn_alarms.specs.declared.receiver.Taken.TheVariants.{New, Again as Once_more, Refused as Not_taken}
+use Rattle.pn_alarms.specs.Device.{idle}
+use Rattle.pn_alarms.specs.Receiver.{taken_as}
+use Rattle.cyclic_exchange.specs.declared.route.Route.{Route}
+use Rattle.relations.specs.Connect.{connect_of}
+use Rattle.relations.specs.RelationState.{RelationState}
+use Rattle.codec_laws.specs.alarms.Line.{more_taken, with_come}
+use Rattle.device_frames.specs.declared.event.Event.TheVariants.{Frame}
+use Rattle.device_frames.specs.Heard.{Heard, Reported, Calls, heard_of}
+use Rattle.device_frames.specs.Sent.{Sent, Again, Ends, Exchanges, bytes_of}
+use Rattle.device_core.specs.State.{Station, Live}
+use Rattle.device_core.specs.Machine.{heard_step, handled_step}
+use Rattle.controller_frames.specs.declared.request.Request.TheVariants as asks
+use Rattle.controller_frames.specs.declared.setup.Setup.{Setup}
+use Rattle.controller_frames.specs.Heard as controller
+use Rattle.controller_frames.specs.Heard.{heard_of as heard_by}
+use Rattle.controller_frames.specs.Sent as said
+use Rattle.controller_core.specs.declared.event.Event.{Event}
+use Rattle.controller_core.specs.declared.event.Event.TheVariants as event
+use Rattle.controller_core.specs.Machine.{Turn, alarmed, turn_of, turned}
+use Rattle.controller_core.specs.State.{Live as ControllerLive}
+use Rattle.end_laws.specs.turns.Alarms.{Relation, Move, AlarmComes, AckComes, Hears, PassesAtController, Gives, Stops, ack_comes, alarm_comes, behind, behind_one, is_looked_at, start, turns}
+use Rattle.end_laws.specs.both.Small as small
+use Rattle.end_laws.specs.both.Small.{Rules, ToDevice}
+use Rattle.end_laws.specs.both.Steps.{DeviceSteps}
+use Rattle.end_laws.specs.controller.Small.{said_by}
+use Rattle.end_laws.specs.device.Owed.{IsOfKept, IsOwed}
+use Rattle.end_laws.specs.device.Small.{IsHeardAs, IsPlanned, IsPlannedAs, IsPlannedCall, heard_as, kept_in, link_of, small_of}
+use Rattle.end_laws.specs.device.Small as ends
+use Rattle.startup_law.specs.View.{IsSaidAs, rules_of}
+use Rattle.exchange_laws.proofs.Reported.{IsCallIn, IsCalledAs, IsGood, IsNotedAs, IsNotedBy, IsReportedAs, IsWell, IsWellSent, noted_at, noted_by, noted_in, noted_of, reply_of, reported_in, reported_of}
+use Rattle.exchange_laws.specs.Over.{taken_by, taken_of}
+use Rattle.exchange_laws.proofs.Lists.{Extends, each_behind, each_on, more_extends, none_some, some_is, unchanged}
+use Rattle.end_laws.specs.hearing.Stations.{IsSetup}
+use Rattle.startup_law.specs.request.Request.{request_for}
+use Rattle.exchange_laws.specs.Sized.{AreSizedModules}
+use Rattle.end_laws.specs.sending.Sized.{IsLive}
+use Rattle.exchange_laws.proofs.Placed.{IsPlaced}
+use Rattle.exchange_laws.proofs.Sizes.{AreSizedIn}
+use Rattle.end_laws.specs.device.Turn.{Makes}
+use Rattle.exchange_laws.proofs.Tied.{Goes, IsFresh, IsHeard, IsSaid, IsTied, heard_stays, said_stays}
+
+-- ---- a frame
+
+-- What either end hears of alarms in the frame was said. A Connect in it is the first call, and each call has its
+-- sizes. What the controller hears in it comes from its device, and a positive response to the Connect chooses a
+-- suitable FrameID for outputs.
+pub record IsIn (setup : Setup) (identity : Identity) (r : Relation) (frame : List ℕ) : Type 0 where
+  pub noted : IsSaid r.alarms.pdus r.acks (noted_of setup frame)
+  pub reported : IsHeard r.reported (reported_of identity frame)
+  pub first : (sequence : ℕ) → heard_as (heard_of identity (Frame (record { items = frame }))) ≡ small.Call sequence small.Connects → sequence ≡ 0
+  pub called : IsCallIn (heard_of identity (Frame (record { items = frame })))
+  pub good : IsGood identity.mac (heard_by setup.plan.controller frame)
+  pub well : IsWell setup (heard_by setup.plan.controller frame)
+
+in_stays : (setup : Setup) (identity : Identity) (r next : Relation) (frame : List ℕ) → Extends r.alarms.pdus next.alarms.pdus → Extends r.acks next.acks → Extends r.reported next.reported
+    → IsIn setup identity r frame → IsIn setup identity next frame
+in_stays setup identity r next frame p a t is = record {
+  noted = said_stays r.alarms.pdus next.alarms.pdus r.acks next.acks (noted_of setup frame) p a is.noted;
+  reported = heard_stays r.reported next.reported (reported_of identity frame) t is.reported;
+  first = is.first;
+  called = is.called;
+  good = is.good;
+  well = is.well;
+}
+
+-- ---- both ends
+
+abbrev pub kept_at : Setup → Live → Option small.Kept
+kept_at setup live = (small_of setup.activity live).kept
+
+pub record Follows (setup : Setup) (station : Station) (live : Live) (controlling : ControllerLive) (sent : List (List ℕ)) (raised taken : List AlarmNotification) : Type 0 where
+  pub relation : Relation
+  pub moves : List Move
+  pub made : behind setup moves (start setup) ≡ relation
+  pub same : relation.live ≡ controlling
+  pub raises : relation.alarms.sent ≡ raised
+  pub takes : relation.alarms.taken ≡ taken
+  pub tied : IsTied relation live.rest.link
+  pub unmade : kept_at setup live ≡ None → relation.device ≡ idle 1 3
+  pub linked : (link : small.RelationState TakenRecord Request) → (small_of setup.activity live).link ≡ Some link → kept_at setup live ≡ None → ⊥
+  pub again : (answer : small.Kept) → kept_at setup live ≡ Some answer → IsIn setup station.identity relation answer.frame
+  pub frames : AllByRecursion (IsIn setup station.identity relation) sent
+  -- the addresses differ, and the numbers have their sizes
+  pub good : IsSetup setup
+  pub apart : station.identity.mac ≡ setup.plan.controller.mac → ⊥
+  pub real : AreSizedModules station.real.modules.items
+  pub sized : AreSizedIn (request_for setup.plan setup.ar) live.rest.link
+  pub lives : IsLive controlling
+  pub placed : IsPlaced station.identity.mac controlling
+
+runs_on : (setup : Setup) (moves more : List Move) (r : Relation) → behind setup (moves ++ more) r ≡ behind setup more (behind setup moves r)
+runs_on setup [] more r = refl
+runs_on setup (move ∷ moves) more r = runs_on setup moves more (behind_one setup r move)
+
+-- ---- the response that is stored, and the relation
+
+module _ (rules : Rules TakenRecord Request) where
+  abbrev Small : Type 0
+  Small = small.Device TakenRecord Request
+
+  kept_is : (P : List ℕ → Type 0) (heard : ToDevice) (before after : Small) (frames : List (List ℕ)) → DeviceSteps rules heard before after frames
+      → ((answer : small.Kept) → before.kept ≡ Some answer → P answer.frame) → AllByRecursion P frames → (answer : small.Kept) → after.kept ≡ Some answer → P answer.frame
+  kept_is P (small.Call sequence ask) before after frames (inl answered) was all answer is =
+      let now : AllByRecursion P (answered.frame ∷ answered.others) = subst (λ (fs : List (List ℕ)). AllByRecursion P fs) answered.sent all in
+      subst (λ (k : small.Kept). P k.frame) (some_is (record { sequence = sequence; frame = answered.frame }) answer (sym answered.keeps ∙ is)) now.0
+  kept_is P (small.Call sequence ask) before after frames (inr (inl repeats)) was all answer is = was answer (ap (λ (d : Small). d.kept) (sym repeats.unchanged) ∙ is)
+  kept_is P (small.Call sequence ask) before after frames (inr (inr rests)) was all answer is = was answer (ap (λ (d : Small). d.kept) (sym rests.0) ∙ is)
+  kept_is P small.Confirms before after frames (inl confirms) was all answer is = was answer (ap (λ (d : Small). d.kept) (sym confirms.becomes) ∙ is)
+  kept_is P small.Confirms before after frames (inr rests) was all answer is = was answer (ap (λ (d : Small). d.kept) (sym rests.0) ∙ is)
+  kept_is P small.Idle before after frames goes was all answer is = was answer (sym goes.keeps ∙ is)
+
+  -- if no response is stored after a step, none was before
+  none_kept : (heard : ToDevice) (before after : Small) (frames : List (List ℕ)) → DeviceSteps rules heard before after frames → after.kept ≡ None → before.kept ≡ None
+  none_kept (small.Call sequence ask) before after frames (inl answered) none = absurd (none_some _ after.kept none answered.keeps)
+  none_kept (small.Call sequence ask) before after frames (inr (inl repeats)) none = ap (λ (d : Small). d.kept) (sym repeats.unchanged) ∙ none
+  none_kept (small.Call sequence ask) before after frames (inr (inr rests)) none = ap (λ (d : Small). d.kept) (sym rests.0) ∙ none
+  none_kept small.Confirms before after frames (inl confirms) none = ap (λ (d : Small). d.kept) (sym confirms.becomes) ∙ none
+  none_kept small.Confirms before after frames (inr rests) none = ap (λ (d : Small). d.kept) (sym rests.0) ∙ none
+  none_kept small.Idle before after frames goes none = sym goes.keeps ∙ none
+
+  -- if there is a relation, a response is stored
+  linked_on : (heard : ToDevice) (before after : Small) (frames : List (List ℕ)) → DeviceSteps rules heard before after frames
+      → ((link : small.RelationState TakenRecord Request) → before.link ≡ Some link → before.kept ≡ None → ⊥) → (link : small.RelationState TakenRecord Request) → after.link ≡ Some link → after.kept ≡ None → ⊥
+  linked_on (small.Call sequence ask) before after frames (inl answered) was link is none = none_some _ after.kept none answered.keeps
+  linked_on (small.Call sequence ask) before after frames (inr (inl repeats)) was link is none =
+      was link (ap (λ (d : Small). d.link) (sym repeats.unchanged) ∙ is) (ap (λ (d : Small). d.kept) (sym repeats.unchanged) ∙ none)
+  linked_on (small.Call sequence ask) before after frames (inr (inr rests)) was link is none =
+      was link (ap (λ (d : Small). d.link) (sym rests.0) ∙ is) (ap (λ (d : Small). d.kept) (sym rests.0) ∙ none)
+  linked_on small.Confirms before after frames (inl confirms) was link is none = was confirms.link confirms.was (ap (λ (d : Small). d.kept) (sym confirms.becomes) ∙ none)
+  linked_on small.Confirms before after frames (inr rests) was link is none = was link (ap (λ (d : Small). d.link) (sym rests.0) ∙ is) (ap (λ (d : Small). d.kept) (sym rests.0) ∙ none)
+  linked_on small.Idle before after frames goes was link is none = by_link goes.link
+    where
+      by_link : (after.link ≡ before.link) ⊎ (after.link ≡ None) → ⊥
+      by_link (inl same) = was link (sym same ∙ is) (sym goes.keeps ∙ none)
+      by_link (inr gone) = none_some link after.link gone is
+
+-- ---- the device
+
+-- a call of number 0 is new only if no call of its activity was answered
+reported_zero : (sequence : ℕ) (frame : List ℕ) → cond (0 == sequence) (again frame) (cond (nat_lt 0 sequence) old new) ≡ new → ⊥
+reported_zero sequence frame e = by_same (0 == sequence) refl e
+  where
+    by_order : (b : Bool) → nat_lt 0 sequence ≡ b → (0 == sequence) ≡ false → cond b old new ≡ new → ⊥
+    by_order true f g h = absurd cc
+    by_order false f g h = false≢true (sym g ∙ eq-eqb 0 sequence (omega (arith, ltb-false 0 sequence f)))
+
+    by_same : (b : Bool) → (0 == sequence) ≡ b → cond b (again frame) (cond (nat_lt 0 sequence) old new) ≡ new → ⊥
+    by_same true f g = absurd cc
+    by_same false f g = by_order (nat_lt 0 sequence) refl f g
+
+new_none : (kept : Option Answer) → reported_by 0 kept ≡ new → kept ≡ None
+new_none None e = refl
+new_none (Some kept) e = absurd (reported_zero kept.sequence kept.frame e)
+
+same_ok : {A B : Type 0} (x y : A) → ◌≡◌ {A = Result A B} (Ok x) (Ok y) → x ≡ y
+same_ok x y e = cc
+
+module _ (setup : Setup) (station : Station) (live : Live) (controlling : ControllerLive) (sent : List (List ℕ)) (raised taken : List AlarmNotification)
+    (follows : Follows setup station live controlling sent raised taken) where
+  abbrev rules : Rules TakenRecord Request
+  rules = rules_of setup station
+
+  module _ (heard : Heard) (planned : IsPlanned rules setup.activity station.real heard)
+      (first : (sequence : ℕ) → heard_as heard ≡ small.Call sequence small.Connects → sequence ≡ 0) where
+    unlinked : (link : Option RelationState) → live.rest.link ≡ link → kept_at setup live ≡ None → live.rest.link ≡ None
+    unlinked None e none = e
+    unlinked (Some link) e none = absurd (follows.linked (link_of link) (ap (λ (l : Option RelationState). option_map link_of l) e) none)
+
+    -- if a call of number 0 is new, there is no relation
+    pub unlinked_new : (caller : Caller) (address : List ℕ) (call : Call) → heard ≡ Reported caller address (Calls call) → call.header.sequence ≡ 0
+        → looked call.header.activity call.header.sequence live.rest.calls ≡ new → live.rest.link ≡ None
+    unlinked_new caller address call is zero_is fresh =
+        let plan : IsPlannedCall rules setup.activity station.real call = subst (λ (h : Heard). IsPlanned rules setup.activity station.real h) is planned in
+        let reported : reported_by 0 (kept_of setup.activity live.rest.calls) ≡ new =
+        ap (λ (n : ℕ). reported_by n (kept_of setup.activity live.rest.calls)) (sym zero_is)
+        ∙ (ap (λ (a : List ℕ). reported_by call.header.sequence (kept_of a live.rest.calls)) (sym plan.own) ∙ fresh) in
+        unlinked live.rest.link refl (ap (λ (k : Option Answer). option_map kept_in k) (new_none (kept_of setup.activity live.rest.calls) reported))
+
+    -- a relation that is made now is the first one, and that of the plan
+    pub makes_planned : (after : Option RelationState) (messages : List Sent) (makes : Makes live.rest.calls live.rest.link heard after messages) → (kept_at setup live ≡ None) × (makes.request ≡ rules.request)
+    makes_planned after messages makes =
+        let plan : IsPlannedCall rules setup.activity station.real makes.call = subst (λ (h : Heard). IsPlanned rules setup.activity station.real h) makes.is planned in
+        let zero_is : makes.call.header.sequence ≡ 0 = first makes.call.header.sequence (ap heard_as makes.is ∙ ap (λ (o : Option Operation). ends.asked_by makes.call.header.sequence o) makes.connects) in
+        let fresh : reported_by 0 (kept_of setup.activity live.rest.calls) ≡ new =
+        ap (λ (n : ℕ). reported_by n (kept_of setup.activity live.rest.calls)) (sym zero_is)
+        ∙ (ap (λ (a : List ℕ). reported_by makes.call.header.sequence (kept_of a live.rest.calls)) (sym plan.own) ∙ makes.fresh) in
+        let unkept : kept_at setup live ≡ None = ap (λ (k : Option Answer). option_map kept_in k) (new_none (kept_of setup.activity live.rest.calls) fresh) in
+        let asks : IsPlannedAs rules station.real makes.call.header.sequence plan.blocks (Some operation.Connect) =
+        subst (λ (o : Option Operation). IsPlannedAs rules station.real makes.call.header.sequence plan.blocks o) makes.connects plan.asks in
+        let same : plan.blocks ≡ makes.blocks = some_is plan.blocks makes.blocks (sym plan.counted ∙ makes.counted) in
+        let reads : connect_of live.rest.link makes.blocks ≡ Ok rules.request =
+        ap (λ (l : Option RelationState). connect_of l makes.blocks) (unlinked live.rest.link refl unkept) ∙ (ap (λ (b : List ℕ). connect_of None b) (sym same) ∙ asks) in
+        (unkept, same_ok makes.request rules.request (sym makes.read ∙ reads))
+
+    pub makes_fresh : (after : Option RelationState) (messages : List Sent) → IsFresh setup follows.relation live.rest.calls live.rest.link heard after messages
+    makes_fresh after messages makes =
+        let so = makes_planned after messages makes in
+        ap (λ (r : Request). idle r.alarm.timeout_factor r.alarm.retries) so.1 ∙ sym (follows.unmade so.0)
+
+    module _ (outcomes : List Outcome) (now : List AlarmNotification)
+        (steps : DeviceSteps rules (heard_as heard) (small_of setup.activity live) (small_of setup.activity (heard_step outcomes station live heard).live) (heard_step outcomes station live heard).frames)
+        (owed : AllByRecursion (IsOwed heard live) (heard_step outcomes station live heard).sent)
+        (meant : AllByRecursion (IsHeardAs rules station.identity) (heard_step outcomes station live heard).sent)
+        (noted : AllByRecursion (IsNotedAs setup station.identity) (heard_step outcomes station live heard).sent)
+        (well : AllByRecursion (IsWellSent setup station.identity) (heard_step outcomes station live heard).sent)
+        (goes : Goes setup follows.relation live.rest.link (heard_step outcomes station live heard).live.rest.link (heard_step outcomes station live heard).sent now)
+        (sized : AreSizedIn (request_for setup.plan setup.ar) (heard_step outcomes station live heard).live.rest.link) where
+      abbrev r : Relation
+      r = follows.relation
+
+      abbrev next : Relation
+      next = goes.next
+
+      stays : (frame : List ℕ) → IsIn setup station.identity r frame → IsIn setup station.identity next frame
+      stays frame is = in_stays setup station.identity r next frame goes.pdus goes.acks (subst (λ (reported : List said.Sent). Extends r.reported reported) (sym goes.reported) (unchanged r.reported)) is
+
+      -- the frame of a repeated response
+      again_in : (frame : List ℕ) → IsOfKept heard live frame → IsIn setup station.identity next frame
+      again_in frame owed_so =
+          let plan : IsPlannedCall rules setup.activity station.real owed_so.call = subst (λ (h : Heard). IsPlanned rules setup.activity station.real h) owed_so.is planned in
+          let kept : kept_of setup.activity live.rest.calls ≡ Some owed_so.kept = ap (λ (a : List ℕ). kept_of a live.rest.calls) (sym plan.own) ∙ owed_so.there in
+          subst (λ (f : List ℕ). IsIn setup station.identity next f) owed_so.same
+          (stays owed_so.kept.frame (follows.again (kept_in owed_so.kept) (ap (λ (k : Option Answer). option_map kept_in k) kept)))
+
+      in_by : (frame : List ℕ) (says : Option (Notice AlarmNotification)) → IsNotedBy setup station.identity frame says → IsSaid next.alarms.pdus next.acks says
+          → rules.to_device frame ≡ small.Idle → IsWell setup (heard_by setup.plan.controller frame) → IsIn setup station.identity next frame
+      in_by frame says heard_so is idle_is well_so = record {
+        noted = as_said heard_so.0;
+        reported = subst (λ (o : Option (Notice AlarmAck)). IsHeard next.reported o) (sym heard_so.1) tt;
+        first = λ sequence e. absurd (idle_call sequence (sym idle_is ∙ e));
+        called = λ caller address call is_call other. absurd (other idle_is);
+        good = heard_so.2;
+        well = well_so;
+      }
+        where
+          as_said : (noted_of setup frame ≡ says) ⊎ (noted_of setup frame ≡ None) → IsSaid next.alarms.pdus next.acks (noted_of setup frame)
+          as_said (inl same) = subst (λ (o : Option (Notice AlarmNotification)). IsSaid next.alarms.pdus next.acks o) (sym same) is
+          as_said (inr none) = subst (λ (o : Option (Notice AlarmNotification)). IsSaid next.alarms.pdus next.acks o) (sym none) tt
+
+          idle_call : (sequence : ℕ) → small.Idle ≡ small.Call sequence small.Connects → ⊥
+          idle_call sequence e = absurd cc
+
+      message_in : (message : Sent) → IsOwed heard live message → IsHeardAs rules station.identity message → IsNotedAs setup station.identity message
+          → IsWellSent setup station.identity message → IsSaid next.alarms.pdus next.acks (noted_in message) → IsIn setup station.identity next (bytes_of station.identity message)
+      message_in (Again frame) owed_so heard_so noted_so well_so is = again_in frame owed_so
+      message_in (Exchanges route frame) owed_so heard_so noted_so well_so is = in_by _ (noted_by frame) noted_so is heard_so.0 well_so
+      message_in (Ends farewell) owed_so heard_so noted_so well_so is = in_by _ (Some notice.Abort) noted_so is heard_so.0 well_so
+      message_in other owed_so heard_so noted_so well_so is = in_by _ None noted_so is heard_so.0 well_so
+
+      messages_in : (messages : List Sent) → AllByRecursion (IsOwed heard live) messages → AllByRecursion (IsHeardAs rules station.identity) messages → AllByRecursion (IsNotedAs setup station.identity) messages
+          → AllByRecursion (IsWellSent setup station.identity) messages → AllByRecursion (λ message. IsSaid next.alarms.pdus next.acks (noted_in message)) messages → AllByRecursion (IsIn setup station.identity next) (map (bytes_of station.identity) messages)
+      messages_in [] owed_so heard_so noted_so well_so is = tt
+      messages_in (message ∷ messages) owed_so heard_so noted_so well_so is =
+          (message_in message owed_so.0 heard_so.0 noted_so.0 well_so.0 is.0, messages_in messages owed_so.1 heard_so.1 noted_so.1 well_so.1 is.1)
+
+      frames_in : AllByRecursion (IsIn setup station.identity next) (heard_step outcomes station live heard).frames
+      unfolding heard_step handled_step
+      frames_in = messages_in (heard_step outcomes station live heard).sent owed meant noted well goes.said
+
+      pub device_follows : Follows setup station (heard_step outcomes station live heard).live controlling (sent ++ (heard_step outcomes station live heard).frames) (raised ++ now) taken
+      device_follows =
+          let step = heard_step outcomes station live heard in
+          let before = small_of setup.activity live in
+          let after = small_of setup.activity step.live in
+          record {
+            relation = next;
+            moves = follows.moves ++ goes.moves;
+            made = runs_on setup follows.moves goes.moves (start setup) ∙ (ap (λ (x : Relation). behind setup goes.moves x) follows.made ∙ goes.made);
+            same = goes.live ∙ follows.same;
+            raises = goes.raised ∙ ap (λ (xs : List AlarmNotification). xs ++ now) follows.raises;
+            takes = goes.taken ∙ follows.takes;
+            tied = goes.tied;
+            unmade = λ none. let was = none_kept rules (heard_as heard) before after step.frames steps none in
+                ap (λ (x : Relation). x.device) (goes.still (unlinked live.rest.link refl was)) ∙ follows.unmade was;
+            linked = linked_on rules (heard_as heard) before after step.frames steps follows.linked;
+            again = kept_is rules (IsIn setup station.identity next) (heard_as heard) before after step.frames steps
+                (λ answer is. stays answer.frame (follows.again answer is)) frames_in;
+            frames = each_behind (IsIn setup station.identity next) sent step.frames
+                (each_on (IsIn setup station.identity r) (IsIn setup station.identity next) sent stays follows.frames) frames_in;
+            good = follows.good;
+            apart = follows.apart;
+            real = follows.real;
+            sized = sized;
+            lives = follows.lives;
+            placed = follows.placed;
+          }
+
+  -- ---- the controller
+
+  -- the effect of a turn of the controller on the alarms of the relation, if these alarms are accepted
+  record Turned (turn : Turn) (now : List AlarmNotification) : Type 0 where
+    next : Relation
+    moves : List Move
+    made : behind setup moves follows.relation ≡ next
+    live_is : next.live ≡ turn.live
+    reported_is : next.reported ≡ follows.relation.reported ++ turn.sent
+    device_is : next.device ≡ follows.relation.device
+    pdus_are : next.alarms.pdus ≡ follows.relation.alarms.pdus
+    acks_are : next.acks ≡ follows.relation.acks
+    raised_are : next.alarms.sent ≡ follows.relation.alarms.sent
+    taken_are : next.alarms.taken ≡ follows.relation.alarms.taken ++ now
+
+  -- a turn that has nothing to do with alarm data and ACKs
+  turned_by : (move : Move) (turn : Turn) → behind_one setup follows.relation move ≡ turns follows.relation turn → Turned turn []
+  turned_by move turn is = record {
+    next = turns follows.relation turn;
+    moves = move ∷ [];
+    made = is;
+    live_is = refl;
+    reported_is = refl;
+    device_is = refl;
+    pdus_are = refl;
+    acks_are = refl;
+    raised_are = refl;
+    taken_are = sym (append-nil follows.relation.alarms.taken);
+  }
+
+  more_is : (taken_so_far : List AlarmNotification) (alarm : AlarmNotification) (as_what : Taken) → more_taken taken_so_far alarm as_what ≡ taken_so_far ++ more_taken [] alarm as_what
+  more_is taken_so_far alarm New = refl
+  more_is taken_so_far alarm Once_more = sym (append-nil taken_so_far)
+  more_is taken_so_far alarm Not_taken = sym (append-nil taken_so_far)
+
+  data_turned : (source : Mac) (header : Header) (number : ℕ) (alarm : AlarmNotification) → IsSaid follows.relation.alarms.pdus follows.relation.acks (Some (notice.Data number alarm))
+      → Turned (alarmed follows.relation.live source header (notice.Data number alarm)) (taken_of follows.relation.live source header (notice.Data number alarm))
+  data_turned source header number alarm is =
+      let r = follows.relation in
+      let turn = alarmed r.live source header (notice.Data number alarm) in
+      let next : Relation = record (turns r turn) { alarms = cond (is_looked_at r source header) (with_come r.alarms r.live.alarms.seen (number, alarm)) r.alarms } in
+      record {
+        next = next;
+        moves = AlarmComes source header is.0 ∷ [];
+        made = ap (λ (o : Option (ℕ × AlarmNotification)). alarm_comes r source header o) is.1;
+        live_is = refl;
+        reported_is = refl;
+        device_is = refl;
+        pdus_are = same_pdus (is_looked_at r source header);
+        acks_are = refl;
+        raised_are = same_sent (is_looked_at r source header);
+        taken_are = more_or (is_looked_at r source header);
+      }
+    where
+      same_pdus : (b : Bool) → (cond b (with_come follows.relation.alarms follows.relation.live.alarms.seen (number, alarm)) follows.relation.alarms).pdus ≡ follows.relation.alarms.pdus
+      same_pdus true = refl
+      same_pdus false = refl
+
+      same_sent : (b : Bool) → (cond b (with_come follows.relation.alarms follows.relation.live.alarms.seen (number, alarm)) follows.relation.alarms).sent ≡ follows.relation.alarms.sent
+      same_sent true = refl
+      same_sent false = refl
+
+      more_or : (b : Bool) → (cond b (with_come follows.relation.alarms follows.relation.live.alarms.seen (number, alarm)) follows.relation.alarms).taken
+          ≡ follows.relation.alarms.taken ++ cond b (more_taken [] alarm (taken_as follows.relation.live.alarms.seen number)) []
+      more_or true = more_is follows.relation.alarms.taken alarm (taken_as follows.relation.live.alarms.seen number)
+      more_or false = sym (append-nil follows.relation.alarms.taken)
+
+  ack_turned : (source : Mac) (header : Header) (number : ℕ) → IsSaid follows.relation.alarms.pdus follows.relation.acks (Some (notice.Ack number))
+      → Turned (alarmed follows.relation.live source header (notice.Ack number)) []
+  ack_turned source header number is =
+      turned_by (AckComes source header is.0) (alarmed follows.relation.live source header (notice.Ack number)) (ap (λ (o : Option ℕ). ack_comes follows.relation source header o) is.1)
+
+  heard_turned : (reported : controller.Heard) → IsSaid follows.relation.alarms.pdus follows.relation.acks (noted_at reported) → Turned (turned setup follows.relation.live reported) (taken_by follows.relation.live reported)
+  heard_turned (controller.Alarms source header (notice.Data number alarm)) is = data_turned source header number alarm is
+  heard_turned (controller.Alarms source header (notice.Ack number)) is = ack_turned source header number is
+  heard_turned (controller.Alarms source header notice.Nack) is = turned_by (Hears (controller.Alarms source header notice.Nack)) _ refl
+  heard_turned (controller.Alarms source header notice.Abort) is = turned_by (Hears (controller.Alarms source header notice.Abort)) _ refl
+  heard_turned controller.Nothing is = turned_by (Hears controller.Nothing) _ refl
+  heard_turned (controller.Answers source answer) is = turned_by (Hears (controller.Answers source answer)) _ refl
+  heard_turned (controller.Responds response) is = turned_by (Hears (controller.Responds response)) _ refl
+  heard_turned (controller.Calls caller call) is = turned_by (Hears (controller.Calls caller call)) _ refl
+  heard_turned (controller.Cyclic source frame_id body) is = turned_by (Hears (controller.Cyclic source frame_id body)) _ refl
+
+  -- what is delivered is among what was said, and the alarms accepted with it
+  abbrev pub IsEventIn : Event → Type 0
+  IsEventIn (event.Frame bytes) = IsSaid follows.relation.alarms.pdus follows.relation.acks (noted_of setup bytes.items)
+  IsEventIn other = Unit {0}
+
+  abbrev pub taken_at : Event → List AlarmNotification
+  taken_at (event.Frame bytes) = taken_by follows.relation.live (heard_by setup.plan.controller bytes.items)
+  taken_at other = []
+
+  event_turned : (one : Event) → IsEventIn one → Turned (turn_of setup follows.relation.live one) (taken_at one)
+  event_turned (event.Frame bytes) is = heard_turned (heard_by setup.plan.controller bytes.items) is
+  event_turned event.Tick is = turned_by PassesAtController _ refl
+  event_turned (event.Give slot subslot value) is = turned_by (Gives slot subslot value.items) _ refl
+  event_turned event.Stop is = turned_by Stops _ refl
+
+  -- ---- what the controller says
+
+  -- each message has its position in the list
+  middle : {A : Type 0} (front : List A) (x : A) (behind_it : List A) → slice_get (front ++ x ∷ behind_it) (length front) ≡ Some x
+  middle [] x behind_it = refl
+  middle (y ∷ front) x behind_it = middle front x behind_it
+
+  placed : (front messages : List said.Sent) → AllByRecursion (λ message. (k : ℕ) × (slice_get (front ++ messages) k ≡ Some message)) messages
+  placed front [] = tt
+  placed front (message ∷ messages) = (
+    (length front, middle front message messages),
+    subst (λ (all : List said.Sent). AllByRecursion (λ one. (k : ℕ) × (slice_get all k ≡ Some one)) messages) (append_assoc front (message ∷ []) messages) (placed (front ++ message ∷ []) messages),
+  )
+
+  reply_heard : (reported : List said.Sent) (route : Route) (header : Header) (kind : PduType) (k : ℕ) → header.kind ≡ kind → slice_get reported k ≡ Some (said.Replies route header)
+      → IsHeard reported (reply_of header.ack_number kind)
+  reply_heard reported route header pdu.Ack k is there = record { place = k; route = route; header = header; there = there; kind = is; same = refl }
+  reply_heard reported route header other k is there = tt
+
+  said_heard : (reported : List said.Sent) (message : said.Sent) (k : ℕ) → slice_get reported k ≡ Some message → IsHeard reported (reported_in message)
+  said_heard reported (said.Confirms route header ack) k there = record { place = k; route = route; header = header; there = there; same = refl }
+  said_heard reported (said.Replies route header) k there = reply_heard reported route header header.kind k refl there
+  said_heard reported other k there = tt
+
+  -- the Connect of the controller is the call of number 0
+  first_said : (message : said.Sent) (sequence : ℕ) → said_by setup.plan message ≡ small.Call sequence small.Connects → sequence ≡ 0
+  first_said (said.Requests to asks.Connect) sequence e = cc
+  first_said other sequence e = absurd cc
+
+  said_in : (next : Relation) (message : said.Sent) → (k : ℕ) × (slice_get next.reported k ≡ Some message) → IsSaidAs setup station message → IsReportedAs setup station.identity message
+      → IsCalledAs setup station.identity message → IsIn setup station.identity next (said.bytes_of setup message)
+  said_in next message there meant reported called = record {
+    noted = subst (λ (h : controller.Heard). IsSaid next.alarms.pdus next.acks (noted_at h)) (sym reported.1) tt;
+    reported = as_reported reported.0;
+    first = λ sequence e. as_first sequence e meant.1;
+    called = called;
+    good = subst (λ (h : controller.Heard). IsGood station.identity.mac h) (sym reported.1) tt;
+    well = subst (λ (h : controller.Heard). IsWell setup h) (sym reported.1) tt;
+  }
+    where
+      as_reported : (reported_of station.identity (said.bytes_of setup message) ≡ reported_in message) ⊎ (reported_of station.identity (said.bytes_of setup message) ≡ None)
+          → IsHeard next.reported (reported_of station.identity (said.bytes_of setup message))
+      as_reported (inl same) = subst (λ (o : Option (Notice AlarmAck)). IsHeard next.reported o) (sym same) (said_heard next.reported message there.0 there.1)
+      as_reported (inr none) = subst (λ (o : Option (Notice AlarmAck)). IsHeard next.reported o) (sym none) tt
+
+      idle_call : (sequence : ℕ) → small.Idle ≡ small.Call sequence small.Connects → ⊥
+      idle_call sequence e = absurd cc
+
+      as_first : (sequence : ℕ) → rules.to_device (said.bytes_of setup message) ≡ small.Call sequence small.Connects
+          → (rules.to_device (said.bytes_of setup message) ≡ said_by setup.plan message) ⊎ (rules.to_device (said.bytes_of setup message) ≡ small.Idle) → sequence ≡ 0
+      as_first sequence e (inl same) = first_said message sequence (sym same ∙ e)
+      as_first sequence e (inr idle_is) = absurd (idle_call sequence (sym idle_is ∙ e))
+
+  all_said_in : (then : Relation) (messages : List said.Sent) → AllByRecursion (λ message. (k : ℕ) × (slice_get then.reported k ≡ Some message)) messages
+      → AllByRecursion (IsSaidAs setup station) messages → AllByRecursion (IsReportedAs setup station.identity) messages
+      → AllByRecursion (IsCalledAs setup station.identity) messages → AllByRecursion (IsIn setup station.identity then) (map (said.bytes_of setup) messages)
+  all_said_in then [] there meant reported called = tt
+  all_said_in then (message ∷ messages) there meant reported called =
+      (said_in then message there.0 meant.0 reported.0 called.0, all_said_in then messages there.1 meant.1 reported.1 called.1)
+
+  turn_follows : (turn : Turn) (now : List AlarmNotification) → Turned turn now → AllByRecursion (IsSaidAs setup station) turn.sent → AllByRecursion (IsReportedAs setup station.identity) turn.sent
+      → AllByRecursion (IsCalledAs setup station.identity) turn.sent → IsLive turn.live → IsPlaced station.identity.mac turn.live → Follows setup station live turn.live (sent ++ map (said.bytes_of setup) turn.sent) raised (taken ++ now)
+  turn_follows turn now turned_so meant reported called lives placed_so =
+      let r = follows.relation in
+      let next = turned_so.next in
+      let pdus : Extends r.alarms.pdus next.alarms.pdus = subst (λ (xs : List (ℕ × AlarmNotification)). Extends r.alarms.pdus xs) (sym turned_so.pdus_are) (unchanged r.alarms.pdus) in
+      let acks : Extends r.acks next.acks = subst (λ (xs : List ℕ). Extends r.acks xs) (sym turned_so.acks_are) (unchanged r.acks) in
+      let more : Extends r.reported next.reported = subst (λ (xs : List said.Sent). Extends r.reported xs) (sym turned_so.reported_is) (more_extends r.reported turn.sent) in
+      let stays = λ (frame : List ℕ) (is : IsIn setup station.identity r frame). in_stays setup station.identity r next frame pdus acks more is in
+      let places : AllByRecursion (λ message. (k : ℕ) × (slice_get next.reported k ≡ Some message)) turn.sent =
+      subst (λ (all : List said.Sent). AllByRecursion (λ one. (k : ℕ) × (slice_get all k ≡ Some one)) turn.sent) (sym turned_so.reported_is) (placed r.reported turn.sent) in
+      record {
+        relation = next;
+        moves = follows.moves ++ turned_so.moves;
+        made = runs_on setup follows.moves turned_so.moves (start setup) ∙ (ap (λ (x : Relation). behind setup turned_so.moves x) follows.made ∙ turned_so.made);
+        same = turned_so.live_is;
+        raises = turned_so.raised_are ∙ follows.raises;
+        takes = turned_so.taken_are ∙ ap (λ (xs : List AlarmNotification). xs ++ now) follows.takes;
+        tied = λ l is. follows.tied l is ∙ sym turned_so.device_is;
+        unmade = λ none. turned_so.device_is ∙ follows.unmade none;
+        linked = follows.linked;
+        again = λ answer is. stays answer.frame (follows.again answer is);
+        frames = each_behind (IsIn setup station.identity next) sent (map (said.bytes_of setup) turn.sent)
+            (each_on (IsIn setup station.identity r) (IsIn setup station.identity next) sent stays follows.frames)
+            (all_said_in next turn.sent places meant reported called);
+        good = follows.good;
+        apart = follows.apart;
+        real = follows.real;
+        sized = follows.sized;
+        lives = lives;
+        placed = placed_so;
+      }
+
+  -- an event at the controller
+  pub controller_follows : (one : Event) → IsEventIn one → AllByRecursion (IsSaidAs setup station) (turn_of setup controlling one).sent
+      → AllByRecursion (IsReportedAs setup station.identity) (turn_of setup controlling one).sent
+      → AllByRecursion (IsCalledAs setup station.identity) (turn_of setup controlling one).sent
+      → IsLive (turn_of setup controlling one).live → IsPlaced station.identity.mac (turn_of setup controlling one).live → Follows setup station live (turn_of setup controlling one).live (sent ++ map (said.bytes_of setup) (turn_of setup controlling one).sent) raised (taken ++ taken_at one)
+  controller_follows one is =
+      subst (λ (l : ControllerLive). AllByRecursion (IsSaidAs setup station) (turn_of setup l one).sent → AllByRecursion (IsReportedAs setup station.identity) (turn_of setup l one).sent
+      → AllByRecursion (IsCalledAs setup station.identity) (turn_of setup l one).sent
+      → IsLive (turn_of setup l one).live → IsPlaced station.identity.mac (turn_of setup l one).live → Follows setup station live (turn_of setup l one).live (sent ++ map (said.bytes_of setup) (turn_of setup l one).sent) raised (taken ++ taken_at one)) follows.same
+      (turn_follows (turn_of setup follows.relation.live one) (taken_at one) (event_turned one is))

@@ -1,0 +1,235 @@
+-- Each turn of a controller, as far as outputs are concerned: it stays a controller of the plan, and its messages go to
+-- stations.
+use Rattle.std.proofs.Common.{◌≡◌, ◌⊎◌, inl, inr, ◌&&◌, ◌+◌, ℕ, Bool, true, false, cond, List, [], ◌∷◌, ◌++◌, Option, Some, None, Result, Ok, Err, refl, subst, ap, ◌∙◌, sym, length, unwrap_or, arith}
+use Rattle.std.specs.Prelude.{if◌then◌else◌}
+use Rattle.std.specs.List.{AllByRecursion}
+use Rattle.pn_values.specs.declared.mac.Mac.{Mac}
+use Rattle.dcp_core.specs.Answered.{is_agreed}
+use Rattle.dcp_core.specs.Response.{Answered}
+use Rattle.rpc_core.specs.Call.{Asked as Call}
+use Rattle.rpc_core.specs.Response.{Answered as Response, is_done}
+use Rattle.frame_codec.specs.declared.udp.Caller.{Caller}
+use Rattle.connect_blocks.specs.declared.control.ControlBlock.{ControlBlock}
+use Rattle.record_blocks.specs.declared.alarm_ack.AlarmAck.{AlarmAck}
+use Rattle.record_blocks.specs.declared.alarm_notification.AlarmNotification.{AlarmNotification}
+use Rattle.cyclic_data.specs.declared.place.PlaceKind.TheVariants.{Data}
+use Rattle.cyclic_data.specs.Image.{Shown as Image, cell_at, changed, has_size}
+use Rattle.cyclic_exchange.specs.Cyclic.{Cyclic}
+use Rattle.cyclic_exchange.specs.Process.{with_good}
+use Rattle.codec_laws.specs.frames.Sendable.{IsMac}
+use Rattle.pn_alarms.specs.declared.abort.Abort.{Abort}
+use Rattle.pn_alarms.specs.declared.message.Notice.TheVariants as notice
+use Rattle.pn_alarms.specs.declared.receiver.Taken.{Taken}
+use Rattle.pn_alarms.specs.declared.receiver.Taken.TheVariants.{New, Again, Refused}
+use Rattle.pn_alarms.specs.Message.{ToController}
+use Rattle.pn_alarms.specs.Receiver.{taken_as}
+use Rattle.cyclic_data.specs.declared.tail.CyclicTail.{CyclicTail}
+use Rattle.cyclic_data.specs.declared.tail.ShortFrame.{ShortFrame}
+use Rattle.cyclic_data.specs.Tail.{cyclic_of}
+use Rattle.cyclic_exchange.specs.declared.route.Route.{Route}
+use Rattle.cyclic_exchange.specs.Units.{Brought}
+use Rattle.cyclic_exchange.specs.Received.{behind_frame, behind_read, is_new, is_of_partner, taken_from}
+use Rattle.controller_frames.specs.declared.request.Request.{Request}
+use Rattle.controller_frames.specs.declared.request.Request.TheVariants as asks
+use Rattle.controller_frames.specs.declared.setup.Setup.{Setup}
+use Rattle.controller_frames.specs.Heard.{Alarms, Answers, Calls, Heard, Nothing, Responds, heard_of}
+use Rattle.controller_frames.specs.Heard.{Cyclic as Comes}
+use Rattle.controller_frames.specs.Sent.{Sent}
+use Rattle.controller_core.specs.declared.event.Event.{Event}
+use Rattle.controller_core.specs.declared.event.Event.TheVariants.{Frame, Give, Stop, Tick as Ticks}
+use Rattle.controller_core.specs.declared.state.Cause.{Cause}
+use Rattle.controller_core.specs.declared.state.Cause.TheVariants as cause
+use Rattle.controller_core.specs.declared.state.State.{State}
+use Rattle.controller_core.specs.declared.state.State.TheVariants.{Looking, Addressing, Connecting, Writing, Ending, Waiting, Exchanging, Ended}
+use Rattle.controller_core.specs.Alarms.{is_alarm}
+use Rattle.controller_core.specs.Answers.{is_addressed, is_answer, is_found, is_ready, is_right, is_set_answer}
+use Rattle.controller_core.specs.Connect.{Chosen, found_in, is_whole, nothing}
+use Rattle.controller_frames.specs.Requests.{writing_from}
+use Rattle.controller_core.specs.Machine.{Turn, acks_in, addressed, answered, asking, behind_data, brought, called, come, connected, decided, done, flow_later, flowed, found, given, is_again, handled, next_sequence, noticed, over, phase_for, readied, ready_in, standing, writing, related_by, released, requests_of, responded, stays, stopped, taken, ticked, turn_of, turned, where_due}
+use Rattle.controller_core.specs.State.{Live}
+use Rattle.end_laws.specs.turns.Turns.{Came, Hears, Passes, Gets, Halts, IsKind, IsReadied, IsSought, IsTurn, Kind, Rests, Connects, Addresses, Releases, Relates, Writes, Waits, Forgets, Begins, Repeats, Follows, Takes, IsAcked, Gives, Flows, Breaks, Idles, came_by, turn_by}
+use Rattle.end_laws.specs.turns.Turns as sort
+use Rattle.exchange_laws.proofs.OutputsBrings.{IsAddressed, IsNow, IsWay}
+
+-- a controller that sends to stations, with an image of this many octets
+pub record IsKeptAs (many : ℕ) (station : Mac) (route : Route) (shown : Image) : Type 0 where
+  pub device : IsMac station
+  pub way : IsWay route
+  pub size : shown.data_length ≡ many
+
+abbrev pub IsKept : ℕ → Live → Type 0
+IsKept size live = IsKeptAs size live.device live.cyclic.route live.cyclic.shown
+
+-- a message of this controller
+abbrev pub IsSaid : Image → Sent → Type 0
+IsSaid shown message = IsNow shown message × IsAddressed message
+
+-- the station that is heard has a MAC address of six octets
+abbrev pub IsSix : Heard → Type 0
+IsSix (Answers source answer) = IsMac source
+IsSix (Calls caller call) = IsMac caller.mac
+IsSix other = Unit {0}
+
+abbrev pub IsSixAt : Setup → Event → Type 0
+IsSixAt setup (Frame bytes) = IsSix (heard_of setup.plan.controller bytes.items)
+IsSixAt setup other = Unit {0}
+
+-- the outputs that are sent after an event; a value that is set is among them
+abbrev pub shown_behind : Live → Event → Image
+shown_behind live (Give slot subslot value) = (given live slot subslot value.items).cyclic.shown
+shown_behind live other = live.cyclic.shown
+
+-- the station that is heard then has a MAC address of six octets, and no output is set
+abbrev IsSixIn : Came → Type 0
+IsSixIn (Hears heard) = IsSix heard
+IsSixIn Passes = Unit {0}
+IsSixIn Halts = Unit {0}
+IsSixIn (Gets slot subslot value) = ⊥
+
+-- each turn of a controller is of a kind
+abbrev pub KindsSo : Type 0
+KindsSo = (setup : Setup) (live : Live) (event : Event) → IsTurn setup live (came_by setup event) (turn_of setup live event)
+
+module _ (size : ℕ) where
+  -- a turn of the controller, after which it goes on like this, and the outputs that it sends are these
+  pub record Tells (shown : Image) (turn : Turn) : Type 0 where
+    pub reported : AllByRecursion (IsSaid turn.live.cyclic.shown) turn.sent
+    pub kept : IsKept size turn.live
+    pub same : turn.live.cyclic.shown ≡ shown
+
+  stays_tells : (live : Live) → IsKept size live → Tells live.cyclic.shown (stays live)
+  stays_tells live k = record { reported = tt; kept = k; same = refl }
+
+  asking_tells : (phase : State) (request : Request) (live : Live) → IsKept size live → Tells live.cyclic.shown (asking phase request live)
+  asking_tells phase request live k = record { reported = ((tt, k.device), tt); kept = k; same = refl }
+
+  over_tells : (why : Cause) (live : Live) → IsKept size live → Tells live.cyclic.shown (stays (over why live))
+  over_tells why live k = record { reported = tt; kept = k; same = refl }
+
+  released_tells : (setup : Setup) (why : Cause) (live : Live) → IsKept size live → Tells live.cyclic.shown (released setup why live)
+  released_tells setup why live k = asking_tells (Ended why) (asks.Release (next_sequence setup.plan live.asked)) (over why live) k
+
+  related_tells : (setup : Setup) (live : Live) (chosen : Chosen) → IsKept size live → Tells live.cyclic.shown (writing (writing_from setup.plan 0) (standing setup live chosen))
+  related_tells setup live chosen k = record {
+    reported = ((tt, k.device), tt);
+    same = refl;
+    kept = record { device = k.device; way = record { partner = k.device; sent_tag = omega arith; alarm_tag = omega arith }; size = k.size };
+  }
+
+  taken_tells : (live : Live) (alarm : AlarmNotification) (as_is : Taken) → IsKept size live → Tells live.cyclic.shown (taken live alarm as_is)
+  taken_tells live alarm New k = record { reported = ((tt, k.way), ((tt, k.way), tt)); same = refl; kept = k }
+  taken_tells live alarm Again k = record { reported = ((tt, k.way), tt); same = refl; kept = k }
+  taken_tells live alarm Refused k = record { reported = ((tt, k.way), tt); same = refl; kept = k }
+
+  -- a cyclic frame changes neither the route nor the outputs
+  read_keeps : (cyclic : Cyclic) (read : Result (List ℕ × CyclicTail) ShortFrame)
+      → ((behind_read cyclic read).route ≡ cyclic.route) × ((behind_read cyclic read).shown ≡ cyclic.shown)
+  read_keeps cyclic (Ok x) = by_news (is_new cyclic x.1)
+    where
+      by_news : (b : Bool) → ((cond b (taken_from cyclic x.0 x.1) cyclic).route ≡ cyclic.route) × ((cond b (taken_from cyclic x.0 x.1) cyclic).shown ≡ cyclic.shown)
+      by_news true = (refl, refl)
+      by_news false = (refl, refl)
+  read_keeps cyclic (Err fault) = (refl, refl)
+
+  frame_keeps : (cyclic : Cyclic) (source : Mac) (frame_id : ℕ) (bytes : List ℕ)
+      → ((behind_frame cyclic source frame_id bytes).route ≡ cyclic.route) × ((behind_frame cyclic source frame_id bytes).shown ≡ cyclic.shown)
+  frame_keeps cyclic source frame_id bytes = by_partner (is_of_partner cyclic.route source frame_id)
+    where
+      by_partner : (b : Bool) → ((cond b (behind_read cyclic (cyclic_of cyclic.taken.data_length bytes)) cyclic).route ≡ cyclic.route)
+          × ((cond b (behind_read cyclic (cyclic_of cyclic.taken.data_length bytes)) cyclic).shown ≡ cyclic.shown)
+      by_partner true = read_keeps cyclic (cyclic_of cyclic.taken.data_length bytes)
+      by_partner false = (refl, refl)
+
+  with_cyclic : (live : Live) (cyclic : Cyclic) → cyclic.route ≡ live.cyclic.route → cyclic.shown.data_length ≡ live.cyclic.shown.data_length → IsKept size live
+      → IsKept size (record live { cyclic = cyclic })
+  with_cyclic live cyclic route shown k = record {
+    device = k.device;
+    way = subst (λ (r : Route). IsWay r) (sym route) k.way;
+    size = shown ∙ k.size;
+  }
+
+  -- ---- units
+
+  all_append : {A : Type 0} (P : A → Type 0) (xs ys : List A) → AllByRecursion P xs → AllByRecursion P ys → AllByRecursion P (xs ++ ys)
+  all_append P [] ys one other = other
+  all_append P (x ∷ xs) ys one other = (one.0, all_append P xs ys one.1 other)
+
+  due_tells : (shown : Image) (test : Bool) (sent : List Sent) → AllByRecursion (IsSaid shown) sent → AllByRecursion (IsSaid shown) (where_due test sent)
+  due_tells shown true sent all = all
+  due_tells shown false sent all = tt
+
+  request_tells : (shown : Image) (device : Mac) (asked : Option Request) → IsMac device → AllByRecursion (IsSaid shown) (requests_of device asked)
+  request_tells shown device (Some request) one = ((tt, one), tt)
+  request_tells shown device None one = tt
+
+  acks_tell : (shown : Image) (live : Live) (ack : Option AlarmAck) → IsWay live.cyclic.route → AllByRecursion (IsSaid shown) (acks_in live ack)
+  acks_tell shown live (Some ack) way = ((tt, way), tt)
+  acks_tell shown live None way = tt
+
+  flowed_tells : (live : Live) (is_request : Bool) (tick : Brought) (ending : Option Abort) → IsKept size live → Tells live.cyclic.shown (flowed live is_request tick ending)
+  flowed_tells live is_request tick (Some reason) k = record { reported = ((tt, k.way), tt); same = refl; kept = k }
+  flowed_tells live is_request tick None k =
+      let shown = live.cyclic.shown in
+      record {
+        reported = all_append (IsSaid shown) (where_due tick.is_alarm (acks_in live live.alarms.confirming)) _
+            (due_tells shown tick.is_alarm _ (acks_tell shown live live.alarms.confirming k.way))
+            (all_append (IsSaid shown) (where_due is_request (requests_of live.device live.asked)) _
+            (due_tells shown is_request _ (request_tells shown live.device live.asked k.device))
+            (due_tells shown tick.is_cyclic _ ((refl, k.way), tt)));
+        same = refl;
+        kept = k;
+      }
+
+  given_keeps : (live : Live) (slot subslot : ℕ) (value : List ℕ) → IsKept size live → IsKept size (given live slot subslot value)
+  given_keeps live slot subslot value k = by_size (has_size (length value) (cell_at Data slot subslot live.cyclic.shown.cells))
+    where
+      by_size : (b : Bool) → IsKept size (record live {
+        cyclic = unwrap_or (cond b (Some (record live.cyclic { shown = changed Data slot subslot (with_good value) live.cyclic.shown })) None) live.cyclic;
+      })
+      by_size true = record { device = k.device; way = k.way; size = k.size }
+      by_size false = k
+
+  -- ---- a turn of each kind
+
+  module _ (setup : Setup) (live : Live) (came : Came) (six : IsSixIn came) (k : IsKept size live) where
+    source_six : (source : Mac) → (source ≡ live.device) ⊎ ((answer : Answered) × (came ≡ Hears (Answers source answer))) → IsMac source
+    source_six source (inl same) = subst (λ (m : Mac). IsMac m) (sym same) k.device
+    source_six source (inr heard) = subst (λ (c : Came). IsSixIn c) heard.1 six
+
+    met_tells : (phase : State) (request : Request) (source : Mac) → IsSought live came source → Tells live.cyclic.shown (asking phase request (record live { device = source }))
+    met_tells phase request source sought =
+        let one = source_six source sought.known in
+        record { reported = ((tt, one), tt); kept = record { device = one; way = k.way; size = k.size }; same = refl }
+
+    readied_tells : (caller : Caller) (call : Call) (block : ControlBlock) → IsReadied setup came caller call block → IsMac caller.mac
+    readied_tells caller call block readied = subst (λ (c : Came). IsSixIn c) readied.comes six
+
+    kind_tells : (kind : Kind) → IsKind setup live came kind → Tells live.cyclic.shown (turn_by setup live kind)
+    kind_tells Rests holds = stays_tells live k
+    kind_tells (Connects source) holds = met_tells Connecting asks.Connect source holds
+    kind_tells (Addresses source) holds = met_tells Addressing asks.Address source holds
+    kind_tells (sort.Ends why) holds = over_tells why live k
+    kind_tells (Releases why) holds = released_tells setup why live k
+    kind_tells (Relates chosen) holds = related_tells setup live chosen k
+    kind_tells (Writes number) holds = let next = writing_from setup.plan (number + 1) in asking_tells (phase_for next) next live k
+    kind_tells (Begins caller call block) holds = record { reported = ((tt, readied_tells caller call block holds.1), tt); kept = k; same = refl }
+    kind_tells (Repeats caller call block) holds = record { reported = ((tt, readied_tells caller call block holds.1), tt); kept = k; same = refl }
+    kind_tells (Follows source frame_id body) holds =
+        let keeps = frame_keeps live.cyclic source frame_id body in
+        record { reported = tt; kept = with_cyclic live (behind_frame live.cyclic source frame_id body) keeps.0 (ap (λ (image : Image). image.data_length) keeps.1) k; same = keeps.1 }
+    kind_tells (Takes number alarm) holds = taken_tells (behind_data live number) alarm (taken_as live.alarms.seen number) k
+    kind_tells (Gives slot subslot value) holds = absurd (subst (λ (c : Came). IsSixIn c) holds six)
+    kind_tells Flows holds = flowed_tells (flow_later live) (is_again live) (brought live) None k
+    kind_tells (Breaks reason) holds = flowed_tells (flow_later live) (is_again live) (brought live) (Some reason) k
+    kind_tells Idles holds =
+        record { reported = due_tells live.cyclic.shown (is_again live) (requests_of live.device live.asked) (request_tells live.cyclic.shown live.device live.asked k.device); same = refl; kept = k }
+    kind_tells other holds = record { reported = tt; kept = k; same = refl }
+
+    came_tells : (turn : Turn) → IsTurn setup live came turn → Tells live.cyclic.shown turn
+    came_tells turn of = subst (λ (t : Turn). Tells live.cyclic.shown t) (sym of.is) (kind_tells of.kind of.holds)
+
+  pub turn_tells : KindsSo → (setup : Setup) (live : Live) (event : Event) → IsSixAt setup event → IsKept size live → Tells (shown_behind live event) (turn_of setup live event)
+  turn_tells kinds setup live (Frame bytes) six k = came_tells setup live (Hears (heard_of setup.plan.controller bytes.items)) six k _ (kinds setup live (Frame bytes))
+  turn_tells kinds setup live Ticks six k = came_tells setup live Passes tt k _ (kinds setup live Ticks)
+  turn_tells kinds setup live (Give slot subslot value) six k = record { reported = tt; same = refl; kept = given_keeps live slot subslot value.items k }
+  turn_tells kinds setup live Stop six k = came_tells setup live Halts tt k _ (kinds setup live Stop)

@@ -1,0 +1,298 @@
+-- A controller sends to the station that responded, and its outputs under the FrameID that this station chose.
+use Rattle.std.proofs.Common.{◌≡◌, ◌&&◌, ◌+◌, ℕ, Bool, true, false, cond, List, length, Option, Some, None, refl, sym, ap, ◌∙◌}
+use Rattle.std.specs.Prelude.{nat_lt, unwrap_or}
+use Rattle.std.specs.List.{AllByRecursion}
+use Rattle.pn_values.specs.declared.mac.Mac.{Mac}
+use Rattle.frame_codec.specs.declared.udp.Caller.{Caller}
+use Rattle.frame_codec.specs.FrameId.{is_alarm}
+use Rattle.dcp_core.specs.Response.{Answered}
+use Rattle.dcp_core.specs.Answered.{is_agreed}
+use Rattle.rpc_core.specs.Call.{Asked as Call}
+use Rattle.rpc_core.specs.Response.{Answered as Response, is_done}
+use Rattle.connect_blocks.specs.declared.control.ControlBlock.{ControlBlock}
+use Rattle.record_blocks.specs.declared.alarm_ack.AlarmAck.{AlarmAck}
+use Rattle.record_blocks.specs.declared.alarm_notification.AlarmNotification.{AlarmNotification}
+use Rattle.cyclic_data.specs.declared.place.PlaceKind.TheVariants.{Data as at_data}
+use Rattle.cyclic_data.specs.Image.{cell_at, changed, has_size}
+use Rattle.cyclic_exchange.specs.declared.route.Route.{Route}
+use Rattle.cyclic_exchange.specs.Units.{Brought}
+use Rattle.cyclic_exchange.specs.Cyclic.{Cyclic}
+use Rattle.cyclic_exchange.specs.Process.{provided_at, with_good}
+use Rattle.cyclic_exchange.specs.Received.{behind_frame}
+use Rattle.pn_alarms.specs.declared.abort.Abort.{Abort}
+use Rattle.pn_alarms.specs.declared.message.Notice.TheVariants as notice
+use Rattle.pn_alarms.specs.declared.pdu.Header.{Header}
+use Rattle.pn_alarms.specs.declared.receiver.Taken.{Taken}
+use Rattle.pn_alarms.specs.declared.receiver.Taken.TheVariants.{New, Again, Refused}
+use Rattle.pn_alarms.specs.Message.{ToController}
+use Rattle.pn_alarms.specs.Receiver.{taken_as}
+use Rattle.plans.specs.declared.parts.Parts.{Parts}
+use Rattle.controller_frames.specs.declared.setup.Setup.{Setup}
+use Rattle.controller_frames.specs.declared.request.Request.{Request}
+use Rattle.controller_frames.specs.declared.request.Request.TheVariants as asks
+use Rattle.controller_frames.specs.Heard.{Heard, Nothing, Answers, Responds, Calls, Alarms, heard_of}
+use Rattle.controller_frames.specs.Heard.{Cyclic as Comes}
+use Rattle.controller_frames.specs.Sent.{Sent}
+use Rattle.controller_core.specs.declared.event.Event.{Event}
+use Rattle.controller_core.specs.declared.event.Event.TheVariants as event
+use Rattle.controller_core.specs.declared.state.Cause.{Cause}
+use Rattle.controller_core.specs.declared.state.State.{State}
+use Rattle.controller_core.specs.declared.state.State.TheVariants.{Looking, Addressing, Ending, Waiting, Exchanging, Ended}
+use Rattle.controller_core.specs.Alarms.{is_alarm as is_of_relation}
+use Rattle.controller_core.specs.Answers.{is_addressed, is_answer, is_found, is_ready, is_right, is_set_answer}
+use Rattle.controller_core.specs.Connect.{Chosen, chosen_of, found_in, is_whole, nothing}
+use Rattle.controller_core.specs.Machine.{Turn, acks_in, addressed, answered, behind_data, brought, called, come, connected, decided, done, first, flow_later, flowed, found, given, is_again, handled, later, noticed, outputs_of, over, readied, ready_in, related_by, released, requests_of, responded, standing, stays, stopped, taken, turn_of, turned, where_due, writing}
+use Rattle.controller_core.specs.State.{Live}
+use Rattle.end_laws.specs.sending.Sized.{Found}
+use Rattle.exchange_laws.specs.Sized.{IsChosenWell}
+use Rattle.exchange_laws.proofs.Reported.{IsWell}
+use Rattle.exchange_laws.proofs.Lists.{each_behind}
+use Rattle.exchange_laws.proofs.Turns.{frame_route}
+use Rattle.exchange_laws.proofs.Messages.{IsAimed}
+
+-- The state of a controller, as far as its frames are concerned: its relation is with this station, under a FrameID of
+-- outputs that is not one of alarms, and so is its pending request.
+pub record IsPlaced (mac : Mac) (live : Live) : Type 0 where
+  pub plain : is_alarm live.cyclic.route.sent_id ≡ false
+  pub partner : live.stands ≡ true → live.cyclic.route.partner ≡ mac
+  pub asking : live.asked ≡ Some asks.Connect → live.device ≡ mac
+  pub giving : live.phase ≡ Addressing → live.device ≡ mac
+  pub addressing : live.asked ≡ Some asks.Address → live.device ≡ mac
+
+-- only this station responds to the controller and calls it, and it chooses no FrameID of alarms for outputs
+abbrev pub IsOf : Setup → Mac → Heard → Type 0
+IsOf setup mac (Answers source answer) = source ≡ mac
+IsOf setup mac (Responds response) = IsWell setup (Responds response)
+IsOf setup mac (Calls caller call) = caller.mac ≡ mac
+IsOf setup mac other = Unit {0}
+
+module _ (setup : Setup) (mac : Mac) (apart : mac ≡ setup.plan.controller.mac → ⊥) where
+  pub record PlacedTurn (turn : Turn) : Type 0 where
+    pub live : IsPlaced mac turn.live
+    pub sent : AllByRecursion (IsAimed setup) turn.sent
+
+  either : (b : Bool) (x y : Turn) → PlacedTurn x → PlacedTurn y → PlacedTurn (cond b x y)
+  either true x y px py = px
+  either false x y px py = py
+
+  stays_placed : (live : Live) → IsPlaced mac live → PlacedTurn (stays live)
+  stays_placed live p = record { live = p; sent = tt }
+
+  over_placed : (cause : Cause) (live : Live) → IsPlaced mac live → IsPlaced mac (over cause live)
+  over_placed cause live p = record { plain = p.plain; partner = λ e. absurd cc; asking = λ e. absurd cc; giving = λ e. absurd cc; addressing = λ e. absurd cc }
+
+  ends_placed : (cause : Cause) (live : Live) → IsPlaced mac live → PlacedTurn (stays (over cause live))
+  ends_placed cause live p = stays_placed (over cause live) (over_placed cause live p)
+
+  released_placed : (cause : Cause) (live : Live) → IsPlaced mac live → PlacedTurn (released setup cause live)
+  released_placed cause live p =
+      record { live = record { plain = p.plain; partner = λ e. absurd cc; asking = λ e. absurd cc; giving = λ e. absurd cc; addressing = λ e. absurd cc }; sent = (tt, tt) }
+
+  -- ---- DCP responses
+
+  found_placed : (live : Live) (source : Mac) (answer : Answered) → source ≡ mac → IsPlaced mac live → PlacedTurn (found setup live source answer)
+  found_placed live source answer is p =
+      either (is_right setup.plan answer) _ _
+      (either (is_addressed setup.plan answer) _ _
+      (record { live = record { plain = p.plain; partner = p.partner; asking = λ e. is; giving = λ e. is; addressing = λ e. is }; sent = (tt, tt) })
+      (record { live = record { plain = p.plain; partner = p.partner; asking = λ e. is; giving = λ e. is; addressing = λ e. is }; sent = (λ e. apart (sym is ∙ e), tt) }))
+      (ends_placed _ live p)
+
+  addressed_placed : (live : Live) (answer : Answered) → live.device ≡ mac → IsPlaced mac live → PlacedTurn (addressed live answer)
+  addressed_placed live answer is p =
+      either (is_agreed answer) _ _
+      (record { live = record { plain = p.plain; partner = p.partner; asking = λ e. is; giving = λ e. is; addressing = λ e. is }; sent = (tt, tt) })
+      (ends_placed _ live p)
+
+  answered_placed : (live : Live) (source : Mac) (answer : Answered) (phase : State) → live.phase ≡ phase → source ≡ mac → IsPlaced mac live → PlacedTurn (answered setup live source answer phase)
+  answered_placed live source answer Looking now is p = either (is_found setup.plan answer) _ _ (found_placed live source answer is p) (stays_placed live p)
+  answered_placed live source answer Addressing now is p = either (is_set_answer answer) _ _ (addressed_placed live answer (p.giving now) p) (stays_placed live p)
+  answered_placed live source answer other now is p = stays_placed live p
+
+  -- ---- responses
+
+  -- the next request is a Write, or PrmEnd
+  writes_placed : (live : Live) (number : ℕ) (b : Bool) → IsPlaced mac live → PlacedTurn (writing (cond b (asks.Write number) asks.PrmEnd) live)
+  writes_placed live number true p = record { live = record { plain = p.plain; partner = p.partner; asking = λ e. absurd cc; giving = λ e. absurd cc; addressing = λ e. absurd cc }; sent = (tt, tt) }
+  writes_placed live number false p = record { live = record { plain = p.plain; partner = p.partner; asking = λ e. absurd cc; giving = λ e. absurd cc; addressing = λ e. absurd cc }; sent = (tt, tt) }
+
+  related_placed : (live : Live) (found_so : Option Chosen) → live.device ≡ mac → ((chosen : Chosen) → found_so ≡ Some chosen → is_alarm chosen.frame_id ≡ false) → IsPlaced mac live → PlacedTurn (related_by setup live found_so)
+  related_placed live (Some chosen) is plain p =
+      writes_placed (standing setup live chosen) 0 (nat_lt 0 (length setup.plan.records.items))
+      (record { plain = plain chosen refl; partner = λ e. is; asking = λ e. is; giving = λ e. is; addressing = λ e. is })
+  related_placed live None is plain p = stays_placed live p
+
+  if_so : (b : Bool) (x y : Turn) → (b ≡ true → PlacedTurn x) → (b ≡ false → PlacedTurn y) → PlacedTurn (cond b x y)
+  if_so true x y px py = px refl
+  if_so false x y px py = py refl
+
+  connected_placed : (live : Live) (blocks : List ℕ) (found_so : Option Found) → found_in 400 blocks nothing ≡ found_so → live.device ≡ mac
+      → IsChosenWell blocks → IsPlaced mac live → PlacedTurn (connected setup live found_so)
+  connected_placed live blocks (Some found_so) e is well p =
+      if_so (is_whole found_so) _ _
+      (λ whole. if_so found_so.differs _ _ (λ differs. released_placed _ live p)
+      (λ same. related_placed live (chosen_of found_so) is (λ chosen there. (well found_so e whole same chosen there).2) p))
+      (λ lacks. stays_placed live p)
+  connected_placed live blocks None e is well p = stays_placed live p
+
+  done_placed : (live : Live) (blocks : List ℕ) (request : Request) → live.asked ≡ Some request → (request ≡ asks.Connect → IsChosenWell blocks) → IsPlaced mac live
+      → PlacedTurn (done setup live blocks request)
+  done_placed live blocks asks.Identify now well p = stays_placed live p
+  done_placed live blocks asks.Address now well p = stays_placed live p
+  done_placed live blocks asks.Connect now well p = connected_placed live blocks (found_in 400 blocks nothing) refl (p.asking now) (well refl) p
+  done_placed live blocks (asks.Write number) now well p = writes_placed live (number + 1) (nat_lt (number + 1) (length setup.plan.records.items)) p
+  done_placed live blocks asks.PrmEnd now well p =
+      stays_placed (record live { phase = Waiting; asked = None }) (record { plain = p.plain; partner = p.partner; asking = λ e. absurd cc; giving = λ e. absurd cc; addressing = λ e. absurd cc })
+  done_placed live blocks (asks.Release sequence) now well p =
+      stays_placed (record live { asked = None }) (record { plain = p.plain; partner = p.partner; asking = λ e. absurd cc; giving = p.giving; addressing = λ e. absurd cc })
+
+  handled_placed : (live : Live) (response : Response) (request : Request) → live.asked ≡ Some request → (request ≡ asks.Connect → is_done response.status ≡ true → IsChosenWell response.blocks) → IsPlaced mac live
+      → PlacedTurn (handled setup live response request)
+  handled_placed live response request now well p =
+      if_so (is_done response.status) _ _ (λ positive. done_placed live response.blocks request now (λ connects. well connects positive) p) (λ negative. ends_placed _ live p)
+
+  decided_placed : (live : Live) (response : Response) (request : Request) → live.asked ≡ Some request → (request ≡ asks.Connect → is_done response.status ≡ true → IsChosenWell response.blocks) → IsPlaced mac live
+      → PlacedTurn (decided setup live response request)
+  decided_placed live response asks.Identify now well p = handled_placed live response asks.Identify now well p
+  decided_placed live response asks.Address now well p = handled_placed live response asks.Address now well p
+  decided_placed live response asks.Connect now well p = handled_placed live response asks.Connect now well p
+  decided_placed live response (asks.Write number) now well p = handled_placed live response (asks.Write number) now well p
+  decided_placed live response asks.PrmEnd now well p = handled_placed live response asks.PrmEnd now well p
+  decided_placed live response (asks.Release sequence) now well p =
+      stays_placed (record live { asked = None }) (record { plain = p.plain; partner = p.partner; asking = λ e. absurd cc; giving = p.giving; addressing = λ e. absurd cc })
+
+  responded_placed : (live : Live) (response : Response) (asked : Option Request) → live.asked ≡ asked → IsWell setup (Responds response) → IsPlaced mac live
+      → PlacedTurn (responded setup live response asked)
+  responded_placed live response (Some request) now fit p =
+      if_so (is_answer setup request response.header) _ _
+      (λ answers. decided_placed live response request now
+      (λ connects. fit (ap (λ (one : Request). is_answer setup one response.header) (sym connects) ∙ answers)) p)
+      (λ other. stays_placed live p)
+  responded_placed live response None now fit p = stays_placed live p
+
+  -- ---- calls, cyclic frames and outputs
+
+  readied_placed : (live : Live) (caller : Caller) (call : Call) (block : ControlBlock) (phase : State) → caller.mac ≡ mac → IsPlaced mac live → PlacedTurn (readied live caller call block phase)
+  readied_placed live caller call block Ending is p = record { live = record { plain = p.plain; partner = p.partner; asking = λ e. absurd cc; giving = λ e. absurd cc; addressing = λ e. absurd cc }; sent = (λ e. apart (sym is ∙ e), tt) }
+  readied_placed live caller call block Waiting is p = record { live = record { plain = p.plain; partner = p.partner; asking = λ e. absurd cc; giving = λ e. absurd cc; addressing = λ e. absurd cc }; sent = (λ e. apart (sym is ∙ e), tt) }
+  readied_placed live caller call block Exchanging is p = record { live = p; sent = (λ e. apart (sym is ∙ e), tt) }
+  readied_placed live caller call block other is p = stays_placed live p
+
+  called_placed : (live : Live) (caller : Caller) (call : Call) (block : Option ControlBlock) → caller.mac ≡ mac → IsPlaced mac live → PlacedTurn (called setup live caller call block)
+  called_placed live caller call (Some block) is p = either (is_ready setup block) _ _ (readied_placed live caller call block live.phase is p) (stays_placed live p)
+  called_placed live caller call None is p = stays_placed live p
+
+  cyclic_placed : (live : Live) (cyclic : Cyclic) → cyclic.route ≡ live.cyclic.route → IsPlaced mac live → IsPlaced mac (record live { cyclic = cyclic })
+  cyclic_placed live cyclic same p = record {
+    plain = ap (λ (r : Route). is_alarm r.sent_id) same ∙ p.plain;
+    partner = λ e. ap (λ (r : Route). r.partner) same ∙ p.partner e;
+    asking = p.asking;
+    giving = p.giving;
+    addressing = p.addressing;
+  }
+
+  come_placed : (live : Live) (source : Mac) (frame_id : ℕ) (body : List ℕ) (b : Bool) → IsPlaced mac live → IsPlaced mac (cond b (record live { cyclic = behind_frame live.cyclic source frame_id body }) live)
+  come_placed live source frame_id body true p = cyclic_placed live (behind_frame live.cyclic source frame_id body) (frame_route live.cyclic source frame_id body) p
+  come_placed live source frame_id body false p = p
+
+  provided_route : (cyclic : Cyclic) (slot subslot : ℕ) (value : List ℕ) → (unwrap_or (provided_at cyclic slot subslot value) cyclic).route ≡ cyclic.route
+  provided_route cyclic slot subslot value = by_size (has_size (length value) (cell_at at_data slot subslot cyclic.shown.cells))
+    where
+      by_size : (b : Bool) → (unwrap_or (cond b (Some (record cyclic { shown = changed at_data slot subslot (with_good value) cyclic.shown })) None) cyclic).route ≡ cyclic.route
+      by_size true = refl
+      by_size false = refl
+
+  -- ---- alarms
+
+  partner_other : (live : Live) → live.stands ≡ true → IsPlaced mac live → live.cyclic.route.partner ≡ setup.plan.controller.mac → ⊥
+  partner_other live up p e = apart (sym (p.partner up) ∙ e)
+
+  taken_placed : (live : Live) (alarm : AlarmNotification) (as_what : Taken) → live.stands ≡ true → IsPlaced mac live → PlacedTurn (taken live alarm as_what)
+  taken_placed live alarm New up p = record {
+    live = record { plain = p.plain; partner = p.partner; asking = p.asking; giving = p.giving; addressing = p.addressing };
+    sent = (partner_other live up p, (partner_other live up p, tt));
+  }
+  taken_placed live alarm Again up p = record { live = p; sent = (partner_other live up p, tt) }
+  taken_placed live alarm Refused up p = record { live = p; sent = (partner_other live up p, tt) }
+
+  noticed_placed : (live : Live) (reported : ToController) → live.stands ≡ true → IsPlaced mac live → PlacedTurn (noticed live reported)
+  noticed_placed live (notice.Data number alarm) up p =
+      taken_placed (behind_data live number) alarm (taken_as live.alarms.seen number) up (record { plain = p.plain; partner = p.partner; asking = p.asking; giving = p.giving; addressing = p.addressing })
+  noticed_placed live (notice.Ack number) up p = record { live = record { plain = p.plain; partner = p.partner; asking = p.asking; giving = p.giving; addressing = p.addressing }; sent = tt }
+  noticed_placed live notice.Nack up p = stays_placed live p
+  noticed_placed live notice.Abort up p = ends_placed _ live p
+
+  and_first : (a b : Bool) → (a && b) ≡ true → a ≡ true
+  and_first true b e = refl
+  and_first false b e = absurd cc
+
+  alarmed_placed : (live : Live) (source : Mac) (header : Header) (reported : ToController) (b : Bool) → (live.stands && is_of_relation live.cyclic.route source header) ≡ b → IsPlaced mac live
+      → PlacedTurn (cond b (noticed live reported) (stays live))
+  alarmed_placed live source header reported true e p = noticed_placed live reported (and_first live.stands (is_of_relation live.cyclic.route source header) e) p
+  alarmed_placed live source header reported false e p = stays_placed live p
+
+  -- ---- what is heard
+
+  heard_placed : (live : Live) (heard : Heard) → IsOf setup mac heard → IsPlaced mac live → PlacedTurn (turned setup live heard)
+  heard_placed live Nothing is p = stays_placed live p
+  heard_placed live (Answers source answer) is p = answered_placed live source answer live.phase refl is p
+  heard_placed live (Responds response) is p = responded_placed live response live.asked refl is p
+  heard_placed live (Calls caller call) is p = called_placed live caller call (ready_in call) is p
+  heard_placed live (Comes source frame_id body) is p = stays_placed (come live source frame_id body) (come_placed live source frame_id body live.stands p)
+  heard_placed live (Alarms source header reported) is p = alarmed_placed live source header reported (live.stands && is_of_relation live.cyclic.route source header) refl p
+
+  -- ---- units
+
+  due_placed : (b : Bool) (messages : List Sent) → AllByRecursion (IsAimed setup) messages → AllByRecursion (IsAimed setup) (where_due b messages)
+  due_placed true messages all = all
+  due_placed false messages all = tt
+
+  acks_placed : (live : Live) (ack : Option AlarmAck) → live.stands ≡ true → IsPlaced mac live → AllByRecursion (IsAimed setup) (acks_in live ack)
+  acks_placed live (Some ack) up p = (partner_other live up p, tt)
+  acks_placed live None up p = tt
+
+  requests_placed : (device : Mac) (asked : Option Request) → (asked ≡ Some asks.Address → device ≡ mac) → AllByRecursion (IsAimed setup) (requests_of device asked)
+  requests_placed device (Some asks.Address) own = (λ e. apart (sym (own refl) ∙ e), tt)
+  requests_placed device None own = tt
+  requests_placed device other own = (tt, tt)
+
+  flowed_placed : (live : Live) (is_request : Bool) (tick : Brought) (reason : Option Abort) → live.stands ≡ true → IsPlaced mac live → PlacedTurn (flowed live is_request tick reason)
+  flowed_placed live is_request tick (Some reason) up p = record { live = over_placed _ live p; sent = (partner_other live up p, tt) }
+  flowed_placed live is_request tick None up p = record {
+    live = p;
+    sent = each_behind (IsAimed setup) (where_due tick.is_alarm (acks_in live live.alarms.confirming)) _ (due_placed tick.is_alarm _ (acks_placed live live.alarms.confirming up p))
+        (each_behind (IsAimed setup) (where_due is_request (requests_of live.device live.asked)) _ (due_placed is_request _ (requests_placed live.device live.asked p.addressing))
+        (due_placed tick.is_cyclic (outputs_of live) ((p.plain, partner_other live up p), tt)));
+  }
+
+  ticked_placed : (live : Live) (b : Bool) → live.stands ≡ b → IsPlaced mac live
+      → PlacedTurn (cond b (flowed (flow_later live) (is_again live) (brought live) (brought live).ending) (record { live = later live; sent = where_due (is_again live) (requests_of live.device live.asked) }))
+  ticked_placed live true up p =
+      flowed_placed (flow_later live) (is_again live) (brought live) (brought live).ending up (record { plain = p.plain; partner = p.partner; asking = p.asking; giving = p.giving; addressing = p.addressing })
+  ticked_placed live false up p = record {
+    live = record { plain = p.plain; partner = p.partner; asking = p.asking; giving = p.giving; addressing = p.addressing };
+    sent = due_placed (is_again live) _ (requests_placed live.device live.asked p.addressing);
+  }
+
+  stopped_placed : (live : Live) (phase : State) → IsPlaced mac live → PlacedTurn (stopped setup live phase)
+  stopped_placed live Looking p = ends_placed _ live p
+  stopped_placed live Addressing p = ends_placed _ live p
+  stopped_placed live (Ended cause) p = stays_placed live p
+  stopped_placed live other p = released_placed _ live p
+
+  -- ---- events
+
+  abbrev pub IsEventOf : Event → Type 0
+  IsEventOf (event.Frame bytes) = IsOf setup mac (heard_of setup.plan.controller bytes.items)
+  IsEventOf other = Unit {0}
+
+  pub event_placed : (live : Live) (one : Event) → IsEventOf one → IsPlaced mac live → PlacedTurn (turn_of setup live one)
+  event_placed live (event.Frame bytes) is p = heard_placed live (heard_of setup.plan.controller bytes.items) is p
+  event_placed live event.Tick is p = ticked_placed live live.stands refl p
+  event_placed live (event.Give slot subslot value) is p =
+      stays_placed (given live slot subslot value.items) (cyclic_placed live (unwrap_or (provided_at live.cyclic slot subslot value.items) live.cyclic) (provided_route live.cyclic slot subslot value.items) p)
+  event_placed live event.Stop is p = stopped_placed live live.phase p
+
+  -- a controller that was just made
+  pub first_placed : (plan : Parts) → IsPlaced mac (first plan)
+  first_placed plan = record { plain = refl; partner = λ e. absurd cc; asking = λ e. absurd cc; giving = λ e. absurd cc; addressing = λ e. absurd cc }

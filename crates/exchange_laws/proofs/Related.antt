@@ -1,0 +1,129 @@
+-- The effect of a response on a controller; its FrameID counts if it is the response to a Connect.
+use Rattle.std.proofs.Common.{◌≡◌, ◌<◌, ◌+◌, ℕ, Bool, true, false, cond, List, length, Option, Some, None, refl, sym, ap, ◌∙◌, arith}
+use Rattle.std.specs.Prelude.{nat_lt}
+use Rattle.std.specs.List.{AllByRecursion}
+use Rattle.std.proofs.lemmas.Bool.{ltb-true}
+use Rattle.rpc_core.specs.Response.{Answered as Response, is_done}
+use Rattle.plans.specs.Plan.{IsPlan}
+use Rattle.plans.specs.declared.parts.Parts.{Parts}
+use Rattle.controller_frames.specs.declared.request.Request.{Request}
+use Rattle.controller_frames.specs.declared.request.Request.TheVariants as asks
+use Rattle.controller_frames.specs.declared.setup.Setup.{Setup}
+use Rattle.controller_frames.specs.Heard.{Responds}
+use Rattle.controller_frames.specs.Requests.{writing_from}
+use Rattle.controller_core.specs.declared.state.Cause.{Cause}
+use Rattle.controller_core.specs.declared.state.Cause.TheVariants as cause
+use Rattle.controller_core.specs.declared.state.State.{State}
+use Rattle.controller_core.specs.declared.state.State.TheVariants.{Ended, Waiting}
+use Rattle.controller_core.specs.Answers.{is_answer}
+use Rattle.controller_core.specs.Connect.{Chosen, chosen_of, found_in, is_whole, nothing}
+use Rattle.controller_core.specs.Machine.{Turn, asking, connected, decided, done, handled, next_sequence, over, phase_for, related_by, released, responded, standing, stays, writing}
+use Rattle.controller_core.specs.State.{Live}
+use Rattle.end_laws.specs.hearing.Stations.{IsNumbered, IsSetup}
+use Rattle.end_laws.specs.sending.Messages.{CanBeSent}
+use Rattle.end_laws.specs.sending.Sized.{AreFew, Found, IsFew, IsLive}
+use Rattle.exchange_laws.specs.Sized.{IsChosenWell}
+use Rattle.exchange_laws.proofs.Reported.{IsWell}
+
+-- the state has its sizes, and so has what the controller sends
+abbrev pub IsRight : Setup → Turn → Type 0
+IsRight setup turn = IsLive turn.live × AllByRecursion (CanBeSent setup) turn.sent
+
+module _ (setup : Setup) (good : IsSetup setup) where
+  either : (b : Bool) (x y : Turn) → (b ≡ true → IsRight setup x) → (b ≡ false → IsRight setup y) → IsRight setup (cond b x y)
+  either true x y one other = one refl
+  either false x y one other = other refl
+
+  stays_right : (live : Live) → IsLive live → IsRight setup (stays live)
+  stays_right live is = (is, tt)
+
+  numbered : (request : Request) → IsFew request → IsNumbered request
+  numbered (asks.Write number) few = omega (arith, few)
+  numbered (asks.Release sequence) few = few
+  numbered other few = tt
+
+  asking_right : (phase : State) (request : Request) (live : Live) → IsLive live → IsFew request → IsRight setup (asking phase request live)
+  asking_right phase request live is few = (
+    record { device = is.device; asked = few; way = is.way; few = is.few; last = is.last; seen = is.seen; confirming = is.confirming },
+    ((is.device, numbered request few), tt),
+  )
+
+  unasked : (live : Live) (phase : State) → IsLive live → IsLive (record live { phase = phase; asked = None })
+  unasked live phase is = record { device = is.device; asked = tt; way = is.way; few = is.few; last = is.last; seen = is.seen; confirming = is.confirming }
+
+  over_live : (why : Cause) (live : Live) → IsLive live → IsLive (over why live)
+  over_live why live is = record { device = is.device; asked = tt; way = is.way; few = is.few; last = is.last; seen = is.seen; confirming = is.confirming }
+
+  sequence_few : (plan : Parts) (asked : Option Request) → IsPlan plan → AreFew asked → next_sequence plan asked < 4294967296
+  sequence_few plan (Some asks.Connect) is few = omega arith
+  sequence_few plan (Some (asks.Write number)) is few = omega (arith, few)
+  sequence_few plan other is few = omega (arith, is.few_records)
+
+  released_right : (why : Cause) (live : Live) → IsLive live → IsRight setup (released setup why live)
+  released_right why live is =
+      asking_right (Ended why) (asks.Release (next_sequence setup.plan live.asked)) (over why live) (over_live why live is) (sequence_few setup.plan live.asked good.plan is.asked)
+
+  -- the next request is a Write, or PrmEnd
+  picked_few : (number : ℕ) (b : Bool) → (b ≡ true → number < 32) → IsFew (cond b (asks.Write number) asks.PrmEnd)
+  picked_few number true few = few refl
+  picked_few number false few = tt
+
+  writing_few : (plan : Parts) (number : ℕ) → IsPlan plan → IsFew (writing_from plan number)
+  writing_few plan number is =
+      picked_few number (nat_lt number (length plan.records.items)) (λ e. let below = ltb-true number (length plan.records.items) e in omega (arith, below, is.few_records))
+
+  writing_right : (number : ℕ) (live : Live) → IsLive live → IsRight setup (writing (writing_from setup.plan number) live)
+  writing_right number live is = asking_right (phase_for (writing_from setup.plan number)) (writing_from setup.plan number) live is (writing_few setup.plan number good.plan)
+
+  stands_live : (live : Live) (chosen : Chosen) → IsLive live → (chosen.frame_id < 65536) × (chosen.reference < 65536) → IsLive (standing setup live chosen)
+  stands_live live chosen is small = record {
+    device = is.device;
+    asked = is.asked;
+    way = record { partner = is.device; sent_id = small.0; sent_tag = omega arith; alarm_tag = omega arith; reference = small.1 };
+    few = is.few;
+    last = is.last;
+    seen = is.seen;
+    confirming = is.confirming;
+  }
+
+  related_right : (live : Live) (found : Option Chosen) → IsLive live → ((chosen : Chosen) → found ≡ Some chosen → (chosen.frame_id < 65536) × (chosen.reference < 65536))
+      → IsRight setup (related_by setup live found)
+  related_right live (Some chosen) is small = writing_right 0 (standing setup live chosen) (stands_live live chosen is (small chosen refl))
+  related_right live None is small = stays_right live is
+
+  connected_right : (live : Live) (blocks : List ℕ) (read : Option Found) → found_in 400 blocks nothing ≡ read → IsLive live → IsChosenWell blocks → IsRight setup (connected setup live read)
+  connected_right live blocks (Some found) e is well =
+      either (is_whole found) _ _
+      (λ whole. either found.differs _ _ (λ differs. released_right cause.ModuleDiff live is)
+      (λ same. related_right live (chosen_of found) is (λ chosen there. let all = well found e whole same chosen there in (all.0, all.1))))
+      (λ lacks. stays_right live is)
+  connected_right live blocks None e is well = stays_right live is
+
+  done_right : (live : Live) (blocks : List ℕ) (request : Request) → IsLive live → (request ≡ asks.Connect → IsChosenWell blocks) → IsRight setup (done setup live blocks request)
+  done_right live blocks asks.Identify is well = stays_right live is
+  done_right live blocks asks.Address is well = stays_right live is
+  done_right live blocks asks.Connect is well = connected_right live blocks (found_in 400 blocks nothing) refl is (well refl)
+  done_right live blocks (asks.Write number) is well = writing_right (number + 1) live is
+  done_right live blocks asks.PrmEnd is well = stays_right _ (unasked live Waiting is)
+  done_right live blocks (asks.Release sequence) is well = stays_right _ (unasked live live.phase is)
+
+  handled_right : (live : Live) (response : Response) (request : Request) → IsLive live → (request ≡ asks.Connect → is_done response.status ≡ true → IsChosenWell response.blocks)
+      → IsRight setup (handled setup live response request)
+  handled_right live response request is well =
+      either (is_done response.status) _ _ (λ positive. done_right live response.blocks request is (λ connects. well connects positive)) (λ negative. stays_right (over cause.Refused live) (over_live cause.Refused live is))
+
+  decided_right : (live : Live) (response : Response) (request : Request) → IsLive live → (request ≡ asks.Connect → is_done response.status ≡ true → IsChosenWell response.blocks)
+      → IsRight setup (decided setup live response request)
+  decided_right live response asks.Identify is well = handled_right live response asks.Identify is well
+  decided_right live response asks.Address is well = handled_right live response asks.Address is well
+  decided_right live response asks.Connect is well = handled_right live response asks.Connect is well
+  decided_right live response (asks.Write number) is well = handled_right live response (asks.Write number) is well
+  decided_right live response asks.PrmEnd is well = handled_right live response asks.PrmEnd is well
+  decided_right live response (asks.Release sequence) is well = stays_right _ (unasked live live.phase is)
+
+  pub responded_right : (live : Live) (response : Response) (asked : Option Request) → IsLive live → IsWell setup (Responds response) → IsRight setup (responded setup live response asked)
+  responded_right live response (Some request) is fit =
+      either (is_answer setup request response.header) _ _
+      (λ answers. decided_right live response request is (λ connects. fit (ap (λ (one : Request). is_answer setup one response.header) (sym connects) ∙ answers)))
+      (λ other. stays_right live is)
+  responded_right live response None is fit = stays_right live is

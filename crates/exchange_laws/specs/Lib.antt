@@ -1,0 +1,5 @@
+pub mod Shown
+pub mod Given
+pub mod Sized
+pub mod Over
+pub mod Together

@@ -1,0 +1,99 @@
+-- The alarms of a run: those that the device raised, those that its controller accepted, and the one that it shows.
+use Rattle.std.specs.Prelude.{◌≡◌, ◌⊎◌, ◌++◌, ◌&&◌, ℕ, Bool, true, false, List, [], ◌∷◌, slice_get, if◌then◌else◌, Option, Some, None}
+use Rattle.record_blocks.specs.declared.alarm_notification.AlarmNotification.{AlarmNotification}
+use Rattle.pn_alarms.specs.declared.message.Notice.TheVariants as notice
+use Rattle.pn_alarms.specs.declared.pdu.Header.{Header}
+use Rattle.pn_alarms.specs.Message.{ToController}
+use Rattle.pn_values.specs.declared.mac.Mac.{Mac}
+use Rattle.pn_alarms.specs.Receiver.{taken_as}
+use Rattle.relations.specs.exchange.Flow.{Flow}
+use Rattle.relations.specs.Exchanged.{raised_to}
+use Rattle.codec_laws.specs.alarms.Line.{more_taken}
+use Rattle.controller_frames.specs.Heard.{Heard, Nothing, Answers, Responds, Calls, Cyclic, Alarms, heard_of}
+use Rattle.controller_core.specs.Alarms.{is_alarm}
+use Rattle.controller_core.specs.State.{Controlling, Live}
+use Rattle.end_laws.specs.turns.Alarms.{last_of}
+use Rattle.network_world.specs.declared.moves.End.TheVariants.{Device, Controller}
+use Rattle.network_world.specs.declared.moves.Move.{Move}
+use Rattle.network_world.specs.declared.moves.Move.TheVariants as move
+use Rattle.network_world.specs.World.{World, is_skipped}
+
+-- ---- raised
+
+-- the value, if there is one, as a list
+abbrev pub one_in : {A : Type 0} → Option A → List A
+one_in None = []
+one_in (Some value) = value ∷ []
+
+-- the unconfirmed alarm after one was raised
+abbrev pub raised_in : Option Flow → List AlarmNotification
+raised_in None = []
+raised_in (Some flow) = one_in flow.alarms.sender.standing
+
+module _ {F : Type 0} where
+  -- an alarm is raised if the device has a relation in which it may be, and then it is the unconfirmed one
+  abbrev pub raised_with : World F → Move → List AlarmNotification
+  raised_with world (move.Alarm slot subslot octets) =
+      raised_in (raised_to world.device.station.real.modules.items slot subslot octets.items world.device.live.rest.link)
+  raised_with world (move.Deliver end number) = []
+  raised_with world (move.Tick end) = []
+  raised_with world (move.Input slot subslot value) = []
+  raised_with world (move.Give slot subslot value) = []
+  raised_with world move.Stop = []
+
+  -- the alarms raised over a run, in order
+  abbrev pub raised_over : World F → List (Move × World F) → List AlarmNotification
+  raised_over before [] = []
+  raised_over before (one ∷ run) = raised_with before one.0 ++ raised_over one.1 run
+
+-- ---- accepted alarms
+
+-- an alarm frame is looked at while the relation exists, if it belongs to it, and data with the next number is accepted
+abbrev pub taken_of : Live → Mac → Header → ToController → List AlarmNotification
+taken_of live source header (notice.Data number alarm) =
+    if live.stands && is_alarm live.cyclic.route source header then more_taken [] alarm (taken_as live.alarms.seen number) else []
+taken_of live source header (notice.Ack number) = []
+taken_of live source header notice.Nack = []
+taken_of live source header notice.Abort = []
+
+-- the alarms accepted with what a controller hears
+abbrev pub taken_by : Live → Heard → List AlarmNotification
+taken_by live (Alarms source header notice) = taken_of live source header notice
+taken_by live Nothing = []
+taken_by live (Answers source answer) = []
+taken_by live (Responds response) = []
+taken_by live (Calls caller call) = []
+taken_by live (Cyclic source frame_id body) = []
+
+-- the alarms accepted from a frame that is delivered, unless it is skipped
+abbrev pub taken_in : Bool → Controlling → List ℕ → List AlarmNotification
+taken_in true controlling octets = []
+taken_in false controlling octets = taken_by controlling.live (heard_of controlling.setup.plan.controller octets)
+
+module _ {F : Type 0} where
+  -- the alarms accepted from a frame that is delivered to the controller, if it exists
+  abbrev pub taken_from : World F → Option (List ℕ) → List AlarmNotification
+  taken_from world None = []
+  taken_from world (Some octets) = taken_in (is_skipped world.device world.controller Controller octets) world.controller octets
+
+  -- the alarms accepted with a move
+  abbrev pub taken_with : World F → Move → List AlarmNotification
+  taken_with world (move.Deliver Controller number) = taken_from world (slice_get world.sent number)
+  taken_with world (move.Deliver Device number) = []
+  taken_with world (move.Tick end) = []
+  taken_with world (move.Input slot subslot value) = []
+  taken_with world (move.Alarm slot subslot octets) = []
+  taken_with world (move.Give slot subslot value) = []
+  taken_with world move.Stop = []
+
+  -- the alarms accepted over a run, in order
+  abbrev pub taken_over : World F → List (Move × World F) → List AlarmNotification
+  taken_over before [] = []
+  taken_over before (one ∷ run) = taken_with before one.0 ++ taken_over one.1 run
+
+-- ---- shown
+
+-- It is the last of these alarms, or the one before it. If there are none, or only one, it may be none.
+abbrev pub IsOneOfTheLastTwo : List AlarmNotification → Option AlarmNotification → Type 0
+IsOneOfTheLastTwo raised shown =
+    (shown ≡ last_of raised) ⊎ ((before : List AlarmNotification) × (last : AlarmNotification) × (raised ≡ before ++ last ∷ []) × (shown ≡ last_of before))

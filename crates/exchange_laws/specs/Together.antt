@@ -1,0 +1,57 @@
+-- What holds of a world that was begun and played: its start-up, its outputs and its alarms, over one run of its moves.
+use Rattle.std.specs.Prelude.{◌≡◌, ◌≤◌, ◌<◌, ◌+◌, ℕ, true, false, List, length, take, Some}
+use Rattle.flash_model.specs.declared.flash.Flash.{Ghosts as Flash}
+use Rattle.startup_law.specs.request.Request.{request_for}
+use Rattle.relations.specs.Exchanged.{output_in}
+use Rattle.relations.specs.RelationState.{RelationState}
+use Rattle.relations.specs.declared.phase.Phase.TheVariants.{Exchanging as in_exchange}
+use Rattle.device_core.specs.State.{State}
+use Rattle.controller_frames.specs.declared.setup.Setup.{Setup}
+use Rattle.controller_core.specs.declared.state.State.TheVariants.{Exchanging}
+use Rattle.end_laws.specs.turns.Alarms.{last_of}
+use Rattle.codec_laws.specs.alarms.World.{IsPrefixOf}
+use Rattle.network_world.specs.declared.moves.Move.{Move}
+use Rattle.network_world.specs.World.{World}
+use Rattle.end_laws.specs.both.StartUp.{WasExchanging, WasHanded}
+use Rattle.startup_law.specs.Played.{AreMade, Begins, last_world, moves_of, viewed}
+use Rattle.startup_law.specs.View.{rules_of, view_of}
+use Rattle.exchange_laws.specs.Given.{AreOfOneFrame, zero_for}
+use Rattle.exchange_laws.specs.Shown.{has_accepted}
+use Rattle.exchange_laws.specs.Over.{IsOneOfTheLastTwo, raised_over, taken_over}
+
+-- A world that was begun with this set-up and this device, and in which these moves were made, one after the other.
+pub record IsBegunAndPlayed {F : Type 0} {S : ℕ} (as_flash : Flash F S) (setup : Setup) (device : State F) (moves : List Move) (last : World F) : Type 0 where
+  pub first : World F
+  pub begins : Begins setup device.station.identity first
+  pub of_device : first.device ≡ device
+  pub run : List (Move × World F)
+  pub are : moves_of run ≡ moves
+  pub made : AreMade as_flash first run
+  pub ends : last_world first run ≡ last
+  -- If the controller exchanges data, it received an ApplicationReady that the device had sent before, with one of its
+  -- own moves. At that point the device had accepted the plan's Connect, and had accepted the plan's records in order,
+  -- each once.
+  pub handed : last.controller.live.phase ≡ Exchanging → WasHanded (rules_of first.controller.setup first.device.station) (view_of first) (viewed run)
+  -- If the device exchanges data, its controller did so before.
+  pub exchanging : (link : RelationState) → last.device.live.rest.link ≡ Some link → link.phase ≡ in_exchange → WasExchanging (viewed run)
+  -- A relation of the device is the plan's.
+  pub relation : (link : RelationState) → last.device.live.rest.link ≡ Some link → link.request ≡ request_for setup.plan setup.ar
+  -- All outputs that the device shows are zeros as long as it accepted no cyclic frame in its relation, then they come
+  -- from one frame of the controller.
+  pub zeros : (link : RelationState) → last.device.live.rest.link ≡ Some link → has_accepted link ≡ false
+      → (slot subslot : ℕ) → output_in slot subslot (Some link) ≡ zero_for setup slot subslot
+  pub values : (link : RelationState) → last.device.live.rest.link ≡ Some link → has_accepted link ≡ true → AreOfOneFrame setup device.station.identity first run link
+  -- If at most 32,768 alarms are raised, those that the controller accepted are a prefix of those that the device
+  -- raised, and lack at most the last.
+  pub front : length (raised_over first run) ≤ 32768 → IsPrefixOf (taken_over first run) (raised_over first run)
+  pub lacks : length (raised_over first run) ≤ 32768 → length (raised_over first run) ≤ length (taken_over first run) + 1
+  -- The controller shows the last alarm that it accepted. If at most 32,768 alarms are raised, it is the last one
+  -- raised or the one before it.
+  pub shown : last.controller.live.alarm ≡ last_of (taken_over first run)
+  pub alarm : length (raised_over first run) ≤ 32768 → IsOneOfTheLastTwo (raised_over first run) last.controller.live.alarm
+
+-- If memory ran out, all of this holds of the moves before the one for which it did.
+pub record IsBegunAndCut {F : Type 0} {S : ℕ} (as_flash : Flash F S) (setup : Setup) (device : State F) (moves : List Move) (last : World F) : Type 0 where
+  pub count : ℕ
+  pub before : count < length moves
+  pub played : IsBegunAndPlayed as_flash setup device (take count moves) last

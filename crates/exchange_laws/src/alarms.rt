@@ -1,0 +1,70 @@
+//! The law of alarms, for the worlds that moves lead to.
+ghost use Rattle.std.specs.Prelude.{◌≡◌, ◌≤◌, ◌+◌, length, List};
+ghost use Rattle.end_laws.specs.turns.Alarms.{last_of};
+ghost use Rattle.codec_laws.specs.alarms.World.{IsPrefixOf};
+ghost use Rattle.network_world.specs.declared.moves.Move.{Move};
+ghost use Rattle.network_world.specs.World.{World};
+ghost use Rattle.startup_law.specs.Played.{AreMade, Begins, CanMeet, last_world};
+ghost use Rattle.exchange_laws.specs.Sized.{AreSizedModules};
+ghost use Rattle.exchange_laws.specs.Over.{IsOneOfTheLastTwo, raised_over, taken_over};
+
+use crate::chosen::answers_choose_well;
+use codec_laws::frames_are_read;
+use controller_frames::Setup;
+use end_laws::{
+    alarms_are_heard, alarms_are_taken_in_order, calls_are_heard, calls_can_be_sent,
+    confirmations_are_heard, device_goes_on, device_turns, ends_are_heard, messages_can_be_sent,
+    ready_answers_are_heard, ready_calls_are_heard, requests_are_heard, responses_are_heard,
+    stations_are_real,
+};
+use flash_model::Flash;
+use pn_values::Identity;
+use rpc_core::calls_and_responses_differ;
+use startup_law::worlds_start_up;
+
+/// The alarms of a relation of this set-up with this device, in the worlds of any moves, whatever the flash of the
+/// device does.
+pub fn worlds_take_alarms<F: Flash<S>, const S: usize>(setup: &Setup, identity: &Identity)
+    // If at most 32,768 alarms are raised, the alarms that the controller accepted are a prefix of those that the
+    // device raised: in order, each once.
+    ensures front { CanMeet setup.now identity.now →
+        (first : World F) (run : List (Move × World F)) → Begins setup.now identity.now first
+        → AreMade F.Flash first run → AreSizedModules first.device.station.real.modules.items
+        → length (raised_over first run) ≤ 32768 → IsPrefixOf (taken_over first run) (raised_over first run) }
+    // If at most 32,768 alarms are raised, at most the last of them is not accepted.
+    ensures last { CanMeet setup.now identity.now →
+        (first : World F) (run : List (Move × World F)) → Begins setup.now identity.now first
+        → AreMade F.Flash first run → AreSizedModules first.device.station.real.modules.items
+        → length (raised_over first run) ≤ 32768 → length (raised_over first run) ≤ length (taken_over first run) + 1 }
+    // The controller shows the alarm that it accepted last, and none if it accepted none.
+    ensures shown { CanMeet setup.now identity.now →
+        (first : World F) (run : List (Move × World F)) → Begins setup.now identity.now first
+        → AreMade F.Flash first run → AreSizedModules first.device.station.real.modules.items
+        → (last_world first run).controller.live.alarm ≡ last_of (taken_over first run) }
+    // If at most 32,768 alarms are raised, the controller shows the last one raised or the one before it, and none
+    // before the first was raised.
+    ensures alarm { CanMeet setup.now identity.now →
+        (first : World F) (run : List (Move × World F)) → Begins setup.now identity.now first
+        → AreMade F.Flash first run → AreSizedModules first.device.station.real.modules.items
+        → length (raised_over first run) ≤ 32768
+        → IsOneOfTheLastTwo (raised_over first run) (last_world first run).controller.live.alarm }
+{
+    stations_are_real(setup, identity);
+    frames_are_read();
+    requests_are_heard();
+    calls_can_be_sent();
+    calls_are_heard();
+    ready_answers_are_heard();
+    ready_calls_are_heard();
+    responses_are_heard();
+    answers_choose_well();
+    calls_and_responses_differ();
+    confirmations_are_heard();
+    alarms_are_heard();
+    ends_are_heard();
+    messages_can_be_sent();
+    worlds_start_up::<F, S>(setup, identity);
+    device_goes_on();
+    device_turns();
+    alarms_are_taken_in_order();
+}

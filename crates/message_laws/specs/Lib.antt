@@ -1,3 +1,0 @@
-pub mod hearing
-pub mod turns
-pub mod sending
