@@ -1,6 +1,10 @@
-use Rattle.std.proofs.Common.{ℕ, List, refl, subst, ◌∙◌}
+use Rattle.std.proofs.Common.{◌≡◌, ◌++◌, ℕ, List, refl, subst, ◌∙◌}
 use Rattle.device_frames.specs.Heard.{Given, Raised, heard_of}
-use Rattle.network_world.specs.World.{IsHeard}
+use Rattle.controller_core.specs.declared.event.Event.{Event as ControllerEvent}
+use Rattle.controller_core.specs.declared.event.Event.TheVariants as controller
+use Rattle.controller_core.specs.State.{Controlling}
+use Rattle.controller_core.specs.Machine.{step_of}
+use Rattle.network_world.specs.World.{IsHeard, World, at_controller, world_of}
 use Rattle.network_world.proofs.world.happen.Goals as goal
 
 pub returns-in-Input : goal.returns-in-Input
@@ -18,3 +22,17 @@ returns-in-Alarm g c = rw c.in-Alarm.is (record {
       (c.bytes_of-in-Alarm.ensures ∙ c.as_slice-in-Alarm.ensures.value) c.happen_at_device-in-Alarm.ensures;
   controller = refl;
 })
+
+-- the controller and the frames after its step are those of the world
+given_at : {F : Type 0} (before : World F) (event : ControllerEvent) (after : Controlling) (frames : List (List ℕ)) → after ≡ (step_of before.controller event).controller
+    → frames ≡ before.sent ++ (step_of before.controller event).frames → record before { controller = after; sent = frames } ≡ at_controller before event
+given_at before event after frames state sent = rw state (rw sent refl)
+
+pub returns-in-Give : goal.returns-in-Give
+returns-in-Give g c =
+    let before = world_of c.args.device.now c.args.controller.now c.args.sent.now in
+    rw c.in-Give.is (subst (λ (octets : List ℕ). world_of c.args.device.now c.happen_at_controller.new.controller c.happen_at_controller.new.sent
+    ≡ at_controller before (controller.Give c.in-Give.slot c.in-Give.subslot (record { items = octets })))
+    (c.bytes_of-in-Give.ensures ∙ c.as_slice-in-Give.ensures.value)
+    (given_at before (controller.Give c.in-Give.slot c.in-Give.subslot c.bytes_of-in-Give.result) c.happen_at_controller.new.controller c.happen_at_controller.new.sent.frames
+    c.happen_at_controller.ensures.state c.happen_at_controller.ensures.frames))
