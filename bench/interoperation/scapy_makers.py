@@ -17,7 +17,7 @@ import struct
 import sys
 
 sys.path.insert(0, os.path.join(os.path.dirname(os.path.realpath(__file__)), "..", "gate"))
-from program import answer_help
+from program import answer_help, refuse
 
 if __name__ == "__main__":
     answer_help(__doc__, sys.argv[1:])  # which needs no Scapy
@@ -239,6 +239,8 @@ def scenarios():
 
 
 def main(words):
+    if words not in ([], ["--check"]):
+        return refuse(words)
     text = scenarios()
     if words == ["--check"]:
         with open(WANTED, encoding="utf-8") as file:
