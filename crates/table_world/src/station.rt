@@ -131,7 +131,9 @@ fn begun(
 ) -> Option<Net>
     ensures begins { IfSome result (λ world. Begins setup demo world) }
 {
-    let mut device: Station = Device::boot(demo_identity(), real, flash).ok()?;
+    let Ok(mut device) = Device::boot(demo_identity(), real, flash) else {
+        return None
+    };
     arm(&mut device, fault);
     Some(begin_world(alloc, device, setup))
 }
