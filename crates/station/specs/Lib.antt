@@ -1,3 +1,5 @@
 pub mod State
 pub mod Beside
 pub mod Steps
+pub mod Served
+pub mod ServedRun
