@@ -12,15 +12,17 @@ use Rattle.hex.specs.declared.error.FromHexError.{FromHexError}
 use Rattle.script_lines.specs.declared.command.Words.{Words}
 use Rattle.script_lines.specs.declared.command.Words.TheVariants.{One, Two, Three, Four, More}
 
--- The commands of a script: hand in these bytes, switch the power off and on again, let time pass, show the settings,
--- order the flash to fail, set the input of the submodule in a slot and subslot, or raise an alarm of it with these
--- octets; make a plan, start a controller with this ARUUID and activity UUID at the other end, set an output of the
--- controller, end the relation, hand over the frames that wait.
+-- The commands of a script: hand in these bytes, switch the power off and on again, let time pass unit by unit or by
+-- leaps, show the settings or when something is due, order the flash to fail, set the input of the submodule in a slot and
+-- subslot, or raise an alarm of it with these octets; make a plan, start a controller with this ARUUID and activity UUID at
+-- the other end, set an output of the controller, end the relation, hand over the frames that wait.
 pub data Command : Type 0 where
   Frame : (bytes : List ℕ) → Command
   Restart : Command
   Tick : (units : ℕ) → Command
+  Elapse : (units : ℕ) → Command
   Show : Command
+  Due : Command
   Arm : (order : Order) → Command
   Input : (slot : ℕ) → (subslot : ℕ) → (bytes : List ℕ) → Command
   Alarm : (slot : ℕ) → (subslot : ℕ) → (bytes : List ℕ) → Command
@@ -71,18 +73,21 @@ abbrev pub bare_of_both : List ℕ → Option Command
 bare_of_both word = if is_text word (codes "deliver") then Some Deliver else (if is_text word (codes "stop") then Some Stop else None)
 
 abbrev pub bare : List ℕ → Option Command
-bare word = if is_text word (codes "restart") then Some Restart else (if is_text word (codes "show") then Some Show else bare_of_both word)
+bare word =
+    if is_text word (codes "restart") then Some Restart
+    else (if is_text word (codes "show") then Some Show else (if is_text word (codes "due") then Some Due else bare_of_both word))
 
 -- Units of time, at least one.
-abbrev pub ticks_of : Option ℕ → Option Command
-ticks_of None = None
-ticks_of (Some zero) = None
-ticks_of (Some (suc more)) = Some (Tick (suc more))
+abbrev pub units_of : Option ℕ → Option ℕ
+units_of None = None
+units_of (Some zero) = None
+units_of (Some (suc more)) = Some (suc more)
 
 abbrev pub with_one : List ℕ → List ℕ → Option Command
 with_one word first =
     if is_text word (codes "frame") then option_map Frame (bytes_of first)
-    else (if is_text word (codes "tick") then ticks_of (number_of 1000000 first) else None)
+    else (if is_text word (codes "tick") then option_map Tick (units_of (number_of 1000000 first))
+    else (if is_text word (codes "elapse") then option_map Elapse (units_of (number_of 1000000 first)) else None))
 
 -- The mask of decoded bytes.
 abbrev pub mask_of : Result (List ℕ) FromHexError → Option (List ℕ)

@@ -49,6 +49,10 @@ phase_line phase = printed (codes "phase " ++ phase_word phase)
 unfoldable pub lamp_line : ℕ → List ℕ
 lamp_line units = printed (codes "lamp " ++ decimal units)
 
+-- The number of units up to and with the next one with which something happens at the device.
+unfoldable pub due_line : ℕ → List ℕ
+due_line units = printed (codes "due " ++ decimal units)
+
 -- The output of a submodule, in hex.
 abbrev pub shown_or : Option (List ℕ) → List ℕ
 shown_or (Some value) = value

@@ -6,7 +6,7 @@ ghost use Rattle.std.specs.Str.Lines.{lines, strip_carriage_return};
 ghost use Rattle.hex.specs.Hex.{decode_of};
 ghost use Rattle.uuid.specs.Text.{parsed};
 ghost use Rattle.script_lines.specs.Line.{behind, AreWords, bytes_of, catalogue_in, command_in, command_of, meaning_of, words_of, bare};
-ghost use Rattle.script_lines.specs.Line.{bare_of_both, with_one, with_two, with_three, ordered, start_of, ticks_of, mask_of, strike_of};
+ghost use Rattle.script_lines.specs.Line.{bare_of_both, with_one, with_two, with_three, ordered, start_of, units_of, mask_of, strike_of};
 ghost use Rattle.script_lines.specs.Numbers.{number_of};
 ghost use Rattle.script_lines.specs.Read.{command_read, line_read};
 
@@ -19,8 +19,8 @@ use uuid::Uuid;
 /// The most bytes of a line, without its line end.
 const LONGEST_LINE: usize = 65_536;
 
-/// The most units of time of a line `tick`.
-const MOST_TICKS: u32 = 1_000_000;
+/// The most units of time of a line `tick` or `elapse`.
+const MOST_UNITS: u32 = 1_000_000;
 
 /// A command of a script.
 #[derive(Clone, Copy)]
@@ -29,8 +29,12 @@ pub enum Command<'a> {
     Frame(&'a [u8]),
     /// Switches the device's power off and on again.
     Restart,
-    /// Lets this number of units of time pass.
+    /// Lets this number of units of time pass, one by one.
     Tick(u32),
+    /// Lets this number of units of time pass, by leaps of several units at once.
+    Elapse(u32),
+    /// Shows the number of units up to and with the next one with which something happens at the device.
+    Due,
     /// Shows the settings, the relation and the lamp.
     Show,
     /// Orders the flash to fail at a later call.
@@ -222,6 +226,8 @@ fn bare(word: &[u8]) -> Option<Command<'static>>
         Some(Command::Restart)
     } else if word == b"show".as_slice() {
         Some(Command::Show)
+    } else if word == b"due".as_slice() {
+        Some(Command::Due)
     } else {
         bare_of_both(word)
     }
@@ -250,18 +256,21 @@ fn with_one<'a>(
     if word == b"frame".as_slice() {
         Ok(decoded(first, buffer)?.map(Command::Frame))
     } else if word == b"tick".as_slice() {
-        Ok(ticks(first))
+        Ok(units(first).map(Command::Tick))
+    } else if word == b"elapse".as_slice() {
+        Ok(units(first).map(Command::Elapse))
     } else {
         Ok(None)
     }
 }
 
-fn ticks(digits: &[u8]) -> Option<Command<'static>>
-    ensures { option_map command_read result ≡ ticks_of (number_of 1000000 digits.now) }
+/// A number of units of time, at least one.
+fn units(digits: &[u8]) -> Option<u32>
+    ensures { result ≡ units_of (number_of 1000000 digits.now) }
 {
-    match numbers::decimal(digits, MOST_TICKS) {
+    match numbers::decimal(digits, MOST_UNITS) {
         None | Some(0) => None,
-        Some(units) => Some(Command::Tick(units)),
+        Some(units) => Some(units),
     }
 }
 

@@ -1,7 +1,7 @@
 //! The lines that show the settings, the relation, the lamp and the state of the controller. Each function appends one of
 //! them to a text.
 ghost use Rattle.std.specs.Prelude.{◌≡◌, ◌++◌, ◌≤◌, length, OnOk, decimal};
-ghost use Rattle.script_lines.specs.Show.{name_line, suite_line, dotted, text_line, phase_line, phase_word, lamp_line, output_line, shown};
+ghost use Rattle.script_lines.specs.Show.{name_line, suite_line, dotted, text_line, phase_line, phase_word, lamp_line, output_line, shown, due_line};
 ghost use Rattle.script_lines.specs.Show.{state_line, state_word};
 
 use crate::render::hex_digits;
@@ -119,6 +119,16 @@ fn lamp_units(units: u32, text: &mut Vec<u8>) -> Result<(), AllocError>
     ensures { OnOk result (text.new.items ≡ text.old.items ++ lamp_line units) }
 {
     text.extend_from_slice(b"lamp ")?;
+    number(units, text)?;
+    text.extend_from_slice(b"\n")
+}
+
+/// The number of units up to and with the next one with which something happens at the device.
+#[tactic(auto, unfolding(crate::specs::Show::due_line))]
+pub fn due(units: u32, text: &mut Vec<u8>) -> Result<(), AllocError>
+    ensures { OnOk result (text.new.items ≡ text.old.items ++ due_line units) }
+{
+    text.extend_from_slice(b"due ")?;
     number(units, text)?;
     text.extend_from_slice(b"\n")
 }

@@ -6,7 +6,7 @@ use Rattle.plans.specs.declared.parts.Parts.{Parts}
 use Rattle.configurator.specs.declared.fault.PlanFault.{PlanFault}
 use Rattle.configurator.specs.declared.fault.PlanFault.TheVariants.{OutOfMemory}
 use Rattle.device_core.specs.State.{State}
-use Rattle.script_lines.specs.Line.{Command, Frame, Restart, Tick, Show, Arm, Input, Alarm, Config, Start, Give, Stop, Deliver, Line, Unfit, Skipped, Asks, Unknown, meaning_of}
+use Rattle.script_lines.specs.Line.{Command, Frame, Restart, Tick, Elapse, Show, Due, Arm, Input, Alarm, Config, Start, Give, Stop, Deliver, Line, Unfit, Skipped, Asks, Unknown, meaning_of}
 use Rattle.script_runner.specs.declared.session.power.Power.{Power}
 use Rattle.script_runner.specs.declared.session.power.Power.TheVariants.{On, Off, Away}
 use Rattle.script_runner.specs.session.Ends.{Network, Station, Other}
@@ -85,7 +85,9 @@ untaken (Asks (Arm order)) held before = (refl, refl, refl)
 untaken (Asks (Frame bytes)) held before = tt
 untaken (Asks Restart) held before = tt
 untaken (Asks (Tick units)) held before = tt
+untaken (Asks (Elapse units)) held before = tt
 untaken (Asks Show) held before = tt
+untaken (Asks Due) held before = tt
 untaken (Asks (Input slot subslot bytes)) held before = tt
 untaken (Asks (Alarm slot subslot bytes)) held before = tt
 untaken (Asks (Config catalogue)) held before = tt
@@ -101,7 +103,9 @@ order_taken (Arm order) old new before now result orders = orders order refl
 order_taken (Frame bytes) old new before now result orders = tt
 order_taken Restart old new before now result orders = tt
 order_taken (Tick units) old new before now result orders = tt
+order_taken (Elapse units) old new before now result orders = tt
 order_taken Show old new before now result orders = tt
+order_taken Due old new before now result orders = tt
 order_taken (Input slot subslot bytes) old new before now result orders = tt
 order_taken (Alarm slot subslot bytes) old new before now result orders = tt
 order_taken (Config catalogue) old new before now result orders = tt

@@ -29,7 +29,7 @@ fn a_name_is_kept_over_a_restart() {
     prints(Global, script.as_str(), wanted.as_str());
 }
 
-const SHORT: [(&str, &str); 10] = [
+const SHORT: [(&str, &str); 12] = [
     ("", "boot ok\n"),
     (
         "frame 010ecf00000002000000000281000000\n",
@@ -54,6 +54,8 @@ const SHORT: [(&str, &str); 10] = [
     ("input 01 1 0A", "boot ok\nnote refused\n"),
     ("alarm 1 65535 aa", "boot ok\nnote refused\n"),
     ("tick 0001000000", "boot ok\nnote done\n"),
+    ("elapse 1", "boot ok\nnote done\n"),
+    ("due", "boot ok\ndue 4294967295\n"),
     ("cut 0004294967295 Ff", "boot ok\n"),
 ];
 
@@ -93,7 +95,7 @@ fn hex_digits() {
     }
 }
 
-const REFUSED: [&str; 42] = [
+const REFUSED: [&str; 47] = [
     "x",
     " ",
     "\r",
@@ -111,6 +113,11 @@ const REFUSED: [&str; 42] = [
     "tick 1000001",
     "tick +1",
     "tick 99999999999999999999999",
+    "elapse",
+    "elapse 0",
+    "elapse 1000001",
+    "due 1",
+    "due ",
     "show 1",
     "cut",
     "cut 0",
@@ -157,4 +164,12 @@ fn flashing_lamp() {
     let script = "set 0503000400000100\nshow\ntick 1\nshow\nrestart\nshow";
     let wanted = "boot ok\nanswer 0504000305030000\nflashing 96000\nnote done\nflashing 95999\nboot ok\nflashing 0";
     means(Global, script, wanted)
+}
+
+// What is due of a lamp that flashes: its end.
+#[test]
+fn the_end_of_the_lamp_is_due() {
+    let script = "set 0503000400000100\ndue\nelapse 95999\ndue\nshow\nelapse 1\ndue\nshow";
+    let wanted = "boot ok\nanswer 0504000305030000\ndue 96000\nnote done\ndue 1\nflashing 1\nnote done\ndue 4294967295\nflashing 0";
+    means(Global, script, wanted);
 }

@@ -8,11 +8,12 @@ ghost use Rattle.relations.specs.RelationState.{phase_of, taken_of};
 ghost use Rattle.relations.specs.Outputs.{output_of};
 ghost use Rattle.device_abi.specs.port.State.{IsIdle, IsNext, IsUnreported, advanced, barred, closed, has_work as is_left, lost};
 ghost use Rattle.device_abi.specs.port.State.{past_start as too_late};
-ghost use Rattle.device_abi.specs.port.Steps.{Answers, KnowsOrNot, Passes, PassesOrNot, StartsOrNot, Takes};
+ghost use Rattle.device_abi.specs.port.Steps.{Answers, KnowsOrNot, Passes, PassesOrNot, StartsOrNot, Takes, Ticks};
+ghost use Rattle.device_core.specs.Leaps.{live_due_in};
 ghost use Rattle.frame_codec.specs.Outbox.{boxed};
 
 use crate::port::{Refusal, Stage};
-use crate::{Recorded, RecordedFlash, step};
+use crate::{Recorded, RecordedFlash, leap, step};
 use device_core::{Device, Event, Note};
 use flash_model::Sector;
 use frame_codec::{Bytes, Frame, Outbox};
@@ -377,18 +378,32 @@ impl Port {
         note
     }
 
-    // Lets units of time pass, up to the first that sends something. Returns how many remain.
+    // Lets units of time pass by leaps, up to the first that sends something. Returns how many remain.
     fn pass(&mut self, units: u32) -> u32
         requires { barred self.old ≡ None }
         ensures { Passes self.old units result self.new }
     {
-        for passed in 0..units {
+        let mut left = units;
+        while left > 0 {
             if self.has_work() {
-                return units - passed;
+                return left;
             }
-            let _ = self.take(&Event::Tick);
+            let passing = left.min(self.device.due());
+            self.leap(passing);
+            left -= passing;
         }
         0
+    }
+
+    // Lets several units of time pass at once, at most as many as are due. All work of the step before is fetched.
+    fn leap(&mut self, units: u32)
+        requires free { barred self.old ≡ None }
+        requires few { units ≤ live_due_in self.old.device.live }
+        ensures ticks { Ticks units self.old self.new }
+        ensures stage { self.new.stage ≡ Stage.Booted }
+    {
+        leap(&mut self.device, units, &mut self.outbox);
+        self.frames_past = 0;
     }
 }
 

@@ -4,7 +4,7 @@ use Rattle.std.specs.Prelude.{◌≡◌, ℕ, Bool, true, false, List, [], ◌++
 use Rattle.flash_model.specs.declared.flash.Order.{Order}
 use Rattle.configurator.specs.declared.fault.PlanFault.{PlanFault}
 use Rattle.configurator.specs.declared.fault.PlanFault.TheVariants.{OutOfMemory}
-use Rattle.script_lines.specs.Line.{Command, Frame, Restart, Tick, Show, Arm, Input, Alarm, Config, Start, Give, Stop, Deliver, Line, Unfit, Skipped, Asks, Unknown}
+use Rattle.script_lines.specs.Line.{Command, Frame, Restart, Tick, Elapse, Show, Due, Arm, Input, Alarm, Config, Start, Give, Stop, Deliver, Line, Unfit, Skipped, Asks, Unknown}
 use Rattle.script_lines.specs.Text.{boot_line, lost_line, off_line}
 use Rattle.script_runner.specs.session.Ends.{Other, cleared}
 use Rattle.script_runner.specs.declared.session.power.Power.{Power}
@@ -49,7 +49,9 @@ abbrev pub hands : Command → Bool
 hands (Frame bytes) = true
 hands Restart = false
 hands (Tick units) = false
+hands (Elapse units) = false
 hands Show = false
+hands Due = false
 hands (Arm order) = false
 hands (Input slot subslot bytes) = true
 hands (Alarm slot subslot bytes) = true

@@ -12,14 +12,15 @@ use Rattle.device_frames.specs.declared.event.Event.TheVariants as event
 use Rattle.device_frames.specs.declared.note.Note.TheVariants.{Done}
 use Rattle.device_core.specs.Machine.{Stepped, step_of}
 use Rattle.device_core.specs.Cycle.{started}
+use Rattle.device_core.specs.Leaps.{live_due_in}
 use Rattle.controller_core.specs.declared.event.Event.{Event as ControllerEvent}
 use Rattle.controller_core.specs.declared.event.Event.TheVariants as heard
 use Rattle.controller_core.specs.Machine.{step_of as controller_step}
 use Rattle.controller_core.specs.State.{Controlling}
 use Rattle.script_runner.specs.session.Demo.{demo_device}
 use Rattle.script_runner.specs.session.Ends.{Station, turned_to, Other, Network, DeviceRun, with_ends, arrived_at, cleared, device_run, frames_for_device, nobody, printed_for, ticked_by, with_fresh, with_plan, with_run, with_sent}
-use Rattle.script_lines.specs.Line.{Command, Frame, Restart, Tick, Show, Arm, Input, Alarm, Config, Start, Give, Stop, Deliver, Line, Unfit, Skipped, Asks, Unknown}
-use Rattle.script_lines.specs.Show.{shown, outputs_shown, controller_shown}
+use Rattle.script_lines.specs.Line.{Command, Frame, Restart, Tick, Elapse, Show, Due, Arm, Input, Alarm, Config, Start, Give, Stop, Deliver, Line, Unfit, Skipped, Asks, Unknown}
+use Rattle.script_lines.specs.Show.{shown, outputs_shown, controller_shown, due_line}
 use Rattle.script_lines.specs.Text.{boot_line, moved_line, note_line, printed}
 
 -- The demo device, started from these settings.
@@ -53,7 +54,7 @@ restart_answer network = record {
   text = boot_line None;
 }
 
--- Units of time at both ends, and then the note.
+-- Units of time at both ends, and then the note. Leaps do what as many single units do.
 abbrev pub tick_answer : Network → ℕ → Answer
 tick_answer network units =
     let run = device_run network.station (replicate units event.Tick) in
@@ -70,6 +71,10 @@ show_answer network =
       text = shown live.values.running live.values.stored (phase_of live.rest.link) live.rest.lamp
           ++ (outputs_shown network.station.device.real live.rest.link ++ controller_shown network.other.controller);
     }
+
+-- The number of units up to and with the next one with which something happens at the device.
+abbrev pub due_answer : Network → Answer
+due_answer network = record { network = network; text = due_line (live_due_in network.station.live) }
 
 -- An order to the flash changes nothing at either end.
 abbrev pub unchanged : Network → Answer
@@ -125,7 +130,9 @@ unfoldable pub said : (List ℕ → Option Parts) → Network → Command → Ou
 said plans network (Frame bytes) = Answers (event_answer network (event.Frame (handed bytes)))
 said plans network Restart = Answers (restart_answer network)
 said plans network (Tick units) = Answers (tick_answer network units)
+said plans network (Elapse units) = Answers (tick_answer network units)
 said plans network Show = Answers (show_answer network)
+said plans network Due = Answers (due_answer network)
 said plans network (Arm order) = Answers (unchanged network)
 said plans network (Input slot subslot bytes) = Answers (event_answer network (event.Input slot subslot (handed bytes)))
 said plans network (Alarm slot subslot bytes) = Answers (event_answer network (event.Alarm slot subslot (handed bytes)))
@@ -147,7 +154,9 @@ abbrev pub arms : Command → Bool
 arms (Frame bytes) = false
 arms Restart = false
 arms (Tick units) = false
+arms (Elapse units) = false
 arms Show = false
+arms Due = false
 arms (Arm order) = true
 arms (Input slot subslot bytes) = false
 arms (Alarm slot subslot bytes) = false

@@ -1,5 +1,6 @@
 // The other end of the wire: the controller, and the frames that wait between the two ends.
-ghost use Rattle.std.specs.Prelude.{◌≡◌, ◌++◌, OnOk, IfOk, replicate};
+ghost use Rattle.std.specs.Prelude.{◌≡◌, ◌≤◌, ◌++◌, OnOk, IfOk, replicate};
+ghost use Rattle.controller_core.specs.Leaps.{live_due_in};
 ghost use Rattle.controller_core.specs.Machine.{step_of};
 ghost use Rattle.controller_core.specs.declared.event.Event.TheVariants as event;
 ghost use Rattle.script_runner.specs.session.Ends.{IsRun, Station, controller_run, device_run, frames_for_controller, frames_for_device};
@@ -187,6 +188,51 @@ impl OtherEnd {
         };
         ticks(controller, units, &mut self.outbox, &mut self.to_device)
     }
+
+    /// Lets units of time pass at the controller, if there is one, by leaps.
+    pub(crate) fn leaps(&mut self, units: u32) -> Result<(), AllocError>
+        ensures { OnOk result (self.new ≡ ticked_by self.old.controller self.old units) }
+    {
+        let Some(controller) = &mut self.controller else {
+            return Ok(());
+        };
+        leaps(controller, units, &mut self.outbox, &mut self.to_device)
+    }
+}
+
+/// Lets several units of time pass at the controller at once, at most as many as are due. What it sends waits for the
+/// device.
+fn leap(
+    controller: &mut Controller,
+    units: u32,
+    outbox: &mut Outbox,
+    to_device: &mut Vec<Frame>,
+) -> Result<(), AllocError>
+    requires { units ≤ live_due_in controller.old.live }
+    ensures { OnOk result (IsRun (controller_run controller.old (replicate units event.Tick)) controller.new to_device.old.items
+        to_device.new.items) }
+{
+    controller.elapse(units, outbox);
+    append(outbox.as_slice(), to_device)
+}
+
+/// Lets units of time pass at the controller, by leaps.
+fn leaps(
+    controller: &mut Controller,
+    units: u32,
+    outbox: &mut Outbox,
+    to_device: &mut Vec<Frame>,
+) -> Result<(), AllocError>
+    ensures { OnOk result (IsRun (controller_run controller.old (replicate units event.Tick)) controller.new to_device.old.items
+        to_device.new.items) }
+{
+    let mut left = units;
+    while left > 0 {
+        let passing = left.min(controller.due());
+        leap(controller, passing, outbox, to_device)?;
+        left -= passing;
+    }
+    Ok(())
 }
 
 /// Makes a step of the controller. What it sends waits for the device.

@@ -10,7 +10,7 @@ ghost use Rattle.script_runner.specs.session.Power.{IsDemo, IsRunning};
 ghost use Rattle.script_runner.specs.session.Off.{TellsLoss, is_heard_off};
 ghost use Rattle.script_runner.specs.session.Session.{IsObeyed};
 
-use crate::session::both::{exchange, respond, ticks};
+use crate::session::both::{exchange, leaps, respond, ticks};
 use crate::session::bytes::copied;
 use crate::session::device::receive;
 use crate::session::other_end::OtherEnd;
@@ -57,7 +57,7 @@ impl<'a> Session<'a> {
     ghost use Rattle.script_runner.specs.session.Ends.{IsRightFor, cleared, nobody};
     ghost use Rattle.script_runner.specs.session.Said.{arms, config_outcome, deliver_answer, deliver_outcome, factory_device};
     ghost use Rattle.script_runner.specs.session.Said.{heard_outcome, is_order, outcome_of, restart_answer, said, show_answer, start_outcome};
-    ghost use Rattle.script_runner.specs.session.Said.{tick_answer};
+    ghost use Rattle.script_runner.specs.session.Said.{due_answer, tick_answer};
     ghost use Rattle.script_runner.specs.session.Power.{IsArmed, IsBack, is_off, refusal_of};
     ghost use Rattle.script_runner.specs.session.Session.{Are, AreRightFor, Comes, Obeys};
     ghost use Rattle.script_runner.specs.session.Off.{Delivers, GivesBack, Leaves, LeavesBy, Orders, TakesOff, TakesOrder, hands, is_handed};
@@ -147,7 +147,9 @@ impl<'a> Session<'a> {
             Command::Alarm(slot, subslot, bytes) => always(self.alarm(slot, subslot, bytes, text)),
             Command::Restart => always(self.restart(text)),
             Command::Tick(units) => always(self.tick(units, text)),
+            Command::Elapse(units) => always(self.elapse(units, text)),
             Command::Show => always(self.show(text)),
+            Command::Due => always(self.due(text)),
             Command::Arm(order) => {
                 self.arm(order);
                 Ok(true)
@@ -254,6 +256,33 @@ impl<'a> Session<'a> {
                 self.other.ticks(units)?;
                 render::note(Note::Done, text)
             }
+            Power::Off(_, _) | Power::Away => text.extend_from_slice(b"off\n"),
+        }
+    }
+
+    /// Lets units of time pass at both ends, by leaps: it does what as many single units do.
+    fn elapse(&mut self, units: u32, text: &mut Vec<u8>) -> Result<(), AllocError>
+        ensures obeys { (network : Network) → Are network self.old →
+            OnOk result (IsObeyed (tick_answer network units) self.new text.old.items text.new.items) }
+        ensures demo { IsDemo self.old.power → IsDemo self.new.power }
+    {
+        match &mut self.power {
+            Power::On(device) => {
+                leaps(device, units, &mut self.outbox, &mut self.other, text)?;
+                self.other.leaps(units)?;
+                render::note(Note::Done, text)
+            }
+            Power::Off(_, _) | Power::Away => text.extend_from_slice(b"off\n"),
+        }
+    }
+
+    /// Shows the number of units up to and with the next one with which something happens at the device.
+    fn due(&self, text: &mut Vec<u8>) -> Result<(), AllocError>
+        ensures { (network : Network) → Are network self.now →
+            OnOk result (IsObeyed (due_answer network) self.now text.old.items text.new.items) }
+    {
+        match &self.power {
+            Power::On(device) => show::due(device.due(), text),
             Power::Off(_, _) | Power::Away => text.extend_from_slice(b"off\n"),
         }
     }

@@ -22,6 +22,14 @@ pub returns-in-Tick-clause-obeys : goal.returns-in-Tick-clause-obeys
 unfolding said
 returns-in-Tick-clause-obeys c plans network right are plain = rw c.in-Tick.is (always_obeys _ _ _ _ _ _ (c.tick.ensures.obeys network are) c.always-in-Tick.ensures)
 
+pub returns-in-Elapse-clause-obeys : goal.returns-in-Elapse-clause-obeys
+unfolding said
+returns-in-Elapse-clause-obeys c plans network right are plain = rw c.in-Elapse.is (always_obeys _ _ _ _ _ _ (c.elapse.ensures.obeys network are) c.always-in-Elapse.ensures)
+
+pub returns-in-Due-clause-obeys : goal.returns-in-Due-clause-obeys
+unfolding said
+returns-in-Due-clause-obeys c plans network right are plain = rw c.in-Due.is (always_obeys _ _ _ _ _ _ (c.due.ensures network are) c.always-in-Due.ensures)
+
 pub returns-in-Show-clause-obeys : goal.returns-in-Show-clause-obeys
 unfolding said
 returns-in-Show-clause-obeys c plans network right are plain = rw c.in-Show.is (always_obeys _ _ _ _ _ _ (c.show.ensures network are) c.always-in-Show.ensures)
