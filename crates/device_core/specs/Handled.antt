@@ -40,7 +40,10 @@ use Rattle.pn_alarms.specs.declared.pdu.Header.{Header}
 use Rattle.cyclic_exchange.specs.declared.received.Received.{Received}
 use Rattle.cyclic_exchange.specs.declared.received.Received.TheVariants as received
 use Rattle.relations.specs.exchange.Flow.{Flow}
-use Rattle.relations.specs.Exchanged.{given_to, heard_by, hearing, raised_to, received_by, receiving}
+use Rattle.relations.specs.declared.statuses.InputStatus.{InputStatus}
+use Rattle.relations.specs.Statuses.{statuses_at}
+use Rattle.relations.specs.exchange.Marks.{Starting}
+use Rattle.relations.specs.Exchanged.{given_to, heard_by, hearing, raised_to, rating, received_by, receiving}
 use Rattle.relations.specs.declared.hearing.ReadyAnswer.{ReadyAnswer}
 use Rattle.relations.specs.declared.hearing.ReadyAnswer.TheVariants as to_ready
 use Rattle.relations.specs.declared.phase.Partner.{Partner}
@@ -56,7 +59,7 @@ use Rattle.frame_codec.specs.declared.udp.Caller.{Caller}
 use Rattle.device_core.specs.State.{Station, Rest, Live}
 use Rattle.device_frames.specs.Relation.{alarms_of, due_frames, ready_calls, replies_of}
 use Rattle.device_frames.specs.Sent.{Sent, IdentifyAnswer, GetAnswer, ArpReply, CallAnswer, Again, Ends, bytes_of}
-use Rattle.device_frames.specs.Heard.{Heard, Ticks, Unreadable, Elsewhere, Asks, Resolves, Reported, Cyclic, Alarms, Given, Raised, Said, Calls, Responds, Garbled}
+use Rattle.device_frames.specs.Heard.{Heard, Ticks, Unreadable, Elsewhere, Asks, Resolves, Reported, Cyclic, Alarms, Given, Raised, Rated, Said, Calls, Responds, Garbled}
 
 -- The outcome of an event: it is refused, with the note that says why; a Set, whose blocks are asked of the settings; a
 -- Write of an I&M text, which is asked of the settings, with the caller, the address that was called, the call, its
@@ -161,12 +164,16 @@ abbrev pub handled_write : Station → Live → Caller → Call → Result Askin
 handled_write station live caller call (Ok write) = handled_effect station live caller call write.request write.effect
 handled_write station live caller call (Err fault) = served station live caller call Write (Err fault) live.rest.link []
 
+-- What the application says of its inputs as a relation begins.
+abbrev pub starting_of : Station → Live → Starting
+starting_of station live = record { begin_bad = station.options.inputs_begin_bad; statuses = live.rest.statuses }
+
 -- A new call, by its operation.
 abbrev pub handled_new : Station → Live → Caller → Call → List ℕ → Operation → Handled
 handled_new station live caller call blocks Connect =
     let smallest = station.options.smallest_interval in
     served station live caller call Connect (connect_answer station.identity station.real smallest live.rest.link blocks)
-    (updated (making station.real (partner_of caller) (connect_within smallest live.rest.link blocks)) live.rest.link) []
+    (updated (making station.real (partner_of caller) (starting_of station live) (connect_within smallest live.rest.link blocks)) live.rest.link) []
 handled_new station live caller call blocks Release =
     served station live caller call Release (release_answer live.rest.link blocks) (updated (answered Ended (release_of live.rest.link blocks)) live.rest.link) []
 handled_new station live caller call blocks Read =
@@ -243,6 +250,18 @@ handled_input live None = Refuses note.Refused
 abbrev pub handled_given : Live → ℕ → ℕ → List ℕ → Handled
 handled_given live slot subslot value = handled_input live (given_to slot subslot value live.rest.link)
 
+-- The application says whether the inputs of a submodule are good: it is kept, and the relation follows. It is refused for
+-- what is not plugged.
+abbrev pub kept_status : Live → ℕ → ℕ → Bool → Option (List InputStatus) → Handled
+kept_status live slot subslot is_good (Some statuses) =
+    Moves (record live.rest { link = updated (rating slot subslot is_good live.rest.link) live.rest.link; statuses = statuses }) []
+kept_status live slot subslot is_good None = Refuses note.Refused
+
+abbrev pub handled_rated : Station → Live → ℕ → ℕ → Bool → Handled
+handled_rated station live slot subslot is_good =
+    kept_status live slot subslot is_good
+    (statuses_at station.real.modules.items (record { slot = slot; subslot = subslot; is_good = is_good }) live.rest.statuses)
+
 -- An alarm is raised and sent, or refused.
 abbrev pub handled_notice : Live → Option Flow → Handled
 handled_notice live (Some flow) =
@@ -287,6 +306,7 @@ handled station live (Alarms source header message) = handled_alarm live source 
 handled station live (Cyclic source frame_id body) = handled_cyclic live source frame_id body
 handled station live (Given slot subslot value) = handled_given live slot subslot value
 handled station live (Raised slot subslot octets) = handled_raised station live slot subslot octets
+handled station live (Rated slot subslot is_good) = handled_rated station live slot subslot is_good
 handled station live Ticks = ticked live
 handled station live Unreadable = Refuses note.Fault
 handled station live Elsewhere = Refuses note.NotMine

@@ -29,7 +29,7 @@ use records::{
     Blocks, CallFault, Effect, Operation, TakenRecord, Write, done, judge_write, names_relation,
     put_write_answer, read_implicit, read_within,
 };
-use relations::{Partner, ReadyAnswer};
+use relations::{Application, Partner, ReadyAnswer};
 use rpc_core::{Call, CallCache, Interface, Looked, Response, Status, read_call, read_response};
 
 impl<F: Flash<S>, const S: usize> Device<F, S> {
@@ -171,11 +171,15 @@ impl<F: Flash<S>, const S: usize> Device<F, S> {
             mac: serving.caller.mac,
             address: serving.caller.endpoint.address,
         };
+        let application = Application {
+            options: &self.options,
+            statuses: self.statuses.as_slice(),
+        };
         self.answers.blocks.clear();
         let came = self.relation.connect(
             &self.identity,
             &self.real,
-            &self.options,
+            application,
             partner,
             serving.blocks,
             &mut self.answers.blocks,

@@ -13,7 +13,7 @@ ghost use Rattle.relations.specs.Timers.{left_behind};
 ghost use Rattle.device_core.specs.State.{Live, Station, with_rest};
 ghost use Rattle.device_frames.specs.Sendable.{AreSendable};
 ghost use Rattle.device_frames.specs.Sent.{bytes_of};
-ghost use Rattle.device_core.specs.Handled.{handled_alarm, handled_message, handled_cyclic, handled_given, handled_raised, handled_received};
+ghost use Rattle.device_core.specs.Handled.{handled_alarm, handled_message, handled_cyclic, handled_given, handled_raised, handled_rated, handled_received};
 ghost use Rattle.device_core.specs.Handled.{ticked};
 ghost use Rattle.device_frames.specs.Relation.{farewells_in, inputs_of};
 ghost use Rattle.device_core.specs.Behind.{CanSend, behind, brought, due_in, frames_of};
@@ -35,7 +35,7 @@ use flash_model::Flash;
 use frame_codec::{Bytes, ContentKind, OpenFrame, Outbox, RealTimeFrame, datagram_at, packet_at};
 use pn_alarms::{Abort, Header, Message, PduFate, read_message};
 use pn_values::Mac;
-use relations::{DataExchange, Elapsed, Received};
+use relations::{DataExchange, Elapsed, InputStatus, Received, put_status};
 
 impl<F: Flash<S>, const S: usize> Device<F, S> {
     /// Handles an event, and replaces the content of the outbox by the frames to be sent.
@@ -84,6 +84,7 @@ impl<F: Flash<S>, const S: usize> Device<F, S> {
             Event::Alarm(slot, subslot, octets) => {
                 self.raise(*slot, *subslot, octets.as_slice(), outbox)
             }
+            Event::Status(slot, subslot, is_good) => self.rate(*slot, *subslot, *is_good),
             Event::Frame(bytes) => self.hear(bytes, outbox),
         }
     }
@@ -320,6 +321,25 @@ impl<F: Flash<S>, const S: usize> Device<F, S> {
         } else {
             Note::Refused
         }
+    }
+
+    // A status that the application gives to the inputs of a submodule.
+    #[inline(never)]
+    fn rate(&mut self, slot: u16, subslot: u16, is_good: bool) -> Note
+        ensures state { self.new ≡ behind self.old (handled_rated self.old.station self.old.live slot subslot is_good) }
+        ensures note { result
+            ≡ (end_of self.old.station self.old.live (handled_rated self.old.station self.old.live slot subslot is_good)).note }
+    {
+        let status = InputStatus {
+            slot,
+            subslot,
+            is_good,
+        };
+        if !put_status(&mut self.statuses, &self.real, status) {
+            return Note::Refused;
+        }
+        self.relation.rate(slot, subslot, is_good);
+        Note::Done
     }
 
     // An alarm that the application raises.

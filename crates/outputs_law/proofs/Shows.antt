@@ -259,6 +259,7 @@ module _ (setup : Setup) (station : Station) where
               cyclic = cond b (record link.flow.cyclic {
                 hearing = cond b (record { last = Some x.1.counter; held = 0; limit = link.flow.cyclic.hearing.limit }) link.flow.cyclic.hearing;
                 taken = with_frame x.0 link.flow.cyclic.taken;
+                data_status = x.1.data_status.0;
               }) link.flow.cyclic;
             };
           }))

@@ -12,6 +12,7 @@ use Rattle.records.specs.declared.writes.taken.TakenRecord.{TakenRecord}
 use Rattle.records.specs.writes.Taken.{keep_of}
 use Rattle.pn_alarms.specs.declared.abort.Abort.{Abort}
 use Rattle.relations.specs.exchange.Flow.{Flow}
+use Rattle.relations.specs.exchange.Marks.{Starting}
 use Rattle.relations.specs.exchange.Opening.{begun_of, opened}
 use Rattle.relations.specs.declared.phase.Phase.TheVariants.{Started, Awaiting, Exchanging}
 use Rattle.relations.specs.declared.phase.Partner.{Partner}
@@ -23,7 +24,7 @@ use Rattle.relations.specs.Timers.{ending_of, unit_later}
 -- the exchange became this; a unit of time is over and ends nothing; the relation ended, by Release, a timeout, a
 -- reset, the ERR of the controller, or because ApplicationReady was refused; or none of these.
 pub data Handled : Type 0 where
-  Made : (request : Request) → (partner : Partner) → (rows : Listed DiffModule DiffSubmodule) → Handled
+  Made : (request : Request) → (partner : Partner) → (rows : Listed DiffModule DiffSubmodule) → (starting : Starting) → Handled
   Parameterized : Handled
   Confirmed : Handled
   Named : Handled
@@ -37,9 +38,9 @@ pub data Handled : Type 0 where
 abbrev pub differing_octets : Listed DiffModule DiffSubmodule → List ℕ
 differing_octets rows = if length rows.modules == 0 then [] else block_bytes (is.ModuleDiffBlock (record { api = 0; modules = rows }))
 
--- A relation that is established now, if these modules differ.
-abbrev pub made_of : Request → Partner → Listed DiffModule DiffSubmodule → RelationState
-made_of request partner rows = record {
+-- A relation that is established now, if these modules differ, and if the application says this of its inputs.
+abbrev pub made_of : Request → Partner → Listed DiffModule DiffSubmodule → Starting → RelationState
+made_of request partner rows starting = record {
   phase = Started;
   request = request;
   partner = partner;
@@ -47,7 +48,7 @@ made_of request partner rows = record {
   waited = 0;
   taken = [];
   differing = differing_octets rows;
-  flow = opened request rows;
+  flow = opened request rows starting;
 }
 
 -- All its parameters are written, and ApplicationReady is sent.
@@ -72,7 +73,7 @@ with_flow flow link = record link { flow = flow }
 
 -- The outcome moves the relation.
 abbrev pub updated : Handled → Option RelationState → Option RelationState
-updated (Made request partner rows) link = Some (made_of request partner rows)
+updated (Made request partner rows starting) link = Some (made_of request partner rows starting)
 updated Parameterized link = option_map awaiting_from link
 updated Confirmed link = option_map exchanging_from link
 updated Named link = option_map restarted link

@@ -63,6 +63,13 @@ is_started (Some Awaiting) = false
 is_started (Some Exchanging) = false
 is_started None = false
 
+-- Whether PrmEnd was accepted.
+abbrev pub is_parameterized : Option Phase → Bool
+is_parameterized (Some Started) = false
+is_parameterized (Some Awaiting) = true
+is_parameterized (Some Exchanging) = true
+is_parameterized None = false
+
 abbrev pub is_awaiting : Phase → Bool
 is_awaiting Started = false
 is_awaiting Awaiting = true

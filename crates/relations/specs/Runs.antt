@@ -38,7 +38,7 @@ IsDueEachSecond = (link : RelationState) (units : ℕ) → is_awaiting link.phas
 -- The events that leave a relation in its phase: a unit that ends nothing, a call that is answered or refused, a record
 -- that is written, a frame.
 abbrev pub leaves_waiting : Handled → Bool
-leaves_waiting (Made request partner rows) = false
+leaves_waiting (Made request partner rows starting) = false
 leaves_waiting Parameterized = false
 leaves_waiting Confirmed = false
 leaves_waiting Named = true
