@@ -78,6 +78,7 @@ noted_at (controller.Alarms source header message) = Some message
 noted_at controller.Nothing = None
 noted_at (controller.Answers source answer) = None
 noted_at (controller.Responds response) = None
+noted_at (controller.Refuses refusal) = None
 noted_at (controller.Calls caller call) = None
 noted_at (controller.Cyclic source frame_id body) = None
 
@@ -99,12 +100,14 @@ IsGood mac (controller.Calls caller call) = (caller.mac ≡ mac) × IsCaller cal
 IsGood mac (controller.Alarms source header reported) = IsNotice reported
 IsGood mac controller.Nothing = Unit {0}
 IsGood mac (controller.Responds response) = Unit {0}
+IsGood mac (controller.Refuses refusal) = Unit {0}
 IsGood mac (controller.Cyclic source frame_id body) = Unit {0}
 
 -- a positive response to the Connect chooses a suitable FrameID for outputs
 abbrev pub IsWell : Setup → controller.Heard → Type 0
 IsWell setup (controller.Responds response) = is_answer setup asks.Connect response.header ≡ true → is_done response.status ≡ true → IsChosenWell response.blocks
 IsWell setup controller.Nothing = Unit {0}
+IsWell setup (controller.Refuses refusal) = Unit {0}
 IsWell setup (controller.Answers source answer) = Unit {0}
 IsWell setup (controller.Calls caller call) = Unit {0}
 IsWell setup (controller.Cyclic source frame_id body) = Unit {0}

@@ -79,6 +79,7 @@ module _ (setup : Setup) where
       by_saying e (inl none) = none_of (sym none ∙ e)
       by_saying e (inr same) = other (sym same ∙ e)
   unanswered_well controller.Nothing says other at_most = tt
+  unanswered_well (controller.Refuses refusal) says other at_most = tt
   unanswered_well (controller.Answers source answer) says other at_most = tt
   unanswered_well (controller.Calls caller call) says other at_most = tt
   unanswered_well (controller.Cyclic source frame_id body) says other at_most = tt

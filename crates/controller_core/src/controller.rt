@@ -13,7 +13,7 @@ use frame_codec::{Frame, Outbox};
 use plans::{INPUT_FRAME_ID, Plan, RTA_RETRIES, RTA_TIMEOUT_FACTOR, TAG_HIGH, Times};
 use pn_alarms::ControllerAlarms;
 use pn_values::Mac;
-use rpc_core::Uuid;
+use rpc_core::{Status, Uuid};
 use std::marker::Model;
 
 /// The status of good data (IEC 61158-6-10, 4.7.2.1.1).
@@ -41,6 +41,8 @@ pub struct Controller {
     pub(crate) stands: bool,
     /// Whether the device reported usable modules that deviate from the plan's.
     pub(crate) deviates: bool,
+    /// The last status with which a call was refused.
+    pub(crate) refusal: Option<Status>,
     pub(crate) exchange: CyclicExchange,
     pub(crate) alarms: ControllerAlarms,
     pub(crate) alarm: Option<KeptAlarm>,
@@ -63,6 +65,7 @@ impl Model for Controller {
         units = controller.units;
         stands = controller.stands;
         deviates = controller.deviates;
+        refusal = controller.refusal;
         cyclic = controller.exchange;
         alarms = controller.alarms;
         alarm = option_map alarm_in controller.alarm;
@@ -158,6 +161,7 @@ impl Controller {
             units: 0,
             stands: false,
             deviates: false,
+            refusal: None,
             exchange: CyclicExchange::new(),
             alarms: ControllerAlarms::new(RTA_TIMEOUT_FACTOR, RTA_RETRIES),
             alarm: None,
@@ -199,6 +203,14 @@ impl Controller {
         ensures { result ≡ self.now.live.deviates }
     {
         self.deviates
+    }
+
+    /// The status with which the device refused a call last, if it did: the PNIOStatus of a response, or the status of a
+    /// reject or a fault.
+    pub fn refusal(&self) -> Option<Status>
+        ensures { result ≡ self.now.live.refusal }
+    {
+        self.refusal
     }
 
     /// The input of a submodule, if it has a place: its data in the last accepted frame. All zeros if no frame was

@@ -1,3 +1,4 @@
+pub mod Refusal
 pub mod Heard
 pub mod Reported
 pub mod Requests

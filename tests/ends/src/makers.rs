@@ -13,7 +13,7 @@ use uuid::Uuid;
 const SCENARIOS: &str = include_str!("makers.txt");
 
 /// How many scenarios there are, so that a file that was cut off is found.
-const COUNT: usize = 20;
+const COUNT: usize = 26;
 
 /// The ARUUID and the activity of the controller, as Scapy's station expects them.
 const AR: &str = "11111111-2222-3333-4444-555555555555";
@@ -83,6 +83,14 @@ impl Scene {
         }
     }
 
+    /// The status with which a call was refused last, in hex.
+    fn refusal(&self) -> std::string::String {
+        match self.controller.refusal() {
+            Some(status) => hex_of(&[status.code, status.decode, status.code1, status.code2]),
+            None => "-".into(),
+        }
+    }
+
     /// The last alarm, in words.
     fn alarm(&self) -> std::string::String {
         match self.controller.alarm() {
@@ -115,6 +123,7 @@ impl Scene {
             "out" => assert_eq!(self.sent.pop_front().as_deref(), Some(rest), "{name}"),
             "state" => assert_eq!(self.state(), rest, "{name}"),
             "deviates" => assert_eq!(self.controller.deviates(), rest == "yes", "{name}"),
+            "refusal" => assert_eq!(self.refusal(), rest, "{name}"),
             "alarm" => assert_eq!(self.alarm(), rest, "{name}"),
             _ => panic!("{name}: {word}"),
         }
