@@ -164,6 +164,13 @@ impl<F: Flash<S>, const S: usize> Device<F, S> {
         self.relation.output(&self.real, slot, subslot)
     }
 
+    /// The fixed identity.
+    pub fn identity(&self) -> &Identity
+        ensures { result.now ≡ self.now.station.identity }
+    {
+        &self.identity
+    }
+
     /// The modules and submodules that are plugged.
     pub fn real(&self) -> &Real
         ensures { result.now ≡ self.now.station.real }
@@ -204,7 +211,7 @@ impl<F: Flash<S>, const S: usize> Device<F, S> {
     }
 
     /// Returns the identity, the plugged modules, and the flash.
-    pub(crate) fn into_parts(self) -> (Identity, Real, F)
+    pub fn into_parts(self) -> (Identity, Real, F)
         ensures { result ≡ (self.station.identity, self.station.real, self.flash) }
     {
         let Device {

@@ -15,7 +15,7 @@ use Rattle.script_lines.specs.declared.command.Words.TheVariants.{One, Two, Thre
 -- The commands of a script: hand in these bytes, switch the power off and on again, let time pass, show the settings,
 -- order the flash to fail, set the input of the submodule in a slot and subslot, or raise an alarm of it with these
 -- octets; make a plan, start a controller with this ARUUID and activity UUID at the other end, set an output of the
--- controller, end the relation, hand over the frames that wait.
+-- controller, end the relation, hand over the frames that wait, start the services beside the device.
 pub data Command : Type 0 where
   Frame : (bytes : List ℕ) → Command
   Restart : Command
@@ -29,6 +29,7 @@ pub data Command : Type 0 where
   Give : (slot : ℕ) → (subslot : ℕ) → (bytes : List ℕ) → Command
   Stop : Command
   Deliver : Command
+  Serve : Command
 
 -- The meaning of a line: too long or not ASCII, empty or a comment, a command, or none of these.
 pub data Line : Type 0 where
@@ -79,10 +80,14 @@ ticks_of None = None
 ticks_of (Some zero) = None
 ticks_of (Some (suc more)) = Some (Tick (suc more))
 
+-- The services are started by the word 'on'.
+abbrev pub services_of : List ℕ → Option Command
+services_of state = if is_text state (codes "on") then Some Serve else None
+
 abbrev pub with_one : List ℕ → List ℕ → Option Command
 with_one word first =
     if is_text word (codes "frame") then option_map Frame (bytes_of first)
-    else (if is_text word (codes "tick") then ticks_of (number_of 1000000 first) else None)
+    else (if is_text word (codes "tick") then ticks_of (number_of 1000000 first) else (if is_text word (codes "services") then services_of first else None))
 
 -- The mask of decoded bytes.
 abbrev pub mask_of : Result (List ℕ) FromHexError → Option (List ℕ)

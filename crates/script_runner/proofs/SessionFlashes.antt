@@ -13,6 +13,6 @@ use Rattle.script_runner.specs.session.Power.{IsOver}
 pub over_same : (old new : MemoryFlash 4096) (power : Power) → image_of new ≡ image_of old → failures_of new ≡ failures_of old → armed_in new ≡ armed_in old
     → IsOver new power → IsOver old power
 over_same old new (On device) image failures armed over = (over.0, over.1, over.2, (over.3.0 ∙ image, over.3.1 ∙ ap against_writes armed))
-over_same old new (Off fault left) image failures armed over =
+over_same old new (Off fault left serves) image failures armed over =
     (subst (λ n. HasBootCause fault n (failures_of left)) failures over.0, over.1, (over.2.0 ∙ image, over.2.1 ∙ ap against_writes armed))
 over_same old new Away image failures armed over = over

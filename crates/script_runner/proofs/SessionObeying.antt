@@ -1,34 +1,32 @@
 -- The effect of a line at both ends.
 use Rattle.std.proofs.Common.{◌≡◌, inl, ℕ, List, [], ◌∷◌, ◌++◌, length, arith, Bool, true, false, Option, None, Result, Ok, Err, OnOk, IfOk, IsErr, MatchResult, is_ok, if◌then◌else◌, refl, sym, subst, append-nil}
 use Rattle.flash_model.specs.declared.flash.Order.{Order}
-use Rattle.flash_model.specs.declared.memory.MemoryFlash.{MemoryFlash}
 use Rattle.plans.specs.declared.parts.Parts.{Parts}
 use Rattle.configurator.specs.declared.fault.PlanFault.{PlanFault}
 use Rattle.configurator.specs.declared.fault.PlanFault.TheVariants.{OutOfMemory}
-use Rattle.device_core.specs.State.{State}
-use Rattle.script_lines.specs.Line.{Command, Frame, Restart, Tick, Show, Arm, Input, Alarm, Config, Start, Give, Stop, Deliver, Line, Unfit, Skipped, Asks, Unknown, meaning_of}
+use Rattle.script_lines.specs.Line.{Command, Frame, Restart, Tick, Show, Arm, Input, Alarm, Config, Start, Give, Stop, Deliver, Serve, Line, Unfit, Skipped, Asks, Unknown, meaning_of}
 use Rattle.script_runner.specs.declared.session.power.Power.{Power}
 use Rattle.script_runner.specs.declared.session.power.Power.TheVariants.{On, Off, Away}
-use Rattle.script_runner.specs.session.Ends.{Network, Station, Other}
+use Rattle.script_runner.specs.session.Ends.{Network, Station, Running, Other}
 use Rattle.script_runner.specs.session.Power.{Held, IsRunning, is_off, refusal_of}
-use Rattle.script_runner.specs.session.Said.{Answer, Answers, Outcome, outcome_of, unchanged}
+use Rattle.script_runner.specs.session.Said.{Answer, Answers, Outcome, outcome_of, serve_answer, served, unchanged}
 use Rattle.script_runner.specs.session.Off.{Orders, TakesOrder}
 use Rattle.script_runner.specs.session.Session.{Are, Comes, IsDone, IsObeyed, Obeys}
 
 -- A device that runs was not refused its start.
 pub unrefused : (station : Station) (power : Power) → IsRunning station power → refusal_of power ≡ None
 unrefused station (On device) runs = refl
-unrefused station (Off fault flash) runs = absurd runs
+unrefused station (Off fault flash serves) runs = absurd runs
 unrefused station Away runs = absurd runs
 
 -- A device that runs has power.
 pub unlost : (station : Station) (power : Power) → IsRunning station power → is_off power ≡ false
 unlost station (On device) runs = runs.reliable.0
-unlost station (Off fault flash) runs = absurd runs
+unlost station (Off fault flash serves) runs = absurd runs
 unlost station Away runs = absurd runs
 
 -- What the device carried out is what was asked for.
-pub done_obeyed : (answer : Answer) (device : State (MemoryFlash 4096)) (other : Other) (before now : List ℕ) → IsDone answer device other before now → IsObeyed answer (record { power = On device; other = other }) before now
+pub done_obeyed : (answer : Answer) (device : Running) (other : Other) (before now : List ℕ) → IsDone answer device other before now → IsObeyed answer (record { power = On device; other = other }) before now
 done_obeyed answer device other before now done = record { runs = done.runs; waits = done.waits; text = done.text }
 
 -- A line with this meaning obeys as that meaning does.
@@ -44,6 +42,11 @@ empty_is_skipped (octet ∷ octets) none = absurd (omega (arith, none))
 -- A line that is skipped changes nothing.
 pub skipped_obeys : (network : Network) (held : Held) (before : List ℕ) → Are network held → Obeys (Answers (unchanged network)) held before before (Ok true)
 skipped_obeys network held before are = (refl, record { runs = are.0; waits = are.1; text = sym (append-nil before) })
+
+-- The services are on, and nothing is printed.
+pub serve_obeys : (network : Network) (held : Held) (before : List ℕ) (result : Result Bool PlanFault) → IsRunning (served network.station.services network.station) held.power → held.other ≡ network.other → result ≡ Ok true
+    → Obeys (Answers (serve_answer network)) held before before result
+serve_obeys network held before result runs other done = subst (Obeys (Answers (serve_answer network)) held before before) (sym done) (refl, record { runs = runs; waits = other; text = sym (append-nil before) })
 
 -- A text was appended, if there was memory.
 pub appended : {E : Type 0} (done : Result (Unit {0}) E) (now before more : List ℕ) → now ≡ (if is_ok done then before ++ more else before) → OnOk done (now ≡ before ++ more)
@@ -93,6 +96,7 @@ untaken (Asks (Start ar activity)) held before = tt
 untaken (Asks (Give slot subslot bytes)) held before = tt
 untaken (Asks Stop) held before = tt
 untaken (Asks Deliver) held before = tt
+untaken (Asks Serve) held before = tt
 
 -- The effect of an order is the effect of a line with that order.
 pub order_taken : (command : Command) (old new : Held) (before now : List ℕ) (result : Result Bool PlanFault)
@@ -109,3 +113,4 @@ order_taken (Start ar activity) old new before now result orders = tt
 order_taken (Give slot subslot bytes) old new before now result orders = tt
 order_taken Stop old new before now result orders = tt
 order_taken Deliver old new before now result orders = tt
+order_taken Serve old new before now result orders = tt

@@ -1,3 +1,4 @@
 pub mod Answered
 pub mod Sparing
+pub mod Running
 pub mod Stepping

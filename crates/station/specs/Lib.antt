@@ -1,3 +1,4 @@
 pub mod State
 pub mod Beside
 pub mod Steps
+pub mod Runs

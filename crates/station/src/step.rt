@@ -17,14 +17,11 @@ use services::{Services, only_conflicts_are_counted};
 /// sent. The event goes to the device. The services answer a frame only if the device dropped it, and hear each packet
 /// of ARP. They do nothing in a step in which power was lost.
 pub fn step_beside<F: Flash<S>, const S: usize>(
-    identity: &Identity,
     device: &mut Device<F, S>,
     services: &mut Services,
     event: &Event,
     outbox: &mut StationOutbox,
 ) -> Note
-    // It is the identity of the device.
-    requires { identity.now ≡ device.old.station.identity }
     // The step of the device is a step of the device alone, and the services do what is said of them beside it.
     ensures { StationSteps F.Flash (station_of device.old services.old) event.now outbox.new result (station_of device.new services.new) }
 {
@@ -35,7 +32,7 @@ pub fn step_beside<F: Flash<S>, const S: usize>(
     }
     let has_sent = has_frames(&outbox.device);
     let said = attend(
-        identity,
+        device.identity(),
         services,
         event,
         note,

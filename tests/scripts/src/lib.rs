@@ -17,6 +17,7 @@ mod off;
 mod plan;
 mod relation;
 mod rows;
+mod services;
 mod struck;
 mod vectors;
 mod whole;

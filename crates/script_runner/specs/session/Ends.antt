@@ -7,22 +7,56 @@ use Rattle.configurator.specs.declared.fault.PlanFault.TheVariants.{OutOfMemory}
 use Rattle.configurator.specs.Planned.{IsPlanOf, IsRefused}
 use Rattle.device_frames.specs.declared.event.Event.{Event}
 use Rattle.device_frames.specs.declared.event.Event.TheVariants as event
-use Rattle.device_core.specs.State.{Station as Device, Live}
-use Rattle.device_core.specs.Machine.{step_of}
+use Rattle.device_core.specs.State.{Station as Device, State, Live}
+use Rattle.flash_model.specs.declared.memory.MemoryFlash.{MemoryFlash}
+use Rattle.device_core.specs.Machine.{Stepped, step_of}
+use Rattle.device_frames.specs.declared.note.Note.{Note}
+use Rattle.pn_values.specs.declared.settings.Settings.{Settings}
+use Rattle.services.specs.State as services
+use Rattle.services.specs.declared.announcement.Role.TheVariants as role
+use Rattle.station.specs.Beside.{beside}
 use Rattle.controller_core.specs.declared.event.Event.{Event as ControllerEvent}
 use Rattle.controller_core.specs.declared.event.Event.TheVariants as heard
 use Rattle.controller_core.specs.State.{Controlling}
 use Rattle.controller_core.specs.Machine.{Stepped as ControllerRun, step_of as controller_step, fresh, opening_of}
 use Rattle.script_lines.specs.Text.{out_lines}
 
--- A device without its flash: what is fixed, and what changes.
+-- A device without its flash: what is fixed, and what changes; and the services beside it, once there are any.
 pub record Station : Type 0 where
   pub device : Device
   pub live : Live
+  pub services : Option services.State
 
--- The fixed part of the device stays.
-abbrev pub turned_to : Station → Live → Station
-turned_to station live = record { device = station.device; live = live }
+-- Services that begin beside a device with these running settings, or none.
+abbrev pub services_at : Bool → Device → Settings → Option services.State
+services_at true device running = Some (services.started role.Device device.identity.mac running.suite.address)
+services_at false device running = None
+
+-- A step of a station: the station after it, the frames that it sends, and its note.
+pub record Turned : Type 0 where
+  pub station : Station
+  pub frames : List (List ℕ)
+  pub note : Note
+
+-- A step of the device, and what the services do beside it. The fixed part of the device stays, and the services' frames
+-- follow the device's.
+abbrev pub turned : Option services.State → Device → Event → Stepped → Turned
+turned None device event step = record {
+  station = record { device = device; live = step.live; services = None };
+  frames = step.frames;
+  note = step.note;
+}
+turned (Some state) device event step =
+    let after = beside device.identity state step.live.values step.note event in
+    record {
+      station = record { device = device; live = step.live; services = Some after.services };
+      frames = step.frames ++ after.sent;
+      note = after.note;
+    }
+
+-- A step of the station, whose flash never fails.
+abbrev pub station_step : Station → Event → Turned
+station_step station event = turned station.services station.device event (step_of [] station.device station.live event)
 
 -- The other end: the plan of the next controller, the controller once there is one, and the frames that wait at either
 -- end, in order.
@@ -61,7 +95,23 @@ nobody = record { plan = None; controller = None; to_device = []; to_controller 
 
 -- ---- events, one after another, and the frames that they send
 
--- A run of events at the device, whose flash never fails.
+-- A station with its flash.
+pub record Running : Type 0 where
+  pub flash : MemoryFlash 4096
+  pub station : Device
+  pub live : Live
+  pub services : Option services.State
+
+-- The station of a device that starts, with services that begin with it or without any.
+abbrev pub begun : Bool → State (MemoryFlash 4096) → Running
+begun serves device = record {
+  flash = device.flash;
+  station = device.station;
+  live = device.live;
+  services = services_at serves device.station device.live.values.running;
+}
+
+-- A run of events at the station, whose flash never fails.
 pub record DeviceRun : Type 0 where
   pub station : Station
   pub frames : List (List ℕ)
@@ -69,8 +119,8 @@ pub record DeviceRun : Type 0 where
 abbrev pub device_run : Station → List Event → DeviceRun
 device_run station [] = record { station = station; frames = [] }
 device_run station (event ∷ events) =
-    let step = step_of [] station.device station.live event in
-    let later = device_run (turned_to station step.live) events in
+    let step = station_step station event in
+    let later = device_run step.station events in
     record { station = later.station; frames = step.frames ++ later.frames }
 
 -- A run of events at the controller.

@@ -11,16 +11,16 @@ use Rattle.settings_journal.specs.Image.{StartsWith, IsForeign, LeftByDevice}
 use Rattle.settings_journal.specs.declared.journal.BootFault.{BootFault}
 use Rattle.settings_journal.specs.declared.journal.BootFault.TheVariants.{Foreign}
 use Rattle.device_core.specs.Cycle.{started}
-use Rattle.device_core.specs.State.{State}
 use Rattle.script_runner.specs.declared.session.power.Power.{Power}
 use Rattle.script_runner.specs.declared.session.power.Power.TheVariants.{On, Off, Away}
 use Rattle.script_runner.specs.session.Demo.{demo_device}
-use Rattle.script_runner.specs.session.Ends.{Other, Station}
+use Rattle.script_runner.specs.session.Ends.{Other, Running, Station}
 
 -- This station runs over a flash whose calls do not fail, and none has failed.
-pub record Runs (station : Station) (device : State (MemoryFlash 4096)) : Type 0 where
+pub record Runs (station : Station) (device : Running) : Type 0 where
   pub station_is : device.station ≡ station.device
   pub live_is : device.live ≡ station.live
+  pub services_are : device.services ≡ station.services
   pub reliable : IsReliable device.flash
   pub unfailed : device.live.values.has_failed ≡ false
   pub left : LeftByDevice (image_of device.flash)
@@ -28,25 +28,25 @@ pub record Runs (station : Station) (device : State (MemoryFlash 4096)) : Type 0
 -- The device runs, in this state.
 abbrev pub IsRunning : Station → Power → Type 0
 IsRunning station (On device) = Runs station device
-IsRunning station (Off fault flash) = ⊥
+IsRunning station (Off fault flash serves) = ⊥
 IsRunning station Away = ⊥
 
 -- The reason why the device did not start, if it did not start.
 abbrev pub refusal_of : Power → Option BootFault
 refusal_of (On device) = None
-refusal_of (Off fault flash) = Some fault
+refusal_of (Off fault flash serves) = Some fault
 refusal_of Away = None
 
 -- Whether there is no device with power.
 abbrev pub is_off : Power → Bool
 is_off (On device) = is_powerless device.flash
-is_off (Off fault flash) = true
+is_off (Off fault flash serves) = true
 is_off Away = true
 
 -- The demo device runs, with any settings, or its start was refused.
 abbrev pub IsDemo : Power → Type 0
 IsDemo (On device) = device.station ≡ demo_device
-IsDemo (Off fault flash) = Unit {0}
+IsDemo (Off fault flash serves) = Unit {0}
 IsDemo Away = ⊥
 
 -- The same flash: no byte of it has changed, and the orders against its program and erase calls are still armed. A read
@@ -61,21 +61,21 @@ abbrev pub IsOver : MemoryFlash 4096 → Power → Type 0
 IsOver flash (On device) =
     IsDemo (On device) × (device.live ≡ started device.live.values.stored device.live.values.room)
     × StartsWith (image_of device.flash) device.live.values.stored device.live.values.room × IsSameFlash flash device.flash
-IsOver flash (Off fault left) =
+IsOver flash (Off fault left serves) =
     HasBootCause fault (failures_of flash) (failures_of left) × (fault ≡ Foreign → IsForeign (image_of left)) × IsSameFlash flash left
 IsOver flash Away = ⊥
 
 -- The flash was given this order, and nothing else of the run changed.
 abbrev pub IsArmed : Order → Power → Power → Type 0
-IsArmed order (On old) (On new) = (new.station ≡ old.station) × (new.live ≡ old.live) × IsAsked old.flash (Arms order ∷ []) new.flash
-IsArmed order (Off fault old) (Off still new) = (still ≡ fault) × IsAsked old (Arms order ∷ []) new
+IsArmed order (On old) (On new) = (new.station ≡ old.station) × (new.live ≡ old.live) × (new.services ≡ old.services) × IsAsked old.flash (Arms order ∷ []) new.flash
+IsArmed order (Off fault old serves) (Off still new so) = (still ≡ fault) × (so ≡ serves) × IsAsked old (Arms order ∷ []) new
 IsArmed order Away Away = Unit {0}
 IsArmed order old new = ⊥
 
 -- The flash has power again, and the demo device was started over it.
 abbrev pub IsBack : Power → Power → Type 0
 IsBack (On device) power = IsOver device.flash power
-IsBack (Off fault flash) power = IsOver flash power
+IsBack (Off fault flash serves) power = IsOver flash power
 IsBack Away power = power ≡ Away
 
 -- Both ends, as a run holds them.

@@ -1,5 +1,5 @@
 -- The effect of a line: a command to the demo device, whose flash never fails, or to the other end.
-use Rattle.std.specs.Prelude.{◌+◌, ℕ, Bool, true, false, List, [], ◌++◌, codes, length, replicate, take, Option, Some, None}
+use Rattle.std.specs.Prelude.{◌+◌, ℕ, Bool, true, false, List, [], ◌++◌, codes, length, replicate, take, Option, Some, None, is_some}
 use Rattle.std.specs.Str.Lines.{lines}
 use Rattle.arrayvec.specs.ArrayVec.{ArrayVec}
 use Rattle.pn_values.specs.Settings.{factory_settings}
@@ -10,32 +10,37 @@ use Rattle.plans.specs.declared.parts.Parts.{Parts}
 use Rattle.device_frames.specs.declared.event.Event.{Event}
 use Rattle.device_frames.specs.declared.event.Event.TheVariants as event
 use Rattle.device_frames.specs.declared.note.Note.TheVariants.{Done}
-use Rattle.device_core.specs.Machine.{Stepped, step_of}
 use Rattle.device_core.specs.Cycle.{started}
 use Rattle.controller_core.specs.declared.event.Event.{Event as ControllerEvent}
 use Rattle.controller_core.specs.declared.event.Event.TheVariants as heard
 use Rattle.controller_core.specs.Machine.{step_of as controller_step}
 use Rattle.controller_core.specs.State.{Controlling}
 use Rattle.script_runner.specs.session.Demo.{demo_device}
-use Rattle.script_runner.specs.session.Ends.{Station, turned_to, Other, Network, DeviceRun, with_ends, arrived_at, cleared, device_run, frames_for_device, nobody, printed_for, ticked_by, with_fresh, with_plan, with_run, with_sent}
-use Rattle.script_lines.specs.Line.{Command, Frame, Restart, Tick, Show, Arm, Input, Alarm, Config, Start, Give, Stop, Deliver, Line, Unfit, Skipped, Asks, Unknown}
+use Rattle.services.specs.State as services
+use Rattle.script_runner.specs.session.Ends.{Station, Turned, services_at, station_step, Other, Network, DeviceRun, with_ends, arrived_at, cleared, device_run, frames_for_device, nobody, printed_for, ticked_by, with_fresh, with_plan, with_run, with_sent}
+use Rattle.script_lines.specs.Line.{Command, Frame, Restart, Tick, Show, Arm, Input, Alarm, Config, Start, Give, Stop, Deliver, Serve, Line, Unfit, Skipped, Asks, Unknown}
 use Rattle.script_lines.specs.Show.{shown, outputs_shown, controller_shown}
 use Rattle.script_lines.specs.Text.{boot_line, moved_line, note_line, printed}
 
--- The demo device, started from these settings.
-abbrev pub demo_started : Settings → ℕ → Station
-demo_started settings room = record { device = demo_device; live = started settings room }
+-- The demo device, started from these settings, with services that begin with it or without any.
+abbrev pub demo_started : Bool → Settings → ℕ → Station
+demo_started serves settings room = record { device = demo_device; live = started settings room; services = services_at serves demo_device settings }
+
+-- Services beside the device, if there are none yet.
+abbrev pub served : Option services.State → Station → Station
+served None station = record station { services = services_at true station.device station.live.values.running }
+served (Some state) station = station
 
 -- Both ends after a line, and the text that the line prints.
 pub record Answer : Type 0 where
   pub network : Network
   pub text : List ℕ
 
--- The answer to a step of the device: a line for each frame that it sends, as long as there is no controller, and one for
--- its note.
-abbrev pub step_answer : Network → Stepped → Answer
+-- The answer to a step of the station: a line for each frame that it sends, as long as there is no controller, and one
+-- for its note.
+abbrev pub step_answer : Network → Turned → Answer
 step_answer network step = record {
-  network = with_ends (turned_to network.station step.live) (with_sent network.other step.frames);
+  network = with_ends step.station (with_sent network.other step.frames);
   text = printed_for network.other.controller step.frames ++ note_line step.note;
 }
 
@@ -44,12 +49,13 @@ abbrev pub handed : List ℕ → ArrayVec ℕ
 handed bytes = record { items = take 1519 bytes }
 
 abbrev pub event_answer : Network → Event → Answer
-event_answer network event = step_answer network (step_of [] network.station.device network.station.live event)
+event_answer network event = step_answer network (station_step network.station event)
 
--- A restart starts the device from what is stored; no frame waits afterwards, and the controller is as it was.
+-- A restart starts the device from what is stored; no frame waits afterwards, and the controller is as it was. Services
+-- begin again.
 abbrev pub restart_answer : Network → Answer
 restart_answer network = record {
-  network = with_ends (demo_started network.station.live.values.stored network.station.live.values.room) (cleared network.other);
+  network = with_ends (demo_started (is_some network.station.services) network.station.live.values.stored network.station.live.values.room) (cleared network.other);
   text = boot_line None;
 }
 
@@ -74,6 +80,10 @@ show_answer network =
 -- An order to the flash changes nothing at either end.
 abbrev pub unchanged : Network → Answer
 unchanged network = record { network = network; text = [] }
+
+-- The services beside the device are on, and nothing is printed.
+abbrev pub serve_answer : Network → Answer
+serve_answer network = record { network = with_ends (served network.station.services network.station) network.other; text = [] }
 
 -- ---- lines that are valid only at some times
 
@@ -134,6 +144,7 @@ said plans network (Start ar activity) = start_outcome network ar activity netwo
 said plans network (Give slot subslot bytes) = heard_outcome network (heard.Give slot subslot (handed bytes)) network.other.controller
 said plans network Stop = heard_outcome network heard.Stop network.other.controller
 said plans network Deliver = deliver_outcome network network.other.controller
+said plans network Serve = Answers (serve_answer network)
 
 -- The outcome of a line.
 abbrev pub outcome_of : (List ℕ → Option Parts) → Network → Line → Outcome
@@ -156,6 +167,7 @@ arms (Start ar activity) = false
 arms (Give slot subslot bytes) = false
 arms Stop = false
 arms Deliver = false
+arms Serve = false
 
 -- A line that orders a failure of the flash.
 abbrev pub is_order : Line → Bool
@@ -166,7 +178,7 @@ is_order Unknown = false
 
 -- The demo device with the factory settings.
 abbrev pub factory_device : Station
-factory_device = demo_started factory_settings (capacity 4096)
+factory_device = demo_started false factory_settings (capacity 4096)
 
 abbrev pub alone : Network
 alone = with_ends factory_device nobody

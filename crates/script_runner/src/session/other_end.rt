@@ -11,13 +11,14 @@ ghost use Rattle.script_runner.specs.session.Session.{IsHandedOver};
 use crate::session::bytes::copied;
 use crate::session::copies::plan_copy;
 use crate::session::device::hand_over;
-use crate::session::power::DemoDevice;
+use crate::session::power::DemoStation;
 use crate::session::waiting::append;
 use configurator::{PlanFault, plan_from_json};
 use controller_core::{Controller, Event};
 use frame_codec::{Frame, Outbox};
 use plans::Plan;
 use script_lines::{render, show};
+use station::StationOutbox;
 use std::alloc::{AllocError, Global};
 use std::marker::Model;
 use uuid::Uuid;
@@ -50,6 +51,7 @@ impl Model for OtherEnd {
 impl OtherEnd {
     ghost use Rattle.std.specs.Prelude.{is_some, length};
     ghost use Rattle.script_lines.specs.Show.{controller_shown};
+    ghost use Rattle.station.specs.State.{in_order};
     ghost use Rattle.script_runner.specs.session.Ends.{Hears, Plans, Starts, arrived_at, cleared, nobody, printed_for, ticked_by, with_sent};
 
     /// The other end before a catalogue was read: no plan, no controller and no frames.
@@ -102,6 +104,19 @@ impl OtherEnd {
         }
     }
 
+    /// Prints the frames of a step of the station, or lets them wait once there is a controller.
+    pub(crate) fn send_all(
+        &mut self,
+        outbox: &StationOutbox,
+        text: &mut Vec<u8>,
+    ) -> Result<(), AllocError>
+        ensures { OnOk result ((self.new ≡ with_sent self.old (in_order outbox.now))
+            × (text.new.items ≡ text.old.items ++ printed_for self.old.controller (in_order outbox.now))) }
+    {
+        self.send(outbox.device(), text)?;
+        self.send(outbox.services(), text)
+    }
+
     /// Makes the plan of a catalogue, for the next controller.
     pub(crate) fn plan(&mut self, catalogue: &[u8]) -> Result<(), PlanFault>
         ensures { Plans catalogue.now self.old self.new result }
@@ -139,8 +154,8 @@ impl OtherEnd {
     /// controller. Returns how many frames waited.
     pub(crate) fn hand_over(
         &mut self,
-        device: &mut DemoDevice<'_>,
-        outbox: &mut Outbox,
+        device: &mut DemoStation<'_>,
+        outbox: &mut StationOutbox,
     ) -> Result<usize, AllocError>
         ensures handed { (station : Station) → Runs station device.old →
             IfOk result (λ delivered. IsHandedOver (device_run station (frames_for_device self.old.to_device)) device.new self.old self.new

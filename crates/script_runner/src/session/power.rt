@@ -1,13 +1,18 @@
-// The power of the demo device.
-ghost use Rattle.std.specs.Prelude.{◌≡◌, ℕ};
+// The demo station and its power.
+ghost use Rattle.std.specs.Prelude.{◌≡◌, ℕ, [], ◌∷◌, is_some};
 ghost use Rattle.pn_values.specs.declared.settings.Settings.{Settings};
 ghost use Rattle.flash_model.specs.Image.{erased};
 ghost use Rattle.flash_model.specs.Memory.{image_of, IsReliable};
 ghost use Rattle.settings_journal.specs.Image.{StartsWith, LeftByDevice};
+ghost use Rattle.services.specs.State.{started};
+ghost use Rattle.services.specs.declared.announcement.Role.TheVariants as role;
 
-use device_core::Device;
-use flash_model::{Flash, Lent, MemoryFlash};
+use device_core::{Device, Event, Note};
+use flash_model::{Flash, Lent, MemoryFlash, Order};
+use services::{Role, Services};
 use settings_journal::BootFault;
+use station::{StationOutbox, step_alone, step_beside};
+use std::marker::Model;
 
 /// The flash of the demo device. The device borrows it: it is large, and is not moved.
 pub(crate) type DemoFlash<'a> = Lent<'a, MemoryFlash<4096>>;
@@ -15,11 +20,116 @@ pub(crate) type DemoFlash<'a> = Lent<'a, MemoryFlash<4096>>;
 /// The demo device.
 pub(crate) type DemoDevice<'a> = Device<DemoFlash<'a>, 4096>;
 
-/// The running demo device, or why it did not start and the flash that it left.
+/// The demo station: the device, and the services beside it, once there are any. In clauses it is these, and the device's
+/// flash.
+#[derive(Drop)]
+pub(crate) struct DemoStation<'a> {
+    device: DemoDevice<'a>,
+    services: Option<Services>,
+}
+
+impl<'a> Model for DemoStation<'a> {
+    ghost use Rattle.script_runner.specs.session.Ends.{Running};
+
+    ghost Value = { Running };
+
+    ghost view = { λ demo. record { flash = demo.device.flash; station = demo.device.station; live = demo.device.live; services = demo.services } };
+}
+
+/// The services at the start of a device.
+fn services_of(device: &DemoDevice<'_>) -> Services
+    ensures { result ≡ started role.Device device.now.station.identity.mac device.now.live.values.running.suite.address }
+{
+    Services::new(
+        Role::Device,
+        device.identity().mac,
+        device.running().suite.address(),
+    )
+}
+
+impl<'a> DemoStation<'a> {
+    ghost use Rattle.flash_model.specs.Asked.{IsAsked};
+    ghost use Rattle.flash_model.specs.Calls.{Arms};
+    ghost use Rattle.script_runner.specs.session.Ends.{Station, begun, station_step};
+    ghost use Rattle.script_runner.specs.session.Power.{Runs};
+    ghost use Rattle.script_runner.specs.session.Said.{served};
+    ghost use Rattle.script_runner.specs.session.Session.{IsStepped};
+
+    /// The station of a device that starts, with services that begin with it or without any.
+    fn begin(device: DemoDevice<'a>, serves: bool) -> DemoStation<'a>
+        ensures { result ≡ begun serves device }
+    {
+        let services = if serves {
+            Some(services_of(&device))
+        } else {
+            None
+        };
+        DemoStation { device, services }
+    }
+
+    /// Makes a step.
+    pub(crate) fn step(&mut self, event: &Event, outbox: &mut StationOutbox) -> Note
+        ensures steps { (station : Station) → Runs station self.old → IsStepped (station_step station event.now) self.new outbox.new result }
+        ensures same { self.new.station ≡ self.old.station }
+    {
+        match &mut self.services {
+            Some(services) => step_beside(&mut self.device, services, event, outbox),
+            None => step_alone(&mut self.device, event, outbox),
+        }
+    }
+
+    /// Starts the services, if there are none yet.
+    pub(crate) fn serve(&mut self)
+        ensures runs { (station : Station) → Runs station self.old → Runs (served station.services station) self.new }
+        ensures same { self.new.station ≡ self.old.station }
+    {
+        if self.services.is_none() {
+            self.services = Some(services_of(&self.device));
+        }
+    }
+
+    /// The device.
+    pub(crate) fn device(&self) -> &DemoDevice<'a>
+        ensures { result.now ≡ record { flash = self.now.flash; station = self.now.station; live = self.now.live } }
+    {
+        &self.device
+    }
+
+    /// Whether there are services.
+    fn serves(&self) -> bool
+        ensures { result ≡ is_some self.now.services }
+    {
+        self.services.is_some()
+    }
+
+    /// Orders the flash to fail at a later call.
+    pub(crate) fn arm(&mut self, order: Order)
+        ensures armed { IsAsked self.old.flash (Arms order ∷ []) self.new.flash }
+        ensures station { self.new.station ≡ self.old.station }
+        ensures live { self.new.live ≡ self.old.live }
+        ensures services { self.new.services ≡ self.old.services }
+    {
+        self.device.arm(order);
+    }
+
+    /// Returns the flash.
+    fn into_flash(self) -> DemoFlash<'a>
+        ensures { result ≡ self.entry.flash }
+    {
+        let DemoStation {
+            device,
+            services: _,
+        } = self;
+        device.into_flash()
+    }
+}
+
+/// The running demo station, or why its device did not start, the flash that it left, and whether services begin with the
+/// next start.
 #[derive(Drop)]
 pub(crate) enum Power<'a> {
-    On(DemoDevice<'a>),
-    Off(BootFault, DemoFlash<'a>),
+    On(DemoStation<'a>),
+    Off(BootFault, DemoFlash<'a>, bool),
     /// In the middle of a restart: the flash is passed to the start.
     Away,
 }
@@ -29,48 +139,49 @@ impl<'a> Power<'a> {
     ghost use Rattle.script_runner.specs.session.Said.{demo_started, factory_device};
     ghost use Rattle.script_runner.specs.session.Power.{IsRunning, IsBack, IsOver, is_off, refusal_of};
 
-    /// Starts the device from the content of a flash.
-    pub(crate) fn start(flash: DemoFlash<'a>) -> Power<'a>
+    /// Starts the device from the content of a flash, with services that begin with it or without any.
+    pub(crate) fn start(flash: DemoFlash<'a>, serves: bool) -> Power<'a>
         ensures stored { (settings : Settings) (room : ℕ) → IsReliable flash.entry → LeftByDevice (image_of flash.entry) →
             StartsWith (image_of flash.entry) settings room →
-            IsRunning (demo_started settings room) result }
+            IsRunning (demo_started serves settings room) result }
         ensures blank { IsReliable flash.entry → image_of flash.entry ≡ record { first = erased 4096; second = erased 4096 } →
-            IsRunning factory_device result }
+            serves ≡ false → IsRunning factory_device result }
         ensures back { IsOver flash.entry result }
     {
         match Device::boot(pn_values::demo_identity(), pn_values::demo_modules(), flash) {
-            Ok(device) => Power::On(device),
-            Err((fault, flash)) => Power::Off(fault, flash),
+            Ok(device) => Power::On(DemoStation::begin(device, serves)),
+            Err((fault, flash)) => Power::Off(fault, flash, serves),
         }
     }
 
     /// Switches the device's power off and on again.
     pub(crate) fn restart(self) -> Power<'a>
         ensures runs { (station : Station) → IsRunning station self.entry →
-            IsRunning (demo_started station.live.values.stored station.live.values.room) result }
+            IsRunning (demo_started (is_some station.services) station.live.values.stored station.live.values.room) result }
         ensures back { IsBack self.entry result }
     {
         match self {
-            Power::On(device) => {
+            Power::On(demo) => {
                 // The flash holds what is stored.
-                let _ = device.stored();
-                Power::with_power(device.into_flash())
+                let _ = demo.device.stored();
+                let serves = demo.serves();
+                Power::with_power(demo.into_flash(), serves)
             }
-            Power::Off(_, flash) => Power::with_power(flash),
+            Power::Off(_, flash, serves) => Power::with_power(flash, serves),
             Power::Away => Power::Away,
         }
     }
 
     /// Switches the power of a flash on again, and starts the device. A pending order stays armed.
-    fn with_power(flash: DemoFlash<'a>) -> Power<'a>
+    fn with_power(flash: DemoFlash<'a>, serves: bool) -> Power<'a>
         ensures runs { (settings : Settings) (room : ℕ) → IsReliable flash.entry → LeftByDevice (image_of flash.entry) →
             StartsWith (image_of flash.entry) settings room →
-            IsRunning (demo_started settings room) result }
+            IsRunning (demo_started serves settings room) result }
         ensures back { IsOver flash.entry result }
     {
         let mut flash = flash;
         flash.power_up();
-        Power::start(flash)
+        Power::start(flash, serves)
     }
 
     /// Whether the device did not start, or its flash lost power.
@@ -78,8 +189,8 @@ impl<'a> Power<'a> {
         ensures { result ≡ is_off self.now }
     {
         match self {
-            Power::On(device) => device.flash().is_lost(),
-            Power::Off(_, _) | Power::Away => true,
+            Power::On(demo) => demo.device().flash().is_lost(),
+            Power::Off(..) | Power::Away => true,
         }
     }
 
@@ -89,7 +200,7 @@ impl<'a> Power<'a> {
     {
         match self {
             Power::On(_) | Power::Away => None,
-            Power::Off(fault, _) => Some(*fault),
+            Power::Off(fault, _, _) => Some(*fault),
         }
     }
 }

@@ -20,8 +20,9 @@ use configurator::PlanFault;
 use controller_core::Event as ControllerEvent;
 use device_core::{Event, Note};
 use flash_model::{Flash, Lent, MemoryFlash, Order};
-use frame_codec::{Bytes, Outbox};
+use frame_codec::Bytes;
 use script_lines::{Command, Line, meaning, render, show};
+use station::StationOutbox;
 use std::alloc::{AllocError, Global};
 use std::marker::Model;
 use std::mem;
@@ -35,7 +36,7 @@ pub struct Session<'a> {
     power: Power<'a>,
     other: OtherEnd,
     received: Event,
-    outbox: Outbox,
+    outbox: StationOutbox,
 }
 
 impl<'a> Model for Session<'a> {
@@ -56,7 +57,7 @@ impl<'a> Session<'a> {
     ghost use Rattle.script_lines.specs.Text.{boot_line};
     ghost use Rattle.script_runner.specs.session.Ends.{IsRightFor, cleared, nobody};
     ghost use Rattle.script_runner.specs.session.Said.{arms, config_outcome, deliver_answer, deliver_outcome, factory_device};
-    ghost use Rattle.script_runner.specs.session.Said.{heard_outcome, is_order, outcome_of, restart_answer, said, show_answer, start_outcome};
+    ghost use Rattle.script_runner.specs.session.Said.{heard_outcome, is_order, outcome_of, restart_answer, said, served, show_answer, start_outcome};
     ghost use Rattle.script_runner.specs.session.Said.{tick_answer};
     ghost use Rattle.script_runner.specs.session.Power.{IsArmed, IsBack, is_off, refusal_of};
     ghost use Rattle.script_runner.specs.session.Session.{Are, AreRightFor, Comes, Obeys};
@@ -69,10 +70,10 @@ impl<'a> Session<'a> {
         ensures other { result.other ≡ nobody }
     {
         Session {
-            power: Power::start(Lent::new(flash)),
+            power: Power::start(Lent::new(flash), false),
             other: OtherEnd::new(alloc),
             received: Event::Tick,
-            outbox: Outbox::new(),
+            outbox: StationOutbox::new(),
         }
     }
 
@@ -159,6 +160,7 @@ impl<'a> Session<'a> {
             }
             Command::Stop => if_there(self.stop(text)),
             Command::Deliver => if_there(self.deliver(text)),
+            Command::Serve => self.serve(),
         }
     }
 
@@ -254,7 +256,7 @@ impl<'a> Session<'a> {
                 self.other.ticks(units)?;
                 render::note(Note::Done, text)
             }
-            Power::Off(_, _) | Power::Away => text.extend_from_slice(b"off\n"),
+            Power::Off(..) | Power::Away => text.extend_from_slice(b"off\n"),
         }
     }
 
@@ -264,13 +266,14 @@ impl<'a> Session<'a> {
             OnOk result (IsObeyed (show_answer network) self.now text.old.items text.new.items) }
     {
         match &self.power {
-            Power::On(device) => {
+            Power::On(demo) => {
+                let device = demo.device();
                 let (phase, lamp) = (device.phase(), device.lamp());
                 show::all(device.running(), device.stored(), phase, lamp, text)?;
                 outputs(device, text)?;
                 self.other.show(text)
             }
-            Power::Off(_, _) | Power::Away => text.extend_from_slice(b"off\n"),
+            Power::Off(..) | Power::Away => text.extend_from_slice(b"off\n"),
         }
     }
 
@@ -282,9 +285,23 @@ impl<'a> Session<'a> {
     {
         match &mut self.power {
             Power::On(device) => device.arm(order),
-            Power::Off(_, flash) => flash.arm(order),
+            Power::Off(_, flash, _) => flash.arm(order),
             Power::Away => {}
         }
+    }
+
+    /// Starts the services beside the device, if there are none yet.
+    fn serve(&mut self) -> Result<bool, PlanFault>
+        ensures runs { (network : Network) → Are network self.old → IsRunning (served network.station.services network.station) self.new.power }
+        ensures other { self.new.other ≡ self.old.other }
+        ensures demo { IsDemo self.old.power → IsDemo self.new.power }
+        ensures done { result ≡ Ok true }
+    {
+        match &mut self.power {
+            Power::On(demo) => demo.serve(),
+            Power::Off(..) | Power::Away => {}
+        }
+        Ok(true)
     }
 
     /// Makes the plan of a catalogue, for the next controller.
@@ -374,7 +391,7 @@ impl<'a> Session<'a> {
     {
         match &mut self.power {
             Power::On(device) => exchange(device, &mut self.outbox, &mut self.other, text),
-            Power::Off(_, _) | Power::Away => text.extend_from_slice(b"off\n"),
+            Power::Off(..) | Power::Away => text.extend_from_slice(b"off\n"),
         }
     }
 }
@@ -383,7 +400,7 @@ impl<'a> Session<'a> {
 fn answered(
     power: &mut Power<'_>,
     event: &Event,
-    outbox: &mut Outbox,
+    outbox: &mut StationOutbox,
     other: &mut OtherEnd,
     text: &mut Vec<u8>,
 ) -> Result<(), AllocError>
@@ -395,7 +412,7 @@ fn answered(
 {
     match power {
         Power::On(device) => respond(device, event, outbox, other, text),
-        Power::Off(_, _) | Power::Away => text.extend_from_slice(b"off\n"),
+        Power::Off(..) | Power::Away => text.extend_from_slice(b"off\n"),
     }
 }
 

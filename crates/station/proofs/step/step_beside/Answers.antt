@@ -39,6 +39,6 @@ returns g c =
       identify = e.identify;
       repeated = e.again;
     } in
-    station_goes_on g.F.Flash c.args.device.now c.step-note.new.self c.args.event.now _ c.step-note.result alone c.args.services.now c.args.identity.now c.attend-said.new.services c.observe.new.self
-    (boxed c.attend-said.new.outbox) c.attend-said.result c.requires (sym c.is_lost.ensures ∙ c.if-is_lost.false) c.attend-said.ensures.state c.attend-said.ensures.frames c.attend-said.ensures.note
+    station_goes_on g.F.Flash c.args.device.now c.step-note.new.self c.args.event.now _ c.step-note.result alone c.args.services.now c.identity.result.now c.attend-said.new.services c.observe.new.self
+    (boxed c.attend-said.new.outbox) c.attend-said.result (c.identity.ensures ∙ ap (λ s. s.identity) e.steps.same) (sym c.is_lost.ensures ∙ c.if-is_lost.false) c.attend-said.ensures.state c.attend-said.ensures.frames c.attend-said.ensures.note
     (c.observe.ensures.state ∙ ap (λ a. observed c.attend-said.new.services a) (c.address.ensures.value ∙ ap (λ s. s.suite.address) c.running.ensures))

@@ -1,5 +1,6 @@
+use Rattle.std.proofs.Common.{◌∙◌}
 use Rattle.script_runner.specs.session.Said.{said}
-use Rattle.script_runner.proofs.SessionObeying.{always_obeys, always_tells, if_there_obeys, if_there_tells}
+use Rattle.script_runner.proofs.SessionObeying.{always_obeys, always_tells, if_there_obeys, if_there_tells, serve_obeys}
 use Rattle.script_runner.proofs.session.whole.Session.answer.Goals as goal
 
 pub returns-in-Frame-clause-obeys : goal.returns-in-Frame-clause-obeys
@@ -45,3 +46,7 @@ returns-in-Alarm-clause-lost c handed there gone = rw c.in-Alarm.is (always_tell
 
 pub returns-in-Deliver-clause-lost : goal.returns-in-Deliver-clause-lost
 returns-in-Deliver-clause-lost c handed there gone = rw c.in-Deliver.is (if_there_tells _ _ _ (c.deliver.ensures.lost there gone) c.if_there-in-Deliver.ensures)
+
+pub returns-in-Serve-clause-obeys : goal.returns-in-Serve-clause-obeys
+unfolding said
+returns-in-Serve-clause-obeys c plans network right are plain = rw c.in-Serve.is (serve_obeys network _ _ _ (c.serve.ensures.runs network are) (c.serve.ensures.other ∙ are.1) c.serve.ensures.done)
