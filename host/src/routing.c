@@ -45,6 +45,22 @@ static int takes_other(const struct relation *relation, const struct routed *rou
     return routed->call.has_ar ? memcmp(routed->call.ar, relation->ar, 16) == 0 : memcmp(routed->call.activity, relation->activity, 16) == 0;
 }
 
+/* Whether a frame is of ICMP, in IPv4. */
+static int is_echo(const uint8_t *octets, size_t length)
+{
+    size_t at = length >= 18 && octets[12] == 0x81 && octets[13] == 0 ? 16 : 12;
+    return length > at + 11 && octets[at] == 0x08 && octets[at + 1] == 0 && octets[at + 11] == 1;
+}
+
+/* All controllers have one address. If its frame is for no station, the first of them answers for it. */
+static struct relation *find_any(struct relation *relations, unsigned count)
+{
+    for (unsigned i = 0; i < count; i++)
+        if (!relation_is_over(&relations[i]))
+            return &relations[i];
+    return NULL;
+}
+
 struct relation *routing_find(struct relation *relations, unsigned count, const uint8_t *octets, size_t length)
 {
     int is_real_time = wire_frame_id_at(octets, length) != 0;
@@ -60,5 +76,7 @@ struct relation *routing_find(struct relation *relations, unsigned count, const 
         if (is_real_time ? takes_real_time(relation, octets, length) : takes_other(relation, &routed))
             return relation;
     }
+    if (!is_real_time && (routed.is_arp || is_echo(octets, length)))
+        return find_any(relations, count);
     return NULL;
 }

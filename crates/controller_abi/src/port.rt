@@ -1,36 +1,37 @@
 //! A controller, and the frames of its last step that the host has not fetched yet.
 ghost use Rattle.std.specs.Prelude.{◌≡◌, false, option_map};
-ghost use Rattle.controller_core.specs.Machine.{fresh};
+ghost use Rattle.controller_station.specs.Served.{begun};
 ghost use Rattle.controller_abi.specs.Outputs.{output_at as output_in, output_of as output_in_module};
 ghost use Rattle.controller_abi.specs.State.{IsNext, advanced, after, has_frames, is_over as over, is_stopped as stops, opened};
 ghost use Rattle.controller_abi.specs.Steps.{Passes};
 
 use controller_core::{Controller, Event, State};
-use frame_codec::{Frame, Outbox};
+use controller_station::{ServedController, ServedOutbox};
+use frame_codec::Frame;
 use plans::Plan;
 use pn_values::{RealModule, RealSubmodule};
 use std::marker::Model;
 use uuid::Uuid;
 
-/// A controller, and the frames of its last step that the host has not fetched yet.
+/// A controller and the services of its address, and the frames of their last step that the host has not fetched yet.
 ///
 /// Events go in, one at a time, and after each the host fetches all frames.
 #[derive(Drop)]
 pub struct Port {
-    controller: Controller,
-    outbox: Outbox,
+    served: ServedController,
+    outbox: ServedOutbox,
     /// The number of frames in the outbox that the host has fetched.
     frames_past: usize,
 }
 
 impl Model for Port {
     ghost use Rattle.std.specs.Prelude.{drop};
-    ghost use Rattle.frame_codec.specs.Outbox.{boxed};
+    ghost use Rattle.controller_station.specs.Served.{in_order};
     ghost use Rattle.controller_abi.specs.State.{State};
 
     ghost Value = { State };
 
-    ghost view = { λ port. record { controller = port.controller; frames = drop port.frames_past (boxed port.outbox) } };
+    ghost view = { λ port. record { controller = port.served.controller; services = port.served.services; frames = drop port.frames_past (in_order port.outbox) } };
 }
 
 impl Port {
@@ -40,19 +41,18 @@ impl Port {
         ensures { result.controller.setup ≡ record { plan = plan; ar = ar; activity = activity } }
     {
         Port {
-            controller: Controller::unstarted(plan, ar, activity),
-            outbox: Outbox::new(),
+            served: ServedController::unstarted(plan, ar, activity),
+            outbox: ServedOutbox::new(),
             frames_past: 0,
         }
     }
 
     /// Starts the controller in place. Its opening frame waits to be fetched, and nothing else remains.
     pub fn start(&mut self)
-        ensures { self.new ≡ opened (fresh self.old.controller.setup.plan self.old.controller.setup.ar self.old.controller.setup.activity) }
+        ensures { self.new ≡ opened (begun self.old.controller.setup.plan self.old.controller.setup.ar self.old.controller.setup.activity) }
     {
-        self.controller.start();
-        self.outbox.clear();
-        self.controller.send_opening(&mut self.outbox);
+        self.served.start();
+        self.served.send_opening(&mut self.outbox);
         self.frames_past = 0;
     }
 
@@ -60,7 +60,7 @@ impl Port {
     pub fn controller(&self) -> &Controller
         ensures { result.now ≡ self.now.controller }
     {
-        &self.controller
+        self.served.controller()
     }
 
     /// Whether frames of the last step remain.
@@ -76,10 +76,7 @@ impl Port {
     pub fn next(&self) -> Option<&Frame>
         ensures { IsNext self.now.frames (option_map (λ frame. frame.now) result) }
     {
-        if self.frames_past < self.outbox.len() {
-            return Some(&self.outbox.as_slice()[self.frames_past]);
-        }
-        None
+        self.outbox.get(self.frames_past)
     }
 
     /// Marks that frame as fetched.
@@ -96,7 +93,7 @@ impl Port {
         ensures { result ≡ output_in slot subslot self.now.controller.setup.plan.real.modules.items }
     {
         output_at(
-            self.controller.plan().real().modules.as_slice(),
+            self.controller().plan().real().modules.as_slice(),
             slot,
             subslot,
         )
@@ -109,7 +106,7 @@ impl Port {
     pub fn take(&mut self, event: &Event)
         ensures { self.new ≡ after self.old event.now }
     {
-        self.controller.step(event, &mut self.outbox);
+        self.served.step(event, &mut self.outbox);
         self.frames_past = 0;
     }
 
@@ -118,7 +115,7 @@ impl Port {
         requires { has_frames self.old.frames ≡ false }
         ensures { Passes self.old units result self.new }
     {
-        let was_over = is_over(self.controller.state());
+        let was_over = is_over(self.controller().state());
         for passed in 0..units {
             if self.is_stopped(was_over) {
                 return units - passed;
@@ -132,7 +129,7 @@ impl Port {
     fn is_stopped(&self, was_over: bool) -> bool
         ensures { result ≡ stops was_over self.now }
     {
-        self.has_work() || (!was_over && is_over(self.controller.state()))
+        self.has_work() || (!was_over && is_over(self.controller().state()))
     }
 }
 

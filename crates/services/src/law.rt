@@ -1,8 +1,11 @@
 //! Laws of the services. No code is involved.
-ghost use Rattle.std.specs.Prelude.{◌≡◌, ◌+◌, ◌<◌, ◌==◌, ◌||◌, ℕ, List, true, false, nat_eq};
+ghost use Rattle.std.specs.Prelude.{◌≡◌, ◌+◌, ◌<◌, ◌==◌, ◌||◌, ℕ, List, true, false, nat_eq, Ok, Err};
 ghost use Rattle.std.specs.Cmp.Lexicographic.{pointwise};
 ghost use Rattle.pn_values.specs.IpSuite.{is_zero};
+ghost use Rattle.frame_codec.specs.declared.fault.FrameFault.{FrameFault};
+ghost use Rattle.frame_codec.specs.Frame.{frame_of};
 ghost use Rattle.wire.specs.Codec.{IsSoundWhole};
+ghost use Rattle.services.specs.Echo.{Request, request_of};
 ghost use Rattle.services.specs.Message.{echo};
 ghost use Rattle.services.specs.State.{State, is_defended, is_due, observed, ticked};
 ghost use Rattle.services.specs.Run.{Event, KeepsAddress, after, ticks_in};
@@ -30,4 +33,10 @@ pub fn defences_are_rare()
 pub fn echo_formats_are_sound()
     // The format of an echo message of any type in its packet is sound.
     ensures { (kind : ℕ) → IsSoundWhole (echo kind) }
+{}
+
+/// An echo request is neither real-time data nor ARP nor UDP.
+pub fn echo_requests_are_no_other_frames()
+    // What is read as an echo request is read as no frame of a device or a controller.
+    ensures { (octets : List ℕ) (request : Request) → request_of octets ≡ Ok request → (fault : FrameFault) × (frame_of octets ≡ Err fault) }
 {}

@@ -20,6 +20,9 @@ mod reply;
 mod unserved;
 
 pub use announcement::{Announcement, Role};
-pub use law::{addresses_are_announced_twice, defences_are_rare, echo_formats_are_sound};
+pub use law::{
+    addresses_are_announced_twice, defences_are_rare, echo_formats_are_sound,
+    echo_requests_are_no_other_frames,
+};
 pub use machine::Services;
 pub use unserved::{Refusal, Rejection};
