@@ -13,6 +13,7 @@ mod lines;
 mod makers;
 mod operations;
 mod rows;
+mod served;
 
 /// The Set of the station's name, permanent, and what is printed of one that is done, as long as there is no controller.
 const SET_PUMP_1: &str =

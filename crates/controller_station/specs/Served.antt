@@ -1,0 +1,93 @@
+-- A controller and the services of its address.
+use Rattle.std.specs.Prelude.{◌&&◌, ◌||◌, not, ℕ, Bool, List, [], ◌∷◌, Option, Some, None, nat_eq}
+use Rattle.std.specs.Cmp.Lexicographic.{pointwise}
+use Rattle.pn_values.specs.declared.mac.Mac.{Mac}
+use Rattle.pn_values.specs.IpSuite.{is_zero}
+use Rattle.frame_codec.specs.declared.arp.Arp.{Arp}
+use Rattle.services.specs.declared.announcement.Role.TheVariants as role
+use Rattle.services.specs.State.{State as Services, broadcast, sent_by_tick, started, ticked}
+use Rattle.services.specs.Answer.{answer_to, heard, is_request}
+use Rattle.plans.specs.declared.parts.Controller.{Controller}
+use Rattle.plans.specs.declared.parts.Parts.{Parts}
+use Rattle.controller_core.specs.declared.event.Event.{Event}
+use Rattle.controller_core.specs.declared.event.Event.TheVariants.{Frame, Tick, Give, Stop}
+use Rattle.controller_core.specs.Machine.{fresh}
+use Rattle.controller_core.specs.State.{Controlling}
+
+-- The controller, and its services.
+pub record Served : Type 0 where
+  pub controller : Controlling
+  pub services : Services
+
+-- The frames that an event sends: those of the controller, and those of the services, which are sent after them.
+pub record Frames : Type 0 where
+  pub controller : List (List ℕ)
+  pub services : List (List ℕ)
+
+-- Nothing is sent.
+abbrev pub no_frames : Frames
+no_frames = record { controller = []; services = [] }
+
+-- The list of a frame, if there is one.
+abbrev pub frames_in : Option (List ℕ) → List (List ℕ)
+frames_in None = []
+frames_in (Some frame) = frame ∷ []
+
+-- Only this answer of the services is sent, if there is one.
+abbrev pub only : Option (List ℕ) → Frames
+only answer = record { controller = []; services = frames_in answer }
+
+-- Only the services send, and only this frame.
+abbrev pub by_services : List ℕ → Frames
+by_services frame = record { controller = []; services = frame ∷ [] }
+
+-- The controller of a plan, with this ARUUID and this activity, and the services of its address in the plan.
+abbrev pub begun : Parts → List ℕ → List ℕ → Served
+begun plan ar activity = record {
+  controller = fresh plan ar activity;
+  services = started role.Controller plan.controller.mac plan.controller.address;
+}
+
+-- ---- a step of the services
+
+-- What the services send for a frame to which the controller sends these frames: their answer, if the controller sends
+-- none.
+abbrev pub beside_frame : Services → List ℕ → List (List ℕ) → List (List ℕ)
+beside_frame services octets [] = frames_in (answer_to services octets)
+beside_frame services octets (frame ∷ frames) = []
+
+-- What the services send at an event at which the controller sends these frames.
+abbrev pub beside : Services → Event → List (List ℕ) → List (List ℕ)
+beside services (Frame octets) frames = beside_frame services octets.items frames
+beside services Tick frames = frames_in (sent_by_tick services)
+beside services (Give slot subslot value) frames = []
+beside services Stop frames = []
+
+-- The services after a frame to which the controller sends these frames.
+abbrev pub after_frame : Services → List ℕ → List (List ℕ) → Services
+after_frame services octets [] = heard services octets
+after_frame services octets (frame ∷ frames) = services
+
+-- The services after an event at which the controller sends these frames.
+abbrev pub services_after : Services → Event → List (List ℕ) → Services
+services_after services (Frame octets) frames = after_frame services octets.items frames
+services_after services Tick frames = ticked services
+services_after services (Give slot subslot value) frames = services
+services_after services Stop frames = services
+
+-- ---- what is answered, by the plan
+
+-- Whether this is the controller's address, and not all zeros.
+abbrev pub is_running : Controller → List ℕ → Bool
+is_running controller address = pointwise nat_eq address controller.address && not (is_zero address)
+
+-- Whether this is the controller's MAC address.
+abbrev pub is_own : Controller → Mac → Bool
+is_own controller mac = pointwise nat_eq mac.octets controller.mac.octets
+
+-- Whether a packet of ARP to this destination asks for the controller's address, and goes to the controller or to all.
+abbrev pub is_sought : Served → Mac → Arp → Bool
+is_sought served destination packet =
+    let controller = served.controller.setup.plan.controller in
+    is_request packet.operation && (is_own controller destination || pointwise nat_eq destination.octets broadcast)
+    && is_running controller packet.target.address

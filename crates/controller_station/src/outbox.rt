@@ -1,0 +1,55 @@
+//! The frames that one event of a controller and its services sends.
+ghost use Rattle.std.specs.Prelude.{◌≡◌, ◌≤◌, length, map};
+ghost use Rattle.controller_station.specs.Served.{no_frames};
+
+use frame_codec::{Frame, Outbox};
+use std::marker::Model;
+
+/// The frames that one event sends: those of the controller, and then those of the services. Clauses see it as two lists
+/// of frames.
+#[derive(Drop)]
+pub struct ServedOutbox {
+    pub(crate) controller: Outbox,
+    pub(crate) services: Outbox,
+}
+
+impl Model for ServedOutbox {
+    ghost use Rattle.frame_codec.specs.Outbox.{boxed};
+    ghost use Rattle.controller_station.specs.Served.{Frames};
+
+    ghost Value = { Frames };
+
+    ghost view = { λ outbox. record { controller = boxed outbox.controller; services = boxed outbox.services } };
+}
+
+impl ServedOutbox {
+    /// An empty outbox.
+    pub fn new() -> ServedOutbox
+        ensures { result ≡ no_frames }
+    {
+        ServedOutbox {
+            controller: Outbox::new(),
+            services: Outbox::new(),
+        }
+    }
+
+    /// The frames of the controller, in order. They are sent first.
+    pub fn controller(&self) -> &[Frame]
+        // The result is the frames of the controller.
+        ensures value { map (λ frame. frame.items) result.now ≡ self.now.controller }
+        // There are at most four frames.
+        ensures most { length result.now ≤ 4 }
+    {
+        self.controller.as_slice()
+    }
+
+    /// The frames of the services, in order. They are sent after those of the controller.
+    pub fn services(&self) -> &[Frame]
+        // The result is the frames of the services.
+        ensures value { map (λ frame. frame.items) result.now ≡ self.now.services }
+        // There are at most four frames.
+        ensures most { length result.now ≤ 4 }
+    {
+        self.services.as_slice()
+    }
+}

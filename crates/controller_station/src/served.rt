@@ -1,0 +1,189 @@
+//! A controller and its services.
+ghost use Rattle.std.specs.Prelude.{◌≡◌, ◌≤◌, [], ℕ, List, true, false, length};
+ghost use Rattle.pn_values.specs.declared.mac.Mac.{Mac};
+ghost use Rattle.frame_codec.specs.declared.arp.Arp.{Arp};
+ghost use Rattle.frame_codec.specs.Frame.{frame_bytes, frame_of};
+ghost use Rattle.frame_codec.specs.Meaning.{ArpPacket, Meaning};
+ghost use Rattle.frame_codec.specs.Outbox.{boxed};
+ghost use Rattle.services.specs.Answer.{answer_to, arp_reply_of, heard};
+ghost use Rattle.services.specs.State.{sent_by_tick, ticked};
+ghost use Rattle.controller_frames.specs.Heard.{Nothing, heard_of};
+ghost use Rattle.controller_core.specs.Machine.{opening_of, step_of};
+ghost use Rattle.controller_core.specs.declared.event.Event.TheVariants.{Frame as Framed};
+ghost use Rattle.controller_station.specs.Served.{after_frame, begun, beside, beside_frame, by_services, frames_in, is_sought, no_frames, only, services_after};
+
+use crate::ServedOutbox;
+use controller_core::{Controller, Event};
+use frame_codec::{Frame, Outbox, read_real_time};
+use plans::Plan;
+use rpc_core::Uuid;
+use services::{Role, Services};
+use std::marker::Model;
+
+/// A controller and the services of its IP address. In clauses it is both.
+#[derive(Drop)]
+pub struct ServedController {
+    controller: Controller,
+    services: Services,
+}
+
+impl Model for ServedController {
+    ghost use Rattle.std.specs.Prelude.{◌≡◌};
+    ghost use Rattle.services.specs.declared.announcement.Role.TheVariants.{Controller};
+    ghost use Rattle.controller_station.specs.Served.{Served};
+
+    ghost Value = { Served };
+
+    ghost view = { λ served. record { controller = served.controller; services = served.services } };
+
+    ghost invariant = { λ served.
+        (served.services.role ≡ Controller)
+        × (served.services.mac ≡ served.controller.setup.plan.controller.mac)
+        × (served.services.address ≡ served.controller.setup.plan.controller.address) };
+}
+
+impl ServedController {
+    /// The controller of a plan, with the ARUUID of its relation, which is not zero, and the activity of its calls, and
+    /// the services of the plan's address of the controller. Its opening frame counts as sent.
+    pub fn new(plan: Plan, ar: Uuid, activity: Uuid) -> ServedController
+        ensures { result ≡ begun plan ar activity }
+    {
+        let mac = plan.controller().mac;
+        let address = plan.controller().address;
+        ServedController {
+            controller: Controller::new(plan, ar, activity),
+            services: Services::new(Role::Controller, mac, address),
+        }
+    }
+
+    /// The Identify frame with which it begins.
+    pub fn opening(&self) -> Frame
+        ensures { result.items ≡ opening_of self.now.controller }
+    {
+        self.controller.opening()
+    }
+
+    /// The controller.
+    pub fn controller(&self) -> &Controller
+        ensures { result.now ≡ self.now.controller }
+    {
+        &self.controller
+    }
+
+    /// How many frames of ARP came from another station that uses the controller's address.
+    pub fn conflicts(&self) -> u64
+        ensures { result ≡ self.now.services.conflicts }
+    {
+        self.services.conflicts()
+    }
+
+    /// Handles one event, and replaces the content of the outbox by the frames to be sent.
+    pub fn step(&mut self, event: &Event, outbox: &mut ServedOutbox)
+        // The controller is the controller alone after this event.
+        ensures controller { self.new.controller ≡ (step_of self.old.controller event.now).controller }
+        // The services receive a frame that the controller does not answer, and each tick.
+        ensures services { self.new.services
+            ≡ services_after self.old.services event.now (step_of self.old.controller event.now).frames }
+        // The controller sends what the controller alone sends, in the same order.
+        ensures frames { outbox.new.controller ≡ (step_of self.old.controller event.now).frames }
+        // For a frame the services send their answer, and nothing if the controller sends anything. In a tick they send
+        // theirs.
+        ensures beside { outbox.new.services
+            ≡ beside self.old.services event.now (step_of self.old.controller event.now).frames }
+        // The services send at most one frame.
+        ensures few { length outbox.new.services ≤ 1 }
+        // Whatever the controller does: a request of ARP for its address, to it or to all, is answered by this reply, and
+        // by nothing else.
+        ensures arp { (octets : List ℕ) (meaning : Meaning) (packet : Arp) → event.now ≡ Framed (record { items = octets }) →
+            frame_of octets ≡ Ok meaning → meaning.content ≡ ArpPacket packet → is_sought self.old meaning.destination packet ≡ true →
+            outbox.new ≡ by_services (frame_bytes (arp_reply_of self.old.controller.setup.plan.controller.mac
+            self.old.controller.setup.plan.controller.address meaning.source packet.sender)) }
+        // No other packet of ARP is answered: none for another address, none to another station, and no reply.
+        ensures arp_dropped { (octets : List ℕ) (meaning : Meaning) (packet : Arp) → event.now ≡ Framed (record { items = octets }) →
+            frame_of octets ≡ Ok meaning → meaning.content ≡ ArpPacket packet → is_sought self.old meaning.destination packet ≡ false →
+            outbox.new ≡ no_frames }
+        // What the controller drops goes to the services, and their answer is all that is sent.
+        ensures dropped { (octets : List ℕ) → event.now ≡ Framed (record { items = octets }) →
+            heard_of self.old.controller.setup.plan.controller octets ≡ Nothing →
+            outbox.new ≡ only (answer_to self.old.services octets) }
+    {
+        advance(
+            &mut self.controller,
+            &mut self.services,
+            event,
+            &mut outbox.controller,
+            &mut outbox.services,
+        );
+    }
+}
+
+/// One event at the controller, and then at the services.
+fn advance(
+    controller: &mut Controller,
+    services: &mut Services,
+    event: &Event,
+    sent: &mut Outbox,
+    outbox: &mut Outbox,
+)
+    ensures controller { controller.new ≡ (step_of controller.old event.now).controller }
+    ensures services { services.new ≡ services_after services.old event.now (step_of controller.old event.now).frames }
+    ensures frames { boxed sent.new ≡ (step_of controller.old event.now).frames }
+    ensures beside { boxed outbox.new ≡ beside services.old event.now (step_of controller.old event.now).frames }
+{
+    controller.step(event, sent);
+    outbox.clear();
+    match event {
+        Event::Frame(bytes) => hear_beside(services, bytes.as_slice(), sent, outbox),
+        Event::Tick => tick_beside(services, outbox),
+        Event::Give(_, _, _) | Event::Stop => {}
+    }
+}
+
+/// A frame for which the controller sent these frames: only if it sent none, the services receive it.
+#[inline(always)]
+fn hear_beside(services: &mut Services, bytes: &[u8], sent: &Outbox, outbox: &mut Outbox)
+    requires empty { outbox.old.items ≡ [] }
+    ensures services { services.new ≡ after_frame services.old bytes.now (boxed sent.now) }
+    ensures frames { boxed outbox.new ≡ beside_frame services.old bytes.now (boxed sent.now) }
+{
+    if sent.len() == 0 {
+        hear(services, bytes, outbox);
+    }
+}
+
+/// A frame that the controller did not answer.
+#[inline(always)]
+fn hear(services: &mut Services, bytes: &[u8], outbox: &mut Outbox)
+    requires empty { outbox.old.items ≡ [] }
+    ensures services { services.new ≡ heard services.old bytes.now }
+    ensures frames { boxed outbox.new ≡ frames_in (answer_to services.old bytes.now) }
+{
+    match read_real_time(bytes) {
+        // Most frames are cyclic data, which no service accepts: they are not read twice.
+        Some(_) => {}
+        None => serve(services, bytes, outbox),
+    }
+}
+
+/// A frame that is not of real-time data.
+#[inline(never)]
+fn serve(services: &mut Services, bytes: &[u8], outbox: &mut Outbox)
+    requires empty { outbox.old.items ≡ [] }
+    ensures services { services.new ≡ heard services.old bytes.now }
+    ensures frames { boxed outbox.new ≡ frames_in (answer_to services.old bytes.now) }
+{
+    if let Some(frame) = services.hear(bytes) {
+        outbox.put_copy(&frame);
+    }
+}
+
+/// A unit of time is over.
+fn tick_beside(services: &mut Services, outbox: &mut Outbox)
+    requires empty { outbox.old.items ≡ [] }
+    ensures services { services.new ≡ ticked services.old }
+    ensures frames { boxed outbox.new ≡ frames_in (sent_by_tick services.old) }
+{
+    if let Some(frame) = services.tick() {
+        outbox.put_copy(&frame);
+    }
+}
