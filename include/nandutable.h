@@ -10,7 +10,7 @@
  *     pn_boot(&device, &op, first, second);       // the contents of the chip; the running settings are read from it
  *     for (;;) {
  *         pn_frame(&device, &op, octets, length); // or pn_tick, pn_input, pn_alarm
- *         pn_carry_out(&device, &op, &host);      // or pn_next, until no work remains
+ *         pn_carry_out(&device, &op, &host);      // or pn_next while work remains
  *     }
  *
  * Keep the order of the work: the library's promise depends on it. Complete each flash call durably before the next one, and all of them
@@ -69,7 +69,7 @@ enum {
 /* What the application relation waits for (pn_op.phase). */
 enum { PN_NONE = 0, PN_STARTED = 1, PN_AWAITING = 2, PN_EXCHANGING = 3 };
 
-/* The next piece of work (pn_op.work). */
+/* A piece of work (pn_op.work and pn_op.more). */
 enum {
     PN_NOTHING = 0, /* no work of the step remains */
     PN_PROGRAM = 1, /* program `length` octets of `octets` into `sector`, from `place` on */
@@ -149,7 +149,8 @@ typedef struct pn_op {
     uint32_t units;   /* pn_tick: remaining units; pn_state: units for which the lamp still flashes */
     uint32_t note;    /* PN_DONE .. */
     uint32_t phase;   /* PN_NONE .. */
-    uint32_t work;    /* PN_NOTHING .. */
+    uint32_t work;    /* PN_NOTHING ..: after an event the next piece of work, after pn_next the one that it handed out */
+    uint32_t more;    /* PN_NOTHING ..: after pn_next the piece of work after the one that it handed out */
     uint32_t sector;  /* 0 or 1 */
     uint32_t place;   /* the first octet of a program call in its sector; pn_taken: a number, then the record's index; pn_left */
     uint32_t length;  /* how many of `octets` are valid */
@@ -171,9 +172,9 @@ typedef struct pn_device {
 
 /* The sizes that the library was built with. */
 #if defined(__cplusplus)
-static_assert(sizeof(pn_op) == 1560 && sizeof(pn_station) == 1500, "another layout than the library's");
+static_assert(sizeof(pn_op) == 1564 && sizeof(pn_station) == 1500, "another layout than the library's");
 #else
-_Static_assert(sizeof(pn_op) == 1560 && sizeof(pn_station) == 1500, "another layout than the library's");
+_Static_assert(sizeof(pn_op) == 1564 && sizeof(pn_station) == 1500, "another layout than the library's");
 #endif
 
 /* The settings that survive a power failure. */
@@ -271,12 +272,13 @@ static inline uint32_t pn_boot(pn_device *device, pn_op *op, const uint8_t first
     return pn_ask(device, op, PN_OP_BOOT, NULL, 0);
 }
 
-/* --- Events. Each needs a booted device without remaining work, and sets `note`. After each, call pn_carry_out or pn_next. ---
+/* --- Events. Each needs a booted device without remaining work, and sets `note` and `work`. If `work` is not PN_NOTHING, call
+ * pn_carry_out, or pn_next while work remains. ---
  * They may return PN_NULL, PN_NOT_MADE, PN_NOT_BOOTED, PN_LOST, PN_HAS_WORK, and what each names. After such a number nothing was done:
  * `units` of pn_tick, for one, is still the number that was handed in. A loop must end on it. */
 
-/* Hands in a received frame: its octets from the destination address on, without the check sequence. The interface must accept the
- * device's address, the broadcast address and the group address 01-0E-CF-00-00-00. */
+/* Hands in a received frame: its octets from the destination address on, without the check sequence. They are only read during the call.
+ * The interface must accept the device's address, the broadcast address and the group address 01-0E-CF-00-00-00. */
 static inline uint32_t pn_frame(pn_device *device, pn_op *op, const uint8_t *octets, size_t length)
 {
     return pn_ask(device, op, PN_OP_FRAME, octets, length);
@@ -318,7 +320,8 @@ static inline uint32_t pn_alarm(pn_device *device, pn_op *op, uint16_t slot, uin
 
 /* Hands out the next piece of work of the last event, each once: the flash calls in their order, then the frames. Sets `work`, and what
  * belongs to it: `sector`, `place`, `length` and `octets` of PN_PROGRAM, `sector` of PN_ERASE, `length` and `octets` of PN_SEND; `length`
- * is 0 with PN_ERASE and PN_NOTHING. May return PN_NULL, PN_NOT_MADE, PN_NOT_BOOTED, PN_LOST. */
+ * is 0 with PN_ERASE and PN_NOTHING. Sets `more` to the kind of the piece after it; with PN_NOTHING no work remains.
+ * May return PN_NULL, PN_NOT_MADE, PN_NOT_BOOTED, PN_LOST. */
 static inline uint32_t pn_next(pn_device *device, pn_op *op)
 {
     return pn_ask(device, op, PN_OP_NEXT, NULL, 0);
@@ -351,15 +354,16 @@ static inline uint32_t pn_failed(pn_device *device, pn_op *op)
     return answer == PN_OK ? (uint32_t)PN_FLASH_FAULT : answer;
 }
 
-/* Takes all work and does it. May return PN_NULL (also for a function of `host`), PN_NOT_MADE, PN_NOT_BOOTED, PN_FLASH_FAULT (nothing
- * more is done; make and boot the device again), PN_LOST, PN_NOT_SENT (a frame was lost, as it could be on the wire; there is no other
- * effect). */
+/* Takes all work of an event and does it, with the operation of the event. It does nothing if `work` of the operation is PN_NOTHING, and
+ * sets it to PN_NOTHING when all work is done. May return PN_NULL (also for a function of `host`), PN_NOT_MADE, PN_NOT_BOOTED,
+ * PN_FLASH_FAULT (nothing more is done; make and boot the device again), PN_LOST, PN_NOT_SENT (a frame was lost, as it could be on the
+ * wire; there is no other effect). */
 static inline uint32_t pn_carry_out(pn_device *device, pn_op *op, const pn_host *host)
 {
     uint32_t answer, sent = PN_OK;
-    if (host == NULL || host->program == NULL || host->erase == NULL || host->send == NULL)
+    if (device == NULL || op == NULL || host == NULL || host->program == NULL || host->erase == NULL || host->send == NULL)
         return PN_NULL;
-    for (;;) {
+    for (; op->work != PN_NOTHING; op->work = op->more) {
         answer = pn_next(device, op);
         if (answer != PN_OK)
             return answer;
@@ -380,6 +384,7 @@ static inline uint32_t pn_carry_out(pn_device *device, pn_op *op, const pn_host 
             return sent;
         }
     }
+    return sent;
 }
 
 /* --- Reading a device. Each function needs a booted device, with or without remaining work, and changes nothing in it. They may return

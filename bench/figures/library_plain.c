@@ -169,6 +169,7 @@ static void next(struct device *device, pn_op *op)
         op->length = frame->length;
         memcpy(op->octets, frame->octets, frame->length);
     }
+    op->more = waiting(device);
 }
 
 static uint32_t input(struct device *device, const uint8_t *given, size_t length)

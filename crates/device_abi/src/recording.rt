@@ -3,4 +3,4 @@
 
 mod recorded_step;
 
-pub use recorded_step::step;
+pub use recorded_step::{step, step_frame};

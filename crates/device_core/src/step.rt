@@ -32,7 +32,7 @@ use device_frames::{
     send_ready_again,
 };
 use flash_model::Flash;
-use frame_codec::{Bytes, ContentKind, OpenFrame, Outbox, RealTimeFrame, datagram_at, packet_at};
+use frame_codec::{ContentKind, OpenFrame, Outbox, RealTimeFrame, datagram_at, packet_at};
 use pn_alarms::{Abort, Header, Message, PduFate, read_message};
 use pn_values::Mac;
 use relations::{DataExchange, Elapsed, Received};
@@ -70,6 +70,25 @@ impl<F: Flash<S>, const S: usize> Device<F, S> {
         self.respond(event, outbox)
     }
 
+    /// Handles a received frame, which is only read and not kept: it does what `step` does with the event of these octets.
+    pub fn step_frame(&mut self, octets: &[u8], outbox: &mut Outbox) -> Note
+        ensures steps { Steps F.Flash self.old (heard_of self.old.station.identity (Frame (record { items = octets.now }))) (boxed outbox.new)
+            result self.new }
+
+        // If the failure counter of the flash, below 2^64 - 1, does not rise, the step is exactly the specified one. Over a
+        // reliable flash with no failed commit it always is, the flash stays reliable, and no commit fails.
+        ensures exact { F.failures self.new.flash ≡ F.failures self.old.flash → F.failures self.old.flash < 2 ^ 64 - 1 →
+            IsExactStep self.old (Frame (record { items = octets.now })) (boxed outbox.new) result self.new }
+        ensures reliable { F.is_reliable self.old.flash → self.old.live.values.has_failed ≡ false →
+            F.is_reliable self.new.flash × (self.new.live.values.has_failed ≡ false)
+            × IsExactStep self.old (Frame (record { items = octets.now })) (boxed outbox.new) result self.new }
+    {
+        // Using a field makes the invariant known here.
+        let _ = &self.identity;
+        outbox.clear(); // as `step` does
+        self.hear(octets, outbox)
+    }
+
     // The outcome of an event.
     fn respond(&mut self, event: &Event, outbox: &mut Outbox) -> Note
         requires empty { outbox.old.items ≡ [] }
@@ -84,7 +103,7 @@ impl<F: Flash<S>, const S: usize> Device<F, S> {
             Event::Alarm(slot, subslot, octets) => {
                 self.raise(*slot, *subslot, octets.as_slice(), outbox)
             }
-            Event::Frame(bytes) => self.hear(bytes, outbox),
+            Event::Frame(bytes) => self.hear(bytes.as_slice(), outbox),
         }
     }
 
@@ -92,15 +111,16 @@ impl<F: Flash<S>, const S: usize> Device<F, S> {
     // ones are handled in functions of their own: when both were opened as one, the addresses were copied to memory for
     // cyclic frames too.
     #[inline(never)]
-    fn hear(&mut self, bytes: &Bytes, outbox: &mut Outbox) -> Note
+    fn hear(&mut self, octets: &[u8], outbox: &mut Outbox) -> Note
         requires stored { Holds (F.image self.old.flash) self.old.live.values }
         requires empty { outbox.old.items ≡ [] }
-        ensures steps { Steps F.Flash self.old (heard_of self.old.station.identity (Frame bytes.now)) (boxed outbox.new) result self.new }
+        ensures steps { Steps F.Flash self.old (heard_of self.old.station.identity (Frame (record { items = octets.now }))) (boxed outbox.new)
+            result self.new }
         ensures reliable { StaysReliable F.Flash self.old self.new }
     {
-        match real_time_in(bytes) {
+        match real_time_in(octets) {
             Some(frame) => self.hear_real_time(&frame, outbox),
-            None => self.hear_other(bytes, outbox),
+            None => self.hear_other(octets, outbox),
         }
     }
 
@@ -124,14 +144,15 @@ impl<F: Flash<S>, const S: usize> Device<F, S> {
 
     // A frame that is not a frame of real-time data.
     #[inline(never)]
-    fn hear_other(&mut self, bytes: &Bytes, outbox: &mut Outbox) -> Note
+    fn hear_other(&mut self, octets: &[u8], outbox: &mut Outbox) -> Note
         requires stored { Holds (F.image self.old.flash) self.old.live.values }
         requires empty { outbox.old.items ≡ [] }
-        requires other { IsNoRealTime (frame_of bytes.now.items) }
-        ensures steps { Steps F.Flash self.old (heard_of self.old.station.identity (Frame bytes.now)) (boxed outbox.new) result self.new }
+        requires other { IsNoRealTime (frame_of octets.now) }
+        ensures steps { Steps F.Flash self.old (heard_of self.old.station.identity (Frame (record { items = octets.now }))) (boxed outbox.new)
+            result self.new }
         ensures reliable { StaysReliable F.Flash self.old self.new }
     {
-        let Some(frame) = open_frame(bytes) else {
+        let Some(frame) = open_frame(octets) else {
             return Note::Fault;
         };
         match frame.kind {
@@ -197,7 +218,7 @@ impl<F: Flash<S>, const S: usize> Device<F, S> {
     }
 
     // A unit of time is over: the timers advance. If a timeout ends the relation, nothing more is done.
-    fn tick(&mut self, outbox: &mut Outbox) -> Note
+    pub(crate) fn tick(&mut self, outbox: &mut Outbox) -> Note
         requires empty { outbox.old.items ≡ [] }
         ensures state { self.new ≡ behind self.old (ticked self.old.live) }
         ensures frames { boxed outbox.new ≡ frames_of self.old (ticked self.old.live) }

@@ -34,6 +34,7 @@ fn asked(what: u32) -> Op {
         note: 0,
         phase: 0,
         work: 0,
+        more: 0,
         sector: 0,
         place: 0,
         length: 0,

@@ -46,7 +46,7 @@ fn station() -> Station {
 fn fault(change: fn(&mut Station)) -> u32 {
     let mut station = station();
     change(&mut station);
-    judge(81920, 2, 1560, &station)
+    judge(81920, 2, 1564, &station)
 }
 
 #[test]
@@ -92,7 +92,7 @@ fn each_fault_has_its_number() {
 #[test]
 fn another_header_or_a_small_room() {
     let station = station();
-    for (size, abi, op_size, wanted) in [(81920, 1, 1560, 2), (81920, 3, 1560, 2), (81920, 2, 1556, 2), (81919, 2, 1560, 3)] {
+    for (size, abi, op_size, wanted) in [(81920, 1, 1564, 2), (81920, 3, 1564, 2), (81920, 2, 1560, 2), (81919, 2, 1564, 3)] {
         assert_eq!(judge(size, abi, op_size, &station), wanted);
     }
 }

@@ -14,6 +14,7 @@ fn asked(what: u32) -> Op {
         note: 0,
         phase: 0,
         work: 0,
+        more: 0,
         sector: 0,
         place: 0,
         length: 0,
@@ -61,13 +62,36 @@ fn work_is_told() {
     let mut port = booted();
     let mut op = asked(3);
     assert_eq!(serve(&mut port, &mut op, &SET), 0);
-    assert_eq!(op.note, 0);
+    // The event says what comes first.
+    assert_eq!((op.note, op.work, op.more), (0, 2, 0));
     // The first base: its sector is erased, its 437 octets are programmed after its gate's, and the gate is closed.
-    for (work, length) in [(2, 0), (1, 437), (1, 1), (3, 60), (0, 0)] {
+    for (work, more, length) in [(2, 1, 0), (1, 1, 437), (1, 3, 1), (3, 0, 60), (0, 0, 0)] {
         let mut op = asked(7);
         assert_eq!(serve(&mut port, &mut op, &[]), 0);
-        assert_eq!((op.work, op.length), (work, length));
+        assert_eq!((op.work, op.more, op.length), (work, more, length));
     }
+}
+
+#[test]
+fn an_event_without_work_tells_none() {
+    let mut port = booted();
+    for what in [3, 4, 5] {
+        let mut op = asked(what);
+        op.work = 3;
+        op.units = 1000;
+        op.slot = 1;
+        op.subslot = 1;
+        assert_eq!(serve(&mut port, &mut op, &[1, 2]), 0);
+        assert_eq!(op.work, 0);
+    }
+}
+
+#[test]
+fn a_refused_event_tells_nothing() {
+    let mut op = asked(4);
+    op.units = 9;
+    assert_eq!(serve(&mut busy(), &mut op, &[]), 7);
+    assert_eq!((op.units, op.work), (9, 0));
 }
 
 #[test]

@@ -25,7 +25,7 @@ use Rattle.device_abi.specs.declared.port.device.Work.{Work}
 use Rattle.device_abi.specs.declared.port.device.Work.TheVariants.{Nothing, Carry, Send}
 use Rattle.device_abi.specs.declared.port.refusal.Refusal.{Refusal}
 use Rattle.device_abi.specs.port.Refusals.{refusal_number}
-use Rattle.device_abi.specs.port.State.{State, advanced, closed, lost}
+use Rattle.device_abi.specs.port.State.{State, advanced, closed, kind_of, lost, waiting}
 use Rattle.device_abi.specs.port.Steps.{Answers, KnowsOrNot, PassesOrNot, StartsOrNot}
 use Rattle.device_abi.specs.declared.operations.operation.Operation.{Operation}
 use Rattle.device_abi.specs.declared.operations.operation.Operation.TheVariants as operation
@@ -55,15 +55,15 @@ answer_of (Err refusal) = refusal_number refusal
 
 -- ---- events
 
--- The outcome of an event.
-abbrev pub noted : Result Note Refusal → Op → Op
-noted (Ok note) asked = record asked { note = note_number note }
-noted (Err refusal) asked = asked
+-- The outcome of an event, and the kind of the first piece of its work.
+abbrev pub noted : Result Note Refusal → State → Op → Op
+noted (Ok note) new asked = record asked { note = note_number note; work = waiting new.calls new.frames }
+noted (Err refusal) new asked = asked
 
--- An event was handled, and its outcome is reported, or it was refused and nothing changed.
+-- An event was handled, and its outcome is reported and what work it made, or it was refused and nothing changed.
 abbrev pub IsEvent : State → Event → Op → ℕ → State → Op → Type 0
 IsEvent old event asked answer new reported =
-    (result : Result Note Refusal) × Answers old event result new × (answer ≡ answer_of result) × (reported ≡ noted result asked)
+    (result : Result Note Refusal) × Answers old event result new × (answer ≡ answer_of result) × (reported ≡ noted result new asked)
 
 -- 9 if the slot or the subslot is not a number of 16 bits: nothing is plugged there.
 abbrev pub IsInput : Option (ℕ × ℕ) → State → List ℕ → Op → ℕ → State → Op → Type 0
@@ -76,16 +76,16 @@ IsAlarm (Some place) old given asked answer new reported =
     IsEvent old (Alarm place.0 place.1 (record { items = take 1519 given })) asked answer new reported
 IsAlarm None old given asked answer new reported = (answer ≡ 9) × (new ≡ old) × (reported ≡ asked)
 
--- The number of units that remain. The note is 0, done.
-abbrev pub passed : Result ℕ Refusal → Op → Op
-passed (Ok left) asked = record asked { units = left; note = 0 }
-passed (Err refusal) asked = asked
+-- The number of units that remain, and the kind of the first piece of work. The note is 0, done.
+abbrev pub passed : Result ℕ Refusal → State → Op → Op
+passed (Ok left) new asked = record asked { units = left; note = 0; work = waiting new.calls new.frames }
+passed (Err refusal) new asked = asked
 
 -- The units of time that are asked for passed, and the number that remains is reported, or none passed and nothing
 -- changed.
 abbrev pub IsTick : State → Op → ℕ → State → Op → Type 0
 IsTick old asked answer new reported =
-    (result : Result ℕ Refusal) × PassesOrNot old asked.units result new × (answer ≡ answer_of result) × (reported ≡ passed result asked)
+    (result : Result ℕ Refusal) × PassesOrNot old asked.units result new × (answer ≡ answer_of result) × (reported ≡ passed result new asked)
 
 -- ---- a start
 
@@ -127,16 +127,23 @@ IsHanded [] [] asked reported = reported ≡ with_nothing asked
 IsHanded [] (frame ∷ frames) asked reported = reported ≡ with_frame frame asked
 IsHanded (call ∷ calls) frames asked reported = IsCall call asked reported
 
+-- The kind of a piece of work: 0 if it is none, 1 for a program call, 2 for an erase, 3 for a frame.
+abbrev pub work_kind : Work → ℕ
+work_kind Nothing = 0
+work_kind (Carry call) = kind_of (call_of call.now)
+work_kind (Send frame) = 3
+
 -- A piece of work as it is reported.
 abbrev pub IsPiece : Work → Op → Op → Type 0
 IsPiece Nothing asked reported = reported ≡ with_nothing asked
 IsPiece (Carry call) asked reported = IsCall (call_of call.now) asked reported
 IsPiece (Send frame) asked reported = reported ≡ with_frame frame.now.items asked
 
--- The next piece of work is reported and marked as fetched, if the port is open.
+-- The next piece of work is reported, and the kind of the one after it, and it is marked as fetched, if the port is open.
 abbrev pub IsNextOf : Option Refusal → State → Op → ℕ → State → Op → Type 0
 IsNextOf (Some refusal) old asked answer new reported = (answer ≡ refusal_number refusal) × (new ≡ old) × (reported ≡ asked)
-IsNextOf None old asked answer new reported = (answer ≡ 0) × IsHanded old.calls old.frames asked reported × (new ≡ advanced old)
+IsNextOf None old asked answer new reported =
+    (answer ≡ 0) × IsHanded old.calls old.frames (record asked { more = waiting new.calls new.frames }) reported × (new ≡ advanced old)
 
 -- Power is lost.
 abbrev pub IsLoss : State → ℕ → State → Type 0

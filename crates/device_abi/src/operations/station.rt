@@ -22,7 +22,7 @@ const ABI: u32 = 2;
 const ROOM: usize = 81920;
 
 /// The number of octets of an operation.
-const OP_SIZE: usize = 1560;
+const OP_SIZE: usize = 1564;
 
 /// The identity that a device has from the factory, and the modules that are plugged, at most 16.
 #[repr(C)]

@@ -12,7 +12,7 @@ ghost use Rattle.device_abi.specs.port.Steps.{Answers, KnowsOrNot, Passes, Passe
 ghost use Rattle.frame_codec.specs.Outbox.{boxed};
 
 use crate::port::{Refusal, Stage};
-use crate::{Recorded, RecordedFlash, step};
+use crate::{Recorded, RecordedFlash, step, step_frame};
 use device_core::{Device, Event, Note};
 use flash_model::Sector;
 use frame_codec::{Bytes, Frame, Outbox};
@@ -169,11 +169,13 @@ impl Port {
 
     /// Handles a received frame: its octets from the destination address on. Of a frame that is longer than any valid
     /// one only the first 1,519 octets are read.
-    #[inline(never)]
     pub fn frame(&mut self, octets: &[u8]) -> Result<Note, Refusal>
         ensures { Answers self.old (Framed (record { items = take 1519 octets.now })) result self.new }
     {
-        self.offer(&Event::Frame(first_of(octets)))
+        match self.barred() {
+            Some(refusal) => Err(refusal),
+            None => Ok(self.take_frame(at_most(octets, 1519))),
+        }
     }
 
     /// Sets the input of a submodule.
@@ -231,7 +233,7 @@ impl Port {
     }
 
     // The next piece of work.
-    fn next(&self) -> Work<'_>
+    pub(crate) fn next(&self) -> Work<'_>
         ensures { IsNext self.now result }
     {
         let recent = self.device.flash().recent();
@@ -373,6 +375,19 @@ impl Port {
         let before = counted(self.device.flash());
         let note = step(&mut self.device, event, &mut self.outbox);
         self.calls_past = older(before, self.device.flash());
+        self.frames_past = 0;
+        note
+    }
+
+    // The same with a received frame, which is only read.
+    fn take_frame(&mut self, octets: &[u8]) -> Note
+        requires { barred self.old ≡ None }
+        ensures { Takes self.old (Framed (record { items = octets.now })) result self.new }
+    {
+        let before = counted(self.device.flash());
+        let note = step_frame(&mut self.device, octets, &mut self.outbox);
+        let past = older(before, self.device.flash());
+        self.calls_past = past;
         self.frames_past = 0;
         note
     }

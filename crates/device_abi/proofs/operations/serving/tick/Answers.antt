@@ -2,4 +2,4 @@
 use Rattle.device_abi.proofs.operations.serving.tick.Goals as goal
 
 pub returns : goal.returns
-returns c = (c.tick.result, c.tick.ensures, c.passed.ensures.answer, c.passed.ensures.reported)
+returns c = (c.tick-outcome.result, c.tick-outcome.ensures, c.passed.ensures.answer, c.passed.ensures.reported)
