@@ -92,7 +92,8 @@ enum {
     PN_OP_STORED = 11,
     PN_OP_LOSE = 12,
     PN_OP_RECORD = 13,
-    PN_OP_LEFT = 14
+    PN_OP_LEFT = 14,
+    PN_OP_DUE = 15
 };
 
 /* A parameter record that a submodule accepts: its index, 0 to 32,767 and no other record's of the submodule, and its exact length, 1 to
@@ -146,7 +147,7 @@ typedef struct pn_op {
     uint32_t what;    /* PN_OP_SECTOR ..; the functions below set it */
     uint32_t slot;
     uint32_t subslot;
-    uint32_t units;   /* pn_tick: remaining units; pn_state: units for which the lamp still flashes */
+    uint32_t units;   /* pn_tick: remaining units; pn_due: units until something is due; pn_state: units for which the lamp still flashes */
     uint32_t note;    /* PN_DONE .. */
     uint32_t phase;   /* PN_NONE .. */
     uint32_t work;    /* PN_NOTHING ..: after an event the next piece of work, after pn_next the one that it handed out */
@@ -285,7 +286,8 @@ static inline uint32_t pn_frame(pn_device *device, pn_op *op, const uint8_t *oct
 }
 
 /* `units` units of time have passed (PN_UNIT_NS each; 0 is allowed). It stops after a unit that sends something: then `units` of the
- * operation is the remaining number, and `note` is PN_DONE. Take the work, and hand in the rest again. */
+ * operation is the remaining number, and `note` is PN_DONE. Take the work, and hand in the rest again. Units with which nothing is due
+ * pass at once, however many they are (pn_due). */
 static inline uint32_t pn_tick(pn_device *device, pn_op *op, uint32_t units)
 {
     if (op == NULL)
@@ -399,6 +401,20 @@ static inline uint32_t pn_output(const pn_device *device, pn_op *op, uint16_t sl
     op->slot = slot;
     op->subslot = subslot;
     return pn_read(device, op, PN_OP_OUTPUT);
+}
+
+/* How many units may pass until something is due: with the last of them, and with none before it, the device sends a frame, gives up an
+ * alarm, ends the relation, or turns the lamp off. It is also in `units` of the operation. 4,294,967,295 if no unit ever does any of these.
+ * An event may change it. So a host sleeps until that unit is over, or until the next event. */
+static inline uint32_t pn_due(const pn_device *device, pn_op *op, uint32_t *due)
+{
+    uint32_t answer;
+    if (due == NULL)
+        return PN_NULL;
+    answer = pn_read(device, op, PN_OP_DUE);
+    if (answer == PN_OK)
+        *due = op->units;
+    return answer;
 }
 
 /* What the application relation waits for (`phase`), and the number of units for which the lamp still flashes (`units`). */

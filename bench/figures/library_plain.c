@@ -192,10 +192,11 @@ uint32_t pn_step(void *room, pn_op *op, const uint8_t *given, size_t length)
     case PN_OP_SECTOR: return PN_OK;
     case PN_OP_BOOT: device->phase = PN_EXCHANGING; return PN_OK;
     case PN_OP_FRAME: op->note = hear(device, given, length); break;
-    case PN_OP_TICK: op->units = pass(device, op->units); op->note = PN_DONE; break;
+    case PN_OP_TICK: op->units = pass(device, op->units), op->note = PN_DONE; break;
     case PN_OP_INPUT: op->note = input(device, given, length); break;
     case PN_OP_NEXT: next(device, op); return PN_OK;
     case PN_OP_STATE: op->phase = device->phase, op->units = device->lamp; return PN_OK;
+    case PN_OP_DUE: op->units = device->until_sent < device->until_held ? device->until_sent : device->until_held; return PN_OK;
     default: return PN_UNKNOWN;
     }
     op->work = waiting(device);

@@ -188,6 +188,7 @@ int main(void)
     wants("a record before the start", pn_taken(&device, &op, 0), PN_NOT_BOOTED);
     wants("commits before the start", pn_left(&device, &op, &left), PN_NOT_BOOTED);
     wants("a loss before the start", pn_lose(&device, &op), PN_NOT_BOOTED);
+    wants("what is due before the start", pn_due(&device, &op, &left), PN_NOT_BOOTED);
     wants("no sector", pn_boot(&device, &op, NULL, erased), PN_NULL);
     op.sector = 0;
     wants("a short sector", pn_ask(&device, &op, PN_OP_SECTOR, erased, PN_SECTOR_SIZE - 1), PN_BAD_LENGTH);
@@ -204,13 +205,14 @@ int main(void)
         return 1;
     wants("a second start", pn_boot(&device, &op, erased, erased), PN_IS_BOOTED);
     wants("no operation", pn_ask(&device, &op, 0, NULL, 0), PN_UNKNOWN);
-    wants("another operation", pn_ask(&device, &op, 15, NULL, 0), PN_UNKNOWN);
+    wants("another operation", pn_ask(&device, &op, 16, NULL, 0), PN_UNKNOWN);
     wants("no operation's room", pn_frame(&device, NULL, set, sizeof set), PN_NULL);
     wants("no octets", pn_frame(&device, &op, NULL, 1), PN_NULL);
     wants("no device for a frame", pn_frame(NULL, &op, set, sizeof set), PN_NULL);
     wants("an output that is not plugged", pn_output(&device, &op, 9, 9), PN_NO_SLOT);
     wants("no place for settings", pn_running(&device, &op, NULL), PN_NULL);
     wants("no place for a number", pn_left(&device, &op, NULL), PN_NULL);
+    wants("no place for units", pn_due(&device, &op, NULL), PN_NULL);
     wants("no host", pn_carry_out(&device, &op, NULL), PN_NULL);
     for (unsigned i = 0; i < 3; i++) {
         pn_host lacking = failing;
@@ -270,6 +272,7 @@ int main(void)
     wants("what is stored after a loss", pn_stored(&device, &op, &settings), PN_LOST);
     wants("a record after a loss", pn_taken(&device, &op, 0), PN_LOST);
     wants("commits after a loss", pn_left(&device, &op, &left), PN_LOST);
+    wants("what is due after a loss", pn_due(&device, &op, &left), PN_LOST);
     ask_all("after a loss");
     wants("a start after a loss", pn_boot(&device, &op, erased, erased), PN_LOST);
     wants("a second loss", pn_lose(&device, &op), PN_LOST);

@@ -13,7 +13,7 @@
 #include <stdio.h>
 #include <string.h>
 
-/* Without a relation nothing is due at a unit of time, so many units may pass at once. */
+/* With a period: without a relation nothing is due at a unit of time, so many units may pass at once. */
 #define IDLE_MOST 320000u /* units: ten seconds */
 
 struct options {
@@ -219,6 +219,14 @@ static uint32_t tick(void *context, uint32_t units)
     return left;
 }
 
+static uint32_t due(void *context)
+{
+    struct device *device = context;
+    uint32_t units = 0;
+    loop_must(pn_due(&device->room, &device->op, &units), "pn_due");
+    return units;
+}
+
 static void take_frame(void *context, const uint8_t *octets, size_t length)
 {
     struct device *device = context;
@@ -353,8 +361,8 @@ static void usage(void)
          "  --mac MAC             the device's MAC address (default: that of the identity file, else the interface's)\n"
          "  --socket PATH         lines go in and out over this unix socket, and not over the standard streams\n"
          "  --socket-group GROUP  the members of this group may use the socket too, not only its owner\n"
-         "  --period US           the period in which time is handed in during a relation, 31 to 10000 microseconds; choose at most the\n"
-         "                        controller's interval (default: 250)\n"
+         "  --period US           hands in time in this period during a relation, 31 to 10000 microseconds, and not only when something is\n"
+         "                        due; choose at most the controller's interval (default: when something is due)\n"
          "  --realtime N          runs with this priority, 1 to 99, of the first-in first-out scheduler\n"
          "  --sets-per-second N   accepts at most N DCP Sets a second, 1 to 1000000, and drops the others (default: no limit)\n"
          "  --help, --version\n"
@@ -420,7 +428,6 @@ static void read_words(struct options *options, int count, char *words[])
     const struct command_line line = {known, usage, take_option};
     int first;
     memset(options, 0, sizeof *options);
-    options->shared.period = 250000;
     first = options_read(&line, &options->shared, options, count, words);
     if (first + 1 != count)
         options_misused(first == count ? "name a network interface" : "a device has only one interface", "");
@@ -476,6 +483,7 @@ static const struct events events = {.idle_most = IDLE_MOST,
                                      .look_each = SECOND,
                                      .is_over = is_over,
                                      .tick = tick,
+                                     .due = due,
                                      .look = look_at_state,
                                      .take_frame = take_frame,
                                      .commands = commands,

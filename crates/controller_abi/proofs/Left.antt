@@ -1,10 +1,13 @@
 -- The frames that remain after a position.
-use Rattle.std.proofs.Common.{◌≡◌, ◌+◌, ◌<◌, ◌≤◌, ℕ, suc, Bool, true, false, List, [], ◌∷◌, length, map, drop, get_or, sym, ap, subst, ◌∙◌, inl, inr, arith}
+use Rattle.std.proofs.Common.{◌≡◌, ◌+◌, ◌<◌, ◌≤◌, ℕ, suc, Bool, true, false, List, [], ◌∷◌, length, map, drop, get_or, refl, sym, ap, subst, ◌∙◌, inl, inr, arith}
 use Rattle.std.specs.Prelude.{nat_lt}
 use Rattle.std.proofs.lemmas.Bool.{cases_Bool, ltb-true, ltb-false}
 use Rattle.std.proofs.Math.ListN.{get_or-map}
 use Rattle.std.proofs.lemmas.List.{drop_more, drop_all, drop-drop, length-map}
+use Rattle.controller_core.specs.declared.event.Event.{Event}
 use Rattle.controller_core.specs.declared.event.Event.TheVariants.{Tick}
+use Rattle.controller_core.specs.Machine.{step_of}
+use Rattle.controller_core.specs.State.{Controlling}
 use Rattle.controller_abi.specs.State.{State, after, has_frames, is_stopped}
 use Rattle.controller_abi.specs.Steps.{Ticks}
 
@@ -42,3 +45,8 @@ pub one_more : (was_over : Bool) (units : ℕ) (old between new : State) → Tic
 one_more was_over units old between new ticks free takes =
     let more : suc units ≡ units + 1 = omega arith in
     subst (λ n. Ticks was_over n old new) more (between, ticks, free, takes)
+
+-- A step keeps the modules of the plan.
+pub modules_kept : (old : Controlling) (event : Event) → (step_of old event).controller.setup.plan.real ≡ old.setup.plan.real
+unfolding step_of
+modules_kept old event = refl

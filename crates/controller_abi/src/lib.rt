@@ -6,6 +6,6 @@ mod plan;
 mod port;
 mod serving;
 
-pub use plan::{WrittenPlan, WrittenRecord, fault_in, judge, start, unstarted};
+pub use plan::{WrittenPlan, WrittenRecord, fault_in, judge, port_of};
 pub use port::Port;
 pub use serving::serve;

@@ -107,25 +107,22 @@ pub fn judge(size: usize, abi: u32, op_size: usize, written: &WrittenPlan, ar: &
     0
 }
 
-/// The controller of this plan, with the ARUUID of its relation and the activity of its calls, before it starts. It is
-/// small to make, so it can be written where it stays: `start` then completes it in place.
+/// The controller of this plan, with the ARUUID of its relation and the activity of its calls. Its opening frame waits
+/// to be fetched.
 #[inline(always)]
-pub fn unstarted(written: &WrittenPlan, ar: &[u8; 16], activity: &[u8; 16]) -> Port
+pub fn port_of(written: &WrittenPlan, ar: &[u8; 16], activity: &[u8; 16]) -> Port
     requires { is_planned written.now ≡ true }
-    ensures { result.controller.setup ≡ record { plan = parts_of written.now; ar = ar.now; activity = activity.now } }
+    ensures { result ≡ opened (fresh (parts_of written.now) ar.now activity.now) }
 {
-    let Ok(plan) = planned(written) else {
-        unreachable!()
-    };
-    Port::unstarted(plan, Uuid::from_bytes(*ar), Uuid::from_bytes(*activity))
-}
-
-/// Starts the controller in place. Its opening frame waits to be fetched, and nothing else remains.
-#[inline(never)]
-pub fn start(port: &mut Port)
-    ensures { port.new ≡ opened (fresh port.old.controller.setup.plan port.old.controller.setup.ar port.old.controller.setup.activity) }
-{
-    port.start();
+    match planned(written) {
+        Ok(plan) => Port::new(
+            plan,
+            real_in(written),
+            Uuid::from_bytes(*ar),
+            Uuid::from_bytes(*activity),
+        ),
+        Err(_) => unreachable!(),
+    }
 }
 
 // ---- whether it is a valid plan

@@ -8,7 +8,7 @@ ghost use Rattle.controller_abi.specs.Steps.{Passes};
 use controller_core::{Controller, Event, State};
 use frame_codec::{Frame, Outbox};
 use plans::Plan;
-use pn_values::{RealModule, RealSubmodule};
+use pn_values::{Real, RealModule, RealSubmodule};
 use std::marker::Model;
 use uuid::Uuid;
 
@@ -18,42 +18,42 @@ use uuid::Uuid;
 #[derive(Drop)]
 pub struct Port {
     controller: Controller,
+    /// The modules of its plan.
+    real: Real,
     outbox: Outbox,
     /// The number of frames in the outbox that the host has fetched.
     frames_past: usize,
 }
 
 impl Model for Port {
-    ghost use Rattle.std.specs.Prelude.{drop};
+    ghost use Rattle.std.specs.Prelude.{◌≡◌, drop};
     ghost use Rattle.frame_codec.specs.Outbox.{boxed};
     ghost use Rattle.controller_abi.specs.State.{State};
 
     ghost Value = { State };
 
     ghost view = { λ port. record { controller = port.controller; frames = drop port.frames_past (boxed port.outbox) } };
+
+    ghost invariant = { λ port. port.real ≡ port.controller.setup.plan.real };
 }
 
 impl Port {
-    /// The controller of a plan, with the ARUUID of its relation and the activity of its calls, before it starts.
+    /// The controller of a plan with these modules, with the ARUUID of its relation and the activity of its calls. Its
+    /// opening frame waits to be fetched.
     #[inline(always)]
-    pub fn unstarted(plan: Plan, ar: Uuid, activity: Uuid) -> Port
-        ensures { result.controller.setup ≡ record { plan = plan; ar = ar; activity = activity } }
+    pub fn new(plan: Plan, real: Real, ar: Uuid, activity: Uuid) -> Port
+        requires { real ≡ plan.real }
+        ensures { result ≡ opened (fresh plan ar activity) }
     {
+        let controller = Controller::new(plan, ar, activity);
+        let mut outbox = Outbox::new();
+        outbox.put_copy(&controller.opening());
         Port {
-            controller: Controller::unstarted(plan, ar, activity),
-            outbox: Outbox::new(),
+            controller,
+            real,
+            outbox,
             frames_past: 0,
         }
-    }
-
-    /// Starts the controller in place. Its opening frame waits to be fetched, and nothing else remains.
-    pub fn start(&mut self)
-        ensures { self.new ≡ opened (fresh self.old.controller.setup.plan self.old.controller.setup.ar self.old.controller.setup.activity) }
-    {
-        self.controller.start();
-        self.outbox.clear();
-        self.controller.send_opening(&mut self.outbox);
-        self.frames_past = 0;
     }
 
     /// The controller.
@@ -95,11 +95,7 @@ impl Port {
     pub fn output_at(&self, slot: u16, subslot: u16) -> Option<u16>
         ensures { result ≡ output_in slot subslot self.now.controller.setup.plan.real.modules.items }
     {
-        output_at(
-            self.controller.plan().real().modules.as_slice(),
-            slot,
-            subslot,
-        )
+        output_at(self.real.modules.as_slice(), slot, subslot)
     }
 
     // ---- events

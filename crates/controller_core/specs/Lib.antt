@@ -5,3 +5,4 @@ pub mod Connect
 pub mod Reading
 pub mod Alarms
 pub mod Machine
+pub mod Leaps

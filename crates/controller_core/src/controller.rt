@@ -1,7 +1,6 @@
 //! The controller.
-ghost use Rattle.std.specs.Prelude.{◌≡◌, ◌≤◌, IfSome, [], ◌∷◌, length, option_map};
+ghost use Rattle.std.specs.Prelude.{◌≡◌, ◌≤◌, IfSome, length, option_map};
 ghost use Rattle.cyclic_exchange.specs.Process.{value_at};
-ghost use Rattle.frame_codec.specs.Outbox.{boxed};
 ghost use Rattle.controller_core.specs.Machine.{first_cyclic, fresh, interval_of, opening_of, route_of};
 
 use crate::State;
@@ -141,64 +140,27 @@ impl Controller {
         Controller::of(Setup { plan, ar, activity })
     }
 
-    /// The controller of a plan before it starts. It is small to make, so it can be written where it stays: `start` then
-    /// completes it in place.
-    #[inline(always)]
-    pub fn unstarted(plan: Plan, ar: Uuid, activity: Uuid) -> Controller
-        ensures { result.setup ≡ record { plan = plan; ar = ar; activity = activity } }
-    {
-        // In this order the plan is copied once less.
-        let alarms = ControllerAlarms::new(RTA_TIMEOUT_FACTOR, RTA_RETRIES);
-        Controller {
-            exchange: CyclicExchange::new(),
-            phase: State::Looking,
-            device: Mac { octets: [0; 6] },
-            asked: None,
-            waited: 0,
-            units: 0,
-            stands: false,
-            alarms,
-            alarm: None,
-            setup: Setup { plan, ar, activity },
-        }
-    }
-
-    /// Starts in place, in any state: the controller is then as `new` makes it from the same plan. Its opening frame counts
-    /// as sent.
-    pub fn start(&mut self)
-        ensures { self.new ≡ fresh self.old.setup.plan self.old.setup.ar self.old.setup.activity }
-    {
-        self.phase = State::Looking;
-        self.device = Mac { octets: [0; 6] };
-        self.asked = Some(Request::Identify);
-        self.waited = 0;
-        self.units = 0;
-        self.stands = false;
-        self.alarms = ControllerAlarms::new(RTA_TIMEOUT_FACTOR, RTA_RETRIES);
-        self.alarm = None;
-        open(&mut self.exchange, &self.setup.plan);
-    }
-
     /// The controller with this configuration. It is a function of its own so that no stack frame holds both a plan and
     /// a controller.
     #[inline(never)]
     fn of(setup: Setup) -> Controller
         ensures { result ≡ fresh setup.plan setup.ar setup.activity }
     {
-        let mut controller = Controller::unstarted(setup.plan, setup.ar, setup.activity);
+        let mut controller = Controller {
+            setup,
+            phase: State::Looking,
+            device: Mac { octets: [0; 6] },
+            asked: Some(Request::Identify),
+            waited: 0,
+            units: 0,
+            stands: false,
+            exchange: CyclicExchange::new(),
+            alarms: ControllerAlarms::new(RTA_TIMEOUT_FACTOR, RTA_RETRIES),
+            alarm: None,
+        };
         // The exchange is large: it is opened in its final place.
-        controller.start();
+        open(&mut controller.exchange, &controller.setup.plan);
         controller
-    }
-
-    /// Appends the Identify frame with which it begins.
-    #[inline(never)]
-    #[tactic(auto, unfolding(crate::specs::Machine::opening_of))]
-    pub fn send_opening(&self, outbox: &mut Outbox)
-        requires { outbox.old.items ≡ [] }
-        ensures { boxed outbox.new ≡ opening_of self.now ∷ [] }
-    {
-        send_request(&self.setup, self.device, Request::Identify, outbox);
     }
 
     /// The Identify frame with which it begins.
@@ -211,13 +173,6 @@ impl Controller {
         let mut frame = Frame::new();
         frame.copy(&outbox.as_slice()[0]);
         frame
-    }
-
-    /// The plan that it follows.
-    pub fn plan(&self) -> &Plan
-        ensures { result.now ≡ self.now.setup.plan }
-    {
-        &self.setup.plan
     }
 
     /// The ARUUID of its relation.

@@ -12,9 +12,11 @@ mod connect;
 mod controller;
 mod event;
 mod kept;
+mod leaps;
 mod state;
 mod step;
 
 pub use controller::Controller;
 pub use event::Event;
+pub use leaps::leaps_are_ticks;
 pub use state::{Cause, State};

@@ -42,7 +42,7 @@ use rpc_core::{Call, Response};
 const MOST_BLOCKS: usize = 400;
 
 /// One second, in units of 31.25 microseconds: an unanswered request is sent again after this time.
-const SECOND: u32 = 32_000;
+pub(crate) const SECOND: u32 = 32_000;
 
 impl Controller {
     /// Handles one event: clears the outbox, and appends the frames that the event sends.
@@ -487,7 +487,7 @@ impl Controller {
 
     // Advances the timers of the exchange.
     #[inline(always)]
-    fn elapse(&mut self) -> Tick
+    fn tick_exchange(&mut self) -> Tick
         ensures brought { result ≡ brought self.old.live }
         ensures state { self.new ≡ with_live self.old (exchange_later self.old.live) }
     {
@@ -497,7 +497,7 @@ impl Controller {
 
     // A unit of time is over.
     #[inline(always)]
-    fn tick(&mut self, outbox: &mut Outbox)
+    pub(crate) fn tick(&mut self, outbox: &mut Outbox)
         requires empty { outbox.old.items ≡ [] }
         ensures state { self.new ≡ with_live self.old (ticked self.old.live).live }
         ensures frames { boxed outbox.new ≡ map (bytes_of self.old.setup) (ticked self.old.live).sent }
@@ -508,7 +508,7 @@ impl Controller {
         if !self.stands {
             return;
         }
-        let tick = self.elapse();
+        let tick = self.tick_exchange();
         // With most units nothing is due, and no frame is built. Of the others most bring only outputs, which have
         // their own path.
         if tick.is_nothing() {
@@ -530,7 +530,7 @@ impl Controller {
         if !self.stands {
             return self.send_request_again(true, outbox);
         }
-        let tick = self.elapse();
+        let tick = self.tick_exchange();
         self.bring(&tick, true, outbox);
     }
 

@@ -7,3 +7,4 @@ pub mod Timing
 pub mod Tail
 pub mod Image
 pub mod Held
+pub mod Leaps

@@ -1,6 +1,7 @@
 //! The times at which cyclic frames are due, the frames that are accepted, and the watchdog.
 ghost use Rattle.std.specs.Prelude.{◌≡◌, ◌==◌, ◌+◌, ◌*◌, ◌%◌, ◌<◌, ◌≤◌, ℕ, None, nat_le};
 ghost use Rattle.cyclic_data.specs.Timing.{Sending, Hearing, is_due, unit_later, HasRun, is_newer, is_taken, heard, held_on, HasWaited};
+ghost use Rattle.cyclic_data.specs.Leaps.{frame_due_in, held_for, over_in, units_later};
 
 use crate::status::DataStatus;
 use bitflags::Flags;
@@ -57,6 +58,23 @@ impl Provider {
             self.elapsed += 1;
             false
         }
+    }
+
+    /// The number of units up to and with the next one with which a frame is due.
+    pub fn due_in(&self) -> u32
+        ensures value { result ≡ frame_due_in self.now }
+        ensures some { 0 < result }
+        ensures few { result ≤ 8388608 }
+    {
+        self.interval - self.elapsed
+    }
+
+    /// Lets several units pass at once. No frame may be due with any of them.
+    pub fn pass(&mut self, units: u32)
+        requires { units < frame_due_in self.old }
+        ensures { self.new ≡ units_later units self.old }
+    {
+        self.elapsed += units;
     }
 }
 
@@ -152,5 +170,22 @@ impl Consumer {
         // The time stays over, and the sum cannot overflow, for any number of units.
         self.held = self.limit;
         true
+    }
+
+    /// The number of units up to and with the next one with which the time is over. It is 1 if the time is over
+    /// already: then it is over with each further unit.
+    pub fn over_in(&self) -> u32
+        ensures value { result ≡ over_in self.now }
+        ensures some { 0 < result }
+    {
+        (self.limit - self.held).max(1)
+    }
+
+    /// Lets several units pass at once. The time may not be over with any of them.
+    pub fn pass(&mut self, units: u32)
+        requires { units < over_in self.old }
+        ensures { self.new ≡ held_for units self.old }
+    {
+        self.held += units;
     }
 }

@@ -1,3 +1,4 @@
 pub mod Stated
 pub mod Kept
 pub mod Provided
+pub mod Leaps

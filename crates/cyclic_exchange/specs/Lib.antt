@@ -5,3 +5,4 @@ pub mod Received
 pub mod Process
 pub mod Frames
 pub mod Runs
+pub mod Leaps

@@ -1,9 +1,11 @@
 //! The units of time.
-ghost use Rattle.std.specs.Prelude.{◌≡◌, ◌&&◌, None, Some, false, is_none, not, true};
+ghost use Rattle.std.specs.Prelude.{◌≡◌, ◌<◌, ◌≤◌, ◌&&◌, None, Some, false, is_none, not, true};
+ghost use Rattle.pn_alarms.specs.Leaps.{after};
 ghost use Rattle.cyclic_exchange.specs.Units.{cyclic_later, tick_of};
+ghost use Rattle.cyclic_exchange.specs.Leaps.{IsQuietFor, cyclic_due_in, silent_in};
 
 use crate::CyclicExchange;
-use pn_alarms::{Abort, Due};
+use pn_alarms::{Abort, Due, NEVER};
 use std::marker::Model;
 use std::mem::size_of;
 
@@ -154,5 +156,41 @@ impl CyclicExchange {
             Due::Again => Tick::sends(true, is_cyclic),
             Due::Spent => Tick::ends(Abort::Other),
         }
+    }
+
+    /// The number of units up to and with the next one with which a frame is due or the data hold time is over.
+    pub fn due_in(&self) -> u32
+        ensures value { result ≡ cyclic_due_in self.now }
+        ensures some { 0 < result }
+        ensures few { result ≤ 8388608 }
+    {
+        self.provider.due_in().min(self.silent_in())
+    }
+
+    /// The number of units up to and with the next one with which the data hold time is over, `NEVER` if no data is
+    /// exchanged.
+    fn silent_in(&self) -> u32
+        ensures value { result ≡ silent_in self.now }
+        ensures some { 0 < result }
+    {
+        if self.begun {
+            self.consumer.over_in()
+        } else {
+            NEVER
+        }
+    }
+
+    /// Counts several units of 31.25 microseconds at once. With none of them may a frame be due or the data hold time be
+    /// over.
+    pub fn pass(&mut self, units: u32)
+        requires { units < cyclic_due_in self.old }
+        ensures state { self.new ≡ after cyclic_later units self.old }
+        ensures quiet { IsQuietFor units self.old }
+    {
+        self.provider.pass(units);
+        if !self.begun {
+            return;
+        }
+        self.consumer.pass(units);
     }
 }

@@ -5,6 +5,7 @@ pub mod RecordingPlaced
 pub mod RecordingOneStep
 pub mod PortCounts
 pub mod PortHosted
+pub mod PortLeaps
 pub mod PortLeft
 pub mod PortStages
 pub mod OperationsCounts

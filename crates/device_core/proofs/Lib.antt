@@ -10,3 +10,4 @@ pub mod Called
 pub mod Runs
 pub mod Restarts
 pub mod Exchanged
+pub mod Leaps

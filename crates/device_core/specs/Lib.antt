@@ -5,3 +5,4 @@ pub mod Faults
 pub mod Behind
 pub mod Steps
 pub mod Cycle
+pub mod Leaps

@@ -85,7 +85,7 @@ impl<F: Flash<S>, const S: usize> Device<F, S> {
     {
         // Using a field makes the invariant known here.
         let _ = &self.identity;
-        outbox.clear(); // as `step` does
+        outbox.clear(); // of what the event before sent
         self.hear(octets, outbox)
     }
 

@@ -15,7 +15,7 @@ ghost use Rattle.controller_abi.specs.Plans.{fault_of, is_plan, parts_of, why_no
 ghost use Rattle.controller_abi.specs.Serves.{Serves, operation_of};
 
 use c_layout::Op;
-use controller_abi::{Port, WrittenPlan, fault_in, judge, serve, start, unstarted};
+use controller_abi::{Port, WrittenPlan, fault_in, judge, port_of, serve};
 
 /// Returns the first fault of a plan, with the number that a catalogue with this fault has, or 0.
 #[unsafe(no_mangle)]
@@ -50,8 +50,7 @@ pub unsafe extern "C" fn pn_controller_put(
     requires* { sem 𝓛 (room_at Row room) ∗ ⌜ is_plan plan.now ≡ true ⌝ }
     ensures* { ex 𝓤 (λ (port : State). sem 𝓛 (lies_at Row full_share room port) ∗ ⌜ port ≡ opened (fresh (parts_of plan.now) ar.now activity.now) ⌝) }
 {
-    unsafe { std::ptr::write(room as *mut Port, unstarted(plan, ar, activity)) };
-    start(unsafe { &mut *(room as *mut Port) });
+    unsafe { std::ptr::write(room as *mut Port, port_of(plan, ar, activity)) };
 }
 
 /// Carries out one operation on the controller in the memory at `room`. Returns 0, or why nothing changed.

@@ -4,6 +4,7 @@ pub mod Abort
 pub mod Numbers
 pub mod Receiver
 pub mod Sending
+pub mod Leaps
 pub mod Alarming
 pub mod Sender
 pub mod Standing

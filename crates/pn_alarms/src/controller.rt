@@ -3,6 +3,7 @@ ghost use Rattle.std.specs.Prelude.{◌≡◌, ◌<◌, ◌≤◌};
 ghost use Rattle.pn_alarms.specs.Numbers.{is_last};
 ghost use Rattle.pn_alarms.specs.Receiver.{taken_as};
 ghost use Rattle.pn_alarms.specs.Sending.{due};
+ghost use Rattle.pn_alarms.specs.Leaps.{NothingDue, ack_due, after, data_due_in};
 ghost use Rattle.pn_alarms.specs.Controller.{unheard, confirmed, controller_later, with_data, with_ack, controller_header};
 
 use crate::{Due, Header, PduType, Receiver, Repeats, Taken};
@@ -93,5 +94,23 @@ impl ControllerAlarms {
         ensures state { self.new ≡ controller_later self.old }
     {
         self.repeats.tick()
+    }
+
+    /// The number of units up to and with the next one with which the AlarmAck is sent again or given up, `NEVER` if no
+    /// AlarmAck waits for its ACK.
+    pub fn due_in(&self) -> u32
+        ensures value { result ≡ data_due_in self.now.sending }
+        ensures some { 0 < result }
+    {
+        self.repeats.due_in()
+    }
+
+    /// Counts several units of time at once. Nothing may be due with any of them.
+    pub fn pass(&mut self, units: u32)
+        requires { units < data_due_in self.old.sending }
+        ensures state { self.new ≡ after controller_later units self.old }
+        ensures nothing { NothingDue ack_due controller_later units self.old }
+    {
+        self.repeats.pass(units);
     }
 }

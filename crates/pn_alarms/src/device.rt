@@ -7,6 +7,7 @@ ghost use Rattle.pn_alarms.specs.Numbers.{is_last};
 ghost use Rattle.pn_alarms.specs.Receiver.{taken_as, last_behind};
 ghost use Rattle.pn_alarms.specs.Sender.{answered};
 ghost use Rattle.pn_alarms.specs.Sending.{due};
+ghost use Rattle.pn_alarms.specs.Leaps.{NothingDue, after, data_due_in, device_due};
 ghost use Rattle.pn_alarms.specs.Device.{idle, heard_as, sender_after, end_behind, header_now, end_raised, end_later};
 
 use crate::{Alarm, Due, Header, Message, PduType, RaiseFault, Receiver, Reply, Sender, Taken};
@@ -94,6 +95,24 @@ impl DeviceAlarms {
         ensures state { self.new ≡ end_later self.old }
     {
         self.sender.tick()
+    }
+
+    /// The number of units up to and with the next one with which the alarm is sent again or given up, `NEVER` if no
+    /// alarm waits for its ACK.
+    pub fn due_in(&self) -> u32
+        ensures value { result ≡ data_due_in self.now.sender.sending }
+        ensures some { 0 < result }
+    {
+        self.sender.due_in()
+    }
+
+    /// Counts several units of time at once. Nothing may be due with any of them.
+    pub fn pass(&mut self, units: u32)
+        requires { units < data_due_in self.old.sender.sending }
+        ensures state { self.new ≡ after end_later units self.old }
+        ensures nothing { NothingDue device_due end_later units self.old }
+    {
+        self.sender.pass(units);
     }
 
     /// Receives a PDU of the relation. Returns what happens to it.

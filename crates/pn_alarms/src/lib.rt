@@ -25,6 +25,6 @@ pub use message::{Message, Notice, read_alarm, read_message};
 pub use pdu::{Header, Pdu, PduType};
 pub use reading::{read_ack, read_notification, read_pdu};
 pub use receiver::{Receiver, Taken};
-pub use repeats::{Due, Repeats};
+pub use repeats::{Due, NEVER, Repeats};
 pub use sender::{Alarm, RaiseFault, Reply, Sender};
 pub use writing::{alarm_front, pdu_front};

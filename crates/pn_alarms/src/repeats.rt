@@ -2,9 +2,13 @@
 ghost use Rattle.std.specs.Prelude.{◌≡◌, ◌<◌, ◌≤◌};
 ghost use Rattle.pn_alarms.specs.Numbers.{send_number, is_last};
 ghost use Rattle.pn_alarms.specs.Sending.{silent, sent, due, ticked, rested, acked};
+ghost use Rattle.pn_alarms.specs.Leaps.{NothingDue, after, data_due_in};
 
 use crate::numbers::next_number;
 use std::marker::Model;
+
+/// The number of units if nothing is ever due.
+pub const NEVER: u32 = u32::MAX;
 
 /// What is due with a unit of time.
 #[derive(Clone, Copy, Debug, PartialEq, Eq)]
@@ -100,6 +104,30 @@ impl Repeats {
         } else {
             Due::Nothing
         }
+    }
+
+    /// The number of units up to and with the next one with which the data is sent again or given up, `NEVER` if no
+    /// data waits for its ACK.
+    pub fn due_in(&self) -> u32
+        ensures value { result ≡ data_due_in self.now }
+        ensures some { 0 < result }
+    {
+        match self.waiting {
+            Some(units) => (self.limit - units).min(self.interval - units % self.interval),
+            None => NEVER,
+        }
+    }
+
+    /// Counts several units of time at once. Nothing may be due with any of them.
+    pub fn pass(&mut self, units: u32)
+        requires { units < data_due_in self.old }
+        ensures state { self.new ≡ after ticked units self.old }
+        ensures nothing { NothingDue due ticked units self.old }
+    {
+        let Some(waited) = self.waiting else {
+            return;
+        };
+        self.waiting = Some(waited + units);
     }
 
     /// Receives an ACK. Returns whether it acknowledges the last data that was sent; if so, that data is not sent

@@ -4,6 +4,7 @@ ghost use Rattle.pn_alarms.specs.Numbers.{send_number};
 ghost use Rattle.pn_alarms.specs.Sending.{due};
 ghost use Rattle.pn_alarms.specs.Sender.{notice_of, inactive, raised, is_of, ended_by, counts, answered, later};
 ghost use Rattle.pn_alarms.specs.Standing.{kept_as};
+ghost use Rattle.pn_alarms.specs.Leaps.{NothingDue, after, alarm_due, data_due_in};
 
 use crate::repeats::{Due, Repeats};
 use arrayvec::ArrayVec;
@@ -196,6 +197,24 @@ impl Sender {
         ensures state { self.new ≡ later self.old }
     {
         self.repeats.tick()
+    }
+
+    /// The number of units up to and with the next one with which the alarm is sent again or given up, `NEVER` if no
+    /// alarm waits for its ACK.
+    pub fn due_in(&self) -> u32
+        ensures value { result ≡ data_due_in self.now.sending }
+        ensures some { 0 < result }
+    {
+        self.repeats.due_in()
+    }
+
+    /// Counts several units of time at once. Nothing may be due with any of them.
+    pub fn pass(&mut self, units: u32)
+        requires { units < data_due_in self.old.sending }
+        ensures state { self.new ≡ after later units self.old }
+        ensures nothing { NothingDue alarm_due later units self.old }
+    {
+        self.repeats.pass(units);
     }
 
     /// Receives the partner's reply. Returns whether it counts: an AlarmAck does, and an ACK of the last alarm that was

@@ -4,3 +4,4 @@ mod Moves
 mod Waiting
 pub mod ExchangeKept
 pub mod ExchangeGiven
+pub mod Leaps

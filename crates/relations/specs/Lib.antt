@@ -6,6 +6,7 @@ pub mod Calls
 pub mod Connect
 pub mod Ready
 pub mod Runs
+pub mod Leaps
 pub mod Exchanged
 pub mod Outputs
 pub mod exchange

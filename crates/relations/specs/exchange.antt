@@ -1,6 +1,7 @@
 pub mod Flow
 pub mod Opening
 pub mod Units
+pub mod Leaps
 pub mod Received
 pub mod Process
 pub mod Notices

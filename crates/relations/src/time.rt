@@ -2,7 +2,7 @@
 //!
 //! `inline(always)` is used where instructions were counted (`bench/figures/exchange.py`): with most units nothing is
 //! due, and they cost little.
-ghost use Rattle.std.specs.Prelude.{◌≡◌, ◌==◌, ◌+◌, ◌<◌, IfSome, None, Option, Some, false, nat_le, true, if◌then◌else◌};
+ghost use Rattle.std.specs.Prelude.{◌≡◌, ◌==◌, ◌+◌, ◌*◌, ◌<◌, ◌≤◌, IfSome, IsSome, None, Option, Some, false, nat_le, true, if◌then◌else◌};
 ghost use Rattle.pn_alarms.specs.declared.abort.Abort.TheVariants.{Activity, DataHold};
 ghost use Rattle.relations.specs.declared.phase.Phase.TheVariants.{Exchanging};
 ghost use Rattle.relations.specs.Farewells.{farewell_of};
@@ -11,10 +11,13 @@ ghost use Rattle.relations.specs.Timers.{EndsIn, brings_inputs, brings_nothing, 
 ghost use Rattle.relations.specs.Timers.{left_behind, nothing};
 ghost use Rattle.relations.specs.Phases.{updated, passing};
 ghost use Rattle.relations.specs.Ready.{ready_of};
+ghost use Rattle.relations.specs.Runs.{units_over};
+ghost use Rattle.relations.specs.Leaps.{NothingDueFor, due_within, inactive_by, inactive_in, ready_in, waited_by};
 
 use crate::exchange::Tick;
 use crate::{Phase, Relation};
-use pn_alarms::Abort;
+use connect_requests::ConnectRequest;
+use pn_alarms::{Abort, NEVER};
 
 /// 100 ms, in units of 31.25 microseconds: what CMInitiatorActivityTimeoutFactor counts.
 const TENTH_OF_A_SECOND: u32 = 3_200;
@@ -125,6 +128,97 @@ impl Relation {
             tick: tick.without_end(),
             is_ready: is_awaiting(phase) && unit_waited(&mut self.waited),
         }
+    }
+
+    /// The number of units up to and with the next one that brings something: a frame of inputs is due, an alarm or
+    /// ApplicationReady is sent again, an alarm is given up, or a timeout ends the relation. `NEVER` if there is no
+    /// relation.
+    pub fn due_in(&self) -> u32
+        ensures value { result ≡ due_within self.now }
+        ensures some { 0 < result }
+        ensures few { IsSome self.now → result ≤ 8388608 }
+    {
+        let Some(phase) = self.phase else {
+            return NEVER;
+        };
+        let inactive = inactive_in(phase, limit_of(&self.request), self.inactive);
+        let timers = inactive.min(ready_in(phase, self.waited));
+        self.exchange.due_in().min(timers)
+    }
+
+    /// Counts several units of 31.25 microseconds at once. None of them may bring anything.
+    pub fn pass(&mut self, units: u32)
+        requires { units < due_within self.old }
+        ensures state { self.new ≡ units_over units self.old }
+        ensures nothing { NothingDueFor units self.old }
+    {
+        let Some(phase) = self.phase else {
+            return;
+        };
+        self.exchange.pass(units);
+        self.inactive = inactive_later(phase, limit_of(&self.request), self.inactive, units);
+        self.waited = waited_later(phase, self.waited, units);
+    }
+}
+
+/// The units of the activity timer of a relation with this request.
+fn limit_of(request: &ConnectRequest) -> u32
+    ensures value { result ≡ request.now.ar.timeout_factor * 3200 }
+    ensures most { result ≤ 209712000 }
+{
+    u32::from(request.ar().timeout_factor) * TENTH_OF_A_SECOND
+}
+
+/// The number of units up to and with the next one with which the activity timer, which has `limit` units and has run
+/// for `inactive` of them, is over. `NEVER` if it does not run.
+fn inactive_in(phase: Phase, limit: u32, inactive: u32) -> u32
+    ensures value { result ≡ inactive_in phase limit inactive }
+    ensures some { 0 < result }
+{
+    if is_timed(phase) {
+        limit.saturating_sub(inactive).max(1)
+    } else {
+        NEVER
+    }
+}
+
+/// The number of units up to and with the next one with which ApplicationReady, which has waited for `waited` units, is
+/// sent again. `NEVER` if it does not wait for its answer.
+fn ready_in(phase: Phase, waited: u32) -> u32
+    requires { waited < 32000 }
+    ensures value { result ≡ ready_in phase waited }
+    ensures some { 0 < result }
+{
+    if is_awaiting(phase) {
+        SECOND - waited
+    } else {
+        NEVER
+    }
+}
+
+/// The units that the activity timer has run, several units later. It may not be over with any of them.
+fn inactive_later(phase: Phase, limit: u32, inactive: u32, units: u32) -> u32
+    requires { units < inactive_in phase limit inactive }
+    ensures value { result ≡ inactive_by phase units inactive }
+    ensures most { inactive ≤ 209712000 → limit ≤ 209712000 → result ≤ 209712000 }
+{
+    if is_timed(phase) {
+        inactive + units
+    } else {
+        inactive
+    }
+}
+
+/// The units that ApplicationReady has waited, several units later. It may not be due again with any of them.
+fn waited_later(phase: Phase, waited: u32, units: u32) -> u32
+    requires { units < ready_in phase waited }
+    ensures value { result ≡ waited_by phase units waited }
+    ensures few { waited < 32000 → result < 32000 }
+{
+    if is_awaiting(phase) {
+        waited + units
+    } else {
+        waited
     }
 }
 

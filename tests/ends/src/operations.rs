@@ -5,23 +5,41 @@ use configurator::plan_from_json;
 use controller_abi::{Port, serve};
 use c_layout::Op;
 use rattle_std::alloc::Global;
+use plans::Plan;
+use pn_values::{ParameterRecord, Real, RealModule, RealSubmodule};
 use uuid::Uuid;
 
 /// Units of time in a second: after this time a request is sent again.
 const SECOND: u32 = 32000;
+
+/// The modules of a plan once more.
+fn copied(plan: &Plan) -> Real {
+    let modules = plan.real().modules.iter().map(|module| RealModule {
+        slot: module.slot,
+        ident: module.ident,
+        submodules: module.submodules.iter().map(|part| RealSubmodule {
+            subslot: part.subslot,
+            ident: part.ident,
+            input: part.input,
+            output: part.output,
+            parameters: part.parameters.iter().map(|item| ParameterRecord { index: item.index, length: item.length }).collect(),
+        }).collect(),
+    });
+    Real { modules: modules.collect() }
+}
 
 /// The controller of the demo station's plan, whose first frame waits.
 fn begun(alloc: Global) -> Port {
     let plan = plan_from_json(alloc, PUMP.as_bytes())
         .ok()
         .expect("there is a plan");
-    let mut port = Port::unstarted(
+    let real = copied(&plan);
+    Port::new(
         plan,
+        real,
         Uuid::from_bytes([0x11; 16]),
         Uuid::from_bytes([0x51; 16]),
-    );
-    port.start();
-    port
+    )
 }
 
 /// An operation of this number, with nothing else in it.

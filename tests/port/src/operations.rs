@@ -32,7 +32,7 @@ fn answer(port: &mut Port, what: u32) -> u32 {
 fn before_a_start_and_behind_a_loss() {
     let mut early = made();
     let mut late = lost();
-    for what in 3..15 {
+    for what in 3..16 {
         assert_eq!(answer(&mut early, what), 5);
         assert_eq!(answer(&mut late, what), 14);
     }
@@ -41,7 +41,7 @@ fn before_a_start_and_behind_a_loss() {
 #[test]
 fn no_such_operation_sector_or_slot() {
     let mut port = made();
-    for what in [0, 15, u32::MAX] {
+    for what in [0, 16, u32::MAX] {
         assert_eq!(answer(&mut port, what), 10);
     }
     let mut op = asked(1);
@@ -86,8 +86,12 @@ fn an_event_without_work_tells_none() {
     }
 }
 
+// Nothing is ever due without a relation; a refused event tells nothing.
 #[test]
-fn a_refused_event_tells_nothing() {
+fn what_is_due_is_told() {
+    let mut op = asked(15);
+    assert_eq!(serve(&mut booted(), &mut op, &[]), 0);
+    assert_eq!((op.units, op.work), (u32::MAX, 0));
     let mut op = asked(4);
     op.units = 9;
     assert_eq!(serve(&mut busy(), &mut op, &[]), 7);

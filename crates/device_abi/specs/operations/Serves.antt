@@ -17,6 +17,7 @@ use Rattle.device_frames.specs.declared.event.Event.{Event}
 use Rattle.device_frames.specs.declared.event.Event.TheVariants.{Frame, Input, Alarm}
 use Rattle.device_frames.specs.declared.note.Note.{Note}
 use Rattle.device_frames.specs.Notes.{note_number}
+use Rattle.device_core.specs.Leaps.{live_due_in}
 use Rattle.device_abi.specs.recorded.Entry.{call_of}
 use Rattle.c_layout.specs.Places.{place_in}
 use Rattle.c_layout.specs.Reported.{with_octets}
@@ -46,7 +47,8 @@ operation_of what =
     if what == 11 then Some operation.Stored else
     if what == 12 then Some operation.Lose else
     if what == 13 then Some operation.Record else
-    if what == 14 then Some operation.Left else None
+    if what == 14 then Some operation.Left else
+    if what == 15 then Some operation.Due else None
 
 -- The result of what was done, or of what was refused.
 abbrev pub answer_of : {T : Type 0} → Result T Refusal → ℕ
@@ -162,6 +164,11 @@ abbrev pub IsSettings : Option Refusal → Settings → Op → ℕ → Op → Ty
 IsSettings (Some refusal) settings asked answer reported = (answer ≡ refusal_number refusal) × (reported ≡ asked)
 IsSettings None settings asked answer reported = (answer ≡ 0) × (reported ≡ with_octets (settings_octets settings) asked)
 
+-- The number of units up to and with the next one with which anything is due.
+abbrev pub IsDue : Option Refusal → ℕ → Op → ℕ → Op → Type 0
+IsDue (Some refusal) due asked answer reported = (answer ≡ refusal_number refusal) × (reported ≡ asked)
+IsDue None due asked answer reported = (answer ≡ 0) × (reported ≡ record asked { units = due })
+
 -- The number of commits that the flash still accepts.
 abbrev pub IsLeft : Option Refusal → ℕ → Op → ℕ → Op → Type 0
 IsLeft (Some refusal) left asked answer reported = (answer ≡ refusal_number refusal) × (reported ≡ asked)
@@ -233,4 +240,6 @@ Serves (Some operation.Record) old asked given answer new reported =
     (new ≡ old) × IsRecordOf (closed old.stage) (slice_get (taken_of old.device.live.rest.link) asked.place) asked answer reported
 Serves (Some operation.Left) old asked given answer new reported =
     (new ≡ old) × IsLeft (closed old.stage) old.device.live.values.room asked answer reported
+Serves (Some operation.Due) old asked given answer new reported =
+    (new ≡ old) × IsDue (closed old.stage) (live_due_in old.device.live) asked answer reported
 Serves None old asked given answer new reported = (answer ≡ 10) × (new ≡ old) × (reported ≡ asked)

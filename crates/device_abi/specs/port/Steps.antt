@@ -1,11 +1,11 @@
 -- What a port does with what happens.
-use Rattle.std.specs.Prelude.{◌≡◌, ◌≢◌, ◌≤◌, ◌-◌, ℕ, zero, suc, List, [], length, Option, Some, None, Result, Ok, Err}
+use Rattle.std.specs.Prelude.{◌≡◌, ◌≢◌, ◌≤◌, ◌-◌, ℕ, List, [], length, Option, Some, None, Result, Ok, Err}
 use Rattle.flash_model.specs.declared.flash.Sector.{Sector}
 use Rattle.pn_values.specs.declared.settings.Settings.{Settings}
 use Rattle.settings_journal.specs.Image.{StartsWith, IsForeign, LeftByDevice}
 use Rattle.device_frames.specs.declared.event.Event.{Event}
-use Rattle.device_frames.specs.declared.event.Event.TheVariants.{Tick}
 use Rattle.device_core.specs.Cycle.{started}
+use Rattle.device_core.specs.Leaps.{OnlyTheLastSends, ticks_of}
 use Rattle.device_core.specs.Machine.{step_of}
 use Rattle.device_core.specs.Steps.{IsExactStep}
 use Rattle.device_frames.specs.declared.note.Note.{Note}
@@ -29,15 +29,19 @@ abbrev pub Answers : State → Event → Result Note Refusal → State → Type 
 Answers old event (Ok note) new = (barred old ≡ None) × Takes old event note new
 Answers old event (Err refusal) new = (barred old ≡ Some refusal) × (new ≡ old)
 
--- This many units of time passed, one step each, and all work was fetched before each.
-abbrev pub Ticks : ℕ → State → State → Type 0
-Ticks zero old new = new ≡ old
-Ticks (suc units) old new = (between : State) × (note : Note) × Ticks units old between × (barred between ≡ None) × Takes between Tick note new
+-- This many units of time passed: the device is in the state in which as many Tick events leave it, one by one, and the
+-- remaining work is exactly their frames. Only the last of them may have sent any. No unit makes a flash call.
+pub record Leaps (old : State) (units : ℕ) (new : State) : Type 0 where
+  pub device : new.device ≡ record old.device { live = (ticks_of units old.device.station old.device.live).live }
+  pub frames : new.frames ≡ (ticks_of units old.device.station old.device.live).frames
+  pub last : OnlyTheLastSends units old.device.station old.device.live
+  pub calls : new.calls ≡ []
+  pub stage : new.stage ≡ Booted
 
--- All of these units except the remaining ones passed, one step each. Some remain only if the last one sent something.
+-- All of these units except the remaining ones passed. Some remain only if the last one sent something.
 pub record Passes (old : State) (units left : ℕ) (new : State) : Type 0 where
   pub few : left ≤ units
-  pub ticks : Ticks (units - left) old new
+  pub leaps : Leaps old (units - left) new
   pub stops : left ≢ 0 → barred new ≡ Some refusal.HasWork
 
 abbrev pub PassesOrNot : State → ℕ → Result ℕ Refusal → State → Type 0

@@ -19,6 +19,7 @@ pub enum Operation {
     Lose,
     Record,
     Left,
+    Due,
 }
 
 // The operation of this number, if it exists.
@@ -40,6 +41,7 @@ pub(crate) fn operation_of(what: u32) -> Option<Operation>
         12 => Some(Operation::Lose),
         13 => Some(Operation::Record),
         14 => Some(Operation::Left),
+        15 => Some(Operation::Due),
         _ => None,
     }
 }

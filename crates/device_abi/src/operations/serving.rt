@@ -3,10 +3,11 @@ ghost use Rattle.std.specs.Prelude.{◌≡◌, ◌≤◌, Some, slice_get, take}
 ghost use Rattle.device_frames.specs.declared.event.Event.TheVariants.{Frame as Framed};
 ghost use Rattle.device_abi.specs.recorded.Entry.{call_of};
 ghost use Rattle.relations.specs.RelationState.{phase_of, taken_of};
+ghost use Rattle.device_core.specs.Leaps.{live_due_in};
 ghost use Rattle.device_abi.specs.port.State.{closed, kind_of, waiting as kind_in};
 ghost use Rattle.c_layout.specs.Places.{place_in};
 ghost use Rattle.c_layout.specs.Reported.{with_octets};
-ghost use Rattle.device_abi.specs.operations.Serves.{IsAlarm, IsBoot, IsCall, IsEvent, IsInput, IsLeft, IsLoss, IsNextOf, IsOutput, IsPiece};
+ghost use Rattle.device_abi.specs.operations.Serves.{IsAlarm, IsBoot, IsCall, IsDue, IsEvent, IsInput, IsLeft, IsLoss, IsNextOf, IsOutput, IsPiece};
 ghost use Rattle.device_abi.specs.operations.Serves.{IsRecordAt, IsRecordOf, IsSector, IsSettings, IsState, IsTick, IsValueOf, Serves, answer_of};
 ghost use Rattle.device_abi.specs.operations.Serves.{noted as is_noted, operation_of as operation_in, passed as is_passed, phase_number};
 ghost use Rattle.device_abi.specs.operations.Serves.{sector_number as number_of, sector_of, settings_octets, value_of, work_kind};
@@ -50,6 +51,7 @@ fn perform(operation: Operation, port: &mut Port, op: &mut Op, given: &[u8]) -> 
         Operation::Lose => lose(port),
         Operation::Record => tell_taken(port, op),
         Operation::Left => left(port, op),
+        Operation::Due => due(port, op),
     }
 }
 
@@ -375,6 +377,20 @@ fn put_settings(settings: &Settings, op: &mut Op)
     put_more(op, settings.im3.as_bytes());
     put_more(op, settings.im4.as_bytes());
     put_more(op, settings.name.as_bytes());
+}
+
+// The number of units up to and with the next one with which anything is due.
+#[inline(never)]
+fn due(port: &Port, op: &mut Op) -> u32
+    ensures { IsDue (closed port.now.stage) (live_due_in port.now.device.live) op.old result op.new }
+{
+    match port.due() {
+        Ok(due) => {
+            op.units = due;
+            0
+        }
+        Err(refusal) => refusal.number(),
+    }
 }
 
 // The number of commits that the flash still accepts.

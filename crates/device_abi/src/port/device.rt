@@ -8,12 +8,13 @@ ghost use Rattle.relations.specs.RelationState.{phase_of, taken_of};
 ghost use Rattle.relations.specs.Outputs.{output_of};
 ghost use Rattle.device_abi.specs.port.State.{IsIdle, IsNext, IsUnreported, advanced, barred, closed, has_work as is_left, lost};
 ghost use Rattle.device_abi.specs.port.State.{past_start as too_late};
-ghost use Rattle.device_abi.specs.port.Steps.{Answers, KnowsOrNot, Passes, PassesOrNot, StartsOrNot, Takes};
+ghost use Rattle.device_abi.specs.port.Steps.{Answers, KnowsOrNot, Leaps, Passes, PassesOrNot, StartsOrNot, Takes};
+ghost use Rattle.device_core.specs.Leaps.{live_due_in};
 ghost use Rattle.frame_codec.specs.Outbox.{boxed};
 
 use crate::port::{Refusal, Stage};
 use crate::{Recorded, RecordedFlash, step, step_frame};
-use device_core::{Device, Event, Note};
+use device_core::{Device, Event, Note, leaps_are_ticks};
 use flash_model::Sector;
 use frame_codec::{Bytes, Frame, Outbox};
 use pn_values::{Identity, Real, Settings};
@@ -304,6 +305,18 @@ impl Port {
         }
     }
 
+    /// The number of units up to and with the next one with which something is sent, an alarm is given up, the relation
+    /// ends, or the lamp goes off. 4,294,967,295 if no unit ever does any of these.
+    pub fn due(&self) -> Result<u32, Refusal>
+        ensures { MatchResult result (λ due. (closed self.now.stage ≡ None)
+            × (due ≡ live_due_in self.now.device.live)) (λ refusal. closed self.now.stage ≡ Some refusal) }
+    {
+        match why_closed(self.stage) {
+            Some(refusal) => Err(refusal),
+            None => Ok(self.device.due()),
+        }
+    }
+
     /// The number of units for which the lamp still flashes.
     pub fn lamp(&self) -> Result<u32, Refusal>
         ensures { MatchResult result (λ lamp. (closed self.now.stage ≡ None)
@@ -386,24 +399,76 @@ impl Port {
     {
         let before = counted(self.device.flash());
         let note = step_frame(&mut self.device, octets, &mut self.outbox);
-        let past = older(before, self.device.flash());
-        self.calls_past = past;
+        self.calls_past = older(before, self.device.flash());
         self.frames_past = 0;
         note
     }
 
-    // Lets units of time pass, up to the first that sends something. Returns how many remain.
+    // Lets units of time pass, up to the first that sends something. Returns how many remain. No unit makes a flash call, so
+    // the flash is not looked at. One unit is the most frequent case, and has its own path.
     fn pass(&mut self, units: u32) -> u32
         requires { barred self.old ≡ None }
         ensures { Passes self.old units result self.new }
     {
-        for passed in 0..units {
+        if units == 1 {
+            self.pass_unit();
+            return 0;
+        }
+        self.pass_all(units)
+    }
+
+    // Lets one unit pass.
+    fn pass_unit(&mut self)
+        requires { barred self.old ≡ None }
+        ensures { Leaps self.old 1 self.new }
+    {
+        self.device.pass_unit(&mut self.outbox);
+        self.frames_past = 0;
+    }
+
+    // Lets units pass, one leap after another.
+    #[inline(never)]
+    fn pass_all(&mut self, units: u32) -> u32
+        requires { barred self.old ≡ None }
+        ensures { Passes self.old units result self.new }
+    {
+        // However the units are divided into leaps, they are as many ticks.
+        leaps_are_ticks();
+        let mut left = units;
+        while left > 0 {
             if self.has_work() {
-                return units - passed;
+                return left;
             }
-            let _ = self.take(&Event::Tick);
+            left -= self.leap(left);
         }
         0
+    }
+
+    // Lets some of these units pass at once: up to the next one with which anything is due. Returns how many passed.
+    fn leap(&mut self, units: u32) -> u32
+        requires some { 0 < units }
+        requires free { barred self.old ≡ None }
+        ensures few { result ≤ units }
+        ensures least { 0 < result }
+        ensures leaps { Leaps self.old result self.new }
+    {
+        let due = self.device.due();
+        if units < due {
+            self.skip(units);
+            return units;
+        }
+        let _ = self.device.elapse(due, &mut self.outbox);
+        self.frames_past = 0;
+        due
+    }
+
+    // Lets units pass with which nothing is due.
+    fn skip(&mut self, units: u32)
+        requires few { units < live_due_in self.old.device.live }
+        requires free { barred self.old ≡ None }
+        ensures { Leaps self.old units self.new }
+    {
+        self.device.pass(units);
     }
 }
 

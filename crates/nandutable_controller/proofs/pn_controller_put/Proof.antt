@@ -1,31 +1,27 @@
--- The controller of the plan is made by a call, and then written into the memory. There it is lent for the call that
--- starts it, and comes back.
-use Rattle.std.proofs.Common.{◌≡◌, ℕ, List, [], ◌∷◌, true, refl, ap, ◌∙◌, MutBor}
+-- The controller of the plan is made by a call, and then written into the memory.
+use Rattle.std.proofs.Common.{◌≡◌, ℕ, List, [], ◌∷◌, true, refl}
 use Rattle.std.proofs.raw_atomic.Walks.{proved}
 use base.Fraction.{full_share}
 use base.Logic.{ent, id⊢, ex, sep}
-use base.Fml.{ftrue, feq, flft, flent}
+use base.Fml.{ftrue, flft}
 use mir.Syntax.{named}
-use mir.Val.{Val, vunit, vptr}
+use mir.Val.{Val, vunit}
 use contract.Monad.{fact, fact_i}
 use contract.Running.{tables}
 use prog.Wp.{WpFn}
-use types.Kit.{‵, raw, ◌⊛◌, some, later, prop, at_ret, ◌$◌, ◌∵◌, !, qed, done, move, drop, use0, use1, use2, use3, split, join, fsplit, feq_i, feq_l, pick, await, regoal, suffices, group, show}
-use types.Run.{enter, of_opd, addr, stop, unit_lit, init, no_more, and_then, assigns_last, first, blocks, exec, returns}
-use types.ByLocal.{alloc_all, pass_all, free_all, look_at, get, through, sets, sets_last, lands_as, env}
-use types.SemTy.{Body}
-use types.Tokens.{lft_new, lft_end}
+use types.Kit.{‵, raw, ◌⊛◌, some, later, prop, at_ret, ◌$◌, ◌∵◌, !, qed, done, move, drop, use0, use1, use2, split, join, fsplit, feq_i, pick, await, regoal, suffices, group, show}
+use types.Run.{enter, of_opd, stop, unit_lit, init, no_more, and_then, assigns_last, first, blocks, exec, returns}
+use types.ByLocal.{alloc_all, pass_all, free_all, look_at, get, through, sets, lands_as, env}
 use denote.Array.{Array}
 use denote.Builtin.{u8}
 use denote.Exit.{yes}
 use denote.Laws.{shows}
-use denote.Lend.{lends_ref, ref_back}
-use denote.Memory.{mem, part_at}
+use denote.Memory.{part_at}
 use denote.RattleType.{RattleType, owns, flat}
 use denote.RawPtr.{Ptr, RawPtr, block_ptr, in_a_block, lies_at, room_at, rawptr_vals, rawptr_Tells}
-use denote.Ref.{MutRef, ShrRef, mut_vals, shr_vals, shr_Tells}
+use denote.Ref.{ShrRef, shr_vals, shr_Tells}
 use denote.Signature.{plain, shr_ref_to}
-use denote.Steps.{nothing, heard, only, peeks}
+use denote.Steps.{nothing, heard, peeks}
 use denote.Triple.Call.{calls_at}
 use denote.Triple.Clauses.{lasts}
 use denote.Triple.Spec.{triple_of}
@@ -38,10 +34,8 @@ use Rattle.controller_abi.specs.State.{State, opened}
 use Rattle.controller_abi.specs.contracts.plan.WrittenPlan.{the_row as S}
 use Rattle.controller_abi.specs.contracts.port.Port.{the_row as R}
 use Rattle.controller_abi.proofs.port.Port.TheLaws.{the_row_laws as port_laws}
-use Rattle.controller_abi.specs.contracts.unstarted as g
-use Rattle.controller_abi.proofs.unstarted.Met.{met}
-use Rattle.controller_abi.specs.contracts.start as h
-use Rattle.controller_abi.proofs.start.Met.{met as start_met}
+use Rattle.controller_abi.specs.contracts.port_of as g
+use Rattle.controller_abi.proofs.port_of.Met.{met}
 use Rattle.nandutable_controller.specs.contracts.pn_controller_put as f
 use Rattle.nandutable_controller.proofs.pn_controller_put.Statement.{statement}
 use Rattle.nandutable_controller.proofs.pn_controller_put.Code as code
@@ -70,8 +64,6 @@ pn_controller_put_spec 𝓤 𝓛 𝓜 𝓡 wired =
     let y : Ptr → W.Ghost = λ p. ((κs, qs, bounds, (p, a.1), vals p), tt) in
     let Params = RawPtr ∷ ShrRef (named 0) κ S ∷ ShrRef (named 1) η Number ∷ ShrRef (named 2) θ Number ∷ [] in
     let Tokens = ‵ (flft κ qs.0) ⊛ (‵ (flft η qs.1.0) ⊛ (‵ (flft θ qs.1.1.0) ⊛ ‵ ftrue)) in
-    let IsUnstarted : State → Type 0 = λ port. port.controller.setup ≡ record { plan = parts_of plan.now; ar = ar.now; activity = activity.now } in
-    let IsStarted : State → State → Type 0 = λ old new. new ≡ opened (fresh old.controller.setup.plan old.controller.setup.ar old.controller.setup.activity) in
     let IsMade : State → Type 0 = λ port. port ≡ opened (fresh (parts_of plan.now) ar.now activity.now) in
     let Reported = λ (b o : ℕ) (port : State). sep 𝓤 (types.Logic.sem 𝓛 (lies_at R full_share (block_ptr b o) port)) (fact 𝓤 (IsMade port)) in
     let reported : (b o : ℕ) (port : State) → IsMade port → ent 𝓤 (types.Logic.sem 𝓛 (lies_at R full_share (block_ptr b o) port)) (ex 𝓤 (Reported b o)) = λ b o port made.
@@ -89,9 +81,9 @@ pn_controller_put_spec 𝓤 𝓛 𝓜 𝓡 wired =
     let z : G.Ghost = (((κ, (η, (θ, tt))), (qs.0, (qs.1.0, (qs.1.1.0, tt))), tt, (plan, (ar, (activity, tt))), (shr_vals plan, (shr_vals ar, (shr_vals activity, tt)))), tt) in
     nothing ! $ move ! (4 ∷ 0 ∷ []) $ join ! $ move ! (3 ∷ 0 ∷ []) $ join ! $ move ! (2 ∷ 0 ∷ []) $ join ! $ move ! (2 ∷ 0 ∷ []) $ join ! $
     use0 𝓛 (raw (fact 𝓤 (is_plan plan.now ≡ true))) (fact_i 𝓤 _ _ fits) $ move ! (1 ∷ 0 ∷ []) $ use2 𝓛 (raw (G.pre z)) (id⊢ 𝓤 _) $
-    calls_at ! (framed 𝓤 𝓛.H 𝓜 𝓣) G (met 𝓤 𝓛 𝓜 𝓡 (code.calls-controller_abi::unstarted 𝓡.env wired)) z (and_then ! (get ! refl) (and_then ! (get ! refl) (and_then ! (get ! refl) (no_more !)))) (λ v.
+    calls_at ! (framed 𝓤 𝓛.H 𝓜 𝓣) G (met 𝓤 𝓛 𝓜 𝓡 (code.calls-controller_abi::port_of 𝓡.env wired)) z (and_then ! (get ! refl) (and_then ! (get ! refl) (and_then ! (get ! refl) (no_more !)))) (λ v.
     use1 𝓛 (later (some (λ (port : State). (Tokens ⊛ ‵ (R.own_val port (v ∷ []))) ⊛
-    some (λ (ws : Unit {0} × (Unit {0} × (Unit {0} × Unit {0}))). ‵ (lasts g.ended z.0.0 z.0.3 ws) ⊛ raw (fact 𝓤 (IsUnstarted port)))))) (id⊢ 𝓤 _) $
+    some (λ (ws : Unit {0} × (Unit {0} × (Unit {0} × Unit {0}))). ‵ (lasts g.ended z.0.0 z.0.3 ws) ⊛ raw (fact 𝓤 (IsMade port)))))) (id⊢ 𝓤 _) $
     await ! tt $ pick ! (λ port. split ! $ split ! $
     -- [the tokens; the port; its facts; the memory]
     move ! (1 ∷ []) $ peeks ! R _ (shows 𝓛 R) port (v ∷ []) (λ is.
@@ -100,34 +92,10 @@ pn_controller_put_spec 𝓤 𝓛 𝓜 𝓡 wired =
     -- [the port; the tokens; the memory]
     assigns_last ! (of_opd ! (get ! refl)) (through ! refl (stop !)) (init ! 2 refl typed) $
     exec ! 𝓣.C 𝓣.Λ (env code.Mir.locals l) code.Mir.t-2 (at_ret _ (W.post (y (block_ptr b o)))) $
-    move ! (2 ∷ 0 ∷ []) $ use2 𝓛 (‵ (part_at R full_share port b o)) (part_in 𝓛 R refl full_share port b o v) $
-    -- [the port in the memory; the tokens]
-    first ! $ blocks ! $
-    sets ! (of_opd ! (get ! refl)) refl (tt, tt) $
-    sets_last ! (addr ! (through ! refl (stop !))) refl (tt, tt) $
-    exec ! 𝓣.C 𝓣.Λ (env code.Mir.locals l) code.Mir.t-3 (at_ret _ (W.post (y (block_ptr b o)))) $
-    lft_new ! tt (λ α. move ! (1 ∷ []) $
-    use1 𝓛 (later (some (λ (γ : ℕ). ‵ ((MutRef (named 0) (α ∷ []) R).own_val (record { ref_ptr = (b, o); ghost_name = γ; now = port }) (vptr b o ∷ [])) ⊛ ‵ (flent (α ∷ []) (Body (mem R) b o γ)))))
-    (lends_ref 𝓛 R (named 0) (α ∷ []) port b o) $ await ! tt $ pick ! (λ γ. split ! $
-    -- [the loan; what the lender keeps; its token; the tokens]
-    let H = triple_of 𝓛 h.signature (h.spec 𝓛 𝓜.mem 𝓡.returns) in
-    let loan : MutBor State = record { ref_ptr = (b, o); ghost_name = γ; now = port } in
-    let x : H.Ghost = (((α ∷ [], tt), (full_share, tt), tt, (loan, tt), (mut_vals loan, tt)), tt) in
-    nothing ! $ move ! (1 ∷ 0 ∷ []) $ join ! $ nothing ! $ move ! (3 ∷ 0 ∷ []) $ join ! $ join ! $ nothing ! $ move ! (1 ∷ 0 ∷ []) $ use2 𝓛 (raw (H.pre x)) (id⊢ 𝓤 _) $
-    calls_at ! (framed 𝓤 𝓛.H 𝓜 𝓣) H (start_met 𝓤 𝓛 𝓜 𝓡 (code.calls-controller_abi::start 𝓡.env wired)) x (and_then ! (get ! refl) (no_more !)) (λ u.
-    use1 𝓛 (later (some (λ (r : Unit {0}). ((‵ (flft (α ∷ []) full_share) ⊛ ‵ ftrue) ⊛ ‵ (feq (List Val) (u ∷ []) (vunit ∷ []))) ⊛
-    some (λ (now : State × Unit {0}). ‵ (lasts h.ended x.0.0 x.0.3 now) ⊛ raw (fact 𝓤 (IsStarted port now.0)))))) (id⊢ 𝓤 _) $
-    await ! tt $ pick ! (λ r. split ! $ split ! $ split ! $ lft_end ! tt $
-    -- [that its lifetime is over; true; the result; the last value; what the lender keeps; the tokens]
-    move ! (1 ∷ []) $ drop ! $ move ! (1 ∷ []) $ feq_l ! (λ unit. lands_as ! (ap only unit) refl (tt, tt) $
-    move ! (1 ∷ []) $ pick ! (λ now. split ! $ move ! (1 ∷ []) $ heard ! _ (λ started. fsplit ! $ fsplit ! $
-    -- [the last value; its borrow; true; the lifetime is over; what the lender keeps; the tokens]
-    move ! (3 ∷ 4 ∷ 0 ∷ []) $ use3 𝓛 (later (‵ (part_at R full_share now.0 b o))) (ref_back 𝓛 R (α ∷ []) γ now.0 b o) $ await ! tt $
-    move ! (1 ∷ []) $ drop ! $ move ! (1 ∷ []) $ drop ! $
-    -- [the port in the memory; the tokens]
     sets ! (of_opd ! (unit_lit !)) refl (tt, tt) $
     returns ! (look_at ! 0 refl) $ free_all ! refl $
-    use1 𝓛 (raw (ex 𝓤 (Reported b o))) (reported b o now.0 (started ∙ ap (λ s. opened (fresh s.plan s.ar s.activity)) made)) $
+    move ! (2 ∷ 0 ∷ []) $ use2 𝓛 (‵ (part_at R full_share port b o)) (part_in 𝓛 R refl full_share port b o v) $
+    use1 𝓛 (raw (ex 𝓤 (Reported b o))) (reported b o port made) $
     -- [the facts of the memory; the tokens]
     suffices ! _ (ends_at 𝓛 f.ended stayed c (y (block_ptr b o)) vunit tt (tt, (tt, (tt, (tt, tt)))) (tt, (tt, (tt, (tt, tt))))) $
-    feq_i ! _ (vunit ∷ []) _ refl $ nothing ! $ nothing ! $ join ! $ nothing ! $ join ! $ nothing ! $ join ! $ nothing ! $ join ! $ move ! (3 ∷ 0 ∷ 1 ∷ 2 ∷ []) $ group ! 3 $ done !))))))))))))))))
+    feq_i ! _ (vunit ∷ []) _ refl $ nothing ! $ nothing ! $ join ! $ nothing ! $ join ! $ nothing ! $ join ! $ nothing ! $ join ! $ move ! (3 ∷ 0 ∷ 1 ∷ 2 ∷ []) $ group ! 3 $ done !)))))))))

@@ -1,5 +1,7 @@
 //! Cyclic frames, and the units of time.
-ghost use Rattle.std.specs.Prelude.{◌≡◌, ◌≢◌};
+ghost use Rattle.std.specs.Prelude.{◌≡◌, ◌≢◌, ◌<◌, ◌≤◌};
+ghost use Rattle.pn_alarms.specs.Leaps.{after};
+ghost use Rattle.relations.specs.exchange.Leaps.{BringNothing, flow_due_in};
 ghost use Rattle.relations.specs.exchange.Received.{behind_frame, received_as};
 ghost use Rattle.relations.specs.exchange.Units.{flow_later, tick_of};
 
@@ -31,5 +33,25 @@ impl DataExchange {
             Due::Nothing => self.cyclic.tick(Due::Nothing),
             due => self.cyclic.tick(due),
         }
+    }
+
+    /// The number of units up to and with the next one with which a frame of inputs is due, the data hold time is over,
+    /// or the alarm is sent again or given up.
+    pub fn due_in(&self) -> u32
+        ensures value { result ≡ flow_due_in self.now }
+        ensures some { 0 < result }
+        ensures few { result ≤ 8388608 }
+    {
+        self.cyclic.due_in().min(self.alarms.due_in())
+    }
+
+    /// Counts several units of 31.25 microseconds at once. None of them may bring anything.
+    pub fn pass(&mut self, units: u32)
+        requires { units < flow_due_in self.old }
+        ensures state { self.new ≡ after flow_later units self.old }
+        ensures nothing { BringNothing units self.old }
+    {
+        self.cyclic.pass(units);
+        self.alarms.pass(units);
     }
 }

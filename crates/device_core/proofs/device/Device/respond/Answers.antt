@@ -3,10 +3,8 @@ use Rattle.std.proofs.Common.{ap, map, refl, rules, subst, sym, ◌∙◌}
 use Rattle.device_frames.specs.Sent.{bytes_of}
 use Rattle.settings_store.specs.Carries.{Holds}
 use Rattle.relations.specs.Exchanged.{given_to, raised_to}
-use Rattle.device_frames.specs.declared.event.Event.TheVariants.{Frame}
 use Rattle.device_frames.specs.Heard.{Ticks, Given, Raised, heard_of}
 use Rattle.device_core.specs.Handled.{handled_given, handled_raised}
-use Rattle.device_core.specs.Steps.{Steps}
 use Rattle.device_core.proofs.Handled.{input_asks_nothing, input_sends_nothing, notice_asks_nothing}
 use Rattle.device_core.proofs.Sendable.{none_sendable}
 use Rattle.device_core.proofs.Steps.{inactive_steps, moves_steps}
@@ -46,11 +44,3 @@ returns-in-Alarm-clause-steps g c =
     rw (c.in-Alarm.is, ← c.as_slice-in-Alarm.ensures.value)
     (inactive_steps g.F.Flash old _ (Raised slot subslot octets) (handled_raised old.station old.live slot subslot octets) _ _ (subst (λ s. Holds (g.F.Flash.image s.flash) s.live.values) c.self.view_is c.self.invariant) refl
     (notice_asks_nothing old.live (raised_to old.station.real.modules.items slot subslot octets old.live.rest.link)) c.raise.ensures.state c.raise.ensures.frames c.raise.ensures.note c.raise.ensures.sendable)
-
--- The octets of the event are those that are heard.
-pub returns-in-Frame-clause-steps : goal.returns-in-Frame-clause-steps
-returns-in-Frame-clause-steps g c =
-    let old = c.args.self.now in
-    rw c.in-Frame.is
-    (subst (λ items. Steps g.F.Flash old (heard_of old.station.identity (Frame (record { items = items }))) (map (λ frame. frame.items) c.hear.new.outbox.items) c.hear.result c.hear.new.self)
-    c.as_slice-in-Frame.ensures.value c.hear.ensures.steps)

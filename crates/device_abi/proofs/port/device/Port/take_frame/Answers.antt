@@ -19,7 +19,7 @@ returns c =
     let before = c.counted-before.ensures.value ∙ ap (λ f. (record_of f).count) c.flash.ensures in
     let count = ap (λ r. r.count) after ∙ count_after old does.calls small ∙ ap (λ n. (n + length does.calls) % 2 ^ 32) (sym before) in
     let recent = ap (λ r. r.recent) same ∙ does.last.1 in
-    let past = c.older-past.ensures.exact (length does.calls) count (few_new does.last.0 does.calls _ recent) does.few in
+    let past = c.older-self-inside.ensures.exact (length does.calls) count (few_new does.last.0 does.calls _ recent) does.few in
     rw (← c.self.view_is) (record {
       exact = c.step_frame-note.ensures.exact;
       records = does;
@@ -31,7 +31,7 @@ pub invariant_of-self : goal.invariant_of-self
 invariant_of-self c =
     let port = c.self.inside in
     let free : barred (the_view port) ≡ None = subst (λ p. barred p ≡ None) (sym c.self.view_is) c.requires in (
-      subst (λ f. c.older-past.result ≤ length (record_of f).recent) c.flash-2.ensures c.older-past.ensures.most,
+      subst (λ f. c.older-self-inside.result ≤ length (record_of f).recent) c.flash-2.ensures c.older-self-inside.ensures.most,
       omega arith,
       steady_of port.stage _ _ _ (booted_of port.stage _ free) c.step_frame-note.ensures.going,
     )

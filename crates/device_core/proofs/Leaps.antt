@@ -1,0 +1,139 @@
+-- Several units of time at once, and as many Tick events.
+use Rattle.std.proofs.Common.{◌≡◌, ◌+◌, ◌-◌, ◌%◌, ◌<◌, ◌≤◌, ◌++◌, ℕ, zero, suc, Bool, false, List, [], ◌∷◌, map, sum, refl, sym, ap, ◌∙◌, arith, append_assoc, Option}
+use Rattle.std.specs.Prelude.{min}
+use Rattle.std.proofs.lemmas.List.{append-nil}
+use Rattle.std.proofs.lemmas.List.Sums.{sum_by-cons}
+use Rattle.std.proofs.Math.Nat.{mod-add-mod, mod-eq_of_lt}
+use Rattle.relations.specs.Leaps.{NothingDueFor}
+use Rattle.relations.specs.Phases.{passing, updated}
+use Rattle.relations.specs.RelationState.{RelationState}
+use Rattle.relations.specs.Runs.{unit_over, units_over}
+use Rattle.relations.specs.Timers.{Due, due_of, nothing}
+use Rattle.device_frames.specs.declared.event.Event.TheVariants.{Tick}
+use Rattle.device_frames.specs.Heard.{heard_of}
+use Rattle.device_frames.specs.Relation.{due_frames}
+use Rattle.device_frames.specs.Sent.{bytes_of}
+use Rattle.device_core.specs.Behind.{behind, frames_of}
+use Rattle.device_core.specs.Handled.{ticked}
+use Rattle.device_core.specs.Leaps.{LeapsAreTicks, NoneSends, OnlyTheLastSends, Leapt, and_then, leaps_of, then_leap, ticks_of}
+use Rattle.device_core.specs.Machine.{end_of, handled_step, heard_step, step_of}
+use Rattle.device_core.specs.State.{Live, Rest, State, Station, with_rest}
+
+pub below_right : (number one other : ℕ) → number < min one other → number < other
+below_right number one other below = omega (arith, below)
+
+-- ---- one Tick event
+
+tick_live : (station : Station) (live : Live) → (step_of [] station live Tick).live ≡ record { values = live.values; rest = (end_of station live (ticked live)).rest }
+unfolding heard_of heard_step handled_step
+tick_live station live = refl
+
+tick_frames : (station : Station) (live : Live) → (step_of [] station live Tick).frames ≡ map (bytes_of station.identity) (end_of station live (ticked live)).sent
+unfolding heard_of heard_step handled_step
+tick_frames station live = refl
+
+-- If nothing is due, no frame is sent.
+none_sent : (station : Station) (live : Live) → due_of live.rest.link ≡ nothing → (step_of [] station live Tick).frames ≡ []
+none_sent station live none =
+    tick_frames station live
+    ∙ ap (λ (d : Due). map (bytes_of station.identity) (due_frames live.values.running.suite.address ((live.rest.units + 1) % 65536) d (updated (passing live.rest.link) live.rest.link))) none
+
+-- ---- units with which nothing is due
+
+abbrev with_counts : Rest → ℕ → Option RelationState → ℕ → Rest
+with_counts rest lamp link units = record rest { lamp = lamp; link = link; units = units }
+
+abbrev rest_later : ℕ → Rest → Rest
+rest_later units rest = with_counts rest (rest.lamp - units) (units_over units rest.link) ((rest.units + units) % 65536)
+
+abbrev live_later : ℕ → Live → Live
+live_later units live = record { values = live.values; rest = rest_later units live.rest }
+
+abbrev with_lamp_and_units : Live → ℕ → Option RelationState → ℕ → Live
+with_lamp_and_units live lamp link units = record { values = live.values; rest = with_counts live.rest lamp link units }
+
+counter_next : (counter units : ℕ) → ((counter + units) % 65536 + 1) % 65536 ≡ (counter + suc units) % 65536
+counter_next counter units =
+    let one : counter + units + 1 ≡ counter + suc units = omega arith in
+    mod-add-mod (counter + units) 65536 1 ∙ ap (λ (n : ℕ). n % 65536) one
+
+later_next : (station : Station) (live : Live) (units : ℕ) → (step_of [] station (live_later units live) Tick).live ≡ live_later (suc units) live
+later_next station live units =
+    let lamp : live.rest.lamp - units - 1 ≡ live.rest.lamp - suc units = omega arith in
+    let link = units_over (suc units) live.rest.link in
+    tick_live station (live_later units live)
+    ∙ (ap (λ (n : ℕ). with_lamp_and_units live n link (((live.rest.units + units) % 65536 + 1) % 65536)) lamp
+    ∙ ap (with_lamp_and_units live (live.rest.lamp - suc units) link) (counter_next live.rest.units units))
+
+later_none : (live : Live) → live.rest.units < 65536 → live ≡ live_later 0 live
+later_none live fits =
+    let lamp : live.rest.lamp ≡ live.rest.lamp - 0 = omega arith in
+    let same : live.rest.units + 0 ≡ live.rest.units = omega arith in
+    let counter : live.rest.units ≡ (live.rest.units + 0) % 65536 = sym (ap (λ (n : ℕ). n % 65536) same ∙ mod-eq_of_lt fits) in
+    ap (λ (n : ℕ). with_lamp_and_units live n live.rest.link live.rest.units) lamp
+    ∙ ap (with_lamp_and_units live (live.rest.lamp - 0) live.rest.link) counter
+
+abbrev sent_with : Live → List (List ℕ) → Leapt
+sent_with live frames = record { live = live; frames = frames }
+
+abbrev and_tick : Station → Leapt → Leapt
+and_tick station before = and_then before (step_of [] station before.live Tick)
+
+pub ticks_later : (station : Station) (live : Live) (units : ℕ) → live.rest.units < 65536 → NothingDueFor units live.rest.link → ticks_of units station live ≡ sent_with (live_later units live) []
+ticks_later station live zero fits none = ap (λ (l : Live). sent_with l []) (later_none live fits)
+ticks_later station live (suc units) fits none =
+    let later = live_later units live in
+    ap (and_tick station) (ticks_later station live units fits (λ before earlier. none before (omega (arith, earlier))))
+    ∙ (ap (λ (l : Live). sent_with l (step_of [] station later Tick).frames) (later_next station live units)
+    ∙ ap (sent_with (live_later (suc units) live)) (none_sent station later (none units (omega arith))))
+
+pub ticks_live : (station : Station) (live : Live) (units : ℕ) → live.rest.units < 65536 → NothingDueFor units live.rest.link → (ticks_of units station live).live ≡ live_later units live
+ticks_live station live units fits none = ap (λ (s : Leapt). s.live) (ticks_later station live units fits none)
+
+pub none_sends : (station : Station) (live : Live) (units : ℕ) → live.rest.units < 65536 → NothingDueFor units live.rest.link → NoneSends units station live
+none_sends station live units fits none before earlier =
+    ap (λ (s : Leapt). s.frames) (ticks_later station live before fits (λ first sooner. none first (omega (arith, earlier, sooner))))
+
+-- ---- a leap: units with which nothing is due, and then one Tick event
+
+abbrev with_live : {F : Type 0} → State F → Live → State F
+with_live device live = record device { live = live }
+
+pub leap_device : {F : Type 0} (old mid new : State F) (units before : ℕ) → units ≡ suc before → mid ≡ with_live old (ticks_of before old.station old.live).live
+    → new ≡ behind mid (ticked mid.live) → new ≡ with_live old (ticks_of units old.station old.live).live
+leap_device {F} old mid new units before count is ticks =
+    let live = (ticks_of before old.station old.live).live in
+    ticks ∙ (ap (λ (m : State F). behind m (ticked m.live)) is
+    ∙ (ap (with_live old) (sym (tick_live old.station live)) ∙ ap (λ (n : ℕ). with_live old (ticks_of n old.station old.live).live) (sym count)))
+
+pub leap_frames : {F : Type 0} (old mid : State F) (frames : List (List ℕ)) (units before : ℕ) → units ≡ suc before → mid ≡ with_live old (ticks_of before old.station old.live).live
+    → NoneSends before old.station old.live → frames ≡ frames_of mid (ticked mid.live) → frames ≡ (ticks_of units old.station old.live).frames
+leap_frames {F} old mid frames units before count is none ticks =
+    let sent = ticks_of before old.station old.live in
+    let last : frames ≡ (step_of [] old.station sent.live Tick).frames = ticks ∙ (ap (λ (m : State F). frames_of m (ticked m.live)) is ∙ sym (tick_frames old.station sent.live)) in
+    last ∙ (ap (λ (f : List (List ℕ)). f ++ (step_of [] old.station sent.live Tick).frames) (sym (none before (omega arith)))
+    ∙ ap (λ (n : ℕ). (ticks_of n old.station old.live).frames) (sym count))
+
+pub leap_last : (station : Station) (live : Live) (units before : ℕ) → units ≡ suc before → NoneSends before station live → OnlyTheLastSends units station live
+leap_last station live units before count none first earlier = none first (omega (arith, count, earlier))
+
+-- ---- leaps one after another
+
+ticks_more : (station : Station) (live : Live) (units more : ℕ) → ticks_of (units + more) station live ≡ then_leap (ticks_of units station live) (ticks_of more station (ticks_of units station live).live)
+ticks_more station live units zero =
+    let sent = ticks_of units station live in
+    let none : units + 0 ≡ units = omega arith in
+    ap (λ (n : ℕ). ticks_of n station live) none ∙ ap (sent_with sent.live) (sym (append-nil sent.frames))
+ticks_more station live units (suc more) =
+    let sent = ticks_of units station live in
+    let next = ticks_of more station sent.live in
+    let one : units + suc more ≡ suc (units + more) = omega arith in
+    ap (λ (n : ℕ). ticks_of n station live) one
+    ∙ (ap (and_tick station) (ticks_more station live units more)
+    ∙ ap (sent_with (step_of [] station next.live Tick).live) (append_assoc sent.frames next.frames (step_of [] station next.live Tick).frames))
+
+pub leaps_are_ticks : LeapsAreTicks
+leaps_are_ticks station live [] = refl
+leaps_are_ticks station live (units ∷ leaps) =
+    ap (then_leap (ticks_of units station live)) (leaps_are_ticks station (ticks_of units station live).live leaps)
+    ∙ (sym (ticks_more station live units (sum leaps)) ∙ ap (λ (n : ℕ). ticks_of n station live) (sym (sum_by-cons (λ (x : ℕ). x) units leaps)))

@@ -1,0 +1,80 @@
+// Several units of time at once.
+ghost use Rattle.std.specs.Prelude.{◌≡◌, ◌<◌, ◌≤◌, ◌+◌, ◌%◌};
+ghost use Rattle.frame_codec.specs.Outbox.{boxed};
+ghost use Rattle.device_core.specs.Leaps.{LeapsAreTicks, NoneSends, OnlyTheLastSends, lamp_off_in, live_due_in, ticks_of};
+
+use crate::{Device, Note};
+use flash_model::Flash;
+use frame_codec::Outbox;
+use pn_alarms::NEVER;
+
+impl<F: Flash<S>, const S: usize> Device<F, S> {
+    /// The number of units up to and with the next one with which something is sent, an alarm is given up, the relation
+    /// ends, or the lamp goes off. 4,294,967,295 if no unit ever does any of these.
+    pub fn due(&self) -> u32
+        ensures value { result ≡ live_due_in self.now.live }
+        ensures some { 0 < result }
+    {
+        lamp_off_in(self.lamp).min(self.relation.due_in())
+    }
+
+    /// Lets `units` units of 31.25 microseconds pass at once, at most as many as `due` returns, and replaces the content
+    /// of the outbox by the frames to be sent. It does what as many Tick events do, one by one.
+    pub fn elapse(&mut self, units: u32, outbox: &mut Outbox) -> Note
+        requires { units ≤ live_due_in self.old.live }
+        // The device and the frames are those after that many Tick events. Only the last of them may send.
+        ensures device { self.new ≡ record self.old { live = (ticks_of units self.old.station self.old.live).live } }
+        ensures frames { boxed outbox.new ≡ (ticks_of units self.old.station self.old.live).frames }
+        ensures last { OnlyTheLastSends units self.old.station self.old.live }
+        ensures note { result ≡ Note.Done }
+    {
+        outbox.clear(); // of what the event before sent
+        if units == 0 {
+            return Note::Done;
+        }
+        self.pass(units - 1);
+        self.tick(outbox)
+    }
+
+    /// Lets one unit pass: clears the outbox, and appends the frames to be sent. It does what a Tick event does.
+    pub fn pass_unit(&mut self, outbox: &mut Outbox)
+        ensures device { self.new ≡ record self.old { live = (ticks_of 1 self.old.station self.old.live).live } }
+        ensures frames { boxed outbox.new ≡ (ticks_of 1 self.old.station self.old.live).frames }
+    {
+        outbox.clear(); // of what the event before sent
+        let _ = self.tick(outbox);
+    }
+
+    /// Lets units pass with which nothing is sent, and nothing ends: fewer than `due` returns.
+    pub fn pass(&mut self, units: u32)
+        requires { units < live_due_in self.old.live }
+        ensures device { self.new ≡ record self.old { live = (ticks_of units self.old.station self.old.live).live } }
+        ensures none { NoneSends units self.old.station self.old.live }
+    {
+        self.lamp = self.lamp.saturating_sub(units);
+        self.units = counter_later(self.units, units);
+        self.relation.pass(units);
+    }
+}
+
+// CycleCounter some units later: it counts modulo 65,536.
+fn counter_later(counter: u16, units: u32) -> u16
+    ensures value { result ≡ (counter + units) % 65536 }
+    ensures fits { counter < 65536 }
+{
+    counter.wrapping_add((units % 65_536) as u16)
+}
+
+// The number of units up to and with the next one with which the lamp goes off, `NEVER` if it is off.
+fn lamp_off_in(lamp: u32) -> u32
+    ensures value { result ≡ lamp_off_in lamp }
+    ensures some { 0 < result }
+{
+    if lamp == 0 { NEVER } else { lamp }
+}
+
+/// However a number of units is divided into leaps, the device and the frames, in order, are those of that many Tick
+/// events. This is a law of the definitions that specify `Device::elapse`; the function has no code.
+pub fn leaps_are_ticks()
+    ensures { LeapsAreTicks }
+{}

@@ -1,0 +1,15 @@
+use Rattle.std.proofs.Common.{refl}
+use Rattle.pn_alarms.proofs.Leaps.{nothing_due, ticked_after}
+use Rattle.pn_alarms.proofs.repeats.Repeats.pass.Goals as goal
+
+pub returns-in_default-clause-nothing : goal.returns-in_default-clause-nothing
+returns-in_default-clause-nothing c = nothing_due c.args.self.now c.args.units c.requires
+
+pub returns-in_default-clause-state : goal.returns-in_default-clause-state
+returns-in_default-clause-state c = rw (ticked_after c.args.self.now c.args.units c.requires) (rw (← c.self.view_is, c.in_default.is) refl)
+
+pub returns-clause-nothing : goal.returns-clause-nothing
+returns-clause-nothing c = nothing_due c.args.self.now c.args.units c.requires
+
+pub returns-clause-state : goal.returns-clause-state
+returns-clause-state c = rw (ticked_after c.args.self.now c.args.units c.requires) (rw (← c.self.view_is, c.in-Some.is) refl)

@@ -1,0 +1,163 @@
+-- Several units of time at once, before the next one that brings something to a relation.
+use Rattle.std.proofs.Common.{◌≡◌, ◌+◌, ◌*◌, ◌-◌, ◌<◌, ◌≤◌, ◌==◌, ◌&&◌, ℕ, zero, suc, Bool, true, false, nat_le, refl, ap, ◌∙◌, arith, Option, Some, None, if◌then◌else◌}
+use Rattle.std.specs.Prelude.{min, max}
+use Rattle.std.proofs.lemmas.Bool.{ne_eqb}
+use Rattle.std.proofs.lemmas.Bool.Decides.{nat_tests}
+use Rattle.pn_alarms.specs.declared.abort.Abort.{Abort}
+use Rattle.pn_alarms.specs.declared.abort.Abort.TheVariants.{Activity, DataHold}
+use Rattle.pn_alarms.specs.declared.repeats.Due.{Due as AlarmDue}
+use Rattle.pn_alarms.specs.declared.repeats.Due.TheVariants.{Nothing}
+use Rattle.pn_alarms.specs.Device.{end_later}
+use Rattle.pn_alarms.specs.Leaps.{NothingDue, after, device_due}
+use Rattle.cyclic_data.specs.Timing.{is_due}
+use Rattle.cyclic_exchange.specs.Cyclic.{Cyclic}
+use Rattle.cyclic_exchange.specs.Leaps.{IsQuietFor}
+use Rattle.cyclic_exchange.specs.Units.{Brought, cyclic_later, ending_by, is_silent, tick_by}
+use Rattle.cyclic_exchange.specs.Units.{tick_of as cyclic_tick}
+use Rattle.relations.specs.exchange.Flow.{Flow}
+use Rattle.relations.specs.exchange.Leaps.{BringNothing, nothing_brought}
+use Rattle.relations.specs.exchange.Units.{flow_later, tick_of}
+use Rattle.relations.specs.declared.phase.Phase.{Phase}
+use Rattle.relations.specs.declared.phase.Phase.TheVariants.{Started, Awaiting, Exchanging}
+use Rattle.relations.specs.RelationState.{RelationState, is_awaiting, is_exchanging}
+use Rattle.relations.specs.Leaps.{NothingDueFor, due_within, inactive_by, inactive_in, link_due_in, ready_in, waited_by}
+use Rattle.relations.specs.Runs.{unit_over, units_over}
+use Rattle.relations.specs.Timers.{Due, due_by, due_in, due_of, ending_of, is_again, is_timed, limit_of, nothing, unit_later}
+use Rattle.relations.proofs.Kept.{updated_on}
+
+-- ---- the exchange
+
+pub flow_after : (flow : Flow) (units : ℕ) → after flow_later units flow ≡ record { cyclic = after cyclic_later units flow.cyclic; alarms = after end_later units flow.alarms }
+flow_after flow zero = refl
+flow_after flow (suc units) = ap flow_later (flow_after flow units)
+
+abbrev only_cyclic : Bool → Brought
+only_cyclic is_cyclic = record { ending = None; is_alarm = false; is_cyclic = is_cyclic }
+
+tick_nothing : (cyclic : Cyclic) (alarm : AlarmDue) → is_silent cyclic ≡ false → is_due cyclic.sending ≡ false → alarm ≡ Nothing → cyclic_tick cyclic alarm ≡ nothing_brought
+tick_nothing cyclic alarm heard frame none =
+    ap (cyclic_tick cyclic) none
+    ∙ (ap (λ (b : Bool). tick_by cyclic Nothing (if b then Some DataHold else ending_by Nothing)) heard ∙ ap only_cyclic frame)
+
+pub brings_nothing : (flow : Flow) (units : ℕ) → IsQuietFor units flow.cyclic → NothingDue device_due end_later units flow.alarms → BringNothing units flow
+brings_nothing flow units quiet none before earlier =
+    let heard = quiet before earlier in
+    ap tick_of (flow_after flow before)
+    ∙ tick_nothing (after cyclic_later before flow.cyclic) (device_due (after end_later before flow.alarms)) heard.0 heard.1 (none before earlier)
+
+pub begun_still : (flow : Flow) (units : ℕ) → (after flow_later units flow).cyclic.begun ≡ flow.cyclic.begun
+begun_still flow zero = refl
+begun_still flow (suc units) = begun_still flow units
+
+-- ---- the timers
+
+pub below_left : (number one other : ℕ) → number < min one other → number < one
+below_left number one other below = omega (arith, below)
+
+pub below_right : (number one other : ℕ) → number < min one other → number < other
+below_right number one other below = omega (arith, below)
+
+le_false : (a b : ℕ) → b < a → nat_le a b ≡ false
+le_false a b h = grind (arith, nat_tests)
+
+timer_left : (limit counted units : ℕ) → suc units < max 1 (limit - counted) → counted + units + 1 < limit
+timer_left limit counted units before = omega (arith, before)
+
+-- Why the relation ends, from its phase, its activity timer and what the exchange brings.
+abbrev ending_at : Phase → ℕ → ℕ → Brought → Option Abort
+ending_at phase limit inactive brought = if is_timed phase then (if nat_le limit (inactive + 1) then Some Activity else None) else brought.ending
+
+no_ending : (phase : Phase) (limit inactive units : ℕ) (brought : Brought) → suc units < inactive_in phase limit inactive → brought ≡ nothing_brought
+    → ending_at phase limit (inactive_by phase units inactive) brought ≡ None
+no_ending Started limit inactive units brought before none =
+    ap (λ (b : Bool). let o : Option Abort = if b then Some Activity else None in o) (le_false limit (inactive + units + 1) (timer_left limit inactive units before))
+no_ending Awaiting limit inactive units brought before none =
+    ap (λ (b : Bool). let o : Option Abort = if b then Some Activity else None in o) (le_false limit (inactive + units + 1) (timer_left limit inactive units before))
+no_ending Exchanging limit inactive units brought before none = ap (λ (b : Brought). b.ending) none
+
+not_again : (phase : Phase) (waited units : ℕ) → suc units < ready_in phase waited → (is_awaiting phase && (waited_by phase units waited + 1 == 32000)) ≡ false
+not_again Started waited units before = refl
+not_again Awaiting waited units before = ne_eqb (waited + units + 1) 32000 (λ e. omega (arith, e, before))
+not_again Exchanging waited units before = refl
+
+inactive_next : (phase : Phase) (inactive units : ℕ) → (if is_timed phase then inactive_by phase units inactive + 1 else inactive_by phase units inactive) ≡ inactive_by phase (suc units) inactive
+inactive_next Started inactive units = omega arith
+inactive_next Awaiting inactive units = omega arith
+inactive_next Exchanging inactive units = refl
+
+waited_next : (phase : Phase) (waited units : ℕ) → suc units < ready_in phase waited
+    → (if (is_awaiting phase && (waited_by phase units waited + 1 == 32000)) then 0 else (if is_awaiting phase then waited_by phase units waited + 1 else waited_by phase units waited))
+    ≡ waited_by phase (suc units) waited
+waited_next Started waited units before = refl
+waited_next Awaiting waited units before =
+    let one : waited + units + 1 ≡ waited + suc units = omega arith in
+    ap (λ (b : Bool). if b then 0 else waited + units + 1) (not_again Awaiting waited units before) ∙ one
+waited_next Exchanging waited units before = refl
+
+inactive_none : (phase : Phase) (inactive : ℕ) → inactive ≡ inactive_by phase 0 inactive
+inactive_none Started inactive = omega arith
+inactive_none Awaiting inactive = omega arith
+inactive_none Exchanging inactive = refl
+
+waited_none : (phase : Phase) (waited : ℕ) → waited ≡ waited_by phase 0 waited
+waited_none Started waited = refl
+waited_none Awaiting waited = omega arith
+waited_none Exchanging waited = refl
+
+-- ---- the relation
+
+abbrev with_timers : RelationState → ℕ → ℕ → Flow → RelationState
+with_timers link inactive waited flow = record link { inactive = inactive; waited = waited; flow = flow }
+
+-- A relation after several units that bring nothing: it is the same except for its timers.
+abbrev pub later_by : ℕ → RelationState → RelationState
+later_by units link = with_timers link (inactive_by link.phase units link.inactive) (waited_by link.phase units link.waited) (after flow_later units link.flow)
+
+ends_not : (link : RelationState) (units : ℕ) → suc units < link_due_in link → tick_of (after flow_later units link.flow) ≡ nothing_brought → ending_of (later_by units link) ≡ None
+ends_not link units before none =
+    let timers = below_right (suc units) _ _ before in
+    no_ending link.phase (limit_of link) link.inactive units (tick_of (after flow_later units link.flow)) (below_left (suc units) _ _ timers) none
+
+later_next : (link : RelationState) (units : ℕ) → suc units < link_due_in link → unit_later (later_by units link) ≡ later_by (suc units) link
+later_next link units before =
+    let timers = below_right (suc units) _ _ before in
+    let flow = after flow_later (suc units) link.flow in
+    ap (λ (w : ℕ). with_timers link (if is_timed link.phase then inactive_by link.phase units link.inactive + 1 else inactive_by link.phase units link.inactive) w flow)
+    (waited_next link.phase link.waited units (below_right (suc units) _ _ timers))
+    ∙ ap (λ (i : ℕ). with_timers link i (waited_by link.phase (suc units) link.waited) flow) (inactive_next link.phase link.inactive units)
+
+due_nothing : (link : RelationState) (units : ℕ) → suc units < link_due_in link → tick_of (after flow_later units link.flow) ≡ nothing_brought → due_in (later_by units link) ≡ nothing
+due_nothing link units before none =
+    let timers = below_right (suc units) _ _ before in
+    let later = later_by units link in
+    ap (due_by later) (ends_not link units before none)
+    ∙ (ap (λ (b : Brought). let d : Due = record { farewell = None; is_alarm = b.is_alarm; is_ready = is_again later; is_cyclic = b.is_cyclic } in d) none
+    ∙ ap (λ (b : Bool). let d : Due = record { farewell = None; is_alarm = false; is_ready = b; is_cyclic = false } in d)
+    (not_again link.phase link.waited units (below_right (suc units) _ _ timers)))
+
+none_later : (link : RelationState) → link ≡ later_by 0 link
+none_later link =
+    ap (λ (i : ℕ). with_timers link i link.waited link.flow) (inactive_none link.phase link.inactive)
+    ∙ ap (λ (w : ℕ). with_timers link (inactive_by link.phase 0 link.inactive) w link.flow) (waited_none link.phase link.waited)
+
+pub later_after : (link : RelationState) (units : ℕ) → units < link_due_in link → BringNothing units link.flow → units_over units (Some link) ≡ Some (later_by units link)
+later_after link zero below none = ap (λ (l : RelationState). let o : Option RelationState = Some l in o) (none_later link)
+later_after link (suc units) below none =
+    let fewer : units < link_due_in link = omega (arith, below) in
+    let later = later_by units link in
+    ap unit_over (later_after link units fewer (λ before earlier. none before (omega (arith, earlier))))
+    ∙ (updated_on (ending_of later) later (ends_not link units below (none units (omega arith)))
+    ∙ ap (λ (l : RelationState). let o : Option RelationState = Some l in o) (later_next link units below))
+
+pub nothing_after : (link : RelationState) (units : ℕ) → units < link_due_in link → BringNothing units link.flow → NothingDueFor units (Some link)
+nothing_after link units below none before earlier =
+    ap due_of (later_after link before (omega (arith, below, earlier)) (λ first sooner. none first (omega (arith, earlier, sooner))))
+    ∙ due_nothing link before (omega (arith, below, earlier)) (none before earlier)
+
+-- Without a relation no unit brings anything.
+pub none_after : (units : ℕ) → units_over units None ≡ None
+none_after zero = refl
+none_after (suc units) = ap unit_over (none_after units)
+
+pub none_due : (units : ℕ) → NothingDueFor units None
+none_due units before earlier = ap due_of (none_after before)

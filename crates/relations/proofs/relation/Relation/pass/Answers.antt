@@ -1,0 +1,53 @@
+-- Several units that bring nothing to a relation, or to none.
+use Rattle.std.proofs.Common.{◌<◌, refl, sym}
+use Rattle.relations.specs.RelationState.{RelationState}
+use Rattle.relations.specs.Leaps.{link_due_in}
+use Rattle.relations.proofs.Leaps.{begun_still, below_left, below_right, later_after, none_after, none_due, nothing_after}
+use Rattle.relations.proofs.relation.Relation.pass.Goals as goal
+
+pub returns-in_default-clause-state : goal.returns-in_default-clause-state
+returns-in_default-clause-state c = rw (← c.self.view_is, c.in_default.is) (sym (none_after c.args.units))
+
+pub returns-in_default-clause-nothing : goal.returns-in_default-clause-nothing
+returns-in_default-clause-nothing c = rw (← c.self.view_is, c.in_default.is) (none_due c.args.units)
+
+pub pass-requires : goal.pass-requires
+pass-requires c = below_left c.args.units _ _ (rw (← c.self.view_is, c.in-Some.is) at c.requires)
+
+pub returns-clause-state : goal.returns-clause-state
+returns-clause-state c =
+    let link : RelationState = record {
+      phase = c.in-Some.phase;
+      request = c.self.inside.request;
+      partner = c.self.inside.partner;
+      inactive = c.self.inside.inactive;
+      waited = c.self.inside.waited;
+      taken = c.self.inside.taken;
+      differing = c.self.inside.differing.items;
+      flow = c.self.inside.exchange;
+    } in
+    let below : c.args.units < link_due_in link = rw (← c.self.view_is, c.in-Some.is) at c.requires in
+    rw (← c.self.view_is, c.in-Some.is) (rw (later_after link c.args.units below c.pass.ensures.nothing)
+    (rw (c.inactive_later-self-inside.ensures.value, c.waited_later-self-inside.ensures.value, c.pass.ensures.state) refl))
+
+pub returns-clause-nothing : goal.returns-clause-nothing
+returns-clause-nothing c =
+    let link : RelationState = record {
+      phase = c.in-Some.phase;
+      request = c.self.inside.request;
+      partner = c.self.inside.partner;
+      inactive = c.self.inside.inactive;
+      waited = c.self.inside.waited;
+      taken = c.self.inside.taken;
+      differing = c.self.inside.differing.items;
+      flow = c.self.inside.exchange;
+    } in
+    let below : c.args.units < link_due_in link = rw (← c.self.view_is, c.in-Some.is) at c.requires in
+    rw (← c.self.view_is, c.in-Some.is) (nothing_after link c.args.units below c.pass.ensures.nothing)
+
+pub inactive_later-self-inside-requires : goal.inactive_later-self-inside-requires
+inactive_later-self-inside-requires c =
+    rw c.limit_of.ensures.value (below_left c.args.units _ _ (below_right c.args.units _ _ (rw (← c.self.view_is, c.in-Some.is) at c.requires)))
+
+pub waited_later-self-inside-requires : goal.waited_later-self-inside-requires
+waited_later-self-inside-requires c = below_right c.args.units _ _ (below_right c.args.units _ _ (rw (← c.self.view_is, c.in-Some.is) at c.requires))

@@ -1,0 +1,39 @@
+-- Several units of time at once, before the next one that brings something to a relation.
+use Rattle.std.specs.Prelude.{◌≡◌, ◌<◌, ◌+◌, ◌-◌, ℕ, max, min, Option, Some, None, if◌then◌else◌}
+use Rattle.pn_alarms.specs.Leaps.{never}
+use Rattle.relations.specs.declared.phase.Phase.{Phase}
+use Rattle.relations.specs.exchange.Leaps.{flow_due_in}
+use Rattle.relations.specs.RelationState.{RelationState, is_awaiting}
+use Rattle.relations.specs.Timers.{due_of, is_timed, limit_of, nothing}
+use Rattle.relations.specs.Runs.{units_over}
+
+-- The number of units up to and with the next one with which the activity timer, which has this limit and has run for so
+-- many units, is over. It runs until data is exchanged.
+abbrev pub inactive_in : Phase → ℕ → ℕ → ℕ
+inactive_in phase limit inactive = if is_timed phase then max 1 (limit - inactive) else never
+
+-- The number of units up to and with the next one with which ApplicationReady, which has waited for so many units, is
+-- sent again.
+abbrev pub ready_in : Phase → ℕ → ℕ
+ready_in phase waited = if is_awaiting phase then 32000 - waited else never
+
+-- The units of both timers, several units later, before either is over.
+abbrev pub inactive_by : Phase → ℕ → ℕ → ℕ
+inactive_by phase units inactive = if is_timed phase then inactive + units else inactive
+
+abbrev pub waited_by : Phase → ℕ → ℕ → ℕ
+waited_by phase units waited = if is_awaiting phase then waited + units else waited
+
+-- The number of units up to and with the next one that brings something to a relation: a frame of inputs, an alarm or
+-- ApplicationReady is sent again, an alarm is given up, or a timeout ends the relation.
+abbrev pub link_due_in : RelationState → ℕ
+link_due_in link = min (flow_due_in link.flow) (min (inactive_in link.phase (limit_of link) link.inactive) (ready_in link.phase link.waited))
+
+-- The same if there is a relation. Otherwise no unit ever brings anything.
+abbrev pub due_within : Option RelationState → ℕ
+due_within None = never
+due_within (Some link) = link_due_in link
+
+-- Nothing is due with any of the next units.
+abbrev pub NothingDueFor : ℕ → Option RelationState → Type 0
+NothingDueFor units link = (before : ℕ) → before < units → due_of (units_over before link) ≡ nothing
