@@ -1,4 +1,4 @@
-/* The exchange of a device in plain C behind the same three calls as the library, for bench/figures/library.py: what the counts of the
+/* The exchange of a device in plain C with the same three calls as the library, for bench/figures/library.py: what the counts of the
  * library are compared with. It does what the library does of an exchange, unit by unit: it judges a cyclic frame, keeps its data, counts
  * the timers of the relation and of an alarm, and writes the frame that is due. It has a relation from the start, with the octets of data
  * of its station, and no flash, no DCP and no calls; of other frames it says that they are not its own. */
