@@ -190,9 +190,21 @@ impl Controller {
     fn of(setup: Setup) -> Controller
         ensures { result ≡ fresh setup.plan setup.ar setup.activity }
     {
-        let mut controller = Controller::unstarted(setup.plan, setup.ar, setup.activity);
+        let mut controller = Controller {
+            setup,
+            phase: State::Looking,
+            device: Mac { octets: [0; 6] },
+            asked: Some(Request::Identify),
+            waited: 0,
+            units: 0,
+            stands: false,
+            deviates: false,
+            exchange: CyclicExchange::new(),
+            alarms: ControllerAlarms::new(RTA_TIMEOUT_FACTOR, RTA_RETRIES),
+            alarm: None,
+        };
         // The exchange is large: it is opened in its final place.
-        controller.start();
+        open(&mut controller.exchange, &controller.setup.plan);
         controller
     }
 
