@@ -10,7 +10,7 @@
  *     pn_boot(&device, &op, first, second);       // the contents of the chip; the running settings are read from it
  *     for (;;) {
  *         pn_frame(&device, &op, octets, length); // or pn_tick, pn_input, pn_alarm
- *         pn_carry_out(&device, &op, &host);      // or pn_next, until no work remains
+ *         pn_carry_out(&device, &op, &host);      // or pn_next while work remains
  *     }
  *
  * Keep the order of the work: the library's promise depends on it. Complete each flash call durably before the next one, and all of them
@@ -63,13 +63,13 @@ enum {
     PN_OLD_CALL = 4,    /* an outdated call: a later call of the same activity was already answered; no answer is sent */
     PN_NO_RELATION = 5, /* the frame belongs to no existing relation */
     PN_STALE_CYCLE = 6, /* a cyclic frame with invalid data, or with a counter that is not newer */
-    PN_REFUSED = 7      /* an input with a wrong length or place, or an alarm that may not be raised now */
+    PN_REFUSED = 7      /* an input with a wrong length or place, a status of what is not plugged, or an alarm or pn_ready that has no place now */
 };
 
 /* What the application relation waits for (pn_op.phase). */
 enum { PN_NONE = 0, PN_STARTED = 1, PN_AWAITING = 2, PN_EXCHANGING = 3 };
 
-/* The next piece of work (pn_op.work). */
+/* A piece of work (pn_op.work and pn_op.more). */
 enum {
     PN_NOTHING = 0, /* no work of the step remains */
     PN_PROGRAM = 1, /* program `length` octets of `octets` into `sector`, from `place` on */
@@ -92,7 +92,11 @@ enum {
     PN_OP_STORED = 11,
     PN_OP_LOSE = 12,
     PN_OP_RECORD = 13,
-    PN_OP_LEFT = 14
+    PN_OP_LEFT = 14,
+    PN_OP_DUE = 15,
+    PN_OP_STATUS = 16,
+    PN_OP_READY = 17,
+    PN_OP_PROVIDER = 18
 };
 
 /* A parameter record that a submodule accepts: its index, 0 to 32,767 and no other record's of the submodule, and its exact length, 1 to
@@ -136,6 +140,10 @@ typedef struct pn_station {
     uint8_t order_id[20];
     uint8_t serial_number[16];
     uint8_t software_revision[4]; /* a letter and three numbers */
+    /* What the application decides. Zeros: any interval, inputs that are good from the start, ready when the parameters have ended. */
+    uint32_t smallest_interval;    /* of cyclic frames, in units of PN_UNIT_NS, at most 65,536: a Connect with a smaller one is refused */
+    uint16_t inputs_begin_bad;     /* not 0: the IOPS of a submodule with inputs is bad until its first pn_input in the relation */
+    uint16_t ready_by_application; /* not 0: ApplicationReady is sent at pn_ready, and not with the answer to PrmEnd */
     uint32_t module_count;        /* at most PN_MODULES */
     pn_module modules[PN_MODULES];
 } pn_station;
@@ -146,12 +154,13 @@ typedef struct pn_op {
     uint32_t what;    /* PN_OP_SECTOR ..; the functions below set it */
     uint32_t slot;
     uint32_t subslot;
-    uint32_t units;   /* pn_tick: remaining units; pn_state: units for which the lamp still flashes */
+    uint32_t units;   /* pn_tick: remaining units; pn_due: units until something is due; pn_state: units for which the lamp still flashes */
     uint32_t note;    /* PN_DONE .. */
     uint32_t phase;   /* PN_NONE .. */
-    uint32_t work;    /* PN_NOTHING .. */
+    uint32_t work;    /* PN_NOTHING ..: after an event the next piece of work, after pn_next the one that it handed out */
+    uint32_t more;    /* PN_NOTHING ..: after pn_next the piece of work after the one that it handed out */
     uint32_t sector;  /* 0 or 1 */
-    uint32_t place;   /* the first octet of a program call in its sector; pn_taken: a number, then the record's index; pn_left */
+    uint32_t place;   /* the first octet of a program call in its sector; pn_taken: a number, then the record's index; pn_left; pn_status: 0 is bad */
     uint32_t length;  /* how many of `octets` are valid */
     uint8_t octets[PN_OP_SIZE];
 } pn_op;
@@ -171,9 +180,9 @@ typedef struct pn_device {
 
 /* The sizes that the library was built with. */
 #if defined(__cplusplus)
-static_assert(sizeof(pn_op) == 1560 && sizeof(pn_station) == 1500, "another layout than the library's");
+static_assert(sizeof(pn_op) == 1564 && sizeof(pn_station) == 1508, "another layout than the library's");
 #else
-_Static_assert(sizeof(pn_op) == 1560 && sizeof(pn_station) == 1500, "another layout than the library's");
+_Static_assert(sizeof(pn_op) == 1564 && sizeof(pn_station) == 1508, "another layout than the library's");
 #endif
 
 /* The settings that survive a power failure. */
@@ -205,7 +214,7 @@ uint32_t pn_step(void *room, pn_op *op, const uint8_t *given, size_t length);
 
 /* Makes a device from this station in a room of `size` octets. `abi` is the version of the caller's header, `op_size` the size of its
  * operation. It does not set `made` of a pn_device: for a room elsewhere call pn_step.
- * May return PN_NULL, PN_BAD_ABI, PN_SMALL_ROOM, PN_BAD_STATION, and PN_BAD_MAC to PN_BAD_PARAMETER. */
+ * May return PN_NULL, PN_BAD_ABI, PN_SMALL_ROOM, PN_BAD_STATION, and PN_BAD_MAC to PN_BAD_OPTION. */
 static inline uint32_t pn_device_make(void *room, size_t size, uint32_t abi, size_t op_size, const pn_station *station)
 {
     uint32_t answer;
@@ -220,8 +229,8 @@ static inline uint32_t pn_device_make(void *room, size_t size, uint32_t abi, siz
 }
 
 /* Makes a device from this station, and copies the station. Call it first; a device that is made again forgets everything. Of several
- * faults of a station it returns the first of: PN_BAD_STATION, PN_BAD_MAC, PN_BAD_SLOT, PN_BAD_SUBSLOT, PN_BAD_DATA, PN_BAD_PARAMETER.
- * May also return PN_NULL, PN_BAD_ABI, PN_SMALL_ROOM. */
+ * faults of a station it returns the first of: PN_BAD_STATION, PN_BAD_MAC, PN_BAD_SLOT, PN_BAD_SUBSLOT, PN_BAD_DATA, PN_BAD_PARAMETER,
+ * PN_BAD_OPTION. May also return PN_NULL, PN_BAD_ABI, PN_SMALL_ROOM. */
 static inline uint32_t pn_make(pn_device *device, const pn_station *station)
 {
     uint32_t answer;
@@ -271,19 +280,21 @@ static inline uint32_t pn_boot(pn_device *device, pn_op *op, const uint8_t first
     return pn_ask(device, op, PN_OP_BOOT, NULL, 0);
 }
 
-/* --- Events. Each needs a booted device without remaining work, and sets `note`. After each, call pn_carry_out or pn_next. ---
+/* --- Events. Each needs a booted device without remaining work, and sets `note` and `work`. If `work` is not PN_NOTHING, call
+ * pn_carry_out, or pn_next while work remains. ---
  * They may return PN_NULL, PN_NOT_MADE, PN_NOT_BOOTED, PN_LOST, PN_HAS_WORK, and what each names. After such a number nothing was done:
  * `units` of pn_tick, for one, is still the number that was handed in. A loop must end on it. */
 
-/* Hands in a received frame: its octets from the destination address on, without the check sequence. The interface must accept the
- * device's address, the broadcast address and the group address 01-0E-CF-00-00-00. */
+/* Hands in a received frame: its octets from the destination address on, without the check sequence. They are only read during the call.
+ * The interface must accept the device's address, the broadcast address and the group address 01-0E-CF-00-00-00. */
 static inline uint32_t pn_frame(pn_device *device, pn_op *op, const uint8_t *octets, size_t length)
 {
     return pn_ask(device, op, PN_OP_FRAME, octets, length);
 }
 
 /* `units` units of time have passed (PN_UNIT_NS each; 0 is allowed). It stops after a unit that sends something: then `units` of the
- * operation is the remaining number, and `note` is PN_DONE. Take the work, and hand in the rest again. */
+ * operation is the remaining number, and `note` is PN_DONE. Take the work, and hand in the rest again. Units with which nothing is due
+ * pass at once, however many they are (pn_due). */
 static inline uint32_t pn_tick(pn_device *device, pn_op *op, uint32_t units)
 {
     if (op == NULL)
@@ -314,11 +325,32 @@ static inline uint32_t pn_alarm(pn_device *device, pn_op *op, uint16_t slot, uin
     return pn_ask(device, op, PN_OP_ALARM, octets, length);
 }
 
+/* The application says whether the inputs of a submodule are good (for one without inputs: whether it is): its IOPS in the cyclic frames.
+ * Good at first; kept until it is said again, also over relations, and forgotten at a start. `note` is PN_REFUSED if nothing is plugged
+ * there. A sensor that fails: its inputs stay as they are, and their status is bad. May also return PN_NO_SLOT (no number of 16 bits). */
+static inline uint32_t pn_status(pn_device *device, pn_op *op, uint16_t slot, uint16_t subslot, int is_good)
+{
+    if (op == NULL)
+        return PN_NULL;
+    op->slot = slot;
+    op->subslot = subslot;
+    op->place = is_good != 0;
+    return pn_ask(device, op, PN_OP_STATUS, NULL, 0);
+}
+
+/* The application of a station with `ready_by_application` has taken its parameters: ApplicationReady is sent. Once in each relation, after
+ * PrmEnd (pn_parameters_end); otherwise `note` is PN_REFUSED, and always without the option. */
+static inline uint32_t pn_ready(pn_device *device, pn_op *op)
+{
+    return pn_ask(device, op, PN_OP_READY, NULL, 0);
+}
+
 /* --- Work --- */
 
 /* Hands out the next piece of work of the last event, each once: the flash calls in their order, then the frames. Sets `work`, and what
  * belongs to it: `sector`, `place`, `length` and `octets` of PN_PROGRAM, `sector` of PN_ERASE, `length` and `octets` of PN_SEND; `length`
- * is 0 with PN_ERASE and PN_NOTHING. May return PN_NULL, PN_NOT_MADE, PN_NOT_BOOTED, PN_LOST. */
+ * is 0 with PN_ERASE and PN_NOTHING. Sets `more` to the kind of the piece after it; with PN_NOTHING no work remains.
+ * May return PN_NULL, PN_NOT_MADE, PN_NOT_BOOTED, PN_LOST. */
 static inline uint32_t pn_next(pn_device *device, pn_op *op)
 {
     return pn_ask(device, op, PN_OP_NEXT, NULL, 0);
@@ -351,15 +383,16 @@ static inline uint32_t pn_failed(pn_device *device, pn_op *op)
     return answer == PN_OK ? (uint32_t)PN_FLASH_FAULT : answer;
 }
 
-/* Takes all work and does it. May return PN_NULL (also for a function of `host`), PN_NOT_MADE, PN_NOT_BOOTED, PN_FLASH_FAULT (nothing
- * more is done; make and boot the device again), PN_LOST, PN_NOT_SENT (a frame was lost, as it could be on the wire; there is no other
- * effect). */
+/* Takes all work of an event and does it, with the operation of the event. It does nothing if `work` of the operation is PN_NOTHING, and
+ * sets it to PN_NOTHING when all work is done. May return PN_NULL (also for a function of `host`), PN_NOT_MADE, PN_NOT_BOOTED,
+ * PN_FLASH_FAULT (nothing more is done; make and boot the device again), PN_LOST, PN_NOT_SENT (a frame was lost, as it could be on the
+ * wire; there is no other effect). */
 static inline uint32_t pn_carry_out(pn_device *device, pn_op *op, const pn_host *host)
 {
     uint32_t answer, sent = PN_OK;
-    if (host == NULL || host->program == NULL || host->erase == NULL || host->send == NULL)
+    if (device == NULL || op == NULL || host == NULL || host->program == NULL || host->erase == NULL || host->send == NULL)
         return PN_NULL;
-    for (;;) {
+    for (; op->work != PN_NOTHING; op->work = op->more) {
         answer = pn_next(device, op);
         if (answer != PN_OK)
             return answer;
@@ -380,6 +413,7 @@ static inline uint32_t pn_carry_out(pn_device *device, pn_op *op, const pn_host 
             return sent;
         }
     }
+    return sent;
 }
 
 /* --- Reading a device. Each function needs a booted device, with or without remaining work, and changes nothing in it. They may return
@@ -396,10 +430,56 @@ static inline uint32_t pn_output(const pn_device *device, pn_op *op, uint16_t sl
     return pn_read(device, op, PN_OP_OUTPUT);
 }
 
+/* What the controller says of the output of a submodule in its last accepted frame: its IOPS, and the frame's DataStatus. Bit 4 of DataStatus
+ * (0x10) is clear while the controller is stopped. May return PN_NO_FRAME: there is no relation, the output has no place in it, or no frame
+ * was accepted yet. */
+#define PN_IOPS_GOOD 0x80u
+#define PN_PROVIDER_RUNS 0x10u
+static inline uint32_t pn_provider(const pn_device *device, pn_op *op, uint16_t slot, uint16_t subslot, uint8_t *iops, uint8_t *data_status)
+{
+    uint32_t answer;
+    if (op == NULL || iops == NULL || data_status == NULL)
+        return PN_NULL;
+    op->slot = slot;
+    op->subslot = subslot;
+    answer = pn_read(device, op, PN_OP_PROVIDER);
+    if (answer == PN_OK) {
+        *iops = op->octets[0];
+        *data_status = op->octets[1];
+    }
+    return answer;
+}
+
+/* How many units may pass until something is due: with the last of them, and with none before it, the device sends a frame, gives up an
+ * alarm, ends the relation, or turns the lamp off. It is also in `units` of the operation. 4,294,967,295 if no unit ever does any of these.
+ * An event may change it. So a host sleeps until that unit is over, or until the next event. */
+static inline uint32_t pn_due(const pn_device *device, pn_op *op, uint32_t *due)
+{
+    uint32_t answer;
+    if (due == NULL)
+        return PN_NULL;
+    answer = pn_read(device, op, PN_OP_DUE);
+    if (answer == PN_OK)
+        *due = op->units;
+    return answer;
+}
+
 /* What the application relation waits for (`phase`), and the number of units for which the lamp still flashes (`units`). */
 static inline uint32_t pn_state(const pn_device *device, pn_op *op)
 {
     return pn_read(device, op, PN_OP_STATE);
+}
+
+/* Whether the relation has accepted PrmEnd, so that its parameter records are complete (`*has_ended`; 0 without a relation). */
+static inline uint32_t pn_parameters_end(const pn_device *device, pn_op *op, int *has_ended)
+{
+    uint32_t answer;
+    if (has_ended == NULL)
+        return PN_NULL;
+    answer = pn_state(device, op);
+    if (answer == PN_OK)
+        *has_ended = op->phase >= PN_AWAITING;
+    return answer;
 }
 
 /* A parameter record that the relation accepted, by its number from 0 on, in the order of arrival: `slot`, `subslot`, its index in
@@ -470,6 +550,118 @@ static inline uint32_t pn_left(const pn_device *device, pn_op *op, uint32_t *lef
     if (answer == PN_OK)
         *left = op->place;
     return answer;
+}
+
+/* --- What changed ---
+ *
+ * How a host learns of a parameter record, of PrmEnd, of a reset, and of another name or address. Only frames that are not cyclic change
+ * these, and units of time that end the relation. So keep one pn_watch for each device, all zeros at first, and call pn_news when the work
+ * of such an event is done. */
+enum {
+    PN_NEW_PHASE = 1,      /* the phase of the relation (`phase` of the watch) */
+    PN_NEW_RELATION = 2,   /* a Connect was accepted: the records before it are no longer valid */
+    PN_NEW_RECORDS = 4,    /* parameter records were accepted: those from `first_record` on, before `records` (pn_taken) */
+    PN_PARAMETERS_END = 8, /* PrmEnd was accepted: the records are complete. With `ready_by_application`, call pn_ready when they are in use */
+    PN_NEW_NAME = 16,      /* the running name (`settings`) */
+    PN_NEW_ADDRESS = 32,   /* the running address, mask or gateway */
+    PN_RESET = 64          /* the settings were stored, and they are those of the factory: by a reset, or because the last value was deleted */
+};
+
+typedef struct pn_watch {
+    pn_settings settings; /* the running settings */
+    uint32_t phase;
+    uint32_t first_record;
+    uint32_t records;  /* how many the relation has accepted */
+    uint32_t left;     /* commits that the flash still accepts */
+    uint32_t is_begun; /* 0 before the first call */
+} pn_watch;
+
+/* Whether these are the factory settings: no name, no address, and I&M texts of blanks. */
+static inline int pn_are_factory(const pn_settings *settings)
+{
+    static const uint8_t none[12] = {0};
+    const uint8_t *const texts[4] = {settings->im1, settings->im2, settings->im3, settings->im4};
+    static const size_t lengths[4] = {54, 16, 54, 54};
+    size_t i, k;
+    if (settings->name_length != 0 || memcmp(settings->address, none, 4) != 0 || memcmp(settings->mask, none, 4) != 0 ||
+        memcmp(settings->gateway, none, 4) != 0)
+        return 0;
+    for (i = 0; i < 4; i++)
+        for (k = 0; k < lengths[i]; k++)
+            if (texts[i][k] != (i == 3 ? 0 : ' '))
+                return 0;
+    return 1;
+}
+
+/* How many records the relation has accepted, if it had accepted `known` of them before. `*is_other` if it is another relation. */
+static inline uint32_t pn_count_taken(const pn_device *device, pn_op *op, uint32_t known, int *is_other)
+{
+    uint32_t count = known;
+    if (known != 0 && pn_taken(device, op, known - 1) != PN_OK) {
+        count = 0;
+        *is_other = 1;
+    }
+    while (pn_taken(device, op, count) == PN_OK)
+        count++;
+    return count;
+}
+
+/* Compares the phase and the records with those in `watch`, and puts them there. Returns what changed. */
+static inline uint32_t pn_relation_news(const pn_device *device, pn_op *op, pn_watch *watch)
+{
+    uint32_t news = 0, phase = op->phase;
+    int is_other = phase == PN_STARTED && watch->phase != PN_STARTED;
+    uint32_t records = pn_count_taken(device, op, is_other ? 0 : watch->records, &is_other);
+    if (phase != watch->phase)
+        news |= PN_NEW_PHASE;
+    if (is_other && phase != PN_NONE)
+        news |= PN_NEW_RELATION;
+    watch->first_record = is_other ? 0 : watch->records;
+    if (records > watch->first_record)
+        news |= PN_NEW_RECORDS;
+    if (phase >= PN_AWAITING && (watch->phase < PN_AWAITING || is_other))
+        news |= PN_PARAMETERS_END;
+    watch->phase = phase;
+    watch->records = records;
+    return news;
+}
+
+/* Compares the settings with those in `watch`, and puts them there. Returns what changed. */
+static inline uint32_t pn_settings_news(const pn_settings *now, uint32_t left, pn_watch *watch)
+{
+    uint32_t news = 0;
+    const pn_settings *was = &watch->settings;
+    if (now->name_length != was->name_length || memcmp(now->name, was->name, sizeof now->name) != 0)
+        news |= PN_NEW_NAME;
+    if (memcmp(now->address, was->address, 4) != 0 || memcmp(now->mask, was->mask, 4) != 0 || memcmp(now->gateway, was->gateway, 4) != 0)
+        news |= PN_NEW_ADDRESS;
+    if (left != watch->left && pn_are_factory(now))
+        news |= PN_RESET;
+    watch->settings = *now;
+    watch->left = left;
+    return news;
+}
+
+/* What changed since the call before: the sum of PN_NEW_PHASE and the numbers after it (`*news`). The first call reports nothing. It needs a
+ * booted device without remaining work. May return PN_NULL, PN_NOT_MADE, PN_NOT_BOOTED, PN_LOST; then `watch` is unchanged. */
+static inline uint32_t pn_news(const pn_device *device, pn_op *op, pn_watch *watch, uint32_t *news)
+{
+    pn_settings now;
+    uint32_t answer, left = 0;
+    if (op == NULL || watch == NULL || news == NULL)
+        return PN_NULL;
+    answer = pn_running(device, op, &now);
+    if (answer == PN_OK)
+        answer = pn_left(device, op, &left);
+    if (answer == PN_OK)
+        answer = pn_state(device, op);
+    if (answer != PN_OK)
+        return answer;
+    *news = pn_relation_news(device, op, watch) | pn_settings_news(&now, left, watch);
+    if (watch->is_begun == 0)
+        *news = 0;
+    watch->is_begun = 1;
+    return PN_OK;
 }
 
 #ifdef __cplusplus

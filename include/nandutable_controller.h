@@ -257,6 +257,19 @@ static inline uint32_t pn_controller_give(pn_controller *controller, pn_op *op, 
     return pn_controller_ask(controller, op, 5, octets, length);
 }
 
+/* The application says whether the output of a submodule is good. Good at first; kept until it is said again. The IOPS of an output is good
+ * once a value was given (pn_controller_give) and while its status is good. A bad status keeps the value. May return PN_NO_SLOT (the plan
+ * has no submodule with an output there). */
+static inline uint32_t pn_controller_status(pn_controller *controller, pn_op *op, uint16_t slot, uint16_t subslot, int is_good)
+{
+    if (op == NULL)
+        return PN_NULL;
+    op->slot = slot;
+    op->subslot = subslot;
+    op->place = is_good != 0;
+    return pn_controller_ask(controller, op, 16, NULL, 0);
+}
+
 /* The application stops the controller, which releases the relation. */
 static inline uint32_t pn_controller_stop(pn_controller *controller, pn_op *op)
 {
@@ -305,6 +318,39 @@ static inline uint32_t pn_controller_value(const pn_controller *controller, pn_o
 static inline uint32_t pn_controller_state(const pn_controller *controller, pn_op *op)
 {
     return pn_controller_read(controller, op, 9);
+}
+
+/* What the device says of the input of a submodule in its last accepted frame: its IOPS, and the frame's DataStatus. Bit 4 of DataStatus
+ * (PN_PROVIDER_RUNS) is clear while the device is stopped. May return PN_NO_FRAME: no data is exchanged, the input has no place, or no frame
+ * was accepted yet. */
+static inline uint32_t pn_controller_provider(const pn_controller *controller, pn_op *op, uint16_t slot, uint16_t subslot, uint8_t *iops,
+                                              uint8_t *data_status)
+{
+    uint32_t answer;
+    if (op == NULL || iops == NULL || data_status == NULL)
+        return PN_NULL;
+    op->slot = slot;
+    op->subslot = subslot;
+    answer = pn_controller_read(controller, op, 18);
+    if (answer == PN_OK) {
+        *iops = op->octets[0];
+        *data_status = op->octets[1];
+    }
+    return answer;
+}
+
+/* How many units may pass until something is due: with the last of them, and with none before it, the controller sends a frame, sends a
+ * request again, or ends. It is also in `units` of the operation. 4,294,967,295 if no unit ever does any of these. An event may change it.
+ * So a host sleeps until that unit is over, or until the next event. */
+static inline uint32_t pn_controller_due(const pn_controller *controller, pn_op *op, uint32_t *due)
+{
+    uint32_t answer;
+    if (due == NULL)
+        return PN_NULL;
+    answer = pn_controller_read(controller, op, 15);
+    if (answer == PN_OK)
+        *due = op->units;
+    return answer;
 }
 
 /* The last accepted alarm: `slot`, `subslot`, its type in `note`, its AlarmSpecifier in `units`, its data in `length` and `octets`.

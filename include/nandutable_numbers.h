@@ -29,6 +29,7 @@ enum {
     PN_NO_SLOT = 9,    /* no such input or output is plugged in this slot and subslot, or no alarm was accepted yet */
     PN_UNKNOWN = 10,   /* no such operation */
     PN_NOT_SENT = 13,  /* a frame could not be sent; the other frames of the step were tried */
+    PN_NO_FRAME = 24,  /* no cyclic frame with data of this submodule was accepted */
     PN_NOT_MADE = 17,  /* pn_make or pn_controller_start has not returned PN_OK for this memory */
 
     /* Of a device. */
@@ -44,6 +45,7 @@ enum {
     PN_BAD_SUBSLOT = 20,   /* a submodule is in a subslot outside 1 to 36,863, or two of a module are in one subslot */
     PN_BAD_DATA = 21,      /* a submodule has more than 1,439 octets of input or output, which no cyclic frame carries */
     PN_BAD_PARAMETER = 22, /* a parameter record has an index after 32,767, a length outside 1 to 64, or the index of another */
+    PN_BAD_OPTION = 23,    /* the smallest interval of the station is more than 65,536 units */
 
     /* Of a controller. */
     PN_BAD_PLAN = 16, /* the plan is not valid (pn_plan_fault returns why), or the ARUUID is zero */
@@ -90,6 +92,8 @@ static inline const char *pn_strerror(uint32_t number)
     case PN_BAD_SUBSLOT: return "a submodule is in a subslot outside 1 to 36,863, or two are in one subslot";
     case PN_BAD_DATA: return "a submodule has more than 1,439 octets of input or output";
     case PN_BAD_PARAMETER: return "a parameter record has a wrong index or length, or two have one index";
+    case PN_BAD_OPTION: return "the smallest interval of the station is more than 65,536 units";
+    case PN_NO_FRAME: return "no cyclic frame with data of this submodule was accepted";
     case PN_PLAN_JSON: return "the text is not JSON";
     case PN_PLAN_MISSING_KEY: return "a key is missing";
     case PN_PLAN_WRONG_KIND: return "a value is of another kind than its key requires";

@@ -25,7 +25,7 @@ static pn_station station = {
 
 /* A call, with the octets of a frame or units of time. */
 struct line {
-    int kind; /* 0 make, 1 boot, 2 frame, 3 tick, 4 next, 5 output, 6 settings */
+    int kind; /* 0 make, 1 boot, 2 frame, 3 tick, 4 next, 5 output, 6 settings, 7 due */
     uint8_t octets[2000];
     size_t length;
     uint32_t units;
@@ -34,6 +34,7 @@ struct line {
 static void call(struct line *line)
 {
     static pn_settings settings;
+    static uint32_t due;
     switch (line->kind) {
     case 0: pn_make(&device, &station); break;
     case 1: pn_boot(&device, &op, erased, erased); break;
@@ -41,11 +42,12 @@ static void call(struct line *line)
     case 3: pn_tick(&device, &op, line->units); break;
     case 4: pn_next(&device, &op); break;
     case 5: pn_output(&device, &op, 2, 1); break;
-    default: pn_running(&device, &op, &settings); break;
+    case 6: pn_running(&device, &op, &settings); break;
+    default: pn_due(&device, &op, &due); break;
     }
 }
 
-static size_t deepest[7];
+static size_t deepest[8];
 
 static uint8_t *stack;
 
@@ -133,7 +135,7 @@ static void play(void)
             on_stack(&line);
         }
         take_all(on_stack);
-        for (line.kind = 5; line.kind < 7; line.kind++)
+        for (line.kind = 5; line.kind < 8; line.kind++)
             on_stack(&line);
     }
 }
@@ -220,10 +222,12 @@ static void exchange(void)
 static void count(const char *what, unsigned long turns)
 {
     for (unsigned long i = 0; i < turns; i++) {
-        if (strcmp(what, "unit") == 0 || strcmp(what, "sent") == 0) {
-            units_pass(1);
+        if (strcmp(what, "unit") == 0) {
+            must(pn_tick(&device, &op, 1) == PN_OK && op.work == PN_NOTHING, 9);
         } else if (strcmp(what, "leap") == 0) {
-            units_pass(32);
+            must(pn_tick(&device, &op, 32) == PN_OK && op.work == PN_NOTHING, 10);
+        } else if (strcmp(what, "sent") == 0) {
+            units_pass(1);
         } else if (strcmp(what, "cyclic") == 0) {
             next_cyclic(32);
         } else {
@@ -236,11 +240,11 @@ static void count(const char *what, unsigned long turns)
 
 int main(int words, char **word)
 {
-    static const char *const names[] = {"pn_make", "pn_boot", "pn_frame", "pn_tick", "pn_next", "pn_output", "pn_running"};
+    static const char *const names[] = {"pn_make", "pn_boot", "pn_frame", "pn_tick", "pn_next", "pn_output", "pn_running", "pn_due"};
     if (words == 2 && strcmp(word[1], "stack") == 0) {
         start(on_stack);
         play();
-        for (int i = 0; i < 7; i++)
+        for (int i = 0; i < 8; i++)
             printf("%s %zu\n", names[i], deepest[i]);
         return 0;
     }

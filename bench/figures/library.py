@@ -29,11 +29,11 @@ OCTETS = 40
 
 # What is counted: its title, the units of an interval (SendClockFactor times ReductionRatio), and how many instructions a turn may take.
 KINDS = {
-    "unit": ("a pn_tick of one unit with which nothing is due, and its pn_next", (128, 512), 220),
-    "leap": ("a pn_tick of 32 units with which nothing is due, and its pn_next", (128, 512), 2_900),
-    "cyclic": ("a pn_frame of a cyclic frame of 40 octets, and its pn_next", (128, 512), 320),
-    "sent": ("a pn_tick of one unit that sends 40 octets, and its two pn_next", (1, 1), 360),
-    "cycle": ("a millisecond: 32 units, a frame in, a frame out", (32, 1), 3_500),
+    "unit": ("a pn_tick of one unit with which nothing is due", (128, 512), 100),
+    "leap": ("a pn_tick of 32 units with which nothing is due", (128, 512), 150),
+    "cyclic": ("a pn_frame of a cyclic frame of 40 octets", (128, 512), 200),
+    "sent": ("a pn_tick of one unit that sends 40 octets, and its pn_next", (1, 1), 220),
+    "cycle": ("a millisecond: 32 units, a frame in, a frame out", (32, 1), 900),
 }
 
 

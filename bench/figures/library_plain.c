@@ -169,6 +169,7 @@ static void next(struct device *device, pn_op *op)
         op->length = frame->length;
         memcpy(op->octets, frame->octets, frame->length);
     }
+    op->more = waiting(device);
 }
 
 static uint32_t input(struct device *device, const uint8_t *given, size_t length)
@@ -195,6 +196,7 @@ uint32_t pn_step(void *room, pn_op *op, const uint8_t *given, size_t length)
     case PN_OP_INPUT: op->note = input(device, given, length); break;
     case PN_OP_NEXT: next(device, op); return PN_OK;
     case PN_OP_STATE: op->phase = device->phase, op->units = device->lamp; return PN_OK;
+    case PN_OP_DUE: op->units = device->until_sent < device->until_held ? device->until_sent : device->until_held; return PN_OK;
     default: return PN_UNKNOWN;
     }
     op->work = waiting(device);

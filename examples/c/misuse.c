@@ -7,6 +7,7 @@ static pn_device device, before;
 static pn_op op;
 static pn_station station, bent;
 static pn_settings settings;
+static pn_watch watch;
 static uint32_t left;
 static uint8_t erased[PN_SECTOR_SIZE], foreign[PN_SECTOR_SIZE], octets[2000];
 static unsigned count;
@@ -188,6 +189,11 @@ int main(void)
     wants("a record before the start", pn_taken(&device, &op, 0), PN_NOT_BOOTED);
     wants("commits before the start", pn_left(&device, &op, &left), PN_NOT_BOOTED);
     wants("a loss before the start", pn_lose(&device, &op), PN_NOT_BOOTED);
+    wants("what is due before the start", pn_due(&device, &op, &left), PN_NOT_BOOTED);
+    wants("a status before the start", pn_status(&device, &op, 0, 1, 1), PN_NOT_BOOTED);
+    wants("ready before the start", pn_ready(&device, &op), PN_NOT_BOOTED);
+    wants("a provider before the start", pn_provider(&device, &op, 0, 1, octets, octets + 1), PN_NOT_BOOTED);
+    wants("news before the start", pn_news(&device, &op, &watch, &left), PN_NOT_BOOTED);
     wants("no sector", pn_boot(&device, &op, NULL, erased), PN_NULL);
     op.sector = 0;
     wants("a short sector", pn_ask(&device, &op, PN_OP_SECTOR, erased, PN_SECTOR_SIZE - 1), PN_BAD_LENGTH);
@@ -204,13 +210,21 @@ int main(void)
         return 1;
     wants("a second start", pn_boot(&device, &op, erased, erased), PN_IS_BOOTED);
     wants("no operation", pn_ask(&device, &op, 0, NULL, 0), PN_UNKNOWN);
-    wants("another operation", pn_ask(&device, &op, 15, NULL, 0), PN_UNKNOWN);
+    wants("another operation", pn_ask(&device, &op, 19, NULL, 0), PN_UNKNOWN);
     wants("no operation's room", pn_frame(&device, NULL, set, sizeof set), PN_NULL);
     wants("no octets", pn_frame(&device, &op, NULL, 1), PN_NULL);
     wants("no device for a frame", pn_frame(NULL, &op, set, sizeof set), PN_NULL);
     wants("an output that is not plugged", pn_output(&device, &op, 9, 9), PN_NO_SLOT);
     wants("no place for settings", pn_running(&device, &op, NULL), PN_NULL);
     wants("no place for a number", pn_left(&device, &op, NULL), PN_NULL);
+    wants("no place for units", pn_due(&device, &op, NULL), PN_NULL);
+    wants("no place for IOPS", pn_provider(&device, &op, 0, 1, NULL, octets), PN_NULL);
+    wants("no place for DataStatus", pn_provider(&device, &op, 0, 1, octets, NULL), PN_NULL);
+    wants("no frame", pn_provider(&device, &op, 0, 1, octets, octets + 1), PN_NO_FRAME);
+    wants("no place for the end of parameters", pn_parameters_end(&device, &op, NULL), PN_NULL);
+    wants("a status for no operation", pn_status(&device, NULL, 0, 1, 0), PN_NULL);
+    wants("no watch", pn_news(&device, &op, NULL, &left), PN_NULL);
+    wants("no place for news", pn_news(&device, &op, &watch, NULL), PN_NULL);
     wants("no host", pn_carry_out(&device, &op, NULL), PN_NULL);
     for (unsigned i = 0; i < 3; i++) {
         pn_host lacking = failing;
@@ -240,14 +254,22 @@ int main(void)
     keep(pn_frame(&device, &op, octets, 0));
     keep(pn_input(&device, &op, 0, 1, octets, sizeof octets));
 
+    keep(pn_news(&device, &op, &watch, &left));
+    if (left != 0)
+        return 1;
     keep(pn_frame(&device, &op, set, sizeof set));
     ask_all("in front of the work");
+    wants("a status in front of the work", pn_status(&device, &op, 0, 1, 1), PN_HAS_WORK);
+    wants("ready in front of the work", pn_ready(&device, &op), PN_HAS_WORK);
     wants("a frame in front of the work", pn_frame(&device, &op, set, sizeof set), PN_HAS_WORK);
     wants("time in front of the work", pn_tick(&device, &op, 1), PN_HAS_WORK);
     wants("an input in front of the work", pn_input(&device, &op, 0, 1, octets, 1), PN_HAS_WORK);
     wants("an alarm in front of the work", pn_alarm(&device, &op, 0, 1, octets, 1), PN_HAS_WORK);
     for (op.work = PN_ERASE; op.work != PN_NOTHING;)
         keep(pn_next(&device, &op));
+    keep(pn_news(&device, &op, &watch, &left));
+    if (left != PN_NEW_NAME || watch.settings.name_length == 0)
+        return 1;
     keep(pn_left(&device, &op, &left));
     if (left != 65535u * 15u - 1u)
         return 1;
@@ -270,6 +292,11 @@ int main(void)
     wants("what is stored after a loss", pn_stored(&device, &op, &settings), PN_LOST);
     wants("a record after a loss", pn_taken(&device, &op, 0), PN_LOST);
     wants("commits after a loss", pn_left(&device, &op, &left), PN_LOST);
+    wants("what is due after a loss", pn_due(&device, &op, &left), PN_LOST);
+    wants("a status after a loss", pn_status(&device, &op, 0, 1, 1), PN_LOST);
+    wants("ready after a loss", pn_ready(&device, &op), PN_LOST);
+    wants("a provider after a loss", pn_provider(&device, &op, 0, 1, octets, octets + 1), PN_LOST);
+    wants("news after a loss", pn_news(&device, &op, &watch, &left), PN_LOST);
     ask_all("after a loss");
     wants("a start after a loss", pn_boot(&device, &op, erased, erased), PN_LOST);
     wants("a second loss", pn_lose(&device, &op), PN_LOST);

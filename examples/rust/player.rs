@@ -217,7 +217,7 @@ impl Player {
         let phase = match device.phase() {
             None => "none",
             Some(Phase::Started) => "started",
-            Some(Phase::Awaiting) => "awaiting",
+            Some(Phase::Preparing | Phase::Awaiting) => "awaiting",
             Some(Phase::Exchanging) => "exchanging",
         };
         writeln!(out, "phase {phase}\nlamp {}", device.lamp())?;

@@ -15,9 +15,10 @@
 #include <stdlib.h>
 #include <string.h>
 
-/* Before the Connect only requests are due, one a second. */
+/* With a period: before the Connect only requests are due, one a second. */
 #define IDLE_MOST 32000u /* units */
-#define LONGEST_PERIOD 1000000ull
+/* Of several relations frames are due at many units: those of this many go out together. */
+#define APART 8u
 /* How often to write the status. */
 #define STATUS_EACH (SECOND / 4)
 
@@ -131,10 +132,21 @@ static void look_at_states(void *context)
 static uint32_t tick(void *context, uint32_t units)
 {
     struct controller *controller = context;
+    (void)units;
     for (unsigned i = 0; i < controller->count; i++)
-        if (!relation_is_over(&controller->relations[i]))
-            relation_tick(&controller->relations[i], units);
+        if (controller->relations[i].due_at <= controller->loop.units && !relation_is_over(&controller->relations[i]))
+            relation_tick(&controller->relations[i]);
     return 0;
+}
+
+static uint32_t due(void *context)
+{
+    const struct controller *controller = context;
+    uint64_t first = controller->loop.units + UINT32_MAX;
+    for (unsigned i = 0; i < controller->count; i++)
+        if (controller->relations[i].due_at < first && !relation_is_over(&controller->relations[i]))
+            first = controller->relations[i].due_at;
+    return first > controller->loop.units ? (uint32_t)(first - controller->loop.units) : 1;
 }
 
 static void take_frame(void *context, const uint8_t *octets, size_t length)
@@ -274,6 +286,19 @@ static void take_give(void *context, char *words[])
     speak_for(controller, NULL);
 }
 
+static void take_status(void *context, char *words[])
+{
+    struct controller *controller = context;
+    struct relation *relation = controller->count == 1 ? controller->relations : controller->chosen;
+    if (relation == NULL) {
+        lines_answer(&controller->loop.lines, "wrong: no station has this name; NAME status SLOT SUBSLOT good|bad");
+        return;
+    }
+    speak_for(controller, relation);
+    relation_rate(relation, words);
+    speak_for(controller, NULL);
+}
+
 /* The line `stop` of one of several stations; without a name it is the loop's. */
 static void take_stop(void *context, char *words[])
 {
@@ -287,6 +312,7 @@ static void take_stop(void *context, char *words[])
 
 static const struct command commands[] = {
     {"give", 4, take_give, "give SLOT SUBSLOT HEX   sets the output of a submodule"},
+    {"status", 4, take_status, "status SLOT SUBSLOT good|bad   sets whether an output is good: its IOPS"},
     {"show", 1, show, "show                    state, status, inputs and outputs"},
     {"statistics", 1, NULL, "statistics              counts since the start"},
     {"stop", 1, take_stop, "stop                    releases the relation and ends the program"},
@@ -294,6 +320,7 @@ static const struct command commands[] = {
 
 static const struct command commands_of_several[] = {
     {"give", 4, take_give, "NAME give SLOT SUBSLOT HEX   sets the output of a submodule of this station"},
+    {"status", 4, take_status, "NAME status SLOT SUBSLOT good|bad   sets whether an output of this station is good: its IOPS"},
     {"show", 1, show, "[NAME] show                  state, status, inputs and outputs"},
     {"statistics", 1, NULL, "[NAME] statistics            counts since the start"},
     {"stop", 1, take_stop, "[NAME] stop                  releases the relation of this station; without a name, all, and ends the program"},
@@ -321,8 +348,8 @@ static void usage(void)
          "                        ends when all controllers have ended\n"
          "  --socket PATH         lines go in and out over this unix socket, and not over the standard streams\n"
          "  --socket-group GROUP  the members of this group may use the socket too, not only its owner\n"
-         "  --period US           the period in which time is handed in, 31 to 10000 microseconds (default: the shortest interval of a plan, at\n"
-         "                        most 1000)\n"
+         "  --period US           hands in time in this period, 31 to 10000 microseconds, and not only when something is due; choose at most the\n"
+         "                        shortest interval of a plan (default: when something is due)\n"
          "  --realtime N          runs with this priority, 1 to 99, of the first-in first-out scheduler\n"
          "  --help, --version\n"
          "\n"
@@ -335,9 +362,9 @@ static void usage(void)
          "  nandutable-controller eth1 pump.json valve.json --retry 5\n"
          "  echo 'give 2 1 00ff' | nandutable-controller eth1 pump.json\n"
          "\n"
-         "Lines that it accepts: `give SLOT SUBSLOT HEX`, `show`, `statistics`, `stop`, `help`. With several plans the name of a station and a\n"
-         "blank are in front of each line that it prints about this station, and of the lines `give`, `show`, `statistics` and `stop` that are\n"
-         "for one station. On SIGUSR1 it prints its statistics; SIGTERM stops it, and a second one ends it at once. Its status is the cause of\n"
+         "Lines that it accepts: `give SLOT SUBSLOT HEX`, `status SLOT SUBSLOT good|bad`, `show`, `statistics`, `stop`, `help`. With several plans\n"
+         "the name of a station and a blank are in front of each line that it prints about this station, and of the lines `give`, `status`,\n"
+         "`show`, `statistics` and `stop` that are for one station. On SIGUSR1 it prints its statistics; SIGTERM stops it, and a second one ends it at once. Its status is the cause of\n"
          "its end (with several plans the lowest): 1 another device, 2 refused, 3 other modules, 4 data hold, 5 ended by the device, 6 an\n"
          "alarm without answer, 7 stopped; 64 and more: it did not start (64: the plans do not fit together; 75: another station has the\n"
          "name or the address).");
@@ -486,21 +513,12 @@ static void open_relations(struct controller *controller, const struct options *
     }
 }
 
-/* The period in which time is handed in, if no option says it: the shortest interval of a plan. */
-static uint64_t period_of(const struct controller *controller)
-{
-    uint64_t period = LONGEST_PERIOD;
-    for (unsigned i = 0; i < controller->count; i++)
-        if (controller->relations[i].interval < period)
-            period = controller->relations[i].interval;
-    return period;
-}
-
 static void open_all(struct controller *controller, const struct options *options)
 {
     open_relations(controller, options);
     controller->pause = options->pause;
-    controller->loop.period = options->shared.period != 0 ? options->shared.period : period_of(controller);
+    controller->loop.period = options->shared.period;
+    controller->loop.apart = controller->count > 1 ? APART : 1;
     wire_open(&controller->loop.wire, options->shared.interface);
     wire_take(&controller->loop.wire, controller->relations[0].plan.controller_mac);
     if (options->has_assigned)
@@ -508,7 +526,7 @@ static void open_all(struct controller *controller, const struct options *option
     loop_open(&controller->loop, &options->shared);
 }
 
-#define EVENTS .idle_most = IDLE_MOST, .look_each = STATUS_EACH, .is_over = is_over, .tick = tick, .look = look_at_states, .take_frame = take_frame, \
+#define EVENTS .idle_most = IDLE_MOST, .look_each = STATUS_EACH, .is_over = is_over, .tick = tick, .due = due, .look = look_at_states, .take_frame = take_frame, \
                .statistics = statistics, .look_around = look_around
 
 static const struct events events = {EVENTS, .commands = commands};

@@ -13,7 +13,7 @@
 #include <stdio.h>
 #include <string.h>
 
-/* Without a relation nothing is due at a unit of time, so many units may pass at once. */
+/* With a period: without a relation nothing is due at a unit of time, so many units may pass at once. */
 #define IDLE_MOST 320000u /* units: ten seconds */
 
 struct options {
@@ -24,7 +24,19 @@ struct options {
     uint8_t mac[6];
     int has_mac;
     uint32_t sets_a_second; /* 0: no limit */
+    uint32_t smallest_interval;
+    int inputs_begin_bad;
+    int is_ready_by_application;
 };
+
+/* A status that was given by a line. */
+struct status {
+    uint16_t slot;
+    uint16_t subslot;
+    int is_good;
+};
+
+#define STATUSES (PN_MODULES * PN_SUBMODULES)
 
 struct device {
     pn_device room;
@@ -36,10 +48,13 @@ struct device {
     struct places inputs;
     struct places outputs;
     struct sets sets;
+    struct status statuses[STATUSES];
+    unsigned status_count;
     /* The last reported values. */
+    pn_watch watch;
     uint32_t phase;
     int is_lamp_on;
-    pn_settings settings;
+    int is_stopped; /* the controller; -1: it is not known */
     /* Statistics. */
     uint64_t notes[8];
     struct histogram intervals;
@@ -89,6 +104,7 @@ static void start(struct device *device)
 }
 
 static void look(struct device *device, int is_first);
+static int rate(struct device *device, const struct status *status);
 
 /* Takes the work of a step and does it. A flash call that fails counts as lost power: nothing more is sent, and the device starts again
  * from the file. */
@@ -99,6 +115,8 @@ static void carry_out(struct device *device)
     lines_tell(&device->loop.lines, "power lost: a call of the flash failed: %s", device->chip.why);
     start(device);
     lines_tell(&device->loop.lines, "boot ok");
+    for (unsigned i = 0; i < device->status_count; i++)
+        rate(device, &device->statuses[i]);
     look(device, 0);
 }
 
@@ -128,27 +146,62 @@ static void warn_of_kernel(struct device *device, const pn_settings *settings)
                    settings->address[0], settings->address[1], settings->address[2], settings->address[3], interface);
 }
 
-static int is_same_suite(const pn_settings *one, const pn_settings *other)
+static void tell_settings(struct device *device, uint32_t news)
 {
-    return memcmp(one->address, other->address, sizeof one->address) == 0 && memcmp(one->mask, other->mask, sizeof one->mask) == 0 &&
-           memcmp(one->gateway, other->gateway, sizeof one->gateway) == 0;
+    const pn_settings *now = &device->watch.settings;
+    char text[320];
+    if ((news & PN_RESET) != 0)
+        lines_tell(&device->loop.lines, "reset");
+    if ((news & PN_NEW_NAME) != 0) {
+        tell_name("name", now, text, sizeof text);
+        lines_tell(&device->loop.lines, "%s", text);
+    }
+    if ((news & PN_NEW_ADDRESS) != 0) {
+        tell_suite("ip", now, text, sizeof text);
+        lines_tell(&device->loop.lines, "%s", text);
+        warn_of_kernel(device, now);
+    }
 }
 
-static void look_at_settings(struct device *device, int is_first)
+static void tell_records(struct device *device)
 {
-    pn_settings now;
-    char text[320];
-    loop_must(pn_running(&device->room, &device->op, &now), "pn_running");
-    if (is_first || now.name_length != device->settings.name_length || memcmp(now.name, device->settings.name, sizeof now.name) != 0) {
-        tell_name("name", &now, text, sizeof text);
+    char label[64], text[320];
+    const pn_op *op = &device->op;
+    for (uint32_t number = device->watch.first_record; number < device->watch.records; number++) {
+        loop_must(pn_taken(&device->room, &device->op, number), "pn_taken");
+        snprintf(label, sizeof label, "record %u %u %u", (unsigned)op->slot, (unsigned)op->subslot, (unsigned)op->place);
+        words_labelled(text, sizeof text, label, op->octets, op->length);
         lines_tell(&device->loop.lines, "%s", text);
     }
-    if (is_first || !is_same_suite(&now, &device->settings)) {
-        tell_suite("ip", &now, text, sizeof text);
-        lines_tell(&device->loop.lines, "%s", text);
-        warn_of_kernel(device, &now);
+}
+
+/* What a frame changed besides the process data, and at the first time what there is. */
+static void look_at_news(struct device *device, int is_first)
+{
+    uint32_t news = 0;
+    loop_must(pn_news(&device->room, &device->op, &device->watch, &news), "pn_news");
+    tell_settings(device, is_first ? PN_NEW_NAME | PN_NEW_ADDRESS : news);
+    if ((news & PN_NEW_RECORDS) != 0)
+        tell_records(device);
+    if ((news & PN_PARAMETERS_END) != 0)
+        lines_tell(&device->loop.lines, "parameters end");
+}
+
+/* Whether the controller runs, by the first output that it sends. */
+static void look_at_controller(struct device *device)
+{
+    for (unsigned i = 0; i < device->outputs.count; i++) {
+        const struct place *place = &device->outputs.list[i];
+        uint8_t iops, data_status;
+        int is_stopped;
+        if (pn_provider(&device->room, &device->op, place->slot, place->subslot, &iops, &data_status) != PN_OK)
+            continue;
+        is_stopped = (data_status & PN_PROVIDER_RUNS) == 0;
+        if (is_stopped != device->is_stopped)
+            lines_tell(&device->loop.lines, "controller %s", is_stopped ? "stop" : "run");
+        device->is_stopped = is_stopped;
+        return;
     }
-    device->settings = now;
 }
 
 static void look_at_outputs(struct device *device)
@@ -196,13 +249,15 @@ static void look_at_state(void *context)
     device->phase = device->op.phase;
     lines_tell(&device->loop.lines, "phase %s", phases[device->phase]);
     device->last_cyclic = 0;
+    if (device->phase <= PN_STARTED)
+        device->is_stopped = -1;
     loop_pace(&device->loop, device->phase == PN_NONE);
     look_at_outputs(device);
 }
 
 static void look(struct device *device, int is_first)
 {
-    look_at_settings(device, is_first);
+    look_at_news(device, is_first);
     look_at_state(device);
     look_at_outputs(device);
 }
@@ -219,6 +274,14 @@ static uint32_t tick(void *context, uint32_t units)
     return left;
 }
 
+static uint32_t due(void *context)
+{
+    struct device *device = context;
+    uint32_t units = 0;
+    loop_must(pn_due(&device->room, &device->op, &units), "pn_due");
+    return units;
+}
+
 static void take_frame(void *context, const uint8_t *octets, size_t length)
 {
     struct device *device = context;
@@ -233,11 +296,13 @@ static void take_frame(void *context, const uint8_t *octets, size_t length)
     carry_out(device);
     if (note != PN_DONE)
         return;
+    if (!is_cyclic)
+        look_at_news(device, 0);
     look_at_state(device);
-    if (is_cyclic)
+    if (is_cyclic) {
         look_at_outputs(device);
-    else
-        look_at_settings(device, 0);
+        look_at_controller(device);
+    }
     if (!is_cyclic && device->phase == PN_STARTED)
         give_all(device);
 }
@@ -311,6 +376,56 @@ static void take_alarm(struct device *device, uint16_t slot, uint16_t subslot, c
                                                       : "note refused: an alarm has a plugged submodule and at most 32 octets, and may be raised while data is exchanged and no alarm is active");
 }
 
+/* Hands in a status. Returns whether it is that of a submodule that is plugged. */
+static int rate(struct device *device, const struct status *status)
+{
+    uint32_t note;
+    loop_must(pn_status(&device->room, &device->op, status->slot, status->subslot, status->is_good), "pn_status");
+    note = device->op.note;
+    carry_out(device);
+    return note == PN_DONE;
+}
+
+/* Keeps a status for the next start of the device. */
+static void keep_status(struct device *device, const struct status *status)
+{
+    unsigned at = 0;
+    while (at < device->status_count && (device->statuses[at].slot != status->slot || device->statuses[at].subslot != status->subslot))
+        at++;
+    if (at == STATUSES)
+        return;
+    device->statuses[at] = *status;
+    if (at == device->status_count)
+        device->status_count++;
+}
+
+static void take_status(void *context, char *words[])
+{
+    struct device *device = context;
+    struct status status;
+    if (!words_read_status(words + 1, &status.slot, &status.subslot, &status.is_good)) {
+        lines_answer(&device->loop.lines, "wrong: status SLOT SUBSLOT good|bad");
+    } else if (rate(device, &status)) {
+        keep_status(device, &status);
+        lines_answer(&device->loop.lines, "note done");
+    } else {
+        lines_answer(&device->loop.lines, "note refused: nothing is plugged in slot %u subslot %u", status.slot, status.subslot);
+    }
+}
+
+static void take_ready(void *context, char *words[])
+{
+    struct device *device = context;
+    uint32_t note;
+    (void)words;
+    loop_must(pn_ready(&device->room, &device->op), "pn_ready");
+    note = device->op.note;
+    carry_out(device);
+    lines_answer(&device->loop.lines,
+                 note == PN_DONE ? "note done" : "note refused: no relation waits for the application (--ready-by-application, and after `parameters end`)");
+    look_at_state(device);
+}
+
 /* A line with three arguments: a place and octets. */
 static void take_place(void *context, char *words[])
 {
@@ -328,6 +443,8 @@ static void take_place(void *context, char *words[])
 static const struct command commands[] = {
     {"input", 4, take_place, "input SLOT SUBSLOT HEX   sets the input of a submodule"},
     {"alarm", 4, take_place, "alarm SLOT SUBSLOT HEX   raises a process alarm with these octets"},
+    {"status", 4, take_status, "status SLOT SUBSLOT good|bad   sets whether a submodule is good: the IOPS of its inputs"},
+    {"ready", 1, take_ready, "ready                    the parameters are in use (--ready-by-application)"},
     {"show", 1, show, "show                     name, address, remaining commits, phase, lamp, inputs and outputs"},
     {"statistics", 1, NULL, "statistics               counts since the start"},
     {"quit", 1, NULL, "quit                     ends the program"},
@@ -338,7 +455,8 @@ static const struct command commands[] = {
 static void usage(void)
 {
     puts("Usage: nandutable-device IFACE --flash FILE [--station FILE] [--identity FILE] [--mac MAC] [--socket PATH]\n"
-         "                         [--socket-group GROUP] [--period US] [--realtime N] [--sets-per-second N]\n"
+         "                         [--socket-group GROUP] [--period US] [--realtime N] [--sets-per-second N] [--smallest-interval N]\n"
+         "                         [--inputs-begin-bad] [--ready-by-application]\n"
          "\n"
          "A PROFINET IO device on the network interface IFACE. Its name, address and I&M texts are in the flash file, and survive a power\n"
          "failure at any moment.\n"
@@ -353,10 +471,13 @@ static void usage(void)
          "  --mac MAC             the device's MAC address (default: that of the identity file, else the interface's)\n"
          "  --socket PATH         lines go in and out over this unix socket, and not over the standard streams\n"
          "  --socket-group GROUP  the members of this group may use the socket too, not only its owner\n"
-         "  --period US           the period in which time is handed in during a relation, 31 to 10000 microseconds; choose at most the\n"
-         "                        controller's interval (default: 250)\n"
+         "  --period US           hands in time in this period during a relation, 31 to 10000 microseconds, and not only when something is\n"
+         "                        due; choose at most the controller's interval (default: when something is due)\n"
          "  --realtime N          runs with this priority, 1 to 99, of the first-in first-out scheduler\n"
          "  --sets-per-second N   accepts at most N DCP Sets a second, 1 to 1000000, and drops the others (default: no limit)\n"
+         "  --smallest-interval N  refuses a relation with a shorter interval, in units of 31.25 microseconds, 1 to 65536 (default: 32, 1 ms)\n"
+         "  --inputs-begin-bad    the IOPS of an input is bad until its first `input` in a relation\n"
+         "  --ready-by-application  the device is ready at the line `ready` after `parameters end`, and not by itself\n"
          "  --help, --version\n"
          "\n"
          "It needs the capability CAP_NET_RAW: run it as root, or run `setcap cap_net_raw+ep nandutable-device` once.\n"
@@ -365,8 +486,8 @@ static void usage(void)
          "  nandutable-device eth1 --flash /var/lib/nandutable/pump.flash\n"
          "  nandutable-device eth1 --flash pump.flash --station pump.json --identity pump.identity --socket /run/pump --realtime 50\n"
          "\n"
-         "Lines that it accepts: `input SLOT SUBSLOT HEX`, `alarm SLOT SUBSLOT HEX`, `show`, `statistics`, `help`, `quit`. On SIGUSR1 it\n"
-         "prints its statistics; SIGTERM ends it.");
+         "Lines that it accepts: `input SLOT SUBSLOT HEX`, `alarm SLOT SUBSLOT HEX`, `status SLOT SUBSLOT good|bad`, `ready`, `show`,\n"
+         "`statistics`, `help`, `quit`. On SIGUSR1 it prints its statistics; SIGTERM ends it.");
 }
 
 static void take_mac(struct options *options, const char *word)
@@ -384,10 +505,21 @@ static void take_limit(struct options *options, const char *word)
     options->sets_a_second = (uint32_t)number;
 }
 
+static void take_interval(struct options *options, const char *word)
+{
+    unsigned long number;
+    if (!words_number(word, 65536, &number) || number < 1)
+        options_misused("--smallest-interval takes 1 to 65536 units of 31.25 microseconds: ", word);
+    options->smallest_interval = (uint32_t)number;
+}
+
 static int take_option(void *context, int option, const char *word)
 {
     struct options *options = context;
     switch (option) {
+    case 'n': take_interval(options, word); return 1;
+    case 'b': options->inputs_begin_bad = 1; return 1;
+    case 'a': options->is_ready_by_application = 1; return 1;
     case 'f': options->flash = word; return 1;
     case 's': options->station = word; return 1;
     case 'i': options->identity = word; return 1;
@@ -402,6 +534,9 @@ static const struct option known[] = {{"flash", required_argument, NULL, 'f'},
                                       {"identity", required_argument, NULL, 'i'},
                                       {"mac", required_argument, NULL, 'm'},
                                       {"sets-per-second", required_argument, NULL, 'l'},
+                                      {"smallest-interval", required_argument, NULL, 'n'},
+                                      {"inputs-begin-bad", no_argument, NULL, 'b'},
+                                      {"ready-by-application", no_argument, NULL, 'a'},
                                       SHARED_OPTIONS};
 
 /* Checks only the flash file's name, before any message is printed: a message could go into that file. */
@@ -420,7 +555,7 @@ static void read_words(struct options *options, int count, char *words[])
     const struct command_line line = {known, usage, take_option};
     int first;
     memset(options, 0, sizeof *options);
-    options->shared.period = 250000;
+    options->smallest_interval = 32;
     first = options_read(&line, &options->shared, options, count, words);
     if (first + 1 != count)
         options_misused(first == count ? "name a network interface" : "a device has only one interface", "");
@@ -447,6 +582,9 @@ static int read_station(struct device *device, const struct options *options)
         has_mac = 1;
     if (options->has_mac)
         memcpy(device->station.mac, options->mac, 6);
+    device->station.smallest_interval = options->smallest_interval;
+    device->station.inputs_begin_bad = options->inputs_begin_bad != 0;
+    device->station.ready_by_application = options->is_ready_by_application != 0;
     station_places(&device->inputs, device->station.modules, device->station.module_count, OF_INPUT);
     station_places(&device->outputs, device->station.modules, device->station.module_count, OF_OUTPUT);
     return has_mac;
@@ -476,6 +614,7 @@ static const struct events events = {.idle_most = IDLE_MOST,
                                      .look_each = SECOND,
                                      .is_over = is_over,
                                      .tick = tick,
+                                     .due = due,
                                      .look = look_at_state,
                                      .take_frame = take_frame,
                                      .commands = commands,
@@ -484,6 +623,7 @@ static const struct events events = {.idle_most = IDLE_MOST,
 static void begin(struct device *device)
 {
     const uint8_t *mac = device->station.mac;
+    device->is_stopped = -1;
     start(device);
     loop_start(&device->loop, &events, device);
     lines_tell(&device->loop.lines, "boot ok");

@@ -34,7 +34,20 @@ void loop_start(struct loop *loop, const struct events *events, void *context)
 void loop_pace(struct loop *loop, int is_idle)
 {
     loop->is_idle = is_idle;
-    ticker_pace(&loop->ticker, is_idle ? IDLE_PERIOD : loop->period);
+    if (loop->period != 0)
+        ticker_pace(&loop->ticker, is_idle ? IDLE_PERIOD : loop->period);
+}
+
+/* Without a period: wakes when something is due, and for what is checked now and then. */
+static void arm(struct loop *loop)
+{
+    uint64_t now = ticker_now(), look = loop->next_look > now ? (loop->next_look - now) / PN_UNIT_NS + 1 : 1;
+    uint64_t due;
+    if (loop->period != 0)
+        return;
+    loop->due = loop->events->due(loop->context);
+    due = loop->due < loop->apart ? loop->apart : loop->due;
+    ticker_arm(&loop->ticker, due < look ? due : look);
 }
 
 void loop_tell_link(struct loop *loop)
@@ -46,12 +59,23 @@ void loop_tell_link(struct loop *loop)
 static void take_time(struct loop *loop)
 {
     const struct events *events = loop->events;
-    uint32_t due = ticker_due(&loop->ticker, loop->is_idle ? events->idle_most : PN_MOST_DEBT);
+    uint64_t most = loop->period == 0 ? (uint64_t)loop->due + PN_MOST_DEBT : loop->is_idle ? events->idle_most : PN_MOST_DEBT;
+    uint32_t due = ticker_due(&loop->ticker, most);
     if (due == 0)
         return;
+    loop->units += due;
     while (due != 0)
         due = events->tick(loop->context, due);
     events->look(loop->context);
+}
+
+/* Without a period: the time before a frame, as far as nothing is due in it. */
+static void take_quiet_time(struct loop *loop)
+{
+    uint32_t units = ticker_due_before(&loop->ticker, loop->due - 1);
+    loop->units += units;
+    while (units != 0)
+        units = loop->events->tick(loop->context, units);
 }
 
 static void take_frames(struct loop *loop)
@@ -60,13 +84,23 @@ static void take_frames(struct loop *loop)
     const struct events *events = loop->events;
     size_t length;
     /* Waiting frames are handed in before the elapsed time, because they arrived before its end: a delayed program must not judge its
-     * partner to be silent. There is a limit for each turn, so that a flood of frames does not delay the time. While nothing is due at a
-     * unit of time, many units are handed in at once, before the frame. */
+     * partner to be silent. There is a limit for each turn, so that a flood of frames does not delay the time. Units with which nothing is
+     * due are handed in before the frame, however many they are: so the timers that it starts begin with its own time. */
     for (int i = 0; i < FRAMES_AT_ONCE && wire_receive(&loop->wire, octets, &length); i++) {
-        if (loop->is_idle)
+        if (loop->period == 0)
+            take_quiet_time(loop);
+        else if (loop->is_idle)
             take_time(loop);
         events->take_frame(loop->context, octets, length);
+        if (loop->period == 0)
+            loop->due = events->due(loop->context);
     }
+}
+
+/* Whether to look for frames. If none waited and the program was not delayed since, this spares a call of the system. */
+static int may_have_frames(struct loop *loop)
+{
+    return loop->wake.has_frames || loop->period != 0 || ticker_over(&loop->ticker) > loop->due;
 }
 
 static void help(struct loop *loop)
@@ -140,9 +174,13 @@ void loop_run(struct loop *loop)
 {
     const struct events *events = loop->events;
     while (!events->is_over(loop->context)) {
+        arm(loop);
         wake_wait(&loop->wake, &loop->wire, &loop->ticker, &loop->lines);
-        take_frames(loop);
+        loop->wakes++;
+        if (may_have_frames(loop))
+            take_frames(loop);
         take_time(loop);
+        look_around(loop);
         if (loop->wake.has_lines) {
             loop->wake.has_lines = 0;
             lines_take(&loop->lines, take_line, loop);
@@ -151,7 +189,6 @@ void loop_run(struct loop *loop)
             loop->wake.is_asked = 0;
             events->statistics(loop->context, lines_tell);
         }
-        look_around(loop);
     }
 }
 
@@ -166,6 +203,7 @@ void loop_tell_time(struct loop *loop, lines_writer tell)
 {
     tell(&loop->lines, "time units %" PRIu64 " forgotten %" PRIu64 " stalls %" PRIu64 " most-at-once %" PRIu64, loop->ticker.given,
          loop->ticker.forgotten, loop->ticker.stalls, loop->ticker.longest);
+    tell(&loop->lines, "wakes %" PRIu64, loop->wakes);
 }
 
 void loop_tell_intervals(struct loop *loop, const struct histogram *intervals, lines_writer tell)

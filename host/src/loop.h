@@ -26,6 +26,8 @@ struct events {
     int (*is_over)(void *context);
     /* Hands in units of time, at least one. Returns how many of them remain. */
     uint32_t (*tick)(void *context, uint32_t units);
+    /* How many units may pass until something is due. NULL if the program does not know it: then it wakes in its period. */
+    uint32_t (*due)(void *context);
     void (*look)(void *context); /* reports what changed, after the time */
     void (*take_frame)(void *context, const uint8_t *octets, size_t length);
     /* Whether a word in front of a line is the name of a station; the line is then for this one. It is called with NULL after the line. NULL
@@ -43,9 +45,13 @@ struct loop {
     struct lines lines;
     const struct events *events;
     void *context;
-    uint64_t period; /* in which time is handed in, in nanoseconds */
+    uint64_t period; /* in which time is handed in, in nanoseconds; 0: when something is due */
     int is_idle;     /* whether nothing is due at a unit of time */
+    uint32_t due;    /* without a period: how many units may pass until something is due */
+    uint32_t apart;  /* without a period: the fewest units from one wake for the time to the next; 0 counts as 1 */
+    uint64_t units;  /* of time that were handed in */
     uint64_t next_look;
+    uint64_t wakes;
 };
 
 /* Opens the lines, the scheduler's priority and the signals. The interface is opened before, by wire_open. */
@@ -54,7 +60,8 @@ void loop_open(struct loop *loop, const struct shared_options *shared);
 /* Starts the time; nothing is due at a unit of it yet. */
 void loop_start(struct loop *loop, const struct events *events, void *context);
 
-/* Sets whether nothing is due at a unit of time: then the program wakes only a hundred times a second, otherwise in its period. */
+/* Sets whether nothing is due at a unit of time: then the program wakes only a hundred times a second, otherwise in its period. A program
+ * without a period wakes when something is due, and needs none of this. */
 void loop_pace(struct loop *loop, int is_idle);
 
 /* Reports an interface that is down at the start. */

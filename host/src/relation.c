@@ -70,6 +70,26 @@ static void make_uuid(uint8_t uuid[16])
     uuid[8] = (uint8_t)((uuid[8] & 0x3F) | 0x80);
 }
 
+/* Notes when something is due. Each event may change it. */
+static void look_ahead(struct relation *relation)
+{
+    uint32_t due = 0;
+    loop_must(pn_controller_due(&relation->room, &relation->op, &due), "pn_controller_due");
+    relation->due_at = due == UINT32_MAX ? UINT64_MAX : relation->units + due;
+}
+
+/* Hands in the time before an event. */
+static void catch_up(struct relation *relation)
+{
+    while (relation->units != relation->loop->units) {
+        uint64_t more = relation->loop->units - relation->units;
+        uint32_t units = more > UINT32_MAX ? UINT32_MAX : (uint32_t)more;
+        loop_must(pn_controller_tick(&relation->room, &relation->op, units), "pn_controller_tick");
+        relation->units += units - relation->op.units;
+        send_all(relation);
+    }
+}
+
 /* Gives the output of a place to the controller. */
 static void put_output(struct relation *relation, const struct place *place)
 {
@@ -77,11 +97,31 @@ static void put_output(struct relation *relation, const struct place *place)
     send_all(relation);
 }
 
+/* Hands in the status of an output. */
+static uint32_t put_status(struct relation *relation, const struct place *place)
+{
+    uint32_t answer = pn_controller_status(&relation->room, &relation->op, place->slot, place->subslot, !place->is_bad);
+    send_all(relation);
+    return answer;
+}
+
+/* What was said of an output before, for a new controller. */
+static void begin_output(struct relation *relation, const struct place *place)
+{
+    if (place->is_given)
+        put_output(relation, place);
+    if (place->is_bad)
+        loop_must(put_status(relation, place), "pn_controller_status");
+}
+
 void relation_make(struct relation *relation, struct loop *loop)
 {
     make_uuid(relation->ar);
     make_uuid(relation->activity);
     relation->loop = loop;
+    for (unsigned i = 0; i < STATION_PLACES; i++)
+        relation->providers[i] = -1;
+    relation->units = loop->units;
     relation->state = relation->cause = 0;
     relation->has_device = 0;
     relation->last_cyclic = 0;
@@ -103,9 +143,9 @@ void relation_begin(struct relation *relation)
 {
     waiting_start(&relation->waiting, &relation->plan);
     send_all(relation);
+    look_ahead(relation);
     for (unsigned i = 0; i < relation->outputs.count; i++)
-        if (relation->outputs.list[i].is_given)
-            put_output(relation, &relation->outputs.list[i]);
+        begin_output(relation, &relation->outputs.list[i]);
 }
 
 /* --- Reports --- */
@@ -120,6 +160,23 @@ static void look_at_inputs(struct relation *relation)
             continue;
         station_line(text, "input", place);
         lines_tell(&relation->loop->lines, "%s", text);
+    }
+}
+
+/* Reports what the device says of its inputs, if it says something else than before. */
+static void look_at_providers(struct relation *relation)
+{
+    for (unsigned i = 0; i < relation->inputs.count; i++) {
+        const struct place *place = &relation->inputs.list[i];
+        uint8_t iops = 0, data_status = 0;
+        int now = -1;
+        if (pn_controller_provider(&relation->room, &relation->op, place->slot, place->subslot, &iops, &data_status) == PN_OK)
+            now = iops | ((data_status & PN_PROVIDER_RUNS) != 0 ? 256 : 0);
+        if (now == relation->providers[i])
+            continue;
+        relation->providers[i] = now;
+        if (now >= 0)
+            lines_tell(&relation->loop->lines, "provider %u %u %02x %s", place->slot, place->subslot, iops, now >= 256 ? "run" : "stop");
     }
 }
 
@@ -211,19 +268,18 @@ static void hear(struct relation *relation, const uint8_t *octets, size_t length
 
 /* --- Events --- */
 
-void relation_tick(struct relation *relation, uint32_t units)
+void relation_tick(struct relation *relation)
 {
-    while (units != 0) {
-        loop_must(pn_controller_tick(&relation->room, &relation->op, units), "pn_controller_tick");
-        units = relation->op.units;
-        send_all(relation);
-    }
+    catch_up(relation);
+    look_ahead(relation);
 }
 
 void relation_take(struct relation *relation, const uint8_t *octets, size_t length)
 {
+    catch_up(relation);
     loop_must(pn_controller_frame(&relation->room, &relation->op, octets, length), "pn_controller_frame");
     send_all(relation);
+    look_ahead(relation);
     if (is_of_relation(relation, octets, length))
         count_cyclic(relation, octets, cyclic_length(relation, octets, length));
     if (!wire_is_cyclic(octets, length))
@@ -232,18 +288,22 @@ void relation_take(struct relation *relation, const uint8_t *octets, size_t leng
 
 void relation_look_at_data(struct relation *relation, const uint8_t *octets, size_t length, uint32_t before)
 {
-    if (wire_is_cyclic(octets, length))
+    if (wire_is_cyclic(octets, length)) {
         look_at_inputs(relation);
-    else if (before == PN_DATA_EXCHANGE)
+        look_at_providers(relation);
+    } else if (before == PN_DATA_EXCHANGE) {
         look_at_alarm(relation);
+    }
     if (before == PN_ENDED && calls_is(octets, length, CALLS_RESPONSE))
         relation->ends_at = ticker_now();
 }
 
 void relation_stop(struct relation *relation)
 {
+    catch_up(relation);
     loop_must(pn_controller_stop(&relation->room, &relation->op), "pn_controller_stop");
     send_all(relation);
+    look_ahead(relation);
 }
 
 int relation_is_changed(struct relation *relation)
@@ -330,4 +390,24 @@ void relation_give(struct relation *relation, char *words[])
         give(relation, &given, octets);
     else
         lines_answer(&relation->loop->lines, "wrong: give SLOT SUBSLOT HEX");
+}
+
+void relation_rate(struct relation *relation, char *words[])
+{
+    struct lines *lines = &relation->loop->lines;
+    struct place *place;
+    uint16_t slot, subslot;
+    int is_good;
+    if (!words_read_status(words + 1, &slot, &subslot, &is_good)) {
+        lines_answer(lines, "wrong: status SLOT SUBSLOT good|bad");
+        return;
+    }
+    place = station_place(&relation->outputs, slot, subslot);
+    if (place == NULL) {
+        lines_answer(lines, "wrong: slot %u subslot %u has no output", slot, subslot);
+        return;
+    }
+    place->is_bad = !is_good;
+    loop_must(put_status(relation, place), "pn_controller_status");
+    lines_answer(lines, "state %s", states[relation->state]);
 }

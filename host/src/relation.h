@@ -15,6 +15,8 @@ struct relation {
     uint64_t ends_at; /* 0 before the end */
     uint32_t state;   /* as it was reported last */
     uint32_t cause;
+    uint64_t units;  /* of the loop's time that were handed in */
+    uint64_t due_at; /* the unit of the loop's time with which something is due; the highest number for none */
     struct waiting waiting;
     /* The rest. */
     pn_controller room;
@@ -28,6 +30,7 @@ struct relation {
     struct loop *loop;
     struct places inputs;
     struct places outputs;
+    int providers[STATION_PLACES]; /* of each input, what was reported last: its IOPS, and 256 if the device runs; -1: nothing yet */
     struct reasons reasons;
     struct holders holders; /* of the plan's name */
     uint8_t device[6];      /* the other end of the relation, to which the cyclic frames go */
@@ -55,8 +58,8 @@ void relation_introduce(struct relation *relation);
 /* Sends the first frame, and sets the outputs that were set before. */
 void relation_begin(struct relation *relation);
 
-/* Hands in units of time, and sends the frames that are due. */
-void relation_tick(struct relation *relation, uint32_t units);
+/* Hands in the units of time that the loop got since the last time, and sends the frames that are due. */
+void relation_tick(struct relation *relation);
 
 /* Hands in a received frame, and sends the answer. */
 void relation_take(struct relation *relation, const uint8_t *octets, size_t length);
@@ -81,6 +84,9 @@ int relation_is_over(const struct relation *relation);
 
 /* The line `give`, with its words. */
 void relation_give(struct relation *relation, char *words[]);
+
+/* The line `status`, with its words. */
+void relation_rate(struct relation *relation, char *words[]);
 
 /* The line `show`. */
 void relation_show(struct relation *relation);

@@ -13,6 +13,7 @@ struct place {
     uint16_t subslot;
     uint16_t length;
     int is_given;
+    int is_bad; /* by a line `status` of a controller */
     uint8_t octets[STATION_DATA];
 };
 

@@ -40,17 +40,45 @@ void ticker_pace(struct ticker *ticker, uint64_t period)
     ticker->period = period;
 }
 
+void ticker_arm(struct ticker *ticker, uint64_t units)
+{
+    uint64_t armed = ticker->given + units, at = ticker->started + armed * PN_UNIT_NS;
+    struct itimerspec times = {.it_value = {(time_t)(at / SECOND), (long)(at % SECOND)}};
+    if (ticker->armed == armed)
+        return;
+    if (timerfd_settime(ticker->fd, TFD_TIMER_ABSTIME, &times, NULL) != 0)
+        fail(STATUS_SYSTEM, "the timer is refused: %s", strerror(errno));
+    ticker->armed = armed;
+}
+
 void ticker_wait_again(struct ticker *ticker)
 {
     uint64_t times;
+    ticker->armed = 0;
+    if (ticker->period == 0)
+        return; /* it is armed again before the next wait, which clears it */
     /* The number that it returns is not needed: the clock is more exact. */
     if (read(ticker->fd, &times, sizeof times) < 0 && errno != EAGAIN && errno != EINTR)
         fail(STATUS_SYSTEM, "the timer cannot be read: %s", strerror(errno));
 }
 
-uint32_t ticker_due(struct ticker *ticker, uint32_t most)
+uint64_t ticker_over(const struct ticker *ticker)
 {
-    uint64_t due = (ticker_now() - ticker->started) / PN_UNIT_NS - ticker->given;
+    return (ticker_now() - ticker->started) / PN_UNIT_NS - ticker->given;
+}
+
+uint32_t ticker_due_before(struct ticker *ticker, uint64_t most)
+{
+    uint64_t due = ticker_over(ticker);
+    if (due > most)
+        due = most;
+    ticker->given += due;
+    return (uint32_t)due;
+}
+
+uint32_t ticker_due(struct ticker *ticker, uint64_t most)
+{
+    uint64_t due = ticker_over(ticker);
     ticker->given += due;
     if (due > ticker->longest)
         ticker->longest = due;

@@ -51,6 +51,7 @@ void wake_wait(struct wake *wake, struct wire *wire, struct ticker *ticker, stru
             fail(STATUS_SYSTEM, "waiting is refused: %s", strerror(errno));
         return;
     }
+    wake->has_frames = polls[0].revents != 0;
     if (polls[1].revents != 0)
         ticker_wait_again(ticker);
     if (polls[2].revents != 0)

@@ -8,6 +8,7 @@
 
 struct wake {
     int signals;
+    int has_frames; /* frames wait at the interface */
     int has_lines; /* a line may have arrived */
     int is_asked;  /* SIGUSR1: print statistics */
     int is_ended;  /* SIGTERM, SIGINT or SIGHUP */

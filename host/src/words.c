@@ -88,6 +88,17 @@ int words_read_place(char *words[], struct words_place *place, uint8_t *octets, 
     return 1;
 }
 
+int words_read_status(char *words[], uint16_t *slot, uint16_t *subslot, int *is_good)
+{
+    unsigned long numbers[2];
+    if (!words_number(words[0], 65535, &numbers[0]) || !words_number(words[1], 65535, &numbers[1]))
+        return 0;
+    *slot = (uint16_t)numbers[0];
+    *subslot = (uint16_t)numbers[1];
+    *is_good = strcmp(words[2], "good") == 0;
+    return *is_good || strcmp(words[2], "bad") == 0;
+}
+
 void words_hex(char *text, const uint8_t *octets, size_t length)
 {
     static const char digits[] = "0123456789abcdef";

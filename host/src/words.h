@@ -31,6 +31,9 @@ struct words_place {
 /* Reads such words, the octets apart. Returns whether they are a place and octets. */
 int words_read_place(char *words[], struct words_place *place, uint8_t *octets, size_t most);
 
+/* Reads the words SLOT SUBSLOT good|bad. Returns whether they are that. */
+int words_read_status(char *words[], uint16_t *slot, uint16_t *subslot, int *is_good);
+
 /* Writes octets in hex, followed by a 0; `text` has room for 2 * length + 1. */
 void words_hex(char *text, const uint8_t *octets, size_t length);
 

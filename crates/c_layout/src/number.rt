@@ -42,5 +42,11 @@ pub const BAD_DATA: u32 = 21;
 /// A parameter record is not in its range, or two of a submodule have one index.
 pub const BAD_PARAMETER: u32 = 22;
 
+/// The smallest interval of a station is more than 65,536 units.
+pub const BAD_OPTION: u32 = 23;
+
+/// No cyclic frame with data of this submodule was accepted.
+pub const NO_FRAME: u32 = 24;
+
 /// The number of a fault of a catalogue or a plan is that of the fault, plus this.
 pub const PLAN_FAULT: u32 = 32;

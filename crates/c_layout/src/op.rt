@@ -18,8 +18,10 @@ pub struct Op {
     pub note: u32,
     /// The phase of the application relation, 0 if there is none.
     pub phase: u32,
-    /// The kind of a piece of work.
+    /// The kind of a piece of work: after an event the next one, otherwise the one that was handed out.
     pub work: u32,
+    /// The kind of the piece of work after the one that was handed out.
+    pub more: u32,
     /// The sector, 0 or 1.
     pub sector: u32,
     /// The first octet of a program call in its sector.

@@ -1,12 +1,10 @@
 -- The frames that remain after a position.
-use Rattle.std.proofs.Common.{◌≡◌, ◌+◌, ◌<◌, ◌≤◌, ℕ, suc, Bool, true, false, List, [], ◌∷◌, length, map, drop, get_or, sym, ap, subst, ◌∙◌, inl, inr, arith}
+use Rattle.std.proofs.Common.{◌≡◌, ◌+◌, ◌<◌, ◌≤◌, ℕ, true, false, List, [], ◌∷◌, length, map, drop, get_or, sym, ap, ◌∙◌, inl, inr, arith}
 use Rattle.std.specs.Prelude.{nat_lt}
 use Rattle.std.proofs.lemmas.Bool.{cases_Bool, ltb-true, ltb-false}
 use Rattle.std.proofs.Math.ListN.{get_or-map}
 use Rattle.std.proofs.lemmas.List.{drop_more, drop_all, drop-drop, length-map}
-use Rattle.controller_core.specs.declared.event.Event.TheVariants.{Tick}
-use Rattle.controller_abi.specs.State.{State, after, has_frames, is_stopped}
-use Rattle.controller_abi.specs.Steps.{Ticks}
+use Rattle.controller_abi.specs.State.{has_frames}
 
 pub some_left : (n : ℕ) (frames : List (List ℕ)) → n < length frames → has_frames (drop n frames) ≡ true
 some_left n frames some = ap has_frames (drop_more frames n [] some)
@@ -35,10 +33,3 @@ taken n frames = sym (drop-drop 1 n frames)
 -- If none remains, none is fetched.
 pub none_taken : (n : ℕ) (frames : List (List ℕ)) → length frames ≤ n → drop n frames ≡ drop 1 (drop n frames)
 none_taken n frames none = drop_all n frames none ∙ sym (ap (drop 1) (drop_all n frames none))
-
--- One more unit.
-pub one_more : (was_over : Bool) (units : ℕ) (old between new : State) → Ticks was_over units old between → is_stopped was_over between ≡ false → new ≡ after between Tick
-    → Ticks was_over (units + 1) old new
-one_more was_over units old between new ticks free takes =
-    let more : suc units ≡ units + 1 = omega arith in
-    subst (λ n. Ticks was_over n old new) more (between, ticks, free, takes)

@@ -18,6 +18,13 @@ output_at slot subslot (plugged ∷ others) =
 abbrev pub why_not_fit : ℕ → ℕ → Option ℕ
 why_not_fit output size = if output == 0 then Some 9 else (if output == size then None else Some 8)
 
+-- Why the status of an output is not set, if it is not set: 7, frames of the step before remain; 9, the plan has no
+-- submodule with an output there.
+abbrev pub why_not_rated : Bool → Option ℕ → Option ℕ
+why_not_rated true output = Some 7
+why_not_rated false None = Some 9
+why_not_rated false (Some output) = if output == 0 then Some 9 else None
+
 -- Why no value of this size is set, if it is not set: 7, frames of the step before remain; 9, the plan has no submodule
 -- with an output there; 8, its output has another length.
 abbrev pub why_not_set : Bool → Option ℕ → ℕ → Option ℕ

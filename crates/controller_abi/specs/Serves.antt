@@ -2,10 +2,13 @@
 -- afterwards: an equation of the whole operation says which fields are written, and with what. All other fields are
 -- unchanged, and so are the octets after those that are written. A refused operation changes nothing, neither in the
 -- controller nor in the operation.
-use Rattle.std.specs.Prelude.{◌≡◌, ◌==◌, ℕ, Bool, true, false, if◌then◌else◌, List, [], ◌∷◌, length, take, Option, Some, None}
+use Rattle.std.specs.Prelude.{◌≡◌, ◌==◌, ℕ, Bool, true, false, not, if◌then◌else◌, List, [], ◌∷◌, length, take, Option, Some, None}
 use Rattle.record_blocks.specs.declared.alarm_notification.AlarmNotification.{AlarmNotification}
 use Rattle.controller_core.specs.Cause.{number_of}
+use Rattle.controller_core.specs.Leaps.{live_due_in}
 use Rattle.cyclic_exchange.specs.Process.{value_at}
+use Rattle.cyclic_exchange.specs.declared.exchange.ProviderStatus.{ProviderStatus}
+use Rattle.controller_core.specs.Machine.{provider_of}
 use Rattle.controller_core.specs.declared.event.Event.{Event}
 use Rattle.controller_core.specs.declared.event.Event.TheVariants as event
 use Rattle.controller_core.specs.declared.state.State as phase
@@ -15,7 +18,7 @@ use Rattle.c_layout.specs.Places.{place_in}
 use Rattle.c_layout.specs.Reported.{with_octets}
 use Rattle.controller_abi.specs.declared.operation.Operation.{Operation}
 use Rattle.controller_abi.specs.declared.operation.Operation.TheVariants as operation
-use Rattle.controller_abi.specs.Outputs.{output_at, why_not_set}
+use Rattle.controller_abi.specs.Outputs.{output_at, why_not_rated, why_not_set}
 use Rattle.controller_abi.specs.State.{State, advanced, after, has_frames}
 use Rattle.controller_abi.specs.Steps.{Passes}
 
@@ -29,7 +32,10 @@ operation_of what =
     if what == 8 then Some operation.Value else
     if what == 9 then Some operation.State else
     if what == 12 then Some operation.Alarm else
-    if what == 13 then Some operation.Stop else None
+    if what == 13 then Some operation.Stop else
+    if what == 15 then Some operation.Due else
+    if what == 16 then Some operation.Status else
+    if what == 18 then Some operation.Provider else None
 
 -- ---- events
 
@@ -60,6 +66,12 @@ IsGift (Some place) old given answer new =
     IsSet (why_not_set (has_frames old.frames) (planned_output old place.0 place.1) (length given)) old
     (event.Give place.0 place.1 (record { items = take 1519 given })) answer new
 IsGift None old given answer new = (answer ≡ why_no_place (has_frames old.frames)) × (new ≡ old)
+
+-- The status of the output of a submodule is set by one step of the controller, if the plan has one there.
+abbrev pub IsStatus : Option (ℕ × ℕ) → State → Bool → ℕ → State → Type 0
+IsStatus (Some place) old is_good answer new =
+    IsSet (why_not_rated (has_frames old.frames) (planned_output old place.0 place.1)) old (event.Status place.0 place.1 is_good) answer new
+IsStatus None old is_good answer new = (answer ≡ why_no_place (has_frames old.frames)) × (new ≡ old)
 
 -- Units of time passed, and the number that remains is reported.
 pub record IsPast (old : State) (asked : Op) (answer : ℕ) (new : State) (reported : Op) : Type 0 where
@@ -95,6 +107,18 @@ IsValue None asked answer reported = (answer ≡ 9) × (reported ≡ asked)
 abbrev pub IsInput : Option (ℕ × ℕ) → State → Op → ℕ → Op → Type 0
 IsInput (Some place) port asked answer reported = IsValue (value_at port.controller.live.cyclic place.0 place.1) asked answer reported
 IsInput None port asked answer reported = (answer ≡ 9) × (reported ≡ asked)
+
+-- What the device says of the input of a submodule: IOPS, then DataStatus; 24 if no frame with it was accepted.
+abbrev pub with_statuses : ProviderStatus → Op → Op
+with_statuses status asked = with_octets (status.iops ∷ status.data_status.0 ∷ []) asked
+
+abbrev pub IsProviderAt : Option ProviderStatus → Op → ℕ → Op → Type 0
+IsProviderAt (Some status) asked answer reported = (answer ≡ 0) × (reported ≡ with_statuses status asked)
+IsProviderAt None asked answer reported = (answer ≡ 24) × (reported ≡ asked)
+
+abbrev pub IsProvider : Option (ℕ × ℕ) → State → Op → ℕ → Op → Type 0
+IsProvider (Some place) port asked answer reported = IsProviderAt (provider_of port.controller.live place.0 place.1) asked answer reported
+IsProvider None port asked answer reported = (answer ≡ 24) × (reported ≡ asked)
 
 abbrev pub phase_number : phase.State → ℕ
 phase_number Looking = 1
@@ -148,4 +172,10 @@ Serves (Some operation.State) old asked given answer new reported =
 Serves (Some operation.Alarm) old asked given answer new reported = (new ≡ old) × IsAlarm old.controller.live.alarm asked answer reported
 Serves (Some operation.Stop) old asked given answer new reported =
     (reported ≡ asked) × IsEvent (has_frames old.frames) old event.Stop answer new
+Serves (Some operation.Due) old asked given answer new reported =
+    (new ≡ old) × (answer ≡ 0) × (reported ≡ record asked { units = live_due_in old.controller.live })
+Serves (Some operation.Status) old asked given answer new reported =
+    (reported ≡ asked) × IsStatus (place_in asked.slot asked.subslot) old (not (asked.place == 0)) answer new
+Serves (Some operation.Provider) old asked given answer new reported =
+    (new ≡ old) × IsProvider (place_in asked.slot asked.subslot) old asked answer reported
 Serves None old asked given answer new reported = (answer ≡ 10) × (new ≡ old) × (reported ≡ asked)

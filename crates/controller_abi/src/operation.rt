@@ -13,6 +13,9 @@ pub enum Operation {
     State,
     Alarm,
     Stop,
+    Due,
+    Status,
+    Provider,
 }
 
 // The operation of this number, if it exists.
@@ -28,6 +31,9 @@ pub(crate) fn operation_of(what: u32) -> Option<Operation>
         9 => Some(Operation::State),
         12 => Some(Operation::Alarm),
         13 => Some(Operation::Stop),
+        15 => Some(Operation::Due),
+        16 => Some(Operation::Status),
+        18 => Some(Operation::Provider),
         _ => None,
     }
 }

@@ -36,7 +36,7 @@ const ABI: u32 = 2;
 const ROOM: usize = 40960;
 
 /// The number of octets of an operation.
-const OP_SIZE: usize = 1560;
+const OP_SIZE: usize = 1564;
 
 // The faults of a plan, with the numbers that a catalogue with the same fault has.
 const NUMBER: u32 = PLAN_FAULT + 4;

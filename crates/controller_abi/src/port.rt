@@ -1,9 +1,10 @@
 //! A controller, and the frames of its last step that the host has not fetched yet.
-ghost use Rattle.std.specs.Prelude.{◌≡◌, false, option_map};
+ghost use Rattle.std.specs.Prelude.{◌≡◌, ◌≤◌, Bool, false, option_map};
+ghost use Rattle.controller_core.specs.Leaps.{live_due_in};
 ghost use Rattle.controller_core.specs.Machine.{fresh};
 ghost use Rattle.controller_abi.specs.Outputs.{output_at as output_in, output_of as output_in_module};
 ghost use Rattle.controller_abi.specs.State.{IsNext, advanced, after, has_frames, is_over as over, is_stopped as stops, opened};
-ghost use Rattle.controller_abi.specs.Steps.{Passes};
+ghost use Rattle.controller_abi.specs.Steps.{Passes, Ticks};
 
 use controller_core::{Controller, Event, State};
 use frame_codec::{Frame, Outbox};
@@ -113,19 +114,33 @@ impl Port {
         self.frames_past = 0;
     }
 
-    /// Lets units of time pass, up to the first that sends something or ends the controller. Returns how many remain.
+    /// Lets units of time pass by leaps, up to the first that sends something or ends the controller. Returns how many
+    /// remain.
     pub fn pass(&mut self, units: u32) -> u32
         requires { has_frames self.old.frames ≡ false }
         ensures { Passes self.old units result self.new }
     {
         let was_over = is_over(self.controller.state());
-        for passed in 0..units {
+        let mut left = units;
+        while left > 0 {
             if self.is_stopped(was_over) {
-                return units - passed;
+                return left;
             }
-            self.take(&Event::Tick);
+            let passing = left.min(self.controller.due());
+            self.leap(passing);
+            left -= passing;
         }
         0
+    }
+
+    // Lets several units of time pass at once, at most as many as are due. All frames of the step before are fetched.
+    fn leap(&mut self, units: u32)
+        requires idle { has_frames self.old.frames ≡ false }
+        requires few { units ≤ live_due_in self.old.controller.live }
+        ensures { (was_over : Bool) → stops was_over self.old ≡ false → Ticks was_over units self.old self.new }
+    {
+        self.controller.elapse(units, &mut self.outbox);
+        self.frames_past = 0;
     }
 
     // Whether frames remain, or the controller has ended since.

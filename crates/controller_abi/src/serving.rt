@@ -1,19 +1,21 @@
 //! One operation of the host.
-ghost use Rattle.std.specs.Prelude.{◌≡◌, length, take};
+ghost use Rattle.std.specs.Prelude.{◌≡◌, ◌==◌, length, not, take};
 ghost use Rattle.cyclic_exchange.specs.Process.{value_at};
-ghost use Rattle.controller_core.specs.declared.event.Event.TheVariants.{Frame as Framed, Give as Given};
+ghost use Rattle.controller_core.specs.declared.event.Event.TheVariants.{Frame as Framed, Give as Given, Status as Rated};
+ghost use Rattle.controller_core.specs.Leaps.{live_due_in};
+ghost use Rattle.controller_core.specs.Machine.{provider_of};
 ghost use Rattle.c_layout.specs.Places.{place_in};
-ghost use Rattle.controller_abi.specs.Outputs.{why_not_fit, why_not_set};
+ghost use Rattle.controller_abi.specs.Outputs.{why_not_fit, why_not_rated, why_not_set};
 ghost use Rattle.controller_abi.specs.State.{has_frames};
-ghost use Rattle.controller_abi.specs.Serves.{IsAlarm, IsEvent, IsGift, IsHandOut, IsInput, IsSet, IsTick, IsValue, Serves, cause_number};
-ghost use Rattle.controller_abi.specs.Serves.{operation_of as operation_in, phase_number, planned_output, why_no_place};
+ghost use Rattle.controller_abi.specs.Serves.{IsAlarm, IsEvent, IsGift, IsHandOut, IsInput, IsProvider, IsProviderAt, IsSet, IsStatus, IsTick, IsValue, Serves};
+ghost use Rattle.controller_abi.specs.Serves.{cause_number, operation_of as operation_in, phase_number, planned_output, why_no_place};
 ghost use Rattle.controller_abi.specs.Serves.{with_alarm, with_next, with_state};
 
 use crate::operation::{Operation, operation_of};
 use crate::port::Port;
 use block_codec::AlarmNotification;
-use c_layout::{BAD_LENGTH, HAS_WORK, NO_SLOT, Op, UNKNOWN, place_of, put};
-use controller_core::{Event, State};
+use c_layout::{BAD_LENGTH, HAS_WORK, NO_FRAME, NO_SLOT, Op, UNKNOWN, place_of, put};
+use controller_core::{Event, ProviderStatus, State};
 use frame_codec::Bytes;
 use wire::at_most;
 
@@ -40,6 +42,9 @@ fn perform(operation: Operation, port: &mut Port, op: &mut Op, given: &[u8]) -> 
         Operation::State => state(port, op),
         Operation::Alarm => alarm(port, op),
         Operation::Stop => offer(port, &Event::Stop),
+        Operation::Due => due(port, op),
+        Operation::Status => status(port, op),
+        Operation::Provider => provider(port, op),
     }
 }
 
@@ -110,6 +115,43 @@ fn why_not_in(output: u16, size: usize) -> Option<u32>
         return Some(BAD_LENGTH);
     }
     None
+}
+
+// The status of the output of a submodule: `place` is 0 if it is bad.
+fn status(port: &mut Port, op: &Op) -> u32
+    ensures { IsStatus (place_in op.now.slot op.now.subslot) port.old (not (op.now.place == 0)) result port.new }
+{
+    match place_of(op) {
+        Some(place) => rate(port, place.0, place.1, op.place != 0),
+        None => no_place(port),
+    }
+}
+
+// Sets the status of the output of a submodule, or returns why not.
+#[inline(never)]
+fn rate(port: &mut Port, slot: u16, subslot: u16, is_good: bool) -> u32
+    ensures { IsSet (why_not_rated (has_frames port.old.frames) (planned_output port.old slot subslot)) port.old (Rated slot subslot is_good) result port.new }
+{
+    match why_unrated(port, slot, subslot) {
+        Some(why) => why,
+        None => {
+            port.take(&Event::Status(slot, subslot, is_good));
+            0
+        }
+    }
+}
+
+// Why the status of the output of a submodule is not set, if it is not set.
+fn why_unrated(port: &Port, slot: u16, subslot: u16) -> Option<u32>
+    ensures { result ≡ why_not_rated (has_frames port.now.frames) (planned_output port.now slot subslot) }
+{
+    if port.has_work() {
+        return Some(HAS_WORK);
+    }
+    match port.output_at(slot, subslot) {
+        Some(0) | None => Some(NO_SLOT),
+        Some(_) => None,
+    }
 }
 
 // Why no output is set at an invalid place.
@@ -220,6 +262,41 @@ fn number_of_cause(reached: State) -> u32
     match reached {
         State::Ended(cause) => u32::from(cause.number()),
         _ => 0,
+    }
+}
+
+// The number of units up to and with the next one with which anything is due.
+fn due(port: &Port, op: &mut Op) -> u32
+    ensures answer { result ≡ 0 }
+    ensures reported { op.new ≡ record op.old { units = live_due_in port.now.controller.live } }
+{
+    op.units = port.controller().due();
+    0
+}
+
+// What the device says of the input of a submodule.
+fn provider(port: &Port, op: &mut Op) -> u32
+    ensures { IsProvider (place_in op.old.slot op.old.subslot) port.now op.old result op.new }
+{
+    match place_of(op) {
+        Some(place) => {
+            let status = port.controller().provider(place.0, place.1);
+            tell_statuses(status, op)
+        }
+        None => NO_FRAME,
+    }
+}
+
+// The IOPS and DataStatus of the last accepted frame, if there was one.
+fn tell_statuses(status: Option<ProviderStatus>, op: &mut Op) -> u32
+    ensures { IsProviderAt status op.old result op.new }
+{
+    match status {
+        Some(status) => {
+            put(op, &[status.iops, status.data_status.0]);
+            0
+        }
+        None => NO_FRAME,
     }
 }
 

@@ -1,4 +1,5 @@
 pub mod Cause
+pub mod Outputs
 pub mod State
 pub mod Answers
 pub mod AlarmRelation
@@ -7,3 +8,4 @@ pub mod Usable
 pub mod Connect
 pub mod Alarms
 pub mod Machine
+pub mod Leaps

@@ -15,7 +15,7 @@ use Rattle.record_blocks.specs.declared.alarm_ack.AlarmAck.{AlarmAck}
 use Rattle.record_blocks.specs.declared.alarm_notification.AlarmNotification.{AlarmNotification}
 use Rattle.cyclic_data.specs.declared.place.PlaceKind.{PlaceKind}
 use Rattle.cyclic_data.specs.declared.place.PlaceKind.TheVariants.{Data as at_data, Iocs as at_iocs}
-use Rattle.cyclic_data.specs.Image.{good}
+use Rattle.cyclic_data.specs.Image.{Cell, cell_at, changed_in, good, has_size}
 use Rattle.cyclic_data.specs.Timing.{Sending, Hearing}
 use Rattle.pn_alarms.specs.declared.abort.Abort.{Abort}
 use Rattle.pn_alarms.specs.declared.abort.Abort.TheVariants as reason
@@ -32,7 +32,8 @@ use Rattle.pn_alarms.specs.Sending.{due}
 use Rattle.cyclic_exchange.specs.declared.route.Route.{Route}
 use Rattle.cyclic_exchange.specs.Cyclic.{Cyclic}
 use Rattle.cyclic_exchange.specs.Opening.{begun_of, ended_of, opened, related}
-use Rattle.cyclic_exchange.specs.Process.{provided_at}
+use Rattle.cyclic_exchange.specs.declared.exchange.ProviderStatus.{ProviderStatus}
+use Rattle.cyclic_exchange.specs.Process.{provider_at, stated_at}
 use Rattle.cyclic_exchange.specs.Received.{behind_frame}
 use Rattle.cyclic_exchange.specs.Units.{Brought, cyclic_later, tick_of}
 use Rattle.plans.specs.declared.parts.Parts.{Parts}
@@ -48,12 +49,14 @@ use Rattle.controller_frames.specs.Heard.{Cyclic as Comes}
 use Rattle.controller_frames.specs.Requests.{writing_from}
 use Rattle.controller_frames.specs.Sent.{Sent, Requests, Agrees, Cycles, Confirms, Replies, Ends, bytes_of, ready_answer}
 use Rattle.controller_core.specs.declared.connect.Found.{Found}
+use Rattle.controller_core.specs.declared.outputs.OutputMark.{OutputMark}
 use Rattle.controller_core.specs.declared.state.Cause.{Cause}
 use Rattle.controller_core.specs.declared.state.Cause.TheVariants as cause
 use Rattle.controller_core.specs.declared.state.State.{State}
 use Rattle.controller_core.specs.declared.state.State.TheVariants.{Looking, Addressing, Connecting, Writing, Ending, Waiting, Exchanging, Ended}
 use Rattle.controller_core.specs.declared.event.Event.{Event}
-use Rattle.controller_core.specs.declared.event.Event.TheVariants.{Frame, Tick as Ticks, Give, Stop}
+use Rattle.controller_core.specs.declared.event.Event.TheVariants.{Frame, Tick as Ticks, Give, Status, Stop}
+use Rattle.controller_core.specs.Outputs.{awaits, change_by, first_mark, iops_of, mark_at, marked}
 use Rattle.controller_core.specs.State.{Controlling, Live, with_live}
 use Rattle.controller_core.specs.Answers.{is_addressed, is_answer, is_found, is_ready, is_right, is_set_answer}
 use Rattle.controller_core.specs.Connect.{Chosen, chosen_of, found_in, is_whole, nothing}
@@ -340,15 +343,54 @@ ticked live = gone_on (later live) (is_again live)
 
 -- ---- events
 
--- The output of a submodule is set, with a good IOPS from then on, if it has an output of this length. Otherwise
--- nothing changes.
+-- The marks of outputs after a value of a submodule was given, or after its status, and the IOPS that follows from them.
+abbrev pub marks_with : Live → ℕ → ℕ → Option Bool → List OutputMark
+marks_with live slot subslot status = marked slot subslot (change_by status) live.outputs
+
+abbrev pub iops_with : Live → ℕ → ℕ → Option Bool → ℕ
+iops_with live slot subslot status = iops_of (mark_at slot subslot (marks_with live slot subslot status))
+
+abbrev pub remarked : Live → ℕ → ℕ → Option Bool → Live
+remarked live slot subslot status = record live {
+  cyclic = stated_at live.cyclic slot subslot (iops_with live slot subslot status);
+  outputs = marks_with live slot subslot status;
+}
+
+-- The application says that the output of a submodule is good or bad from now on, if it has an output. Its value is kept.
+abbrev pub rated : Live → ℕ → ℕ → Bool → Live
+rated live slot subslot is_good = remarked live slot subslot (Some is_good)
+
+-- Whether a submodule has an output of this length.
+abbrev pub has_output : Live → ℕ → ℕ → List ℕ → Bool
+has_output live slot subslot value = has_size (length value) (cell_at at_data slot subslot live.cyclic.shown.cells)
+
+-- An output with another value. If it is the first one, its IOPS is this.
+abbrev pub with_output : Bool → ℕ → List ℕ → Cell → Cell
+with_output is_first iops value cell = record { place = cell.place; value = value; status = if is_first then iops else cell.status }
+
+-- The output of a submodule is set, if it has an output of this length. Otherwise nothing changes. After the first value
+-- the IOPS follows from what the application says.
+abbrev pub cells_given : Live → ℕ → ℕ → List ℕ → List Cell
+cells_given live slot subslot value =
+    if has_output live slot subslot value
+    then map (changed_in at_data slot subslot (with_output (awaits slot subslot live.outputs) (iops_with live slot subslot None) value)) live.cyclic.shown.cells
+    else live.cyclic.shown.cells
+
 abbrev pub given : Live → ℕ → ℕ → List ℕ → Live
-given live slot subslot value = record live { cyclic = unwrap_or (provided_at live.cyclic slot subslot value) live.cyclic }
+given live slot subslot value = record live {
+  cyclic = record live.cyclic { shown = record live.cyclic.shown { cells = cells_given live slot subslot value } };
+  outputs = if has_output live slot subslot value && awaits slot subslot live.outputs then marks_with live slot subslot None else live.outputs;
+}
+
+-- What the device says of the input of a submodule in its last accepted frame, while the relation is established.
+abbrev pub provider_of : Live → ℕ → ℕ → Option ProviderStatus
+provider_of live slot subslot = if live.stands then provider_at live.cyclic slot subslot else None
 
 abbrev pub turn_of : Setup → Live → Event → Turn
 turn_of setup live (Frame bytes) = turned setup live (heard_of setup.plan.controller bytes.items)
 turn_of setup live Ticks = ticked live
 turn_of setup live (Give slot subslot value) = stays (given live slot subslot value.items)
+turn_of setup live (Status slot subslot is_good) = stays (rated live slot subslot is_good)
 turn_of setup live Stop = stopped setup live live.phase
 
 -- ---- the beginning
@@ -371,6 +413,10 @@ first_cyclic plan =
     opened (route_of nobody 0xFFFF 1) (sending_of plan.times) (hearing_of plan.times) first_status
     (layout_in Output (data_of plan.real.modules.items)) (layout_in Input (data_of plan.real.modules.items))
 
+-- No output was given, and the application says nothing against one.
+abbrev pub first_outputs : Parts → List OutputMark
+first_outputs plan = map first_mark (layout_in Output (data_of plan.real.modules.items)).places
+
 -- It looks for the station: the Identify counts as sent.
 abbrev pub first : Parts → Live
 first plan = record {
@@ -383,6 +429,7 @@ first plan = record {
   deviates = false;
   cyclic = first_cyclic plan;
   alarms = unheard alarm_factor alarm_retries;
+  outputs = first_outputs plan;
   alarm = None;
 }
 

@@ -2,14 +2,16 @@
 ghost use Rattle.std.specs.Prelude.{◌≡◌, ◌≤◌, IfSome, [], ◌∷◌, length, option_map};
 ghost use Rattle.cyclic_exchange.specs.Process.{value_at};
 ghost use Rattle.frame_codec.specs.Outbox.{boxed};
-ghost use Rattle.controller_core.specs.Machine.{first_cyclic, fresh, interval_of, opening_of, route_of};
+ghost use Rattle.controller_core.specs.Machine.{first_cyclic, first_outputs, fresh, interval_of, opening_of, provider_of, route_of};
 
 use crate::State;
 use crate::kept::KeptAlarm;
+use crate::outputs::{OutputMark, begin};
+use arrayvec::ArrayVec;
 use block_codec::{AlarmNotification, IocrType};
 use controller_frames::{Request, Setup, send_request};
 use cyclic_data::{Consumer, PlaceKind, Provider};
-use cyclic_exchange::{CyclicExchange, Route, Statuses};
+use cyclic_exchange::{CyclicExchange, ProviderStatus, Route, Statuses};
 use frame_codec::{Frame, Outbox};
 use plans::{INPUT_FRAME_ID, Plan, RTA_RETRIES, RTA_TIMEOUT_FACTOR, TAG_HIGH, Times};
 use pn_alarms::ControllerAlarms;
@@ -44,6 +46,8 @@ pub struct Controller {
     pub(crate) deviates: bool,
     pub(crate) exchange: CyclicExchange,
     pub(crate) alarms: ControllerAlarms,
+    /// Why the IOPS of outputs are not good, for each place.
+    pub(crate) outputs: ArrayVec<OutputMark, 128>,
     pub(crate) alarm: Option<KeptAlarm>,
 }
 
@@ -66,6 +70,7 @@ impl Model for Controller {
         deviates = controller.deviates;
         cyclic = controller.exchange;
         alarms = controller.alarms;
+        outputs = controller.outputs.items;
         alarm = option_map alarm_in controller.alarm;
       };
     } };
@@ -119,8 +124,9 @@ fn interval_of(times: Times) -> u32
 /// Opens the exchange of a plan: no output was set, and the device is not known yet. It is a function of its own so
 /// that both layouts are only in its stack frame.
 #[inline(never)]
-fn open(exchange: &mut CyclicExchange, plan: &Plan)
-    ensures { exchange.new ≡ first_cyclic plan.now }
+fn open(exchange: &mut CyclicExchange, outputs: &mut ArrayVec<OutputMark, 128>, plan: &Plan)
+    ensures exchange { exchange.new ≡ first_cyclic plan.now }
+    ensures outputs { outputs.new.items ≡ first_outputs plan.now }
 {
     let times = plan.times();
     let output = plan.layout(IocrType::Output);
@@ -133,6 +139,7 @@ fn open(exchange: &mut CyclicExchange, plan: &Plan)
         &input,
         &NothingGiven,
     );
+    begin(outputs, output.places());
 }
 
 impl Controller {
@@ -162,6 +169,7 @@ impl Controller {
             stands: false,
             deviates: false,
             alarms,
+            outputs: ArrayVec::new(),
             alarm: None,
             setup: Setup { plan, ar, activity },
         }
@@ -181,7 +189,7 @@ impl Controller {
         self.deviates = false;
         self.alarms = ControllerAlarms::new(RTA_TIMEOUT_FACTOR, RTA_RETRIES);
         self.alarm = None;
-        open(&mut self.exchange, &self.setup.plan);
+        open(&mut self.exchange, &mut self.outputs, &self.setup.plan);
     }
 
     /// The controller with this configuration. It is a function of its own so that no stack frame holds both a plan and
@@ -201,10 +209,15 @@ impl Controller {
             deviates: false,
             exchange: CyclicExchange::new(),
             alarms: ControllerAlarms::new(RTA_TIMEOUT_FACTOR, RTA_RETRIES),
+            outputs: ArrayVec::new(),
             alarm: None,
         };
         // The exchange is large: it is opened in its final place.
-        open(&mut controller.exchange, &controller.setup.plan);
+        open(
+            &mut controller.exchange,
+            &mut controller.outputs,
+            &controller.setup.plan,
+        );
         controller
     }
 
@@ -266,6 +279,19 @@ impl Controller {
         ensures short { IfSome result (λ value. length value.now ≤ 1440) }
     {
         self.exchange.value(slot, subslot)
+    }
+
+    /// What the device says of the input of a submodule in its last accepted frame: the IOPS and DataStatus, whose bit 4 is
+    /// clear if the device is stopped. `None` if no relation is established, if the input has no place, or if no frame was
+    /// accepted yet.
+    pub fn provider(&self, slot: u16, subslot: u16) -> Option<ProviderStatus>
+        ensures { result ≡ provider_of self.now.live slot subslot }
+    {
+        if self.stands {
+            self.exchange.provider(slot, subslot)
+        } else {
+            None
+        }
     }
 
     /// The last alarm that was accepted, if there was one.

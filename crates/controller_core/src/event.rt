@@ -10,6 +10,8 @@ pub enum Event {
     Tick,
     /// The application sets the output of the submodule in this slot and subslot.
     Give(u16, u16, Bytes),
+    /// The application says whether the output of the submodule in this slot and subslot is good.
+    Status(u16, u16, bool),
     /// The application stops the controller.
     Stop,
 }

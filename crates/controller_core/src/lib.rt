@@ -14,12 +14,16 @@ mod controller;
 mod event;
 mod kept;
 mod law;
+mod leaps;
+mod outputs;
 mod state;
 mod step;
 mod usable;
 
 pub use alarm_relation::{AlarmRelation, put_alarm_relation};
 pub use controller::Controller;
+pub use cyclic_exchange::ProviderStatus;
 pub use event::Event;
 pub use law::blocks_are_found;
+pub use leaps::leaps_are_ticks;
 pub use state::{Cause, State};

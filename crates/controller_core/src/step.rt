@@ -13,7 +13,7 @@ ghost use Rattle.controller_core.specs.State.{with_live};
 ghost use Rattle.controller_core.specs.Machine.{acks_of, addressed, alarmed, answered, asking, called, come, connected, connected_by};
 ghost use Rattle.controller_core.specs.Machine.{brought, decided, done, due_frames, ended_by, exchange_later, flowed, found, given};
 ghost use Rattle.controller_core.specs.Machine.{gone_on, is_again, handled, later, outputs_of};
-ghost use Rattle.controller_core.specs.Machine.{readied, ready_in as block_of_ready, related_by, released, requests_of, responded, step_of};
+ghost use Rattle.controller_core.specs.Machine.{rated, readied, ready_in as block_of_ready, related_by, released, remarked, requests_of, responded, step_of};
 ghost use Rattle.controller_core.specs.Machine.{stopped, ticked, turned, where_due, writing};
 ghost use Rattle.frame_codec.specs.Outbox.{boxed};
 
@@ -24,6 +24,7 @@ use crate::answers::{
 };
 use crate::connect::{Found, found_in};
 use crate::controller::route_of;
+use crate::outputs::{awaits, change, iops_in};
 use crate::{Cause, Controller, Event, State};
 use block_codec::{AlarmNotification, ControlBlock};
 use controller_frames::{
@@ -42,7 +43,7 @@ use rpc_core::{Call, Response};
 const MOST_BLOCKS: usize = 400;
 
 /// One second, in units of 31.25 microseconds: an unanswered request is sent again after this time.
-const SECOND: u32 = 32_000;
+pub(crate) const SECOND: u32 = 32_000;
 
 impl Controller {
     /// Handles one event: clears the outbox, and appends the frames that the event sends.
@@ -56,6 +57,7 @@ impl Controller {
             Event::Frame(bytes) => self.hear(bytes, outbox),
             Event::Tick => self.tick(outbox),
             Event::Give(slot, subslot, value) => self.give(*slot, *subslot, value.as_slice()),
+            Event::Status(slot, subslot, is_good) => self.rate(*slot, *subslot, *is_good),
             Event::Stop => self.stop(outbox),
         }
     }
@@ -103,12 +105,34 @@ impl Controller {
         }
     }
 
-    // The application sets an output.
+    // The application sets an output. Its IOPS is changed only by the first value: in each cycle there may be many outputs
+    // to set.
     #[inline(never)]
     fn give(&mut self, slot: u16, subslot: u16, value: &[u8])
         ensures { self.new ≡ with_live self.old (given self.old.live slot subslot value.now) }
     {
-        self.exchange.provide(slot, subslot, value);
+        if self.exchange.give(slot, subslot, value)
+            && awaits(self.outputs.as_slice(), slot, subslot)
+        {
+            self.remark(slot, subslot, None);
+        }
+    }
+
+    // The application says whether an output is good.
+    #[inline(never)]
+    fn rate(&mut self, slot: u16, subslot: u16, is_good: bool)
+        ensures { self.new ≡ with_live self.old (rated self.old.live slot subslot is_good) }
+    {
+        self.remark(slot, subslot, Some(is_good));
+    }
+
+    // Changes the marks of the output of a submodule: a value was given, or this status. The IOPS follows.
+    fn remark(&mut self, slot: u16, subslot: u16, status: Option<bool>)
+        ensures { self.new ≡ with_live self.old (remarked self.old.live slot subslot status) }
+    {
+        change(&mut self.outputs, slot, subslot, status);
+        let iops = iops_in(self.outputs.as_slice(), slot, subslot);
+        self.exchange.state(slot, subslot, iops);
     }
 
     // Receives a frame.
@@ -494,7 +518,7 @@ impl Controller {
 
     // Advances the timers of the exchange.
     #[inline(always)]
-    fn elapse(&mut self) -> Tick
+    fn tick_exchange(&mut self) -> Tick
         ensures brought { result ≡ brought self.old.live }
         ensures state { self.new ≡ with_live self.old (exchange_later self.old.live) }
     {
@@ -504,7 +528,7 @@ impl Controller {
 
     // A unit of time is over.
     #[inline(always)]
-    fn tick(&mut self, outbox: &mut Outbox)
+    pub(crate) fn tick(&mut self, outbox: &mut Outbox)
         requires empty { outbox.old.items ≡ [] }
         ensures state { self.new ≡ with_live self.old (ticked self.old.live).live }
         ensures frames { boxed outbox.new ≡ map (bytes_of self.old.setup) (ticked self.old.live).sent }
@@ -515,7 +539,7 @@ impl Controller {
         if !self.stands {
             return;
         }
-        let tick = self.elapse();
+        let tick = self.tick_exchange();
         // With most units nothing is due, and no frame is built. Of the others most bring only outputs, which have
         // their own path.
         if tick.is_nothing() {
@@ -537,7 +561,7 @@ impl Controller {
         if !self.stands {
             return self.send_request_again(true, outbox);
         }
-        let tick = self.elapse();
+        let tick = self.tick_exchange();
         self.bring(&tick, true, outbox);
     }
 

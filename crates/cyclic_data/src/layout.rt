@@ -99,7 +99,8 @@ impl Layout {
 
     /// The places.
     pub fn places(&self) -> &[Place]
-        ensures { result.now ≡ self.now.places }
+        ensures value { result.now ≡ self.now.places }
+        ensures few { length result.now ≤ 128 }
     {
         self.places.as_slice()
     }

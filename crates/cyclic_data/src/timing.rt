@@ -1,5 +1,5 @@
 //! The times at which cyclic frames are due, the frames that are accepted, and the watchdog.
-ghost use Rattle.std.specs.Prelude.{◌≡◌, ◌==◌, ◌+◌, ◌*◌, ◌%◌, ◌<◌, ◌≤◌, ℕ, None, nat_le};
+ghost use Rattle.std.specs.Prelude.{◌≡◌, ◌==◌, ◌+◌, ◌*◌, ◌%◌, ◌<◌, ◌≤◌, ℕ, None, is_some, nat_le};
 ghost use Rattle.cyclic_data.specs.Timing.{Sending, Hearing, is_due, unit_later, HasRun, is_newer, is_taken, heard, held_on, HasWaited};
 ghost use Rattle.cyclic_data.specs.Leaps.{frame_due_in, held_for, over_in, units_later};
 
@@ -145,6 +145,13 @@ impl Consumer {
             self.held = 0;
         }
         taken
+    }
+
+    /// Whether a frame was accepted.
+    pub fn has_heard(&self) -> bool
+        ensures { result ≡ is_some self.now.last }
+    {
+        self.last.is_some()
     }
 
     /// Waits from now on, as after an accepted frame.

@@ -15,7 +15,7 @@ use Rattle.cyclic_exchange.specs.Cyclic.{Cyclic}
 use Rattle.cyclic_exchange.specs.Units.{cyclic_later, is_silent}
 use Rattle.cyclic_exchange.specs.Received.{behind_frame, behind_read, is_new, is_of_partner}
 use Rattle.cyclic_exchange.specs.Process.{changed_at, with_good}
-use Rattle.cyclic_exchange.specs.Runs.{Event, Begins, Ends, Passes, Comes, Gives, Provides, Rests, behind, behind_all, units_of, units_in, taken_in, taken_with, later_one, last_taken, held_in, is_renewal, AreNoRenewals, IsDueEachInterval, AreOfTheLast, IsHeldSoLong}
+use Rattle.cyclic_exchange.specs.Runs.{Event, Begins, Ends, Passes, Comes, Gives, Provides, States, Rests, behind, behind_all, units_of, units_in, taken_in, taken_with, later_one, last_taken, held_in, is_renewal, AreNoRenewals, IsDueEachInterval, AreOfTheLast, IsHeldSoLong}
 
 -- ---- data that is given
 
@@ -95,6 +95,7 @@ counted_with (Gives slot subslot value) interval units cyclic h =
     counted_same interval units cyclic.sending (behind (Gives slot subslot value) cyclic).sending (beside_changed (with_value value) cyclic slot subslot value).sending h
 counted_with (Provides slot subslot value) interval units cyclic h =
     counted_same interval units cyclic.sending (behind (Provides slot subslot value) cyclic).sending (beside_changed (with_good value) cyclic slot subslot value).sending h
+counted_with (States slot subslot status) interval units cyclic h = counted_same interval units cyclic.sending cyclic.sending refl h
 counted_with Rests interval units cyclic h = counted_same interval units cyclic.sending cyclic.sending refl h
 
 counted_all : (events : List Event) (interval units : ℕ) (cyclic : Cyclic) → HasCounted interval units cyclic.sending
@@ -145,6 +146,7 @@ taken_by Passes cyclic = refl
 taken_by (Comes source frame_id body) cyclic = (coming cyclic source frame_id body).held
 taken_by (Gives slot subslot value) cyclic = (beside_changed (with_value value) cyclic slot subslot value).taken
 taken_by (Provides slot subslot value) cyclic = (beside_changed (with_good value) cyclic slot subslot value).taken
+taken_by (States slot subslot status) cyclic = refl
 taken_by Rests cyclic = refl
 
 pub are_of_the_last : AreOfTheLast
@@ -185,6 +187,7 @@ held_with (Gives slot subslot value) limit units cyclic none h =
 held_with (Provides slot subslot value) limit units cyclic none h =
     let given = beside_changed (with_good value) cyclic slot subslot value in
     held_same limit units cyclic (behind (Provides slot subslot value) cyclic) given.begun given.hearing h
+held_with (States slot subslot status) limit units cyclic none h = held_same limit units cyclic (behind (States slot subslot status) cyclic) refl refl h
 held_with Rests limit units cyclic none h = held_same limit units cyclic cyclic refl refl h
 
 held_all : (events : List Event) (limit units : ℕ) (cyclic : Cyclic) → AreNoRenewals events cyclic → IsHeld limit units cyclic

@@ -22,14 +22,20 @@ abbrev shown_by : Shown → List Cell → Shown
 shown_by shown cells = record { data_length = shown.data_length; cells = cells }
 
 -- A status that is set, whether or not the place exists.
-set_in : (slot subslot : ℕ) (shown : Shown)
-    → (if is_some (cell_at Data slot subslot shown.cells) then changed Data slot subslot (with_status good) shown else shown)
-    ≡ changed Data slot subslot (with_status good) shown
-set_in slot subslot shown =
+pub set_in : (slot subslot status : ℕ) (shown : Shown)
+    → (if is_some (cell_at Data slot subslot shown.cells) then changed Data slot subslot (with_status status) shown else shown)
+    ≡ changed Data slot subslot (with_status status) shown
+set_in slot subslot status shown =
     elim (cases_Bool (is_some (cell_at Data slot subslot shown.cells))) [
       | inl t ↦ rw t refl
-      | inr t ↦ rw t (ap (shown_by shown) (none_changed Data slot subslot (with_status good) shown.cells t))
+      | inr t ↦ rw t (ap (shown_by shown) (none_changed Data slot subslot (with_status status) shown.cells t))
     ]
+
+-- The same by the answer of the call that sets it.
+pub stated : (slot subslot status : ℕ) (old new : Shown) (is_there : Bool) → is_there ≡ is_some (cell_at Data slot subslot old.cells)
+    → new ≡ (if is_there then changed Data slot subslot (with_status status) old else old) → new ≡ changed Data slot subslot (with_status status) old
+stated slot subslot status old new is_there there second =
+    second ∙ (ap (λ (b : Bool). if b then changed Data slot subslot (with_status status) old else old) there ∙ set_in slot subslot status old)
 
 pub provided : (slot subslot : ℕ) (value : List ℕ) (old put new : Shown) (done is_there : Bool) → done ≡ true
     → put ≡ (if done then changed Data slot subslot (with_value value) old else old)
@@ -40,4 +46,4 @@ provided slot subslot value old put new done is_there is_done first there second
     let given : put ≡ changed Data slot subslot (with_value value) old =
     first ∙ ap (λ (b : Bool). if b then changed Data slot subslot (with_value value) old else old) is_done in
     second ∙ (ap (λ (b : Bool). if b then changed Data slot subslot (with_status good) put else put) there
-    ∙ (set_in slot subslot put ∙ (ap (changed Data slot subslot (with_status good)) given ∙ ap (shown_by old) (both slot subslot value old.cells))))
+    ∙ (set_in slot subslot good put ∙ (ap (changed Data slot subslot (with_status good)) given ∙ ap (shown_by old) (both slot subslot value old.cells))))

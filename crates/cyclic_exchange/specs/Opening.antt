@@ -33,6 +33,7 @@ opened route sending hearing statuses sent taken = record {
   shown = first_shown statuses sent;
   hearing = hearing;
   taken = first_taken taken;
+  data_status = 0;
 }
 
 -- The partner and the numbers of the frames are these from now on, and the interval is counted from now. The data that

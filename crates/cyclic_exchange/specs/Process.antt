@@ -1,7 +1,8 @@
 -- The values of submodules that are given to one end and read from it.
-use Rattle.std.specs.Prelude.{ℕ, List, length, Option, Some, None, option_map, if◌then◌else◌}
+use Rattle.std.specs.Prelude.{ℕ, List, length, Option, Some, None, is_some, option_map, if◌then◌else◌}
 use Rattle.cyclic_data.specs.declared.place.PlaceKind.TheVariants.{Data}
-use Rattle.cyclic_data.specs.Image.{Cell, cell_at, changed, good, has_size, output_of, with_value}
+use Rattle.cyclic_data.specs.Image.{Cell, cell_at, changed, good, has_size, output_of, with_status, with_value}
+use Rattle.cyclic_exchange.specs.declared.exchange.ProviderStatus.{ProviderStatus}
 use Rattle.cyclic_exchange.specs.Cyclic.{Cyclic}
 
 -- The data of a submodule becomes this, by a change of its cell, if it has data of this length. Otherwise nothing
@@ -23,7 +24,22 @@ with_good value cell = record { place = cell.place; value = value; status = good
 abbrev pub provided_at : Cyclic → ℕ → ℕ → List ℕ → Option Cyclic
 provided_at cyclic slot subslot value = changed_at (with_good value) cyclic slot subslot value
 
+-- The IOPS of the data of a submodule is this from now on, and its data is unchanged.
+abbrev pub stated_at : Cyclic → ℕ → ℕ → ℕ → Cyclic
+stated_at cyclic slot subslot status = record cyclic { shown = changed Data slot subslot (with_status status) cyclic.shown }
+
 -- The data of a submodule in the partner's last accepted frame, if it has a place. All zeros if no frame was accepted
 -- yet, or if the IOPS is not good.
 abbrev pub value_at : Cyclic → ℕ → ℕ → Option (List ℕ)
 value_at cyclic slot subslot = option_map output_of (cell_at Data slot subslot cyclic.taken.cells)
+
+-- What the partner says of the data of a submodule: its IOPS and the DataStatus of the last accepted frame. None if the
+-- submodule has no data there, or if no frame was accepted yet.
+abbrev pub status_with : ℕ → Cell → ProviderStatus
+status_with data_status cell = record { iops = cell.status; data_status = record { 0 = data_status } }
+
+abbrev pub provider_at : Cyclic → ℕ → ℕ → Option ProviderStatus
+provider_at cyclic slot subslot =
+    if is_some cyclic.hearing.last
+    then option_map (status_with cyclic.data_status) (cell_at Data slot subslot cyclic.taken.cells)
+    else None

@@ -29,12 +29,13 @@ abbrev pub received_as : Cyclic → Mac → ℕ → List ℕ → Received
 received_as cyclic source frame_id body =
     if is_of_partner cyclic.route source frame_id then received_in cyclic (cyclic_of cyclic.taken.data_length body) else Foreign
 
--- The state after a frame. An accepted frame replaces the values that are read, and the data hold time restarts. Any
--- other frame changes nothing.
+-- The state after a frame. An accepted frame replaces the values and the DataStatus that are read, and the data hold time
+-- restarts. Any other frame changes nothing.
 abbrev pub taken_from : Cyclic → List ℕ → CyclicTail → Cyclic
 taken_from cyclic octets tail = record cyclic {
   hearing = heard cyclic.hearing tail.counter tail.data_status.0 tail.transfer_status;
   taken = with_frame octets cyclic.taken;
+  data_status = tail.data_status.0;
 }
 
 abbrev pub behind_read : Cyclic → Result (List ℕ × CyclicTail) ShortFrame → Cyclic

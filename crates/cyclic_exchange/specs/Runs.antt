@@ -10,7 +10,7 @@ use Rattle.cyclic_exchange.specs.Cyclic.{Cyclic}
 use Rattle.cyclic_exchange.specs.Opening.{begun_of, ended_of}
 use Rattle.cyclic_exchange.specs.Units.{cyclic_later, is_silent}
 use Rattle.cyclic_exchange.specs.Received.{behind_frame, is_new, is_of_partner}
-use Rattle.cyclic_exchange.specs.Process.{given_at, provided_at}
+use Rattle.cyclic_exchange.specs.Process.{given_at, provided_at, stated_at}
 
 -- What happens to an end that was opened: each call that changes it, and the calls that change nothing here.
 pub data Event : Type 0 where
@@ -20,6 +20,7 @@ pub data Event : Type 0 where
   Comes : (source : Mac) → (frame_id : ℕ) → (body : List ℕ) → Event
   Gives : (slot : ℕ) → (subslot : ℕ) → (value : List ℕ) → Event
   Provides : (slot : ℕ) → (subslot : ℕ) → (value : List ℕ) → Event
+  States : (slot : ℕ) → (subslot : ℕ) → (status : ℕ) → Event
   Rests : Event
 
 -- The state after an event, and after several events in order.
@@ -30,6 +31,7 @@ behind Passes cyclic = cyclic_later cyclic
 behind (Comes source frame_id body) cyclic = behind_frame cyclic source frame_id body
 behind (Gives slot subslot value) cyclic = unwrap_or (given_at cyclic slot subslot value) cyclic
 behind (Provides slot subslot value) cyclic = unwrap_or (provided_at cyclic slot subslot value) cyclic
+behind (States slot subslot status) cyclic = stated_at cyclic slot subslot status
 behind Rests cyclic = cyclic
 
 abbrev pub behind_all : List Event → Cyclic → Cyclic
@@ -44,6 +46,7 @@ units_of Passes = 1
 units_of (Comes source frame_id body) = 0
 units_of (Gives slot subslot value) = 0
 units_of (Provides slot subslot value) = 0
+units_of (States slot subslot status) = 0
 units_of Rests = 0
 
 abbrev pub units_in : List Event → ℕ
@@ -64,6 +67,7 @@ taken_with (Comes source frame_id body) cyclic =
     if is_of_partner cyclic.route source frame_id then taken_in cyclic (cyclic_of cyclic.taken.data_length body) else None
 taken_with (Gives slot subslot value) cyclic = None
 taken_with (Provides slot subslot value) cyclic = None
+taken_with (States slot subslot status) cyclic = None
 taken_with Rests cyclic = None
 
 abbrev pub later_one : Option (List ℕ) → Option (List ℕ) → Option (List ℕ)
@@ -87,6 +91,7 @@ is_renewal Passes cyclic = false
 is_renewal (Comes source frame_id body) cyclic = is_some (taken_with (Comes source frame_id body) cyclic)
 is_renewal (Gives slot subslot value) cyclic = false
 is_renewal (Provides slot subslot value) cyclic = false
+is_renewal (States slot subslot status) cyclic = false
 is_renewal Rests cyclic = false
 
 abbrev pub AreNoRenewals : List Event → Cyclic → Type 0

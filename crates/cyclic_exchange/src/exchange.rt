@@ -3,13 +3,14 @@ ghost use Rattle.std.specs.Prelude.{◌≡◌, ◌≤◌, ◌++◌, IfSome, [], 
 ghost use Rattle.arrayvec.specs.ArrayVec.{array_vec_len};
 ghost use Rattle.cyclic_exchange.specs.Frames.{cyclic_body};
 ghost use Rattle.cyclic_exchange.specs.Opening.{begun_of, ended_of, opened, related};
-ghost use Rattle.cyclic_exchange.specs.Process.{given_at, provided_at, value_at};
+ghost use Rattle.cyclic_exchange.specs.Process.{given_at, provided_at, provider_at, stated_at, value_at};
 
 use crate::opening::fill;
 use crate::{Route, Statuses};
 use arrayvec::ArrayVec;
 use cyclic_data::{
-    Consumer, CyclicTail, GOOD, Image, Layout, PlaceKind, Provider, ReceivedImage, zeros,
+    Consumer, CyclicTail, DataStatus, GOOD, Image, Layout, PlaceKind, Provider, ReceivedImage,
+    zeros,
 };
 use std::marker::Model;
 
@@ -24,6 +25,17 @@ pub struct CyclicExchange {
     pub(crate) consumer: Consumer,
     pub(crate) sent: Image,
     pub(crate) taken: ReceivedImage,
+    /// DataStatus of the last accepted frame.
+    pub(crate) data_status: DataStatus,
+}
+
+/// What the partner says of the data of a submodule in its last accepted frame.
+#[derive(Clone, Copy, Debug, PartialEq, Eq)]
+pub struct ProviderStatus {
+    /// IOPS of the submodule.
+    pub iops: u8,
+    /// DataStatus of the frame. If `PROVIDER_RUNS` is clear, the partner is stopped.
+    pub data_status: DataStatus,
 }
 
 // Its model: one value for each place, and the states of the sender and of the receiver.
@@ -39,6 +51,7 @@ impl Model for CyclicExchange {
       shown = exchange.sent;
       hearing = exchange.consumer;
       taken = exchange.taken;
+      data_status = exchange.data_status.0;
     } };
 }
 
@@ -56,6 +69,7 @@ impl CyclicExchange {
             sent: Image::new(),
             consumer: Consumer::new(1, 1),
             taken: ReceivedImage::new(),
+            data_status: DataStatus(0),
         }
     }
 
@@ -78,6 +92,7 @@ impl CyclicExchange {
         fill(&mut self.sent, sent, statuses);
         self.consumer = consumer;
         self.taken.start(taken);
+        self.data_status = DataStatus(0);
     }
 
     /// Sets the partner and the numbers of the frames, once they are known, and restarts the interval. The data that
@@ -147,6 +162,13 @@ impl CyclicExchange {
         true
     }
 
+    /// Sets the IOPS of the data of a submodule, if it has data, which frames carry from now on. The data is not changed.
+    pub fn state(&mut self, slot: u16, subslot: u16, iops: u8)
+        ensures { self.new ≡ stated_at self.old slot subslot iops }
+    {
+        self.sent.set_status(PlaceKind::Data, slot, subslot, iops);
+    }
+
     /// The data of a submodule in the partner's last accepted frame, if the submodule has data there. All zeros if no
     /// frame was accepted yet, or if the IOPS is not good.
     #[inline(always)]
@@ -155,6 +177,21 @@ impl CyclicExchange {
         ensures short { IfSome result (λ value. length value.now ≤ 1440) }
     {
         self.taken.output(slot, subslot)
+    }
+
+    /// What the partner says of the data of a submodule in its last accepted frame, if the submodule has data there.
+    /// `None` if no frame was accepted yet.
+    pub fn provider(&self, slot: u16, subslot: u16) -> Option<ProviderStatus>
+        ensures { result ≡ provider_at self.now slot subslot }
+    {
+        if !self.consumer.has_heard() {
+            return None;
+        }
+        let data_status = self.data_status;
+        match self.taken.status(PlaceKind::Data, slot, subslot) {
+            Some(iops) => Some(ProviderStatus { iops, data_status }),
+            None => None,
+        }
     }
 
     /// The octets that follow the FrameID of a frame that is sent at this CycleCounter: the data, at most 1,440 octets,

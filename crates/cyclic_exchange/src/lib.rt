@@ -14,7 +14,7 @@ mod received;
 mod route;
 mod units;
 
-pub use exchange::CyclicExchange;
+pub use exchange::{CyclicExchange, ProviderStatus};
 pub use frames::send_cyclic;
 pub use laws::cyclic_data_is_kept;
 pub use opening::Statuses;

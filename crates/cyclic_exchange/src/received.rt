@@ -42,6 +42,7 @@ impl CyclicExchange {
             return Received::Stale;
         }
         self.taken.accept(octets);
+        self.data_status = tail.data_status;
         Received::Taken
     }
 }

@@ -3,8 +3,10 @@ pub mod RecordingFew
 pub mod RecordingLegal
 pub mod RecordingPlaced
 pub mod RecordingOneStep
+pub mod RecordingLeaps
 pub mod PortCounts
 pub mod PortHosted
+pub mod PortLeaps
 pub mod PortLeft
 pub mod PortStages
 pub mod OperationsCounts

@@ -7,7 +7,7 @@ use Rattle.pn_values.specs.declared.set_item.SetItem.{SetItem}
 use Rattle.pn_values.specs.declared.set_item.SetItem.TheVariants.{Ask, Signal, Answer}
 use Rattle.pn_values.specs.declared.settings.Settings.{Settings}
 use Rattle.flash_model.specs.Calls.{Call, Programs, Erases, Arms}
-use Rattle.flash_model.specs.Image.{Image, IsImage, sector_of, with_sector, programmed, erased}
+use Rattle.flash_model.specs.Image.{Image, IsImage, sector_of, with_sector, erased}
 use Rattle.flash_model.specs.Torn.{Torn}
 use Rattle.flash_model.specs.declared.flash.Sector.{Sector}
 use Rattle.flash_model.specs.declared.flash.Sector.TheVariants.{First, Second}

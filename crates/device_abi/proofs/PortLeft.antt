@@ -1,5 +1,5 @@
 -- The work that remains after a position in the calls and a position in the frames.
-use Rattle.std.proofs.Common.{◌≡◌, ◌+◌, ◌<◌, ◌≤◌, ℕ, Bool, true, false, List, [], ◌∷◌, length, map, drop, get_or, sym, ap, ◌∙◌, inl, inr, arith}
+use Rattle.std.proofs.Common.{◌≡◌, ◌+◌, ◌<◌, ◌≤◌, ℕ, Bool, true, false, zero, suc, refl, List, [], ◌∷◌, length, map, drop, get_or, sym, ap, ◌∙◌, inl, inr, arith}
 use Rattle.std.specs.Prelude.{nat_lt}
 use Rattle.std.proofs.lemmas.Bool.{cases_Bool, ltb-true, ltb-false}
 use Rattle.std.proofs.Math.ListN.{get_or-map}
@@ -8,7 +8,7 @@ use Rattle.flash_model.specs.Calls.{Call, Erases}
 use Rattle.flash_model.specs.declared.flash.Sector.TheVariants.{First}
 use Rattle.device_abi.specs.declared.port.stage.Stage.{Stage}
 use Rattle.device_abi.specs.declared.port.stage.Stage.TheVariants.{Made, Booted, Lost}
-use Rattle.device_abi.specs.port.State.{State, IsSteady, has_work, advanced_by}
+use Rattle.device_abi.specs.port.State.{State, IsSteady, has_some, has_work, advanced_by}
 
 pub call_left : (n : ℕ) (calls : List Call) (frames : List (List ℕ)) → n < length calls → has_work (drop n calls) frames ≡ true
 call_left n calls frames some = ap (λ c. has_work c frames) (drop_more calls n (Erases First) some)
@@ -20,6 +20,30 @@ frame_left n m calls frames none some =
 pub none_left : (n m : ℕ) (calls : List Call) (frames : List (List ℕ)) → length calls ≤ n → length frames ≤ m → has_work (drop n calls) (drop m frames) ≡ false
 none_left n m calls frames no_call no_frame =
     ap (λ c. has_work c (drop m frames)) (drop_all n calls no_call) ∙ ap (λ f. has_work [] f) (drop_all m frames no_frame)
+
+-- Whether any item remains after a position.
+is_left : {T : Type 0} (n : ℕ) (all : List T) → n < length all → has_some (drop n all) ≡ true
+is_left n [] some = absurd (omega (arith, some))
+is_left zero (one ∷ others) some = refl
+is_left (suc n) (one ∷ others) some = is_left n others (omega (arith, some))
+
+is_gone : {T : Type 0} (n : ℕ) (all : List T) → length all ≤ n → has_some (drop n all) ≡ false
+is_gone n all none = ap has_some (drop_all n all none)
+
+pub some_left : {T : Type 0} (n : ℕ) (all : List T) → has_some (drop n all) ≡ nat_lt n (length all)
+some_left n all = elim (cases_Bool (nat_lt n (length all))) [
+  | inl there ↦ is_left n all (ltb-true n (length all) there) ∙ sym there
+  | inr gone ↦ is_gone n all (ltb-false n (length all) gone) ∙ sym gone
+]
+
+pub calls_left : (calls : List Call) (frames : List (List ℕ)) → has_some calls ≡ true → true ≡ has_work calls frames
+calls_left [] frames some = cc some
+calls_left (call ∷ calls) frames some = refl
+
+pub only_frames : (calls : List Call) (frames : List (List ℕ)) → has_some calls ≡ false → has_some frames ≡ has_work calls frames
+only_frames [] [] none = refl
+only_frames [] (frame ∷ frames) none = refl
+only_frames (call ∷ calls) frames none = cc none
 
 -- If no call remains, whether a frame does.
 pub frames_left : (n m : ℕ) (calls : List Call) (frames : List (List ℕ)) → length calls ≤ n → has_work (drop n calls) (drop m frames) ≡ nat_lt m (length frames)

@@ -1,15 +1,12 @@
 -- What a port's stage says.
-use Rattle.std.proofs.Common.{◌≡◌, ◌+◌, ℕ, Bool, true, false, suc, List, [], Some, None, refl, sym, ap, subst, ◌∙◌, arith}
+use Rattle.std.proofs.Common.{◌≡◌, ℕ, Bool, true, false, List, [], Some, None, refl, sym, ap, ◌∙◌}
 use Rattle.flash_model.specs.Calls.{Call}
 use Rattle.settings_journal.specs.declared.journal.BootFault.{BootFault}
 use Rattle.settings_journal.specs.declared.journal.BootFault.TheVariants.{Foreign, FlashFault}
-use Rattle.device_frames.specs.declared.note.Note.{Note}
-use Rattle.device_frames.specs.declared.event.Event.TheVariants.{Tick}
 use Rattle.device_abi.specs.declared.port.refusal.Refusal.TheVariants as refusal
 use Rattle.device_abi.specs.declared.port.stage.Stage.{Stage}
 use Rattle.device_abi.specs.declared.port.stage.Stage.TheVariants.{Made, Booted, Lost}
-use Rattle.device_abi.specs.port.State.{State, IsSteady, barred, barred_by, closed, past_start}
-use Rattle.device_abi.specs.port.Steps.{Takes, Ticks}
+use Rattle.device_abi.specs.port.State.{IsSteady, barred_by, closed, past_start}
 
 -- A port that accepts events has started, and no commit failed.
 pub booted_of : (stage : Stage) (is_left : Bool) → barred_by stage is_left ≡ None → stage ≡ Booted
@@ -48,12 +45,6 @@ working_of stage is_left is busy = ap (λ s. barred_by s is_left) is ∙ ap (bar
 -- A foreign flash is not one with a failed read.
 pub foreign_alone : (fault : BootFault) → fault ≡ Foreign → fault ≡ FlashFault → ⊥
 foreign_alone fault foreign failed = cc (sym foreign ∙ failed)
-
--- One more unit.
-pub one_more : (units : ℕ) (old between new : State) (note : Note) → Ticks units old between → barred between ≡ None → Takes between Tick note new → Ticks (units + 1) old new
-one_more units old between new note ticks free takes =
-    let more : suc units ≡ units + 1 = omega arith in
-    subst (λ n. Ticks n old new) more (between, note, ticks, free, takes)
 
 -- A port that reports its values has started.
 pub open_of : (stage : Stage) → closed stage ≡ None → stage ≡ Booted

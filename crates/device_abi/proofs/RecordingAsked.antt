@@ -1,11 +1,11 @@
 -- A request has at most 16 blocks, and an event asks the settings for at most 16 items.
-use Rattle.std.proofs.Common.{◌≡◌, ◌==◌, ◌&&◌, ◌≤◌, ℕ, Bool, true, false, List, [], ◌∷◌, length, map, refl, sym, ap, subst, ◌∙◌, Option, Some, None, Result, Ok, Err, arith}
+use Rattle.std.proofs.Common.{◌≡◌, ◌&&◌, ◌≤◌, ℕ, Bool, true, false, List, [], ◌∷◌, length, refl, subst, Option, Some, None, Result, Ok, Err, arith}
 use Rattle.std.specs.Prelude.{if◌then◌else◌, is_some}
 use Rattle.std.proofs.lemmas.List.{length-map}
 use Rattle.pn_values.specs.declared.mac.Mac.{Mac}
 use Rattle.pn_values.specs.declared.identity.Identity.{Identity}
-use Rattle.wire.specs.Codec.{Codec, ◌>>=◌}
-use Rattle.wire.specs.Formats.{number, raw, then_by, ◌⨾◌, unchecked, framed, seen}
+use Rattle.wire.specs.Codec.{Codec}
+use Rattle.wire.specs.Formats.{number, raw, then_by, ◌⨾◌, unchecked, framed}
 use Rattle.frame_codec.specs.Meaning.{Meaning, Content, RealTime, ArpPacket, UdpDatagram}
 use Rattle.frame_codec.specs.Frame.{frame_of}
 use Rattle.frame_codec.specs.FrameId.{is_alarm, is_cyclic}
@@ -15,11 +15,11 @@ use Rattle.dcp_core.specs.declared.request.DcpFault.{DcpFault}
 use Rattle.dcp_core.specs.declared.request.DcpFault.TheVariants as fault
 use Rattle.dcp_core.specs.declared.request.Service.{Service}
 use Rattle.dcp_core.specs.declared.request.Service.TheVariants as service
-use Rattle.dcp_core.specs.Format.{delay_under, service_of, data_of, header_and_data, id_of, request as format}
+use Rattle.dcp_core.specs.Format.{delay_under, service_of, data_of, header_and_data, request as format}
 use Rattle.dcp_core.specs.Reading.{request_of}
 use Rattle.dcp_core.specs.Request.{Asked, AskedBlock}
 use Rattle.dcp_core.specs.Set.{plan_of, item_of}
-use Rattle.rpc_core.specs.Call.{Asked as Call, call_of}
+use Rattle.rpc_core.specs.Call.{Asked as Call}
 use Rattle.rpc_core.specs.Cache.{Reported as Looked, new, again, old}
 use Rattle.records.specs.declared.status.operation.Operation.{Operation}
 use Rattle.records.specs.declared.status.operation.Operation.TheVariants.{Connect, Release, Read, Write, Control, ReadImplicit}
@@ -36,16 +36,19 @@ use Rattle.pn_alarms.specs.declared.pdu.Header.{Header}
 use Rattle.cyclic_exchange.specs.declared.received.Received.{Received}
 use Rattle.cyclic_exchange.specs.declared.received.Received.TheVariants as received
 use Rattle.relations.specs.exchange.Flow.{Flow}
-use Rattle.relations.specs.RelationState.{RelationState}
+use Rattle.relations.specs.RelationState.{RelationState, is_preparing, phase_of}
+use Rattle.relations.specs.Phases.{Prepared, updated}
+use Rattle.relations.specs.declared.statuses.InputStatus.{InputStatus}
 use Rattle.relations.specs.declared.hearing.ReadyAnswer.{ReadyAnswer}
 use Rattle.relations.specs.declared.hearing.ReadyAnswer.TheVariants as to_ready
 use Rattle.device_frames.specs.declared.event.Event.{Event}
-use Rattle.device_frames.specs.declared.event.Event.TheVariants.{Frame, Tick, Input, Alarm}
-use Rattle.device_frames.specs.Heard.{is_own, is_taken, said_by, Heard, Ticks, Unreadable, Elsewhere, Asks, Resolves, Reported, Cyclic, Alarms, Given, Raised, Said, Calls, Responds, Garbled, heard_alarm, heard_request, heard_content, heard_frame, heard_of}
+use Rattle.device_frames.specs.declared.event.Event.TheVariants.{Frame, Tick, Input, Alarm, Status, Ready}
+use Rattle.device_frames.specs.Heard.{is_own, is_taken, said_by, Heard, Ticks, Unreadable, Elsewhere, Asks, Resolves, Reported, Cyclic, Alarms, Given, Raised, Rated, Readied, Said, Calls, Responds, Garbled, heard_alarm, heard_request, heard_content, heard_frame, heard_of}
 use Rattle.device_frames.specs.declared.note.Note.{Note}
 use Rattle.device_frames.specs.declared.note.Note.TheVariants as note
+use Rattle.device_frames.specs.Relation.{ready_calls}
 use Rattle.device_frames.specs.Sent.{IdentifyAnswer, ArpReply}
-use Rattle.device_core.specs.Handled.{Handled, Refuses, Sets, Writes, Moves, handled_request, handled_effect, handled_write, handled_new, handled_looked, handled_blocks, handled_call, handled_answer, handled_said, handled_message, handled_received, handled_input, handled_notice, handled_pdu, handled}
+use Rattle.device_core.specs.Handled.{Handled, Refuses, Moves, handled_request, handled_effect, handled_write, handled_new, handled_looked, handled_blocks, handled_call, handled_answer, handled_said, handled_message, handled_received, handled_input, handled_notice, handled_pdu, handled_ready, kept_status, goes_on_with, handled}
 use Rattle.device_core.specs.Machine.{items_in, items_of}
 use Rattle.device_core.specs.State.{Station, Live}
 use Rattle.device_abi.proofs.RecordingFew.{of_bind, few_data}
@@ -97,6 +100,8 @@ IsShort (Cyclic source frame_id body) = Unit {0}
 IsShort (Alarms source header message) = Unit {0}
 IsShort (Given slot subslot value) = Unit {0}
 IsShort (Raised slot subslot octets) = Unit {0}
+IsShort (Rated slot subslot is_good) = Unit {0}
+IsShort Readied = Unit {0}
 
 short_if : (b : Bool) (x y : Heard) → IsShort x → IsShort y → IsShort (if b then x else y)
 short_if true x y short_x short_y = short_x
@@ -129,6 +134,8 @@ short_of identity (Frame bytes) = short_frame identity (frame_of bytes.items)
 short_of identity Tick = tt
 short_of identity (Input slot subslot value) = tt
 short_of identity (Alarm slot subslot octets) = tt
+short_of identity (Status slot subslot is_good) = tt
+short_of identity Ready = tt
 
 -- ---- what the step asks for
 
@@ -203,6 +210,15 @@ module _ (station : Station) (live : Live) where
   few_notice (Some flow) = omega arith
   few_notice None = omega arith
 
+  few_status : (slot subslot : ℕ) (is_good : Bool) (statuses : Option (List InputStatus)) → IsFew (kept_status live slot subslot is_good statuses)
+  few_status slot subslot is_good (Some statuses) = omega arith
+  few_status slot subslot is_good None = omega arith
+
+  few_ready : IsFew (handled_ready live)
+  few_ready =
+      let link = updated Prepared live.rest.link in
+      few_else (is_preparing (phase_of live.rest.link)) (goes_on_with live link (ready_calls live.values.running.suite.address link)) note.Refused (omega arith)
+
   few_pdu : (fate : PduFate) (link : Option RelationState) → IsFew (handled_pdu live fate link)
   few_pdu (fate.Data taken) link = omega arith
   few_pdu fate.Done link = omega arith
@@ -221,6 +237,8 @@ module _ (station : Station) (live : Live) where
   few_handled (Alarms source header message) short = few_else _ (handled_message live message) note.NoRelation (few_pdu _ _)
   few_handled (Given slot subslot value) short = few_input _
   few_handled (Raised slot subslot octets) short = few_notice _
+  few_handled (Rated slot subslot is_good) short = few_status slot subslot is_good _
+  few_handled Readied short = few_ready
 
 -- an event asks the settings for at most 16 items
 pub few_items : (station : Station) (live : Live) (event : Event) → length (items_of station live (heard_of station.identity event)) ≤ 16

@@ -1,11 +1,9 @@
 -- No step makes more than 48 calls: a Set has at most 16 blocks, and a commit makes at most three calls.
-use Rattle.std.proofs.Common.{◌≡◌, ◌⊎◌, ◌==◌, ◌*◌, ◌+◌, ◌-◌, ◌≤◌, ◌<◌, ℕ, Bool, true, false, zero, suc, List, [], ◌∷◌, ◌++◌, length, map, refl, sym, ap, subst, ◌∙◌, Option, Some, None, Result, Ok, Err, arith}
+use Rattle.std.proofs.Common.{◌≡◌, ◌==◌, ◌*◌, ◌-◌, ◌≤◌, ℕ, Bool, true, false, zero, suc, List, [], ◌∷◌, length, refl, sym, subst, Option, Some, None, Result, Ok, Err, arith}
 use Rattle.std.specs.Prelude.{if◌then◌else◌}
-use Rattle.std.proofs.lemmas.List.{length-append, length-map}
+use Rattle.std.proofs.lemmas.List.{length-append}
 use Rattle.pn_values.specs.Command.{apply}
 use Rattle.pn_values.specs.declared.command.Command.{Command}
-use Rattle.pn_values.specs.declared.identity.Identity.{Identity}
-use Rattle.pn_values.specs.declared.mac.Mac.{Mac}
 use Rattle.pn_values.specs.declared.set_item.SetItem.{SetItem}
 use Rattle.pn_values.specs.declared.set_item.SetItem.TheVariants.{Ask, Signal, Answer}
 use Rattle.pn_values.specs.declared.settings.Settings.{Settings}
@@ -16,13 +14,13 @@ use Rattle.settings_journal.specs.Calls.{CommitCalls, calls_of}
 use Rattle.settings_journal.specs.Cut.{all_carried_out}
 use Rattle.settings_store.specs.Machine.{Accepted, Carried, Pass, carried_one, carried}
 use Rattle.settings_store.specs.State.{Values}
-use Rattle.wire.specs.Codec.{Codec, Whole, ◌>>=◌}
+use Rattle.wire.specs.Codec.{Codec, ◌>>=◌}
 use Rattle.wire.specs.Filled.{filled, read_all}
 use Rattle.dcp_core.specs.declared.request.DcpFault.{DcpFault}
 use Rattle.dcp_core.specs.declared.request.DcpFault.TheVariants as fault
 use Rattle.dcp_core.specs.declared.request.Service.{Service}
 use Rattle.dcp_core.specs.Format.{block_of, blocks_of, data_of}
-use Rattle.dcp_core.specs.Request.{Asked, AskedBlock}
+use Rattle.dcp_core.specs.Request.{AskedBlock}
 use Rattle.device_abi.specs.recording.Calls.{CallsOf}
 
 -- ---- the calls of commands

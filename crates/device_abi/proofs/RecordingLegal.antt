@@ -1,20 +1,17 @@
 -- If the calls of accepted commands are cut off anywhere, the chip is a legal end.
-use Rattle.std.proofs.Common.{◌≡◌, ◌⊎◌, ◌-◌, ◌+◌, ℕ, false, suc, List, [], ◌∷◌, ◌++◌, length, take, drop, refl, sym, ap, subst, ◌∙◌, inl, inr, arith}
+use Rattle.std.proofs.Common.{◌≡◌, ◌⊎◌, ◌-◌, ℕ, suc, List, [], ◌∷◌, ◌++◌, length, take, drop, refl, sym, ap, subst, ◌∙◌, inl, inr, arith}
 use Rattle.std.proofs.lemmas.List.{length-append, length-take, length-drop, length-replicate, append_assoc}
-use Rattle.pn_values.specs.Command.{apply, fold_of}
-use Rattle.pn_values.specs.declared.command.Command.{Command}
+use Rattle.pn_values.specs.Command.{apply}
 use Rattle.pn_values.specs.declared.settings.Settings.{Settings}
 use Rattle.flash_model.specs.Calls.{Call, Programs, Erases, Arms}
-use Rattle.flash_model.specs.Image.{Image, IsImage, sector_of, with_sector, programmed, erased, anded}
-use Rattle.flash_model.specs.declared.flash.Sector.{Sector}
+use Rattle.flash_model.specs.Image.{Image, IsImage, programmed, anded}
 use Rattle.flash_model.specs.declared.flash.Sector.TheVariants.{First, Second}
-use Rattle.settings_journal.specs.Calls.{CommitCalls}
 use Rattle.settings_journal.specs.Commit.{IsKept}
 use Rattle.settings_journal.specs.Cut.{CutOff, carried_out, all_carried_out}
-use Rattle.settings_journal.specs.Image.{BootsTo, LeftByDevice, StartsWith}
-use Rattle.settings_store.specs.Legal.{LegalEnd, AllButLast, made_of}
-use Rattle.settings_store.specs.Machine.{Accepted, commands_of}
-use Rattle.device_abi.specs.recording.Calls.{CallsOf, AcceptedOf, EndsLegally, AreLegal, unanswered}
+use Rattle.settings_journal.specs.Image.{BootsTo, LeftByDevice}
+use Rattle.settings_store.specs.Legal.{LegalEnd, made_of}
+use Rattle.settings_store.specs.Machine.{Accepted}
+use Rattle.device_abi.specs.recording.Calls.{CallsOf, AcceptedOf, AreLegal, unanswered}
 
 -- ---- lengths do not change
 

@@ -1,5 +1,5 @@
 -- The calls that items make to a recorded flash are those of the accepted commands.
-use Rattle.std.proofs.Common.{◌≡◌, ◌⊎◌, ◌==◌, ◌-◌, ◌+◌, ◌≤◌, ◌<◌, ℕ, Bool, true, false, suc, List, [], ◌∷◌, ◌++◌, length, drop, refl, sym, ap, subst, ◌∙◌, inl, inr, arith}
+use Rattle.std.proofs.Common.{◌≡◌, ◌⊎◌, ◌==◌, ◌-◌, ◌+◌, ◌≤◌, ℕ, Bool, true, false, List, [], ◌∷◌, ◌++◌, length, refl, sym, ap, subst, ◌∙◌, inl, inr, arith}
 use Rattle.std.specs.Prelude.{nat_lt, if◌then◌else◌}
 use Rattle.std.proofs.lemmas.Bool.{cases_Bool, lt-ltb}
 use Rattle.std.proofs.lemmas.List.{length-append, append-nil, append_assoc}
@@ -9,10 +9,10 @@ use Rattle.pn_values.specs.declared.set_item.SetItem.{SetItem}
 use Rattle.pn_values.specs.declared.set_item.SetItem.TheVariants.{Ask, Signal, Answer}
 use Rattle.flash_model.specs.Calls.{Call}
 use Rattle.flash_model.specs.declared.flash.Flash.{Ghosts as Flash}
-use Rattle.settings_journal.specs.Cut.{AreWrites, all_carried_out, carried_out}
+use Rattle.settings_journal.specs.Cut.{AreWrites, all_carried_out}
 use Rattle.settings_journal.specs.Image.{LeftByDevice}
 use Rattle.settings_store.specs.State.{State, Values}
-use Rattle.settings_store.specs.Machine.{Outcome, Pass, Accepted, Carried, answered, accepted, carried_one, carried}
+use Rattle.settings_store.specs.Machine.{Outcome, Pass, Accepted, Carried, accepted, carried_one, carried}
 use Rattle.settings_store.specs.Carries.{OneByOne, CarriesOne, Holds}
 use Rattle.device_abi.specs.recorded.Record.{Record, image_of, record_of, pushed, after_one, after_all, IsAsked}
 use Rattle.device_abi.specs.recorded.Laws.{failures_of, has_power, IsAlways, after_all-append}

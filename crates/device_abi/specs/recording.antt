@@ -1,2 +1,3 @@
 pub mod Calls
 pub mod Recorded
+pub mod Leaps

@@ -1,6 +1,6 @@
 -- What happens to the stored answers.
 use Rattle.std.proofs.lemmas.Bool.{cond_both}
-use Rattle.std.proofs.Common.{◌≡◌, ◌&&◌, ℕ, List, [], ◌∷◌, ◌++◌, Option, Some, None, Result, Ok, Err, refl, sym, ap, ◌∙◌}
+use Rattle.std.proofs.Common.{◌≡◌, ◌&&◌, ℕ, Bool, List, [], ◌∷◌, ◌++◌, Option, Some, None, Result, Ok, Err, refl, sym, ap, ◌∙◌}
 use Rattle.pn_values.specs.declared.mac.Mac.{Mac}
 use Rattle.pn_values.specs.declared.set_item.BlockError.{BlockError}
 use Rattle.settings_store.specs.Machine.{Outcome, carried}
@@ -25,11 +25,13 @@ use Rattle.pn_alarms.specs.declared.device.PduFate.{PduFate}
 use Rattle.pn_alarms.specs.declared.device.PduFate.TheVariants as fate
 use Rattle.cyclic_exchange.specs.declared.received.Received.{Received}
 use Rattle.cyclic_exchange.specs.declared.received.Received.TheVariants as received
+use Rattle.relations.specs.declared.statuses.InputStatus.{InputStatus}
+use Rattle.relations.specs.Statuses.{statuses_at}
 use Rattle.relations.specs.exchange.Flow.{Flow}
 use Rattle.relations.specs.Exchanged.{given_to, heard_by, hearing, raised_to, received_by, receiving}
 use Rattle.relations.specs.declared.hearing.ReadyAnswer.{ReadyAnswer}
 use Rattle.relations.specs.declared.hearing.ReadyAnswer.TheVariants as to_ready
-use Rattle.relations.specs.RelationState.{RelationState, uuid_of, differing_in, is_alarm_of}
+use Rattle.relations.specs.RelationState.{RelationState, uuid_of, differing_in, is_alarm_of, is_preparing, phase_of}
 use Rattle.relations.specs.Phases.{keeping, updated}
 use Rattle.relations.specs.Calls.{prm_end_answer, release_answer}
 use Rattle.relations.specs.Connect.{connect_answer}
@@ -38,8 +40,8 @@ use Rattle.device_frames.specs.declared.event.Event.{Event}
 use Rattle.frame_codec.specs.declared.udp.Caller.{Caller}
 use Rattle.device_core.specs.State.{Station, Live}
 use Rattle.device_frames.specs.Sent.{Sent}
-use Rattle.device_frames.specs.Heard.{Heard, Ticks, Unreadable, Elsewhere, Asks, Resolves, Reported, Cyclic, Alarms, Given, Raised, Said, Calls, Responds, Garbled, heard_of}
-use Rattle.device_core.specs.Handled.{Handled, is_running, is_request, answer_from, kept_for, kept_answer, handled_request, handled_effect, handled_write, handled_new, handled_looked, handled_blocks, handled_call, handled_answer, handled_said, handled_pdu, handled_received, handled_input, handled_notice, handled}
+use Rattle.device_frames.specs.Heard.{Heard, Ticks, Unreadable, Elsewhere, Asks, Resolves, Reported, Cyclic, Alarms, Given, Raised, Rated, Readied, Said, Calls, Responds, Garbled, heard_of}
+use Rattle.device_core.specs.Handled.{Handled, is_running, is_request, answer_from, kept_for, kept_answer, handled_request, handled_effect, handled_write, handled_new, handled_looked, handled_blocks, handled_call, handled_answer, handled_said, handled_pdu, handled_received, handled_input, handled_notice, kept_status, handled}
 use Rattle.device_core.specs.Machine.{items_in, first_answer, written_as, finished, heard_step, handled_step, step_of, first_step, later_steps, run_of}
 use Rattle.device_core.specs.Steps.{IsBehindCalls}
 
@@ -143,6 +145,11 @@ notice_called : (station : Station) (live : Live) (answers : List BlockError) (f
 notice_called station live answers (Some flow) = ([], refl)
 notice_called station live answers None = ([], refl)
 
+status_called : (station : Station) (live : Live) (answers : List BlockError) (slot subslot : ℕ) (is_good : Bool) (statuses : Option (List InputStatus))
+    → IsKept station live answers (kept_status live slot subslot is_good statuses)
+status_called station live answers slot subslot is_good (Some statuses) = ([], refl)
+status_called station live answers slot subslot is_good None = ([], refl)
+
 handled_called : (station : Station) (live : Live) (answers : List BlockError) (heard : Heard) → IsKept station live answers (handled station live heard)
 handled_called station live answers (Asks asker request) = request_called station live answers asker request.service request
 handled_called station live answers (Resolves asker packet) =
@@ -155,6 +162,9 @@ handled_called station live answers (Cyclic source frame_id body) =
     received_called station live answers (received_by source frame_id body live.rest.link) (updated (receiving source frame_id body live.rest.link) live.rest.link)
 handled_called station live answers (Given slot subslot value) = input_called station live answers (given_to slot subslot value live.rest.link)
 handled_called station live answers (Raised slot subslot octets) = notice_called station live answers (raised_to station.real.modules.items slot subslot octets live.rest.link)
+handled_called station live answers (Rated slot subslot is_good) =
+    status_called station live answers slot subslot is_good (statuses_at station.real.modules.items (record { slot = slot; subslot = subslot; is_good = is_good }) live.rest.statuses)
+handled_called station live answers Readied = cond_both (is_preparing (phase_of live.rest.link)) _ _ (IsKept station live answers) (λ _. ([], refl)) (λ _. ([], refl))
 handled_called station live answers Ticks = ([], refl)
 handled_called station live answers Unreadable = ([], refl)
 handled_called station live answers Elsewhere = ([], refl)

@@ -1,5 +1,5 @@
 -- What a cyclic frame, an alarm that is raised, and a PDU do, if something changes and if nothing does.
-use Rattle.std.proofs.Common.{◌≡◌, ◌≢◌, ℕ, true, false, List, [], Option, Some, None, is_some, refl, sym, ap, ◌∙◌}
+use Rattle.std.proofs.Common.{◌≡◌, ◌≢◌, ℕ, Bool, cond, true, false, List, [], Option, Some, None, is_some, refl, sym, ap}
 use Rattle.pn_values.specs.declared.mac.Mac.{Mac}
 use Rattle.pn_alarms.specs.declared.device.PduFate.TheVariants as fate
 use Rattle.pn_alarms.specs.Message.{ToDevice}
@@ -7,14 +7,14 @@ use Rattle.cyclic_exchange.specs.declared.received.Received.{Received}
 use Rattle.cyclic_exchange.specs.declared.received.Received.TheVariants.{Foreign, Short, Stale, Taken}
 use Rattle.relations.specs.exchange.Flow.{Flow}
 use Rattle.relations.specs.exchange.Received.{behind_frame, received_as}
-use Rattle.relations.specs.RelationState.{RelationState, flow_of}
-use Rattle.relations.specs.Phases.{updated}
+use Rattle.relations.specs.RelationState.{RelationState, flow_of, is_preparing, phase_of}
+use Rattle.relations.specs.Phases.{Prepared, updated}
 use Rattle.relations.specs.Exchanged.{becoming, heard_by, hearing, received_by, receiving, receiving_as}
 use Rattle.device_frames.specs.declared.note.Note.TheVariants.{Done, Refused}
 use Rattle.device_core.specs.State.{Station, Live}
-use Rattle.device_core.specs.Handled.{handled_cyclic, handled_input, handled_notice, handled_received}
-use Rattle.device_frames.specs.Relation.{alarms_of}
-use Rattle.device_core.specs.Machine.{Finished, end_of}
+use Rattle.device_core.specs.Handled.{Refuses, goes_on_with, handled_cyclic, handled_input, handled_notice, handled_ready, handled_received}
+use Rattle.device_frames.specs.Relation.{alarms_of, ready_calls}
+use Rattle.device_core.specs.Machine.{end_of}
 
 -- A cyclic frame that is not accepted changes nothing.
 left_by : (one : Received) (flow : Flow) (link : Option RelationState) → one ≢ Taken → updated (receiving_as one flow) link ≡ link
@@ -64,6 +64,26 @@ pub input_leaves : (station : Station) (live : Live) (flow : Option Flow)
     → (end_of station live (handled_input live flow)).rest ≡ record live.rest { link = updated (becoming flow) live.rest.link }
 input_leaves station live (Some flow) = refl
 input_leaves station live None = refl
+
+-- The application is ready: it is refused if the relation does not wait for that, else ApplicationReady is sent.
+ready_by : (station : Station) (live : Live) (b : Bool) → is_preparing (phase_of live.rest.link) ≡ b
+    → end_of station live (handled_ready live)
+    ≡ end_of station live (cond b (goes_on_with live (updated Prepared live.rest.link) (ready_calls live.values.running.suite.address (updated Prepared live.rest.link))) (Refuses Refused))
+ready_by station live b is =
+    ap (λ (c : Bool). end_of station live (cond c (goes_on_with live (updated Prepared live.rest.link) (ready_calls live.values.running.suite.address (updated Prepared live.rest.link))) (Refuses Refused))) is
+
+pub ready_refused : (station : Station) (live : Live) → is_preparing (phase_of live.rest.link) ≡ false
+    → end_of station live (handled_ready live) ≡ record { rest = live.rest; sent = []; note = Refused }
+ready_refused station live none = ready_by station live false none
+
+pub ready_counts : (station : Station) (live : Live) → is_preparing (phase_of live.rest.link) ≡ true
+    → end_of station live (handled_ready live)
+    ≡ record {
+      rest = record live.rest { link = updated Prepared live.rest.link };
+      sent = ready_calls live.values.running.suite.address (updated Prepared live.rest.link);
+      note = Done;
+    }
+ready_counts station live waits = ready_by station live true waits
 
 -- A PDU that is ignored changes nothing.
 pub stays_ignored : (message : ToDevice) (link : Option RelationState) → heard_by message link ≡ fate.Ignored → updated (hearing message link) link ≡ link

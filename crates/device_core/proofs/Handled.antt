@@ -1,6 +1,7 @@
 -- An outcome that asks nothing of the settings.
 use Rattle.std.proofs.lemmas.Bool.{cond_both}
-use Rattle.std.proofs.Common.{◌≡◌, ◌&&◌, ℕ, false, List, [], Option, Some, None, refl}
+use Rattle.relations.specs.declared.statuses.InputStatus.{InputStatus}
+use Rattle.std.proofs.Common.{◌≡◌, ◌&&◌, ℕ, Bool, false, List, [], Option, Some, None, refl}
 use Rattle.pn_values.specs.declared.mac.Mac.{Mac}
 use Rattle.frame_codec.specs.declared.arp.Arp.{Arp}
 use Rattle.pn_alarms.specs.declared.pdu.Header.{Header}
@@ -10,13 +11,13 @@ use Rattle.pn_alarms.specs.declared.device.PduFate.TheVariants as fate
 use Rattle.cyclic_exchange.specs.declared.received.Received.{Received}
 use Rattle.cyclic_exchange.specs.declared.received.Received.TheVariants as received
 use Rattle.relations.specs.exchange.Flow.{Flow}
-use Rattle.relations.specs.RelationState.{RelationState, is_alarm_of}
+use Rattle.relations.specs.RelationState.{RelationState, is_alarm_of, is_preparing, phase_of}
 use Rattle.relations.specs.Phases.{updated}
 use Rattle.relations.specs.Exchanged.{heard_by, hearing, received_by, receiving}
 use Rattle.relations.specs.declared.hearing.ReadyAnswer.{ReadyAnswer}
 use Rattle.relations.specs.declared.hearing.ReadyAnswer.TheVariants as to_ready
 use Rattle.device_core.specs.State.{Station, Live}
-use Rattle.device_core.specs.Handled.{is_running, is_request, handled_arp, handled_answer, handled_alarm, handled_pdu, handled_received, handled_cyclic, handled_input, handled_notice}
+use Rattle.device_core.specs.Handled.{is_running, is_request, handled_arp, handled_answer, handled_alarm, handled_pdu, handled_received, handled_cyclic, handled_input, handled_notice, handled_ready, kept_status}
 use Rattle.device_core.specs.Machine.{end_of}
 use Rattle.device_core.proofs.Machine.{is_asking}
 
@@ -71,9 +72,22 @@ pub input_sends_nothing : (station : Station) (live : Live) (flow : Option Flow)
 input_sends_nothing station live (Some flow) = refl
 input_sends_nothing station live None = refl
 
+pub status_asks_nothing : (live : Live) (slot subslot : ℕ) (is_good : Bool) (statuses : Option (List InputStatus)) → is_asking (kept_status live slot subslot is_good statuses) ≡ false
+status_asks_nothing live slot subslot is_good (Some statuses) = refl
+status_asks_nothing live slot subslot is_good None = refl
+
+pub status_sends_nothing : (station : Station) (live : Live) (slot subslot : ℕ) (is_good : Bool) (statuses : Option (List InputStatus))
+    → (end_of station live (kept_status live slot subslot is_good statuses)).sent ≡ []
+status_sends_nothing station live slot subslot is_good (Some statuses) = refl
+status_sends_nothing station live slot subslot is_good None = refl
+
 pub notice_asks_nothing : (live : Live) (flow : Option Flow) → is_asking (handled_notice live flow) ≡ false
 notice_asks_nothing live (Some flow) = refl
 notice_asks_nothing live None = refl
+
+-- The application is ready.
+pub ready_asks_nothing : (live : Live) → is_asking (handled_ready live) ≡ false
+ready_asks_nothing live = cond_both (is_preparing (phase_of live.rest.link)) _ _ (λ what. is_asking what ≡ false) (λ _. refl) (λ _. refl)
 
 -- The answer to ApplicationReady.
 pub answer_asks_nothing : (live : Live) (answer : ReadyAnswer) → is_asking (handled_answer live answer) ≡ false

@@ -1,5 +1,5 @@
 -- Several units of time at once, and as many Tick events.
-use Rattle.std.proofs.Common.{◌≡◌, ◌+◌, ◌-◌, ◌%◌, ◌<◌, ◌≤◌, ◌++◌, ℕ, zero, suc, Bool, false, List, [], ◌∷◌, map, sum, refl, sym, ap, ◌∙◌, arith, append_assoc, Option}
+use Rattle.std.proofs.Common.{◌≡◌, ◌+◌, ◌-◌, ◌%◌, ◌<◌, ◌++◌, ℕ, zero, suc, List, [], ◌∷◌, map, sum, refl, sym, ap, ◌∙◌, arith, append_assoc, Option}
 use Rattle.std.specs.Prelude.{min}
 use Rattle.std.proofs.lemmas.List.{append-nil}
 use Rattle.std.proofs.lemmas.List.Sums.{sum_by-cons}
@@ -7,7 +7,7 @@ use Rattle.std.proofs.Math.Nat.{mod-add-mod, mod-eq_of_lt}
 use Rattle.relations.specs.Leaps.{NothingDueFor}
 use Rattle.relations.specs.Phases.{passing, updated}
 use Rattle.relations.specs.RelationState.{RelationState}
-use Rattle.relations.specs.Runs.{unit_over, units_over}
+use Rattle.relations.specs.Runs.{units_over}
 use Rattle.relations.specs.Timers.{Due, due_of, nothing}
 use Rattle.device_frames.specs.declared.event.Event.TheVariants.{Tick}
 use Rattle.device_frames.specs.Heard.{heard_of}
@@ -15,9 +15,9 @@ use Rattle.device_frames.specs.Relation.{due_frames}
 use Rattle.device_frames.specs.Sent.{bytes_of}
 use Rattle.device_core.specs.Behind.{behind, frames_of}
 use Rattle.device_core.specs.Handled.{ticked}
-use Rattle.device_core.specs.Leaps.{LeapsAreTicks, NoneSends, OnlyTheLastSends, Leapt, and_then, leaps_of, then_leap, ticks_of}
+use Rattle.device_core.specs.Leaps.{LeapsAreTicks, NoneSends, OnlyTheLastSends, Leapt, and_then, then_leap, ticks_of}
 use Rattle.device_core.specs.Machine.{end_of, handled_step, heard_step, step_of}
-use Rattle.device_core.specs.State.{Live, Rest, State, Station, with_rest}
+use Rattle.device_core.specs.State.{Live, Rest, State, Station}
 
 pub below_right : (number one other : ℕ) → number < min one other → number < other
 below_right number one other below = omega (arith, below)

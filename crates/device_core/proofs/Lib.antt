@@ -10,4 +10,5 @@ pub mod Called
 pub mod Runs
 pub mod Restarts
 pub mod Exchanged
+mod Rated
 pub mod Leaping

@@ -13,6 +13,7 @@ use Rattle.settings_store.specs.Faults.{GoesOn}
 use Rattle.rpc_core.specs.Call.{Asked as Called}
 use Rattle.rpc_core.specs.Cache.{Kept, looked, again}
 use Rattle.relations.specs.RelationState.{RelationState}
+use Rattle.relations.specs.declared.statuses.InputStatus.{InputStatus}
 use Rattle.dcp_core.specs.declared.request.Service.TheVariants as service
 use Rattle.dcp_core.specs.Request.{Asked}
 use Rattle.dcp_core.specs.Identify.{matches}
@@ -307,9 +308,11 @@ again_step as_flash old new heard frames said steps call frame served reported =
       done = steps.note ∙ one.done;
     }
 
--- The values of a store that has just started, an empty cache, and no relation.
-pub as_started : (values : store.Values) (calls : List Kept) (link : Option RelationState) (settings : Settings) (room : ℕ) → values.running ≡ values.stored → values.has_failed ≡ false → values.is_lost ≡ false
-    → calls ≡ [] → link ≡ None → values.stored ≡ settings → values.room ≡ room → record { values = values; rest = record { lamp = 0; calls = calls; link = link; units = 0 } } ≡ started settings room
-as_started values calls link settings room running failed lost empty none stored left =
+-- The values of a store that has just started, an empty cache, no relation, and no status.
+pub as_started : (values : store.Values) (calls : List Kept) (link : Option RelationState) (statuses : List InputStatus) (settings : Settings) (room : ℕ) → values.running ≡ values.stored → values.has_failed ≡ false → values.is_lost ≡ false
+    → calls ≡ [] → link ≡ None → statuses ≡ [] → values.stored ≡ settings → values.room ≡ room
+    → record { values = values; rest = record { lamp = 0; calls = calls; link = link; units = 0; statuses = statuses } } ≡ started settings room
+as_started values calls link statuses settings room running failed lost empty none unrated stored left =
     same_live _ _ (same_values values (started settings room).values (running ∙ stored) stored left failed lost)
-    (ap (λ c. record { lamp = 0; calls = c; link = link; units = 0 }) empty ∙ ap (λ l. record { lamp = 0; calls = []; link = l; units = 0 }) none)
+    (ap (λ c. record { lamp = 0; calls = c; link = link; units = 0; statuses = statuses }) empty
+    ∙ (ap (λ l. record { lamp = 0; calls = []; link = l; units = 0; statuses = statuses }) none ∙ ap (λ s. record { lamp = 0; calls = []; link = None; units = 0; statuses = s }) unrated))

@@ -17,11 +17,11 @@ use Rattle.relations.specs.Outputs.{output_of, zero_output}
 use Rattle.device_core.specs.Steps.{EventByEvent, AnswersBy}
 
 -- A device as it starts: the stored settings are the running settings, no commit failed, there is power, the lamp is
--- off, no answer is kept, and there is no relation.
+-- off, no answer is kept, there is no relation, and the application gave no status.
 abbrev pub started : Settings → ℕ → Live
 started settings room = record {
   values = record { running = settings; stored = settings; room = room; has_failed = false; is_lost = false };
-  rest = record { lamp = 0; calls = []; link = None; units = 0 };
+  rest = record { lamp = 0; calls = []; link = None; units = 0; statuses = [] };
 }
 
 -- The events of a cycle that begins with the first settings, and with room for this many commits.

@@ -40,23 +40,26 @@ use Rattle.pn_alarms.specs.declared.pdu.Header.{Header}
 use Rattle.cyclic_exchange.specs.declared.received.Received.{Received}
 use Rattle.cyclic_exchange.specs.declared.received.Received.TheVariants as received
 use Rattle.relations.specs.exchange.Flow.{Flow}
-use Rattle.relations.specs.Exchanged.{given_to, heard_by, hearing, raised_to, received_by, receiving}
+use Rattle.relations.specs.declared.statuses.InputStatus.{InputStatus}
+use Rattle.relations.specs.Statuses.{statuses_at}
+use Rattle.relations.specs.exchange.Marks.{Starting}
+use Rattle.relations.specs.Exchanged.{given_to, heard_by, hearing, raised_to, rating, received_by, receiving}
 use Rattle.relations.specs.declared.hearing.ReadyAnswer.{ReadyAnswer}
 use Rattle.relations.specs.declared.hearing.ReadyAnswer.TheVariants as to_ready
 use Rattle.relations.specs.declared.phase.Partner.{Partner}
-use Rattle.relations.specs.RelationState.{RelationState, uuid_of, differing_in, flow_of, is_alarm_of}
+use Rattle.relations.specs.RelationState.{RelationState, uuid_of, differing_in, flow_of, is_alarm_of, is_preparing, phase_of}
 use Rattle.relations.specs.Calls.{prm_end_of, release_of, prm_end_answer, release_answer}
 use Rattle.relations.specs.Connect.{connect_within, connect_answer, making}
 use Rattle.relations.specs.Ready.{answer_of as ready_answer, handled_by}
 use Rattle.relations.specs.Timers.{due_of}
-use Rattle.relations.specs.Phases.{Handled as Moving, Parameterized, Named, Ended, Exchanged, Unmoved, answered, keeping, updated, passing, taking}
+use Rattle.relations.specs.Phases.{Handled as Moving, Parameterized, Prepared, Named, Ended, Exchanged, Unmoved, answered, keeping, updated, passing, taking}
 use Rattle.device_frames.specs.declared.note.Note.{Note}
 use Rattle.device_frames.specs.declared.note.Note.TheVariants as note
 use Rattle.frame_codec.specs.declared.udp.Caller.{Caller}
 use Rattle.device_core.specs.State.{Station, Rest, Live}
 use Rattle.device_frames.specs.Relation.{alarms_of, due_frames, ready_calls, replies_of}
 use Rattle.device_frames.specs.Sent.{Sent, IdentifyAnswer, GetAnswer, ArpReply, CallAnswer, Again, Ends, bytes_of}
-use Rattle.device_frames.specs.Heard.{Heard, Ticks, Unreadable, Elsewhere, Asks, Resolves, Reported, Cyclic, Alarms, Given, Raised, Said, Calls, Responds, Garbled}
+use Rattle.device_frames.specs.Heard.{Heard, Ticks, Unreadable, Elsewhere, Asks, Resolves, Reported, Cyclic, Alarms, Given, Raised, Rated, Readied, Said, Calls, Responds, Garbled}
 
 -- The outcome of an event: it is refused, with the note that says why; a Set, whose blocks are asked of the settings; a
 -- Write of an I&M text, which is asked of the settings, with the caller, the address that was called, the call, its
@@ -134,10 +137,10 @@ served station live caller call operation outcome link behind =
     let answer = answer_from live.values.running.suite.address caller call operation outcome in
     Moves (kept_behind station.identity live.rest call answer link) (answer ∷ behind)
 
--- What follows an accepted PrmEnd.
-abbrev pub ready_behind : List ℕ → Option RelationState → Result ControlBlock CallFault → List Sent
-ready_behind address link (Ok block) = ready_calls address link
-ready_behind address link (Err fault) = []
+-- What follows an accepted PrmEnd: ApplicationReady, unless the application says when it is ready.
+abbrev pub ready_behind : Bool → List ℕ → Option RelationState → Result ControlBlock CallFault → List Sent
+ready_behind by_application address link (Ok block) = if by_application then [] else ready_calls address link
+ready_behind by_application address link (Err fault) = []
 
 abbrev pub partner_of : Caller → Partner
 partner_of caller = record { mac = caller.mac; address = caller.endpoint.address }
@@ -161,12 +164,16 @@ abbrev pub handled_write : Station → Live → Caller → Call → Result Askin
 handled_write station live caller call (Ok write) = handled_effect station live caller call write.request write.effect
 handled_write station live caller call (Err fault) = served station live caller call Write (Err fault) live.rest.link []
 
+-- What the application says of its inputs as a relation begins.
+abbrev pub starting_of : Station → Live → Starting
+starting_of station live = record { begin_bad = station.options.inputs_begin_bad; statuses = live.rest.statuses }
+
 -- A new call, by its operation.
 abbrev pub handled_new : Station → Live → Caller → Call → List ℕ → Operation → Handled
 handled_new station live caller call blocks Connect =
     let smallest = station.options.smallest_interval in
     served station live caller call Connect (connect_answer station.identity station.real smallest live.rest.link blocks)
-    (updated (making station.real (partner_of caller) (connect_within smallest live.rest.link blocks)) live.rest.link) []
+    (updated (making station.real (partner_of caller) (starting_of station live) (connect_within smallest live.rest.link blocks)) live.rest.link) []
 handled_new station live caller call blocks Release =
     served station live caller call Release (release_answer live.rest.link blocks) (updated (answered Ended (release_of live.rest.link blocks)) live.rest.link) []
 handled_new station live caller call blocks Read =
@@ -175,8 +182,10 @@ handled_new station live caller call blocks Read =
 handled_new station live caller call blocks Write = handled_write station live caller call (write_of (uuid_of live.rest.link) station.real blocks)
 handled_new station live caller call blocks Control =
     let ended = prm_end_of live.rest.link blocks in
-    let link = updated (answered Parameterized ended) live.rest.link in
-    served station live caller call Control (prm_end_answer live.rest.link blocks) link (ready_behind live.values.running.suite.address link ended)
+    let by_application = station.options.ready_by_application in
+    let link = updated (answered (Parameterized by_application) ended) live.rest.link in
+    served station live caller call Control (prm_end_answer live.rest.link blocks) link
+    (ready_behind by_application live.values.running.suite.address link ended)
 handled_new station live caller call blocks ReadImplicit =
     let read = implicit_read station.identity station.real live.values.running blocks in
     served station live caller call ReadImplicit read (updated (answered (implicitly live.rest.link blocks) read) live.rest.link) []
@@ -243,6 +252,18 @@ handled_input live None = Refuses note.Refused
 abbrev pub handled_given : Live → ℕ → ℕ → List ℕ → Handled
 handled_given live slot subslot value = handled_input live (given_to slot subslot value live.rest.link)
 
+-- The application says whether the inputs of a submodule are good: it is kept, and the relation follows. It is refused for
+-- what is not plugged.
+abbrev pub kept_status : Live → ℕ → ℕ → Bool → Option (List InputStatus) → Handled
+kept_status live slot subslot is_good (Some statuses) =
+    Moves (record live.rest { link = updated (rating slot subslot is_good live.rest.link) live.rest.link; statuses = statuses }) []
+kept_status live slot subslot is_good None = Refuses note.Refused
+
+abbrev pub handled_rated : Station → Live → ℕ → ℕ → Bool → Handled
+handled_rated station live slot subslot is_good =
+    kept_status live slot subslot is_good
+    (statuses_at station.real.modules.items (record { slot = slot; subslot = subslot; is_good = is_good }) live.rest.statuses)
+
 -- An alarm is raised and sent, or refused.
 abbrev pub handled_notice : Live → Option Flow → Handled
 handled_notice live (Some flow) =
@@ -252,6 +273,13 @@ handled_notice live None = Refuses note.Refused
 
 abbrev pub handled_raised : Station → Live → ℕ → ℕ → List ℕ → Handled
 handled_raised station live slot subslot octets = handled_notice live (raised_to station.real.modules.items slot subslot octets live.rest.link)
+
+-- The application is ready: ApplicationReady is sent if the relation waited for that, else it is refused.
+abbrev pub handled_ready : Live → Handled
+handled_ready live =
+    if is_preparing (phase_of live.rest.link)
+    then (let link = updated Prepared live.rest.link in goes_on_with live link (ready_calls live.values.running.suite.address link))
+    else Refuses note.Refused
 
 -- A PDU of the partner, by what happens to it: data is answered, an ACK counts or does not, and an ERR ends the
 -- relation.
@@ -287,6 +315,8 @@ handled station live (Alarms source header message) = handled_alarm live source 
 handled station live (Cyclic source frame_id body) = handled_cyclic live source frame_id body
 handled station live (Given slot subslot value) = handled_given live slot subslot value
 handled station live (Raised slot subslot octets) = handled_raised station live slot subslot octets
+handled station live (Rated slot subslot is_good) = handled_rated station live slot subslot is_good
+handled station live Readied = handled_ready live
 handled station live Ticks = ticked live
 handled station live Unreadable = Refuses note.Fault
 handled station live Elsewhere = Refuses note.NotMine

@@ -7,6 +7,7 @@ use Rattle.settings_store.specs.State.{Values}
 use Rattle.rpc_core.specs.Cache.{Kept}
 use Rattle.relations.specs.declared.options.DeviceOptions.{DeviceOptions}
 use Rattle.relations.specs.Options.{default_options}
+use Rattle.relations.specs.declared.statuses.InputStatus.{InputStatus}
 use Rattle.relations.specs.RelationState.{RelationState}
 
 -- The fixed properties of a device: its identity, the modules that are plugged, and its options.
@@ -20,13 +21,14 @@ abbrev pub plain : Identity → Real → Station
 plain identity real = record { identity = identity; real = real; options = default_options }
 
 -- The state that a device has besides its settings, and loses with its power: the number of units for which the lamp
--- still flashes, the answers to the last calls, newest first, its application relation, if there is one, and the units
--- since its start, modulo 65,536.
+-- still flashes, the answers to the last calls, newest first, its application relation, if there is one, the units since
+-- its start, modulo 65,536, and the statuses that the application gave to its inputs.
 pub record Rest : Type 0 where
   pub lamp : ℕ
   pub calls : List Kept
   pub link : Option RelationState
   pub units : ℕ
+  pub statuses : List InputStatus
 
 -- The state that changes from event to event: the settings, and the rest.
 pub record Live : Type 0 where

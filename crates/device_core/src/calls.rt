@@ -1,5 +1,5 @@
 // Calls, and their stored answers (IEC 61158-6-10, 4.10; C706, 9.5).
-ghost use Rattle.std.specs.Prelude.{◌≡◌, ◌<◌, [], ◌∷◌, Err};
+ghost use Rattle.std.specs.Prelude.{◌≡◌, ◌<◌, ◌&&◌, [], ◌∷◌, Err, is_ok, not};
 ghost use Rattle.arrayvec.specs.ArrayVec.{array_vec_len};
 ghost use Rattle.settings_store.specs.Carries.{Holds};
 ghost use Rattle.rpc_core.specs.Call.{asked};
@@ -21,7 +21,7 @@ ghost use Rattle.frame_codec.specs.Outbox.{boxed};
 use crate::arp::is_running;
 use crate::{Device, Note};
 use block_codec::IodWriteReq;
-use device_frames::{Caller, send_farewell, send_ready, send_response};
+use device_frames::{Caller, send_farewell, send_ready_again, send_response};
 use flash_model::Flash;
 use frame_codec::Outbox;
 use pn_values::{BlockError, Command, Identity, ImValue, SetItem};
@@ -29,7 +29,7 @@ use records::{
     Blocks, CallFault, Effect, Operation, TakenRecord, Write, done, judge_write, names_relation,
     put_write_answer, read_implicit, read_within,
 };
-use relations::{Partner, ReadyAnswer};
+use relations::{Application, Partner, ReadyAnswer};
 use rpc_core::{Call, CallCache, Interface, Looked, Response, Status, read_call, read_response};
 
 impl<F: Flash<S>, const S: usize> Device<F, S> {
@@ -171,11 +171,15 @@ impl<F: Flash<S>, const S: usize> Device<F, S> {
             mac: serving.caller.mac,
             address: serving.caller.endpoint.address,
         };
+        let application = Application {
+            options: &self.options,
+            statuses: self.statuses.as_slice(),
+        };
         self.answers.blocks.clear();
         let came = self.relation.connect(
             &self.identity,
             &self.real,
-            &self.options,
+            application,
             partner,
             serving.blocks,
             &mut self.answers.blocks,
@@ -204,7 +208,8 @@ impl<F: Flash<S>, const S: usize> Device<F, S> {
         Note::Done
     }
 
-    // A PrmEnd that is accepted is answered, and then ApplicationReady is sent.
+    // A PrmEnd that is accepted is answered, and then ApplicationReady is sent, unless the application says when it is
+    // ready.
     fn control(&mut self, serving: &Serving<'_>, outbox: &mut Outbox) -> Note
         requires operation { serving.now.operation ≡ operation.Control }
         requires empty { outbox.old.items ≡ [] }
@@ -214,15 +219,15 @@ impl<F: Flash<S>, const S: usize> Device<F, S> {
         ensures note { result ≡ Note.Done }
     {
         let address = self.store.running().suite.address();
+        let by_application = self.options.ready_by_application;
         self.answers.blocks.clear();
         let came = self
             .relation
-            .control(serving.blocks, &mut self.answers.blocks);
+            .control(by_application, serving.blocks, &mut self.answers.blocks);
         self.answers
             .give(&self.identity, address, serving, came, outbox);
-        if came.is_ok() {
-            send_ready(&self.identity, address, &self.relation, outbox);
-        }
+        let is_due = is_ready_due(came, by_application);
+        send_ready_again(&self.identity, address, is_due, &self.relation, outbox);
         Note::Done
     }
 
@@ -419,6 +424,13 @@ fn settle(operation: Operation, came: Result<(), CallFault>, blocks: &mut Blocks
             fault.number(operation)
         }
     }
+}
+
+// Whether ApplicationReady follows the answer to a PrmEnd with this outcome.
+fn is_ready_due(came: Result<(), CallFault>, by_application: bool) -> bool
+    ensures { result ≡ (is_ok came && not by_application) }
+{
+    came.is_ok() && !by_application
 }
 
 // The outcome of a Write whose command has this answer.

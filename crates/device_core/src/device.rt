@@ -6,8 +6,8 @@ ghost use Rattle.pn_values.specs.Settings.{factory_settings};
 ghost use Rattle.pn_values.specs.declared.settings.Settings.{Settings};
 ghost use Rattle.settings_journal.specs.Commit.{HasBootCause};
 ghost use Rattle.settings_journal.specs.Image.{StartsWith, IsAmple, capacity, commits_left, IsForeign, LeftByDevice};
-ghost use Rattle.relations.specs.Exchanged.{output_in};
-ghost use Rattle.relations.specs.RelationState.{phase_of, taken_of, uuid_of};
+ghost use Rattle.relations.specs.Exchanged.{output_in, provider_in};
+ghost use Rattle.relations.specs.RelationState.{is_parameterized, phase_of, taken_of, uuid_of};
 ghost use Rattle.relations.specs.Outputs.{output_of};
 ghost use Rattle.device_core.specs.Cycle.{started};
 ghost use Rattle.device_core.specs.State.{plain};
@@ -17,7 +17,7 @@ use arrayvec::ArrayVec;
 use flash_model::{Flash, Order};
 use pn_values::{Identity, Real, SetItem, Settings};
 use records::TakenRecord;
-use relations::{DeviceOptions, Phase, Relation};
+use relations::{DeviceOptions, InputStatus, Phase, ProviderStatus, Relation};
 use rpc_core::Uuid;
 use settings_journal::BootFault;
 use settings_store::Store;
@@ -38,6 +38,8 @@ pub struct Device<F: Flash<S>, const S: usize> {
     pub(crate) relation: Relation,
     // The units since the start, modulo 65,536.
     pub(crate) units: u16,
+    // The statuses that the application gave to its inputs.
+    pub(crate) statuses: ArrayVec<InputStatus, 64>,
     // Room for the plan of a Set; it holds the last one.
     pub(crate) plan: ArrayVec<SetItem, 16>,
 }
@@ -53,7 +55,13 @@ impl<F: Flash<S>, const S: usize> Model for Device<F, S> {
       station = record { identity = device.identity; real = device.real; options = device.options };
       live = record {
         values = device.store.values;
-        rest = record { lamp = device.lamp; calls = device.answers.kept; link = device.relation; units = device.units };
+        rest = record {
+          lamp = device.lamp;
+          calls = device.answers.kept;
+          link = device.relation;
+          units = device.units;
+          statuses = device.statuses.items;
+        };
       };
     } };
 
@@ -149,6 +157,13 @@ impl<F: Flash<S>, const S: usize> Device<F, S> {
         self.relation.uuid()
     }
 
+    /// Whether the relation has accepted PrmEnd, so that its parameter records are complete.
+    pub fn parameters_end(&self) -> bool
+        ensures { result ≡ is_parameterized (phase_of self.now.live.rest.link) }
+    {
+        self.relation.parameters_end()
+    }
+
     /// The parameter records that the relation accepted, in order.
     pub fn taken(&self) -> &[TakenRecord]
         ensures { result.now ≡ taken_of self.now.live.rest.link }
@@ -165,6 +180,15 @@ impl<F: Flash<S>, const S: usize> Device<F, S> {
         ensures short { IfSome result (λ value. length value.now ≤ 1440) }
     {
         self.relation.output(&self.real, slot, subslot)
+    }
+
+    /// What the controller says of the output of a submodule in its last accepted frame: the IOPS and DataStatus, whose bit
+    /// 4 is clear if the controller is stopped. `None` if there is no relation, if the output has no place in it, or if no
+    /// frame was accepted yet.
+    pub fn provider(&self, slot: u16, subslot: u16) -> Option<ProviderStatus>
+        ensures { result ≡ provider_in slot subslot self.now.live.rest.link }
+    {
+        self.relation.provider(slot, subslot)
     }
 
     /// The modules and submodules that are plugged.
@@ -219,6 +243,7 @@ impl<F: Flash<S>, const S: usize> Device<F, S> {
             answers: _,
             relation: _,
             units: _,
+            statuses: _,
             plan: _,
         } = self;
         (identity, real, store.into_flash())

@@ -38,6 +38,7 @@ impl<F: Flash<S>, const S: usize> Device<F, S> {
             },
             relation: Relation::new(),
             units: 0,
+            statuses: ArrayVec::new(),
             plan: ArrayVec::new(),
         }
     }
@@ -87,6 +88,7 @@ impl<F: Flash<S>, const S: usize> Device<F, S> {
         self.store.load()?;
         self.lamp = 0;
         self.units = 0;
+        self.statuses.clear();
         self.answers.kept = CallCache::new();
         // No frame is sent: the controller that had the relation hears nothing, and notices by its own data hold.
         let _ = self.relation.end(Abort::Other);

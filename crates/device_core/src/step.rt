@@ -13,8 +13,8 @@ ghost use Rattle.relations.specs.Timers.{left_behind};
 ghost use Rattle.device_core.specs.State.{Live, Station, with_rest};
 ghost use Rattle.device_frames.specs.Sendable.{AreSendable};
 ghost use Rattle.device_frames.specs.Sent.{bytes_of};
-ghost use Rattle.device_core.specs.Handled.{handled_alarm, handled_message, handled_cyclic, handled_given, handled_raised, handled_received};
-ghost use Rattle.device_core.specs.Handled.{ticked};
+ghost use Rattle.device_core.specs.Handled.{handled_alarm, handled_message, handled_cyclic, handled_given, handled_raised, handled_rated, handled_received};
+ghost use Rattle.device_core.specs.Handled.{handled_ready, ticked};
 ghost use Rattle.device_frames.specs.Relation.{farewells_in, inputs_of};
 ghost use Rattle.device_core.specs.Behind.{CanSend, behind, brought, due_in, frames_of};
 ghost use Rattle.device_core.specs.Machine.{end_of};
@@ -28,14 +28,14 @@ use crate::{Device, Event, Note};
 use dcp_core::Service;
 use device_frames::{
     Caller, RealTimeKind, is_asked, is_called, kind_of, open_frame, real_time_in, send_alarm,
-    send_alarm_again, send_alarm_reply, send_farewell, send_inputs, send_inputs_of,
+    send_alarm_again, send_alarm_reply, send_farewell, send_inputs, send_inputs_of, send_ready,
     send_ready_again,
 };
 use flash_model::Flash;
-use frame_codec::{Bytes, ContentKind, OpenFrame, Outbox, RealTimeFrame, datagram_at, packet_at};
+use frame_codec::{ContentKind, OpenFrame, Outbox, RealTimeFrame, datagram_at, packet_at};
 use pn_alarms::{Abort, Header, Message, PduFate, read_message};
 use pn_values::Mac;
-use relations::{DataExchange, Elapsed, Received};
+use relations::{DataExchange, Elapsed, InputStatus, Received, put_status};
 
 impl<F: Flash<S>, const S: usize> Device<F, S> {
     /// Handles an event, and replaces the content of the outbox by the frames to be sent.
@@ -70,6 +70,25 @@ impl<F: Flash<S>, const S: usize> Device<F, S> {
         self.respond(event, outbox)
     }
 
+    /// Handles a received frame, which is only read and not kept: it does what `step` does with the event of these octets.
+    pub fn step_frame(&mut self, octets: &[u8], outbox: &mut Outbox) -> Note
+        ensures steps { Steps F.Flash self.old (heard_of self.old.station.identity (Frame (record { items = octets.now }))) (boxed outbox.new)
+            result self.new }
+
+        // If the failure counter of the flash, below 2^64 - 1, does not rise, the step is exactly the specified one. Over a
+        // reliable flash with no failed commit it always is, the flash stays reliable, and no commit fails.
+        ensures exact { F.failures self.new.flash ≡ F.failures self.old.flash → F.failures self.old.flash < 2 ^ 64 - 1 →
+            IsExactStep self.old (Frame (record { items = octets.now })) (boxed outbox.new) result self.new }
+        ensures reliable { F.is_reliable self.old.flash → self.old.live.values.has_failed ≡ false →
+            F.is_reliable self.new.flash × (self.new.live.values.has_failed ≡ false)
+            × IsExactStep self.old (Frame (record { items = octets.now })) (boxed outbox.new) result self.new }
+    {
+        // Using a field makes the invariant known here.
+        let _ = &self.identity;
+        outbox.clear(); // as `step` does
+        self.hear(octets, outbox)
+    }
+
     // The outcome of an event.
     fn respond(&mut self, event: &Event, outbox: &mut Outbox) -> Note
         requires empty { outbox.old.items ≡ [] }
@@ -84,7 +103,9 @@ impl<F: Flash<S>, const S: usize> Device<F, S> {
             Event::Alarm(slot, subslot, octets) => {
                 self.raise(*slot, *subslot, octets.as_slice(), outbox)
             }
-            Event::Frame(bytes) => self.hear(bytes, outbox),
+            Event::Status(slot, subslot, is_good) => self.rate(*slot, *subslot, *is_good),
+            Event::Ready => self.get_ready(outbox),
+            Event::Frame(bytes) => self.hear(bytes.as_slice(), outbox),
         }
     }
 
@@ -92,15 +113,16 @@ impl<F: Flash<S>, const S: usize> Device<F, S> {
     // ones are handled in functions of their own: when both were opened as one, the addresses were copied to memory for
     // cyclic frames too.
     #[inline(never)]
-    fn hear(&mut self, bytes: &Bytes, outbox: &mut Outbox) -> Note
+    fn hear(&mut self, octets: &[u8], outbox: &mut Outbox) -> Note
         requires stored { Holds (F.image self.old.flash) self.old.live.values }
         requires empty { outbox.old.items ≡ [] }
-        ensures steps { Steps F.Flash self.old (heard_of self.old.station.identity (Frame bytes.now)) (boxed outbox.new) result self.new }
+        ensures steps { Steps F.Flash self.old (heard_of self.old.station.identity (Frame (record { items = octets.now }))) (boxed outbox.new)
+            result self.new }
         ensures reliable { StaysReliable F.Flash self.old self.new }
     {
-        match real_time_in(bytes) {
+        match real_time_in(octets) {
             Some(frame) => self.hear_real_time(&frame, outbox),
-            None => self.hear_other(bytes, outbox),
+            None => self.hear_other(octets, outbox),
         }
     }
 
@@ -124,14 +146,15 @@ impl<F: Flash<S>, const S: usize> Device<F, S> {
 
     // A frame that is not a frame of real-time data.
     #[inline(never)]
-    fn hear_other(&mut self, bytes: &Bytes, outbox: &mut Outbox) -> Note
+    fn hear_other(&mut self, octets: &[u8], outbox: &mut Outbox) -> Note
         requires stored { Holds (F.image self.old.flash) self.old.live.values }
         requires empty { outbox.old.items ≡ [] }
-        requires other { IsNoRealTime (frame_of bytes.now.items) }
-        ensures steps { Steps F.Flash self.old (heard_of self.old.station.identity (Frame bytes.now)) (boxed outbox.new) result self.new }
+        requires other { IsNoRealTime (frame_of octets.now) }
+        ensures steps { Steps F.Flash self.old (heard_of self.old.station.identity (Frame (record { items = octets.now }))) (boxed outbox.new)
+            result self.new }
         ensures reliable { StaysReliable F.Flash self.old self.new }
     {
-        let Some(frame) = open_frame(bytes) else {
+        let Some(frame) = open_frame(octets) else {
             return Note::Fault;
         };
         match frame.kind {
@@ -322,6 +345,25 @@ impl<F: Flash<S>, const S: usize> Device<F, S> {
         }
     }
 
+    // A status that the application gives to the inputs of a submodule.
+    #[inline(never)]
+    fn rate(&mut self, slot: u16, subslot: u16, is_good: bool) -> Note
+        ensures state { self.new ≡ behind self.old (handled_rated self.old.station self.old.live slot subslot is_good) }
+        ensures note { result
+            ≡ (end_of self.old.station self.old.live (handled_rated self.old.station self.old.live slot subslot is_good)).note }
+    {
+        let status = InputStatus {
+            slot,
+            subslot,
+            is_good,
+        };
+        if !put_status(&mut self.statuses, &self.real, status) {
+            return Note::Refused;
+        }
+        self.relation.rate(slot, subslot, is_good);
+        Note::Done
+    }
+
     // An alarm that the application raises.
     #[inline(never)]
     fn raise(&mut self, slot: u16, subslot: u16, octets: &[u8], outbox: &mut Outbox) -> Note
@@ -336,6 +378,23 @@ impl<F: Flash<S>, const S: usize> Device<F, S> {
             return Note::Refused;
         }
         send_alarm(&self.identity, &self.relation, outbox);
+        Note::Done
+    }
+
+    // The application is ready: if the relation waits for that, ApplicationReady is sent.
+    #[inline(never)]
+    fn get_ready(&mut self, outbox: &mut Outbox) -> Note
+        requires empty { outbox.old.items ≡ [] }
+        ensures state { self.new ≡ behind self.old (handled_ready self.old.live) }
+        ensures frames { boxed outbox.new ≡ frames_of self.old (handled_ready self.old.live) }
+        ensures sendable { CanSend self.old (handled_ready self.old.live) }
+        ensures note { result ≡ (end_of self.old.station self.old.live (handled_ready self.old.live)).note }
+    {
+        if !self.relation.get_ready() {
+            return Note::Refused;
+        }
+        let address = self.store.running().suite.address();
+        send_ready(&self.identity, address, &self.relation, outbox);
         Note::Done
     }
 

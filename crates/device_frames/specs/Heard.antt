@@ -21,7 +21,7 @@ use Rattle.pn_alarms.specs.declared.fault.AlarmFault.{AlarmFault}
 use Rattle.pn_alarms.specs.declared.pdu.Header.{Header}
 use Rattle.pn_alarms.specs.Message.{ToDevice, message_of}
 use Rattle.device_frames.specs.declared.event.Event.{Event}
-use Rattle.device_frames.specs.declared.event.Event.TheVariants.{Frame, Tick, Input, Alarm}
+use Rattle.device_frames.specs.declared.event.Event.TheVariants.{Frame, Tick, Input, Alarm, Status, Ready}
 
 -- What the body of a datagram says: a call to the device, else a response, else neither.
 pub data Said : Type 0 where
@@ -32,7 +32,7 @@ pub data Said : Type 0 where
 -- What an event is: a unit of time, a frame that cannot be read, a frame for another station, a DCP request and who
 -- sends it, an ARP packet and who sends it, a datagram: who sends it, to which address, and what it says; a cyclic
 -- frame; an alarm frame: who sends it, between which endpoints, and what it says; or, from the application, the input
--- of a submodule or an alarm of one.
+-- of a submodule, an alarm of one, whether its inputs are good, or that it is ready.
 pub data Heard : Type 0 where
   Ticks : Heard
   Unreadable : Heard
@@ -44,6 +44,8 @@ pub data Heard : Type 0 where
   Alarms : (source : Mac) → (header : Header) → (message : ToDevice) → Heard
   Given : (slot : ℕ) → (subslot : ℕ) → (value : List ℕ) → Heard
   Raised : (slot : ℕ) → (subslot : ℕ) → (octets : List ℕ) → Heard
+  Rated : (slot : ℕ) → (subslot : ℕ) → (is_good : Bool) → Heard
+  Readied : Heard
 
 -- The multicast address of Identify requests.
 abbrev pub identify_multicast : List ℕ
@@ -114,3 +116,5 @@ heard_of identity (Frame bytes) = heard_frame identity (frame_of bytes.items)
 heard_of identity Tick = Ticks
 heard_of identity (Input slot subslot value) = Given slot subslot value.items
 heard_of identity (Alarm slot subslot octets) = Raised slot subslot octets.items
+heard_of identity (Status slot subslot is_good) = Rated slot subslot is_good
+heard_of identity Ready = Readied

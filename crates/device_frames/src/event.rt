@@ -12,4 +12,10 @@ pub enum Event {
     Input(u16, u16, Bytes),
     /// The application raises a process alarm of the submodule in this slot and subslot, with these octets.
     Alarm(u16, u16, Bytes),
+    /// The application says whether the inputs of the submodule in this slot and subslot are good. Without data, it is the
+    /// IOPS of the submodule.
+    Status(u16, u16, bool),
+    /// The application is ready. It counts once in a relation: after PrmEnd, at a device whose application says when it is
+    /// ready.
+    Ready,
 }

@@ -10,8 +10,8 @@ ghost use Rattle.frame_codec.specs.Meaning.{IsNoRealTime, RealTime};
 ghost use Rattle.frame_codec.specs.declared.ethernet.ContentKind.TheVariants as kind;
 
 use frame_codec::{
-    Bytes, DCP_GET_SET, DCP_IDENTIFY_REQUEST, OpenFrame, RPC_PORT, RealTimeFrame, is_alarm,
-    is_cyclic, open, read_real_time,
+    DCP_GET_SET, DCP_IDENTIFY_REQUEST, OpenFrame, RPC_PORT, RealTimeFrame, is_alarm, is_cyclic,
+    open, read_real_time,
 };
 use pn_values::{Identity, Mac};
 
@@ -26,26 +26,26 @@ const BROADCAST: Mac = Mac { octets: [0xFF; 6] };
 /// Reads a frame of EtherType 0x8892, if it is one.
 #[inline(always)]
 #[tactic(auto, unfolding(crate::specs::Heard::heard_of))]
-pub fn real_time_in(bytes: &Bytes) -> Option<RealTimeFrame<'_>>
+pub fn real_time_in(octets: &[u8]) -> Option<RealTimeFrame<'_>>
     ensures found { IfSome result (λ frame. (identity : Identity) →
-        heard_of identity (Frame bytes.now)
+        heard_of identity (Frame (record { items = octets.now }))
         ≡ heard_content identity frame.destination frame.source (RealTime frame.frame_id frame.body.now)) }
     // `None` is returned only for octets that are not a frame of real-time data.
-    ensures none { IfNone result (IsNoRealTime (frame_of bytes.now.items)) }
+    ensures none { IfNone result (IsNoRealTime (frame_of octets.now)) }
 {
-    read_real_time(bytes.as_slice())
+    read_real_time(octets)
 }
 
 /// Reads the Ethernet header of a frame. Returns `None` if it cannot be read.
 #[inline(always)]
 #[tactic(auto, using(crate::proofs::Unread::other_is_unread), unfolding(crate::specs::Heard::heard_of))]
-pub fn open_frame(bytes: &Bytes) -> Option<OpenFrame<'_>>
-    ensures said { (identity : Identity) → heard_of identity (Frame bytes.now) ≡ heard_in identity result }
+pub fn open_frame(octets: &[u8]) -> Option<OpenFrame<'_>>
+    ensures said { (identity : Identity) → heard_of identity (Frame (record { items = octets.now })) ≡ heard_in identity result }
     // A frame with EtherType 0x8892 that carries no real-time data cannot be read: its FrameID is incomplete.
-    ensures short { IfSome result (λ frame. IsNoRealTime (frame_of bytes.now.items) → frame.kind ≡ kind.RealTime →
-        (identity : Identity) → heard_of identity (Frame bytes.now) ≡ Unreadable) }
+    ensures short { IfSome result (λ frame. IsNoRealTime (frame_of octets.now) → frame.kind ≡ kind.RealTime →
+        (identity : Identity) → heard_of identity (Frame (record { items = octets.now })) ≡ Unreadable) }
 {
-    open(bytes.as_slice()).ok()
+    open(octets).ok()
 }
 
 /// What a frame of EtherType 0x8892 means to a device.

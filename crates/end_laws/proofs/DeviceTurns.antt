@@ -28,6 +28,7 @@ use Rattle.device_core.specs.Handled.{outcome_of, answer_from, kept_for}
 use Rattle.end_laws.specs.both.Small as small
 use Rattle.end_laws.specs.both.Small.{Rules, ToDevice, ToController}
 use Rattle.end_laws.specs.both.Steps.{IsNew, Comes, SaysAtMost, IsReady, IsDull, DeviceSteps}
+use Rattle.relations.specs.Phases.{parameterized_from}
 use Rattle.end_laws.specs.device.Small.{phase_in, link_of, kept_in, small_of, asked_by, heard_as, IsPlannedAs, IsPlannedCall, IsPlanned, IsHeardAs}
 use Rattle.end_laws.specs.device.Does.{AreReadied, Confirms, Does, GoesBy, IsEffect, IsOther, IsReadied, Repeats, Rests, Serves, readied_from}
 
@@ -167,6 +168,12 @@ module _ (refusals_are_not_done : RefusalsAreNotDone) (rules : Rules TakenRecord
     same_kept : (x y : TakenRecord) → Keeps x ≡ Keeps y → x ≡ y
     same_kept x y e = cc
 
+    -- after PrmEnd, a start-up awaits the response to ApplicationReady
+    parameterized_small : (link : RelationState) (by_application : Bool)
+        → option_map link_of (Some (parameterized_from by_application link)) ≡ Some (record (link_of link) { phase = small.Awaiting })
+    parameterized_small link true = refl
+    parameterized_small link false = refl
+
     -- what a call does to the relation, as the small machine does it
     comes : (caller : Caller) (sequence : ℕ) (blocks : List ℕ) (outcome : Result (List ℕ) CallFault) (which : Operation) → IsPlannedAs rules station.real sequence blocks (Some which)
         → IsEffect station caller blocks outcome which live.rest.link after.link
@@ -190,7 +197,7 @@ module _ (refusals_are_not_done : RefusalsAreNotDone) (rules : Rules TakenRecord
       link = link_of it.link;
       was = ap (λ (l : Option RelationState). option_map link_of l) it.was;
       started = ap phase_in it.started;
-      becomes = ap (λ (l : Option RelationState). option_map link_of l) it.becomes;
+      becomes = ap (λ (l : Option RelationState). option_map link_of l) it.becomes ∙ parameterized_small it.link it.by_application;
     }
     comes caller sequence blocks (Ok octets) operation.Release plan it = ap (λ (l : Option RelationState). option_map link_of l) it.gone
     comes caller sequence blocks (Ok octets) which plan it = absurd plan

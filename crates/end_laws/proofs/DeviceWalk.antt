@@ -39,21 +39,21 @@ use Rattle.relations.specs.exchange.Flow.{Flow}
 use Rattle.relations.specs.exchange.Frames.{Frame, alarm_frame}
 use Rattle.relations.specs.declared.hearing.ReadyAnswer.{ReadyAnswer}
 use Rattle.relations.specs.declared.hearing.ReadyAnswer.TheVariants as to_ready
-use Rattle.relations.specs.RelationState.{RelationState, flow_of, is_alarm_of, uuid_of, is_started, is_awaiting, phase_of}
-use Rattle.relations.specs.Phases.{Ended, Exchanged, Named, Parameterized, answered, awaiting_from, keeping, updated, passing, passing_by, taking, Confirmed, made_of, with_flow, restarted, with_taken}
+use Rattle.relations.specs.RelationState.{RelationState, flow_of, is_alarm_of, uuid_of, is_started, is_awaiting, is_preparing, phase_of}
+use Rattle.relations.specs.Phases.{Ended, Exchanged, Named, Parameterized, Prepared, answered, keeping, parameterized_from, updated, passing, passing_by, taking, Confirmed, made_of, with_flow, restarted, with_taken}
 use Rattle.relations.specs.Calls.{done_of, prm_end_of, release_of, control_block, in_started, named_of}
 use Rattle.relations.specs.Connect.{connect_blocks, connect_within, differing_of, making, rows_of}
 use Rattle.relations.specs.Ready.{answer_of as ready_answer, confirmed_block, confirmed_by, is_wanted, is_answer_to, ready_of}
 use Rattle.relations.specs.Timers.{due_by, due_of, ending_of, is_again, unit_later}
-use Rattle.relations.specs.Exchanged.{given_to, heard_by, hearing, raised_to, received_by, receiving, hearing_as, receiving_as}
-use Rattle.device_frames.specs.Heard.{Heard, Ticks, Unreadable, Elsewhere, Asks, Resolves, Reported, Cyclic, Alarms, Given, Raised, Said, Calls, Responds, Garbled}
+use Rattle.relations.specs.Exchanged.{given_to, heard_by, hearing, raised_to, rating, received_by, receiving, hearing_as, receiving_as}
+use Rattle.device_frames.specs.Heard.{Heard, Ticks, Unreadable, Elsewhere, Asks, Resolves, Reported, Cyclic, Alarms, Given, Raised, Rated, Readied, Said, Calls, Responds, Garbled}
 use Rattle.device_frames.specs.Relation.{alarms_of, frames_in, inputs_of, ready_calls, replies_of, where_due, due_frames}
 use Rattle.device_frames.specs.Sent.{Sent, IdentifyAnswer, GetAnswer, SetAnswer, ArpReply, Again, Ends, CallAnswer, ReadyCall}
 use Rattle.device_frames.specs.declared.note.Note.{Note}
 use Rattle.device_frames.specs.declared.note.Note.TheVariants as note
 use Rattle.settings_store.specs.Machine.{Outcome, carried}
 use Rattle.device_core.specs.State.{Station, Live, Rest}
-use Rattle.device_core.specs.Handled.{Handled, Refuses, Sets, Moves, is_running, is_request, outcome_of, served, ready_behind, partner_of, kept_answer, handled_effect, handled_write, handled_new, handled_looked, handled_blocks, handled_call, handled_answer, handled_said, handled_received, handled_input, handled_notice, handled_pdu, handled_message, handled_request, handled}
+use Rattle.device_core.specs.Handled.{Handled, Refuses, Sets, Moves, is_running, is_request, outcome_of, served, ready_behind, partner_of, kept_answer, handled_effect, handled_write, handled_new, handled_looked, handled_blocks, handled_call, handled_answer, handled_said, handled_received, handled_input, handled_notice, handled_pdu, handled_message, handled_request, goes_on_with, kept_status, starting_of, handled}
 use Rattle.device_core.specs.Machine.{resets, farewells_at, finished, items_in, handled_step, heard_step, link_after}
 use Rattle.end_laws.specs.both.Small.{Rules}
 use Rattle.end_laws.specs.device.Owed.{IsOwed}
@@ -62,10 +62,13 @@ use Rattle.end_laws.proofs.DeviceOwing.{IsPlainIn, connect_plain, keeping_plain,
 use Rattle.rpc_core.specs.Response.{Answered as Response, answer_to, is_done}
 use Rattle.relations.specs.Farewells.{farewell_of}
 use Rattle.relations.specs.exchange.Notices.{behind_message}
-use Rattle.relations.specs.exchange.Process.{with_cyclic}
+use Rattle.relations.specs.exchange.Process.{with_cyclic, with_input}
+use Rattle.relations.specs.exchange.Marks.{awaits}
+use Rattle.relations.specs.Statuses.{statuses_at}
+use Rattle.relations.specs.declared.statuses.InputStatus.{InputStatus}
 use Rattle.relations.specs.exchange.Received.{behind_frame, received_as}
 use Rattle.relations.specs.exchange.Units.{flow_later, tick_of}
-use Rattle.cyclic_data.specs.Image.{cell_at, changed, has_size, with_value}
+use Rattle.cyclic_data.specs.Image.{Shown as Image, cell_at, changed, has_size, with_value}
 use Rattle.cyclic_data.specs.declared.place.PlaceKind.TheVariants.{Data as at_data}
 use Rattle.pn_alarms.specs.declared.abort.Abort.TheVariants.{Other}
 use Rattle.pn_alarms.specs.declared.message.Notice.TheVariants as notice
@@ -80,12 +83,12 @@ use Rattle.records.specs.declared.status.call_fault.CallFault.TheVariants as fau
 use Rattle.records.specs.writes.Taken.{keep_of}
 use Rattle.records.specs.writes.Answer.{answer_of}
 use Rattle.relations.specs.declared.phase.Phase.{Phase}
-use Rattle.relations.specs.declared.phase.Phase.TheVariants.{Started, Awaiting, Exchanging}
+use Rattle.relations.specs.declared.phase.Phase.TheVariants.{Started, Preparing, Awaiting, Exchanging}
 use Rattle.relations.specs.declared.ready.Ready.{Ready}
 use Rattle.end_laws.specs.both.Small as small
-use Rattle.end_laws.specs.device.Small.{IsPlanned, IsPlannedAs, IsPlannedIn, IsPlannedWrite, confirms, heard_as, link_of, names_own}
+use Rattle.end_laws.specs.device.Small.{IsPlanned, IsPlannedAs, IsPlannedIn, IsPlannedWrite, confirms, heard_as, link_of, names_own, phase_in}
 use Rattle.end_laws.specs.device.Does.{AreReadied, GoesBy, IsEffect, IsOther, readied_from}
-use Rattle.end_laws.specs.device.Turn.{AreCalm, IsCalm, IsRaise, IsSameOr, IsTurn, Raises, Turn, standing_of}
+use Rattle.end_laws.specs.device.Turn.{AreCalm, IsCalm, IsRaise, IsSameOr, IsTurn, Raises, Standing, Turn, standing_of}
 
 -- ---- what is sent
 
@@ -127,11 +130,37 @@ given_keeps : (slot subslot : ℕ) (value : List ℕ) (link : Option RelationSta
 given_keeps slot subslot value None flow e = absurd cc
 given_keeps slot subslot value (Some link) flow e = by_size (has_size (length value) (cell_at at_data slot subslot link.flow.cyclic.shown.cells)) e
   where
+    given_same : (shown : Image) (b : Bool) → awaits slot subslot link.flow.marks ≡ b
+        → standing_of (with_flow (with_input link.flow slot subslot (record link.flow.cyclic { shown = shown })) link) ≡ standing_of link
+    given_same shown true is = rw is refl
+    given_same shown false is = rw is refl
+
     by_size : (b : Bool)
-        → option_map (with_cyclic link.flow) (cond b (Some (record link.flow.cyclic { shown = changed at_data slot subslot (with_value value) link.flow.cyclic.shown })) None) ≡ Some flow
+        → option_map (with_input link.flow slot subslot) (cond b (Some (record link.flow.cyclic { shown = changed at_data slot subslot (with_value value) link.flow.cyclic.shown })) None) ≡ Some flow
         → IsKept (Some link) (Some (with_flow flow link))
-    by_size true f = (inl (ap (λ (other : Flow). Some (standing_of (with_flow other link))) (sym (some_is _ flow f))), inl refl)
+    by_size true f = (
+      inl (
+          ap (λ (other : Flow). Some (standing_of (with_flow other link))) (sym (some_is _ flow f))
+          ∙ ap (λ (s : Standing). Some s) (given_same _ (awaits slot subslot link.flow.marks) refl)
+          ),
+      inl refl,
+    )
     by_size false f = absurd cc
+
+-- a status of inputs changes nothing of these
+rated_keeps : (slot subslot : ℕ) (is_good : Bool) (link : Option RelationState) → IsKept link (updated (rating slot subslot is_good link) link)
+rated_keeps slot subslot is_good None = (inl refl, inl refl)
+rated_keeps slot subslot is_good (Some link) = (inl refl, inl refl)
+
+-- a relation that waits for its application, which is ready now
+abbrev readied : RelationState → RelationState
+readied link = record link { phase = Awaiting; waited = 0 }
+
+preparing_is : (phase : Phase) → is_preparing (Some phase) ≡ true → phase ≡ Preparing
+preparing_is Started e = absurd cc
+preparing_is Preparing e = refl
+preparing_is Awaiting e = absurd cc
+preparing_is Exchanging e = absurd cc
 
 raise_is : (real : List RealModule) (slot subslot : ℕ) (octets : List ℕ) (link : Option RelationState) (flow : Flow) → raised_to real slot subslot octets link ≡ Some flow
     → Raises real link (Raised slot subslot octets) (updated (Exchanged flow) link) (alarms_of (flow_of (updated (Exchanged flow) link)))
@@ -165,6 +194,7 @@ started_is (Some link) e = by_phase link.phase e
   where
     by_phase : (phase : Phase) → is_started (Some phase) ≡ true → phase ≡ Started
     by_phase Started f = refl
+    by_phase Preparing f = absurd cc
     by_phase Awaiting f = absurd cc
     by_phase Exchanging f = absurd cc
 
@@ -222,6 +252,7 @@ and_true false b e = absurd cc
 
 awaiting_is : (phase : Phase) → is_awaiting phase ≡ true → phase ≡ Awaiting
 awaiting_is Started e = absurd cc
+awaiting_is Preparing e = absurd cc
 awaiting_is Awaiting e = refl
 awaiting_is Exchanging e = absurd cc
 
@@ -389,6 +420,30 @@ module _ (rules : Rules TakenRecord Request) (activity : List ℕ) (station : St
       stays (Given slot subslot value) refl (record live.rest { link = updated (Exchanged flow) before }) [] refl (given_keeps slot subslot value before flow is) tt tt
   gives slot subslot value None is = refuses (Given slot subslot value) note.Refused
 
+  rates : (slot subslot : ℕ) (is_good : Bool) (statuses : Option (List InputStatus)) → Comes_to (Rated slot subslot is_good) (kept_status live slot subslot is_good statuses)
+  rates slot subslot is_good (Some statuses) = λ answers.
+      stays (Rated slot subslot is_good) refl (record live.rest { link = updated (rating slot subslot is_good before) before; statuses = statuses }) [] refl (rated_keeps slot subslot is_good before) tt tt
+  rates slot subslot is_good None = refuses (Rated slot subslot is_good) note.Refused
+
+  -- ---- the application is ready
+
+  readies : (link : Option RelationState) → before ≡ link
+      → Comes_to Readied (cond (is_preparing (phase_of link)) (goes_on_with live (updated Prepared link) (ready_calls from (updated Prepared link))) (Refuses note.Refused))
+  readies None was = refuses Readied note.Refused
+  readies (Some link) was = by_test (is_preparing (Some link.phase)) refl
+    where
+      by_test : (b : Bool) → is_preparing (Some link.phase) ≡ b
+          → Comes_to Readied (cond b (goes_on_with live (Some (cond b (readied link) link)) (ready_calls from (Some (cond b (readied link) link)))) (Refuses note.Refused))
+      by_test true is = becomes Readied refl (Some (readied link)) (ready_calls from (Some (readied link)))
+          (inl (record { link = inl (sym (ap (λ (l : Option RelationState). option_map standing_of l) was)); calm = (tt, tt) }))
+          (
+          ap (λ (p : small.Phase). let o : Option (small.RelationState TakenRecord Request) = Some (record { phase = p; request = link.request; taken = link.taken }) in o)
+          (sym (ap phase_in (preparing_is link.phase is)))
+          ∙ sym (ap (λ (l : Option RelationState). option_map link_of l) was)
+          )
+          ((record { link = link; is = was; header = refl; block = refl }, record { link = readied link; is = refl; awaits = refl }), tt)
+      by_test false is = refuses Readied note.Refused
+
   -- ---- alarms
 
   raises : (slot subslot : ℕ) (octets : List ℕ) (flow : Option Flow) → raised_to station.real.modules.items slot subslot octets before ≡ flow
@@ -506,6 +561,7 @@ module _ (rules : Rules TakenRecord Request) (activity : List ℕ) (station : St
       request = it.request;
       partner = partner_of caller;
       rows = rows_of it.request station.real;
+      starting = it.starting;
       read = it.read;
       made = it.made;
       calm = calm;
@@ -562,10 +618,10 @@ module _ (rules : Rules TakenRecord Request) (activity : List ℕ) (station : St
 
       connects_as : (request : Result Request CallFault) → operation_of call.header.operation ≡ Some operation.Connect → connect_within station.options.smallest_interval before blocks ≡ request → IsPlainIn request
           → Comes_to heard (served station live caller call operation.Connect (request >>= λ r. Ok (connect_blocks station.identity r (differing_of r station.real)))
-          (updated (making station.real (partner_of caller) request) before) [])
+          (updated (making station.real (partner_of caller) (starting_of station live) request) before) [])
       connects_as (Ok request) asks read plain =
-          serves operation.Connect (Ok (connect_blocks station.identity request (differing_of request station.real))) (Some (made_of request (partner_of caller) (rows_of request station.real))) None asks tt
-          (record { request = request; read = unlimited station.options.smallest_interval before blocks request read; made = refl; answer = refl }) tt
+          serves operation.Connect (Ok (connect_blocks station.identity request (differing_of request station.real))) (Some (made_of request (partner_of caller) (rows_of request station.real) (starting_of station live))) None asks tt
+          (record { request = request; starting = starting_of station live; read = unlimited station.options.smallest_interval before blocks request read; made = refl; answer = refl }) tt
       connects_as (Err why) asks read plain = fails operation.Connect why before asks plain refl
 
       keeps_as : (header : IodWriteReq) (write : Write) (value : TakenRecord) (link : Option RelationState) (kept : Result (List TakenRecord) CallFault) → operation_of call.header.operation ≡ Some operation.Write
@@ -598,15 +654,19 @@ module _ (rules : Rules TakenRecord Request) (activity : List ℕ) (station : St
       writes_as (Ok write) asks judged plain plan = effect_as write write.effect plan.value asks judged refl (plan.keeps (uuid_of before) write judged)
       writes_as (Err why) asks judged plain plan = fails operation.Write why before asks plain refl
 
-      controls_as : (link : Option RelationState) (ended : Result ControlBlock CallFault) → operation_of call.header.operation ≡ Some operation.Control → before ≡ link → prm_end_of link blocks ≡ ended → IsPlainIn ended
-          → Comes_to heard (served station live caller call operation.Control (ended >>= λ block. Ok (block_bytes (variant.PrmEndRes (done_of block)))) (updated (answered Parameterized ended) link)
-          (ready_behind from (updated (answered Parameterized ended) link) ended))
-      controls_as link (Err why) asks was is plain = fails operation.Control why link asks plain was
-      controls_as None (Ok block) asks was is plain = absurd (prm_started None blocks block is)
-      controls_as (Some link) (Ok block) asks was is plain =
-          serves operation.Control (Ok (block_bytes (variant.PrmEndRes (done_of block)))) (Some (awaiting_from link)) (Some (ready_of (awaiting_from link))) asks tt
-          (record { link = link; was = was; started = prm_started (Some link) blocks block is; becomes = refl })
-          (record { link = link; is = was; header = refl; block = refl }, record { link = awaiting_from link; is = refl; awaits = refl })
+      controls_as : (by_application : Bool) (link : Option RelationState) (ended : Result ControlBlock CallFault) → operation_of call.header.operation ≡ Some operation.Control → before ≡ link → prm_end_of link blocks ≡ ended → IsPlainIn ended
+          → Comes_to heard (served station live caller call operation.Control (ended >>= λ block. Ok (block_bytes (variant.PrmEndRes (done_of block)))) (updated (answered (Parameterized by_application) ended) link)
+          (ready_behind by_application from (updated (answered (Parameterized by_application) ended) link) ended))
+      controls_as by_application link (Err why) asks was is plain = fails operation.Control why link asks plain was
+      controls_as by_application None (Ok block) asks was is plain = absurd (prm_started None blocks block is)
+      controls_as true (Some link) (Ok block) asks was is plain =
+          serves operation.Control (Ok (block_bytes (variant.PrmEndRes (done_of block)))) (Some (parameterized_from true link)) None asks tt
+          (record { link = link; was = was; started = prm_started (Some link) blocks block is; by_application = true; becomes = refl }) tt
+      controls_as false (Some link) (Ok block) asks was is plain =
+          let after = parameterized_from false link in
+          serves operation.Control (Ok (block_bytes (variant.PrmEndRes (done_of block)))) (Some after) (Some (ready_of after)) asks tt
+          (record { link = link; was = was; started = prm_started (Some link) blocks block is; by_application = false; becomes = refl })
+          (record { link = link; is = was; header = refl; block = refl }, record { link = after; is = refl; awaits = refl })
 
       releases_as : (link : Option RelationState) (ended : Result ControlBlock CallFault) → operation_of call.header.operation ≡ Some operation.Release → before ≡ link → release_of link blocks ≡ ended → IsPlainIn ended
           → Comes_to heard (served station live caller call operation.Release (ended >>= λ block. Ok (block_bytes (variant.ReleaseRes (done_of block)))) (updated (answered Ended ended) link) [])
@@ -621,7 +681,7 @@ module _ (rules : Rules TakenRecord Request) (activity : List ℕ) (station : St
           (connect_plain station.options.smallest_interval before blocks rules.request plan)
       new_call operation.Release asks plan = releases_as before (release_of before blocks) asks refl refl (release_plain before blocks)
       new_call operation.Write asks plan = writes_as (write_of (uuid_of before) station.real blocks) asks refl (write_plain (uuid_of before) station.real blocks) plan
-      new_call operation.Control asks plan = controls_as before (prm_end_of before blocks) asks refl refl (prm_plain before blocks)
+      new_call operation.Control asks plan = controls_as station.options.ready_by_application before (prm_end_of before blocks) asks refl refl (prm_plain before blocks)
       new_call which asks plan = absurd plan
 
     repeats : (frame : List ℕ) → looked call.header.activity call.header.sequence live.rest.calls ≡ again frame → Comes_to heard (Moves live.rest (Again frame ∷ []))
@@ -682,6 +742,9 @@ module _ (rules : Rules TakenRecord Request) (activity : List ℕ) (station : St
   turns (Cyclic source frame_id body) plan = receives source frame_id body before refl
   turns (Given slot subslot value) plan = gives slot subslot value (given_to slot subslot value before) refl
   turns (Raised slot subslot octets) plan = raises slot subslot octets (raised_to station.real.modules.items slot subslot octets before) refl
+  turns (Rated slot subslot is_good) plan =
+      rates slot subslot is_good (statuses_at station.real.modules.items (record { slot = slot; subslot = subslot; is_good = is_good }) live.rest.statuses)
+  turns Readied plan = readies before refl
   turns Ticks plan = ticks_with (live.rest.lamp - 1) ((live.rest.units + 1) % 65536) before refl
   turns Unreadable plan = refuses Unreadable note.Fault
   turns Elsewhere plan = refuses Elsewhere note.NotMine

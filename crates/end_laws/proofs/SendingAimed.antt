@@ -1,5 +1,5 @@
 -- A controller keeps a valid address of the station that it sends to.
-use Rattle.std.proofs.Common.{◌≡◌, ◌⊎◌, inl, inr, ◌+◌, ◌==◌, ℕ, Option, Some, None, unwrap_or, refl, sym, subst, arith}
+use Rattle.std.proofs.Common.{◌≡◌, ◌⊎◌, inl, inr, ◌+◌, ◌==◌, ℕ, Option, Some, None, refl, sym, subst, arith}
 use Rattle.std.specs.List.{AllByRecursion}
 use Rattle.pn_values.specs.declared.mac.Mac.{Mac}
 use Rattle.dcp_core.specs.Response.{Answered}
@@ -13,7 +13,6 @@ use Rattle.pn_alarms.specs.declared.receiver.Taken.TheVariants.{New, Again, Refu
 use Rattle.pn_alarms.specs.Receiver.{taken_as}
 use Rattle.cyclic_exchange.specs.Cyclic.{Cyclic}
 use Rattle.cyclic_exchange.specs.Opening.{begun_of}
-use Rattle.cyclic_exchange.specs.Process.{provided_at}
 use Rattle.cyclic_exchange.specs.Received.{behind_frame}
 use Rattle.controller_frames.specs.declared.request.Request.{Request}
 use Rattle.controller_frames.specs.declared.request.Request.TheVariants as asks
@@ -22,19 +21,19 @@ use Rattle.controller_frames.specs.Heard.{Answers, Calls}
 use Rattle.controller_frames.specs.Requests.{writing_from}
 use Rattle.controller_frames.specs.Sent.{Agrees, ready_answer}
 use Rattle.controller_core.specs.declared.event.Event.{Event}
-use Rattle.controller_core.specs.declared.event.Event.TheVariants.{Frame, Give, Stop, Tick}
+use Rattle.controller_core.specs.declared.event.Event.TheVariants.{Frame, Give, Status, Stop, Tick}
 use Rattle.controller_core.specs.declared.state.Cause.{Cause}
 use Rattle.controller_core.specs.declared.state.State.{State}
 use Rattle.controller_core.specs.declared.state.State.TheVariants.{Addressing, Connecting, Ended, Exchanging, Waiting}
 use Rattle.controller_core.specs.State.{Live}
-use Rattle.end_laws.specs.turns.Turns.{Came, Hears, IsKind, IsReadied, IsTurn, Kind, Rests, Connects, Addresses, Ends, Releases, Relates, Writes, Waits, Forgets, Begins, Repeats, Follows, Takes, IsAcked, Gives, Flows, Breaks, Idles, came_by, turn_by}
+use Rattle.end_laws.specs.turns.Turns.{Came, Hears, IsKind, IsReadied, IsTurn, Kind, Rests, Connects, Addresses, Ends, Releases, Relates, Writes, Waits, Forgets, Begins, Repeats, Follows, Takes, IsAcked, Gives, GivesStatus, Flows, Breaks, Idles, came_by, turn_by}
 use Rattle.codec_laws.specs.frames.Sendable.{IsMac}
 use Rattle.controller_core.specs.Connect.{Chosen}
 use Rattle.controller_core.specs.Machine.{Turn, acks_in, asking, behind_data, brought, first, flow_later, is_again, next_sequence, over, phase_for, released, requests_of, standing, stays, taken, turn_of, where_due, writing}
 use Rattle.end_laws.specs.hearing.Stations.{IsSetup}
 use Rattle.end_laws.specs.sending.Addressed.{IsAimed, IsAimedAt, IsDirection, IsEventFrom, IsHeardFrom}
 use Rattle.end_laws.specs.sending.Sized.{AreFew, IsFew}
-use Rattle.end_laws.proofs.SendingSizes.{BlocksAreLong, CameSo, Stays, all_append, answer_can, due_all, frame_stays, given_stays, named_so, numbered, sequence_few, writing_few}
+use Rattle.end_laws.proofs.SendingSizes.{BlocksAreLong, CameSo, Stays, all_append, answer_can, due_all, frame_stays, named_so, numbered, sequence_few, writing_few}
 
 -- a turn after which this address is valid, and each message of which goes to a station
 pub record IsSent (mac : Mac) (turn : Turn) : Type 0 where
@@ -45,6 +44,7 @@ came_from : (mac : Mac) (setup : Setup) (event : Event) → IsEventFrom mac setu
 came_from mac setup (Frame bytes) from = from
 came_from mac setup Tick from = tt
 came_from mac setup (Give slot subslot value) from = tt
+came_from mac setup (Status slot subslot is_good) from = tt
 came_from mac setup Stop from = tt
 
 module _ (mac : Mac) where
@@ -123,7 +123,8 @@ module _ (mac : Mac) where
         taken_sent (behind_data live number) alarm (taken_as live.alarms.seen number) (record { device = is.device; asked = is.asked; way = is.way })
     kind_sent (IsAcked number) holds = record { live = record { device = is.device; asked = is.asked; way = is.way }; sent = tt }
     kind_sent (Gives slot subslot value) holds =
-        record { live = kept_aimed live (unwrap_or (provided_at live.cyclic slot subslot value) live.cyclic) is (given_stays live.cyclic slot subslot value); sent = tt }
+        record { live = record { device = is.device; asked = is.asked; way = is.way }; sent = tt }
+    kind_sent (GivesStatus slot subslot is_good) holds = record { live = record { device = is.device; asked = is.asked; way = is.way }; sent = tt }
     kind_sent Flows holds =
         let after = flow_later live in
         let flows = flow_aimed live is in

@@ -1,5 +1,5 @@
 -- The lengths of what a controller sends.
-use Rattle.std.proofs.Common.{◌≡◌, ◌≤◌, ◌<◌, ◌+◌, ◌%◌, ◌&&◌, nat_eq, nat_lt, ℕ, Bool, true, false, List, [], ◌∷◌, ◌++◌, length, Option, Some, None, Result, Ok, Err, if◌then◌else◌, unwrap_or, refl, sym, ap, ◌∙◌, arith}
+use Rattle.std.proofs.Common.{◌≡◌, ◌≤◌, ◌<◌, ◌+◌, ◌%◌, ◌&&◌, nat_eq, nat_lt, ℕ, Bool, true, false, List, [], ◌∷◌, ◌++◌, length, Option, Some, None, Result, Ok, Err, if◌then◌else◌, refl, sym, ap, ◌∙◌, arith}
 use Rattle.std.specs.List.{AllByRecursion}
 use Rattle.std.specs.Cmp.Lexicographic.{pointwise, same_text}
 use Rattle.std.proofs.lemmas.Bool.{and_parts, ltb-true}
@@ -17,13 +17,11 @@ use Rattle.rpc_core.specs.Call.{Asked as Call}
 use Rattle.pn_values.specs.declared.mac.Mac.{Mac}
 use Rattle.cyclic_data.specs.declared.tail.CyclicTail.{CyclicTail}
 use Rattle.cyclic_data.specs.declared.tail.ShortFrame.{ShortFrame}
-use Rattle.cyclic_data.specs.declared.place.PlaceKind.TheVariants.{Data as data_at}
-use Rattle.cyclic_data.specs.Image.{Shown, cell_at, has_size, octets_of}
+use Rattle.cyclic_data.specs.Image.{Shown, octets_of}
 use Rattle.cyclic_data.specs.Tail.{cyclic_frame, cyclic_of, cyclic_tail}
 use Rattle.pn_alarms.specs.Numbers.{next_number}
 use Rattle.cyclic_exchange.specs.Cyclic.{Cyclic}
 use Rattle.cyclic_exchange.specs.Frames.{cyclic_body}
-use Rattle.cyclic_exchange.specs.Process.{provided_at}
 use Rattle.cyclic_exchange.specs.Received.{behind_frame, behind_read, is_new, is_of_partner}
 use Rattle.plans.specs.declared.parts.Parts.{Parts}
 use Rattle.plans.specs.Plan.{IsPlan}
@@ -33,7 +31,7 @@ use Rattle.controller_frames.specs.Heard.{Heard}
 use Rattle.controller_frames.specs.Requests.{writing_from}
 use Rattle.controller_frames.specs.Sent.{Sent, ready_answer, ready_done}
 use Rattle.controller_core.specs.Machine.{next_sequence, where_due}
-use Rattle.end_laws.specs.turns.Turns.{Came, Hears, Passes, Gets, Halts}
+use Rattle.end_laws.specs.turns.Turns.{Came, Hears, Passes, Gets, GetsStatus, Halts}
 use Rattle.rpc_core.specs.Sendable.{CanBeAnswered, IsHeader}
 use Rattle.end_laws.specs.hearing.Stations.{IsNumbered}
 use Rattle.end_laws.specs.sending.Sized.{AreFew, IsFew, IsShort}
@@ -118,6 +116,7 @@ abbrev pub CameSo : (Heard → Type 0) → Came → Type 0
 CameSo P (Hears heard) = P heard
 CameSo P Passes = Unit {0}
 CameSo P (Gets slot subslot value) = Unit {0}
+CameSo P (GetsStatus slot subslot is_good) = Unit {0}
 CameSo P Halts = Unit {0}
 
 -- ---- cyclic frames
@@ -141,11 +140,3 @@ read_stays cyclic (Err short) = stays_so cyclic
 pub frame_stays : (cyclic : Cyclic) (source : Mac) (frame_id : ℕ) (body : List ℕ) → Stays cyclic (behind_frame cyclic source frame_id body)
 frame_stays cyclic source frame_id body =
     stays_if cyclic (is_of_partner cyclic.route source frame_id) _ cyclic (read_stays cyclic (cyclic_of cyclic.taken.data_length body)) (stays_so cyclic)
-
-option_stays : (before : Cyclic) (test : Bool) (one : Cyclic) → Stays before one → Stays before (unwrap_or (if test then Some one else None) before)
-option_stays before true one is = is
-option_stays before false one is = stays_so before
-
-pub given_stays : (cyclic : Cyclic) (slot subslot : ℕ) (value : List ℕ) → Stays cyclic (unwrap_or (provided_at cyclic slot subslot value) cyclic)
-given_stays cyclic slot subslot value =
-    option_stays cyclic (has_size (length value) (cell_at data_at slot subslot cyclic.shown.cells)) _ (record { route = refl; long = refl })

@@ -1,5 +1,5 @@
 -- The state of a controller has its sizes, and so has what it sends.
-use Rattle.std.proofs.Common.{◌≡◌, ◌⊎◌, inl, inr, ◌≤◌, ◌<◌, ◌+◌, ◌==◌, ℕ, Bool, true, false, length, Option, Some, None, if◌then◌else◌, unwrap_or, refl, sym, subst, arith}
+use Rattle.std.proofs.Common.{◌≡◌, ◌⊎◌, inl, inr, ◌≤◌, ◌<◌, ◌+◌, ◌==◌, ℕ, Bool, true, false, List, length, Option, Some, None, if◌then◌else◌, refl, sym, subst, arith}
 use Rattle.std.specs.List.{AllByRecursion}
 use Rattle.std.proofs.Math.Nat.{max-le}
 use Rattle.pn_alarms.specs.declared.pdu.PduType.{PduType}
@@ -17,8 +17,8 @@ use Rattle.record_blocks.specs.declared.alarm_notification.AlarmNotification.{Al
 use Rattle.pn_alarms.specs.declared.receiver.Taken.{Taken}
 use Rattle.pn_alarms.specs.declared.receiver.Taken.TheVariants.{New, Again, Refused}
 use Rattle.pn_alarms.specs.Receiver.{taken_as}
+use Rattle.cyclic_data.specs.Image.{Cell}
 use Rattle.cyclic_exchange.specs.Cyclic.{Cyclic}
-use Rattle.cyclic_exchange.specs.Process.{provided_at}
 use Rattle.cyclic_exchange.specs.Received.{behind_frame}
 use Rattle.controller_frames.specs.declared.request.Request.{Request}
 use Rattle.controller_frames.specs.declared.request.Request.TheVariants as asks
@@ -27,22 +27,23 @@ use Rattle.controller_frames.specs.Heard.{Alarms, Answers, Calls, Responds}
 use Rattle.controller_frames.specs.Requests.{writing_from}
 use Rattle.controller_frames.specs.Sent.{Agrees, ready_answer}
 use Rattle.controller_core.specs.declared.event.Event.{Event}
-use Rattle.controller_core.specs.declared.event.Event.TheVariants.{Frame, Give, Stop, Tick}
+use Rattle.controller_core.specs.declared.event.Event.TheVariants.{Frame, Give, Status, Stop, Tick}
+use Rattle.controller_core.specs.declared.outputs.OutputMark.{OutputMark}
 use Rattle.controller_core.specs.declared.state.Cause.{Cause}
 use Rattle.controller_core.specs.declared.state.State.{State}
 use Rattle.controller_core.specs.declared.state.State.TheVariants.{Addressing, Connecting, Ended, Exchanging, Waiting}
 use Rattle.controller_core.specs.State.{Live}
-use Rattle.end_laws.specs.turns.Turns.{Came, Hears, IsKind, IsReadied, IsTurn, Kind, Rests, Connects, Addresses, Ends, Releases, Relates, Writes, Waits, Forgets, Begins, Repeats, Follows, Takes, IsAcked, Gives, Flows, Breaks, Idles, came_by, turn_by}
+use Rattle.end_laws.specs.turns.Turns.{Came, Hears, IsKind, IsReadied, IsTurn, Kind, Rests, Connects, Addresses, Ends, Releases, Relates, Writes, Waits, Forgets, Begins, Repeats, Follows, Takes, IsAcked, Gives, GivesStatus, Flows, Breaks, Idles, came_by, turn_by}
 use Rattle.codec_laws.specs.frames.Sendable.{IsMac}
 use Rattle.controller_core.specs.Alarms.{ack_of, header_of}
 use Rattle.controller_core.specs.Connect.{Chosen}
-use Rattle.controller_core.specs.Machine.{Turn, acks_in, asking, behind_data, brought, confirming, first, flow_later, is_again, later, next_sequence, over, phase_for, released, requests_of, standing, stays, taken, turn_of, where_due, writing}
+use Rattle.controller_core.specs.Machine.{Turn, acks_in, asking, behind_data, brought, confirming, first, flow_later, given, is_again, later, next_sequence, over, phase_for, rated, released, requests_of, standing, stays, taken, turn_of, where_due, writing}
 use Rattle.codec_laws.specs.alarms.Sendable.{IsHeader}
 use Rattle.codec_laws.specs.blocks.Writable.{IsAck}
 use Rattle.end_laws.specs.hearing.Stations.{IsSetup}
 use Rattle.end_laws.specs.sending.Messages.{CanBeSent, IsWay}
 use Rattle.end_laws.specs.sending.Sized.{AreFew, IsAckOrNone, IsFew, IsLive, IsNoted, IsShort, IsSized, IsSizedEvent}
-use Rattle.end_laws.proofs.SendingSizes.{BlocksAreLong, CameSo, Stays, all_append, answer_can, body_few, due_all, frame_stays, given_stays, named_so, next_short, numbered, sequence_few, writing_few}
+use Rattle.end_laws.proofs.SendingSizes.{BlocksAreLong, CameSo, Stays, all_append, answer_can, body_few, due_all, frame_stays, named_so, next_short, numbered, sequence_few, writing_few}
 
 -- a turn after which everything has its size
 pub record IsRight (setup : Setup) (turn : Turn) : Type 0 where
@@ -53,6 +54,7 @@ came_sized : (setup : Setup) (event : Event) → IsSizedEvent setup event → Ca
 came_sized setup (Frame bytes) sized = sized
 came_sized setup Tick sized = tt
 came_sized setup (Give slot subslot value) sized = tt
+came_sized setup (Status slot subslot is_good) sized = tt
 came_sized setup Stop sized = tt
 
 -- ---- requests
@@ -173,6 +175,12 @@ kept_live live cyclic is stays = record {
   confirming = is.confirming;
 }
 
+-- Outputs that are set.
+same_live : (live : Live) (cells : List Cell) (outputs : List OutputMark) → IsLive live
+    → IsLive (record live { cyclic = record live.cyclic { shown = record live.cyclic.shown { cells = cells } }; outputs = outputs })
+same_live live cells outputs is =
+    record { device = is.device; asked = is.asked; way = is.way; few = is.few; last = is.last; seen = is.seen; confirming = is.confirming }
+
 -- ---- units
 
 later_live : (live : Live) → IsLive live → IsLive (later live)
@@ -230,8 +238,9 @@ module _ (long : BlocksAreLong) (setup : Setup) (live : Live) (came : Came) (goo
     live = record { device = is.device; asked = is.asked; way = is.way; few = is.few; last = acked_last live number is; seen = is.seen; confirming = is.confirming };
     sent = tt;
   }
-  kind_right (Gives slot subslot value) holds =
-      record { live = kept_live live (unwrap_or (provided_at live.cyclic slot subslot value) live.cyclic) is (given_stays live.cyclic slot subslot value); sent = tt }
+  kind_right (Gives slot subslot value) holds = record { live = same_live live (given live slot subslot value).cyclic.shown.cells (given live slot subslot value).outputs is; sent = tt }
+  kind_right (GivesStatus slot subslot is_good) holds =
+      record { live = same_live live (rated live slot subslot is_good).cyclic.shown.cells (rated live slot subslot is_good).outputs is; sent = tt }
   kind_right Flows holds =
       let after = flow_later live in
       let flows = flow_live live is in

@@ -37,9 +37,9 @@ use Rattle.controller_frames.specs.declared.setup.Setup.{Setup}
 use Rattle.controller_frames.specs.Heard.{Heard, Alarms}
 use Rattle.controller_frames.specs.Sent.{Sent, Confirms, Replies}
 use Rattle.controller_core.specs.Alarms.{ack_of, kept_alarm}
-use Rattle.controller_core.specs.Machine.{Turn, acks_in, brought, due_frames, flow_later, flowed, given, is_again, later, noticed, outputs_of, requests_of, stays, stopped, taken, turned, where_due}
+use Rattle.controller_core.specs.Machine.{Turn, acks_in, brought, due_frames, flow_later, flowed, given, is_again, later, noticed, outputs_of, rated, requests_of, stays, stopped, taken, turned, where_due}
 use Rattle.controller_core.specs.State.{Live}
-use Rattle.end_laws.specs.turns.Alarms.{AreTakenInOrder, LackAtMostTheLast, Move, Relation, Raises, PassesAtDevice, ComesToDevice, AlarmComes, AckComes, Hears, PassesAtController, Gives, Stops, ShowsTheLast, ack_comes, alarm_comes, behind, behind_one, comes_to_device, hears, is_looked_at, last_of, passed_at_device, raised_by, replied_by, start, turns}
+use Rattle.end_laws.specs.turns.Alarms.{AreTakenInOrder, LackAtMostTheLast, Move, Relation, Raises, PassesAtDevice, ComesToDevice, AlarmComes, AckComes, Hears, PassesAtController, Gives, GivesStatus, Stops, ShowsTheLast, ack_comes, alarm_comes, behind, behind_one, comes_to_device, hears, is_looked_at, last_of, passed_at_device, raised_by, replied_by, start, turns}
 use Rattle.end_laws.specs.turns.Turns as came
 use Rattle.end_laws.proofs.TurnsInactive.{IsInactive, IsReply, IsThere, inactive_stays, requests_inactive, turn_inactive}
 
@@ -423,6 +423,8 @@ one_on setup r (Hears heard) p = hears_on setup r p heard
 one_on setup r PassesAtController p = stands_on r p r.live.stands
 one_on setup r (Gives slot subslot value) p =
     inactive_on r (stays (given r.live slot subslot value)) p (record { alarms = refl; alarm = refl; sent = λ pdus acks nacks. tt })
+one_on setup r (GivesStatus slot subslot is_good) p =
+    inactive_on r (stays (rated r.live slot subslot is_good)) p (record { alarms = refl; alarm = refl; sent = λ pdus acks nacks. tt })
 one_on setup r Stops p = inactive_on r (stopped setup r.live r.live.phase) p (turn_inactive setup r.live came.Halts tt)
 
 all_on : (setup : Setup) (moves : List Move) (r : Relation) → IsPlayed r → IsPlayed (behind setup moves r)

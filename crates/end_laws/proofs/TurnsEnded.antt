@@ -1,29 +1,25 @@
 -- What a controller that ended receives, and what it sends.
-use Rattle.std.proofs.Common.{◌≡◌, ◌⊎◌, inl, inr, ◌++◌, ℕ, Bool, true, false, List, [], ◌∷◌, length, map, Option, Some, None, refl, sym, ap, subst, ◌∙◌}
-use Rattle.std.specs.Prelude.{if◌then◌else◌, unwrap_or}
+use Rattle.std.proofs.Common.{◌≡◌, ◌⊎◌, inl, inr, ◌++◌, ℕ, Bool, true, false, List, [], ◌∷◌, map, Option, Some, None, refl, sym, ap, subst, ◌∙◌}
+use Rattle.std.specs.Prelude.{if◌then◌else◌}
 use Rattle.std.proofs.lemmas.Bool.{false≢true}
 use Rattle.std.specs.List.{AllByRecursion}
 use Rattle.pn_values.specs.declared.mac.Mac.{Mac}
-use Rattle.cyclic_data.specs.declared.place.PlaceKind.TheVariants.{Data}
-use Rattle.cyclic_data.specs.Image.{Shown, cell_at, changed, has_size}
-use Rattle.cyclic_exchange.specs.Cyclic.{Cyclic}
-use Rattle.cyclic_exchange.specs.Process.{with_good}
 use Rattle.controller_frames.specs.declared.setup.Setup.{Setup}
 use Rattle.controller_frames.specs.declared.request.Request.{Request}
 use Rattle.controller_frames.specs.declared.request.Request.TheVariants as asks
 use Rattle.controller_frames.specs.Heard.{Heard, heard_of}
 use Rattle.controller_frames.specs.Sent.{bytes_of}
 use Rattle.controller_core.specs.declared.event.Event.{Event}
-use Rattle.controller_core.specs.declared.event.Event.TheVariants.{Frame, Tick, Give, Stop}
+use Rattle.controller_core.specs.declared.event.Event.TheVariants.{Frame, Tick, Give, Status, Stop}
 use Rattle.controller_core.specs.declared.state.Cause.{Cause}
 use Rattle.controller_core.specs.declared.state.State.{State}
 use Rattle.controller_core.specs.declared.state.State.TheVariants.{Looking, Addressing, Ending, Waiting, Exchanging, Ended}
 use Rattle.controller_core.specs.State.{Controlling, Live, with_live}
-use Rattle.controller_core.specs.Machine.{Turn, flow_later, flowed, brought, given, is_again, later, requests_of, stays, step_of, stopped, ticked, turned}
+use Rattle.controller_core.specs.Machine.{Turn, flow_later, flowed, brought, is_again, later, requests_of, stays, step_of, stopped, ticked, turned}
 use Rattle.controller_core.specs.Machine.{where_due as sent_where_due}
 use Rattle.end_laws.specs.turns.Runs.{frames_of}
-use Rattle.end_laws.specs.turns.Ended.{CountsUnits, DropsWhatComes, HasEnded, IsAnswered, IsDropped, IsSilent, KeepsItsCause, RepeatsItsRelease, is_unit, may_release, release_in, release_of, where_due}
-use Rattle.end_laws.specs.turns.Turns.{Hears, Passes, Gets, IsEnd, IsKind, IsReported, Kind, Rests, Connects, Addresses, Ends, Releases, Relates, Writes, Waits, Forgets, Begins, Repeats, Follows, Takes, IsAcked, Gives, Flows, Breaks, Idles, turn_by}
+use Rattle.end_laws.specs.turns.Ended.{CountsUnits, DropsWhatComes, HasEnded, IsAnswered, IsDropped, IsOnlySet, IsSilent, KeepsItsCause, RepeatsItsRelease, is_unit, may_release, release_in, release_of, where_due}
+use Rattle.end_laws.specs.turns.Turns.{Hears, Passes, Gets, GetsStatus, IsEnd, IsKind, IsReported, Kind, Rests, Connects, Addresses, Ends, Releases, Relates, Writes, Waits, Forgets, Begins, Repeats, Follows, Takes, IsAcked, Gives, GivesStatus, Flows, Breaks, Idles, turn_by}
 use Rattle.end_laws.proofs.TurnsOneTurn.{is_over, is_release, not_over, turn_is, unreported}
 use Rattle.end_laws.proofs.TurnsWhole.{reached_on, whole_end}
 
@@ -55,6 +51,9 @@ module _ (setup : Setup) (live : Live) (heard : Heard) (cause : Cause) (h : IsEn
   not_gets : (slot subslot : ℕ) (value : List ℕ) → Hears heard ≡ Gets slot subslot value → ⊥
   not_gets slot subslot value e = cc
 
+  not_status : (slot subslot : ℕ) (is_good : Bool) → Hears heard ≡ GetsStatus slot subslot is_good → ⊥
+  not_status slot subslot is_good e = cc
+
   not_passes : Hears heard ≡ Passes → ⊥
   not_passes e = cc
 
@@ -74,6 +73,7 @@ module _ (setup : Setup) (live : Live) (heard : Heard) (cause : Cause) (h : IsEn
   unmoved_by (Takes number alarm) holds = absurd (up_not holds.0)
   unmoved_by (IsAcked number) holds = absurd (up_not holds.0)
   unmoved_by (Gives slot subslot value) holds = absurd (not_gets slot subslot value holds)
+  unmoved_by (GivesStatus slot subslot is_good) holds = absurd (not_status slot subslot is_good holds)
   unmoved_by Flows holds = absurd (not_passes holds.0)
   unmoved_by (Breaks reason) holds = absurd (not_passes holds.0)
   unmoved_by Idles holds = absurd (not_passes holds.0)
@@ -83,19 +83,7 @@ heard_as setup live heard cause h =
     let turn = turn_is setup live (Hears heard) in
     subst (λ (t : Turn). IsUnmoved setup live heard t) (sym turn.is) (unmoved_by setup live heard cause h turn.kind turn.holds)
 
--- ---- an output, a stop and a unit
-
-shown_as : (is : Bool) (cyclic : Cyclic) (shown : Shown)
-    → unwrap_or (if is then Some (record cyclic { shown = shown }) else None) cyclic
-    ≡ record cyclic { shown = (unwrap_or (if is then Some (record cyclic { shown = shown }) else None) cyclic).shown }
-shown_as true cyclic shown = refl
-shown_as false cyclic shown = refl
-
-given_as : (live : Live) (slot subslot : ℕ) (value : List ℕ)
-    → given live slot subslot value ≡ record live { cyclic = record live.cyclic { shown = (given live slot subslot value).cyclic.shown } }
-given_as live slot subslot value =
-    ap (λ (cyclic : Cyclic). record live { cyclic = cyclic })
-    (shown_as (has_size (length value) (cell_at Data slot subslot live.cyclic.shown.cells)) live.cyclic (changed Data slot subslot (with_good value) live.cyclic.shown))
+-- ---- a stop and a unit
 
 stopped_as : (setup : Setup) (live : Live) (cause : Cause) → live.phase ≡ Ended cause → stopped setup live live.phase ≡ stays live
 stopped_as setup live cause e = ap (λ (phase : State). stopped setup live phase) e
@@ -138,7 +126,8 @@ drops controller cause (Frame bytes) h other =
     let heard = heard_of controller.setup.plan.controller bytes.items in
     frame_drops controller.setup controller.live heard (turned controller.setup controller.live heard) (heard_as controller.setup controller.live heard cause h)
 drops controller cause Tick h other = absurd (no_unit other)
-drops controller cause (Give slot subslot value) h other = (refl, given_as controller.live slot subslot value.items)
+drops controller cause (Give slot subslot value) h other = (refl, refl)
+drops controller cause (Status slot subslot is_good) h other = (refl, refl)
 drops controller cause Stop h other =
     let stays_so = stopped_as controller.setup controller.live cause h.phase in (
       ap (λ (t : Turn). map (bytes_of controller.setup) t.sent) stays_so,
@@ -177,7 +166,7 @@ later_left controller after e = record {
   release = inl (ap (λ (c : Controlling). release_in controller.setup c.live.device c.live.asked) e);
 }
 
-given_left : (setup : Setup) (before after : Live) → after ≡ record before { cyclic = record before.cyclic { shown = after.cyclic.shown } } → IsLeft setup before after
+given_left : (setup : Setup) (before after : Live) → IsOnlySet before after → IsLeft setup before after
 given_left setup before after e =
     record { phase = ap (λ (live : Live). live.phase) e; release = inl (ap (λ (live : Live). release_in setup live.device live.asked) e) }
 
@@ -189,6 +178,8 @@ left controller cause (Frame bytes) h =
 left controller cause Tick h = later_left controller (step_of controller Tick).controller (units controller cause h).0
 left controller cause (Give slot subslot value) h =
     given_left controller.setup controller.live (step_of controller (Give slot subslot value)).controller.live (drops controller cause (Give slot subslot value) h refl).1
+left controller cause (Status slot subslot is_good) h =
+    given_left controller.setup controller.live (step_of controller (Status slot subslot is_good)).controller.live (drops controller cause (Status slot subslot is_good) h refl).1
 left controller cause Stop h = same_left controller.setup controller.live (step_of controller Stop).controller.live (drops controller cause Stop h refl).1
 
 ended_on : (controller : Controlling) (cause : Cause) (event : Event) → HasEnded cause controller → HasEnded cause (step_of controller event).controller
@@ -215,6 +206,8 @@ sent_are controller cause Tick h =
     (due_are (is_again controller.live) (release_of controller))
 sent_are controller cause (Give slot subslot value) h =
     none_are (release_of controller) (step_of controller (Give slot subslot value)).frames (drops controller cause (Give slot subslot value) h refl).0
+sent_are controller cause (Status slot subslot is_good) h =
+    none_are (release_of controller) (step_of controller (Status slot subslot is_good)).frames (drops controller cause (Status slot subslot is_good) h refl).0
 sent_are controller cause Stop h = none_are (release_of controller) (step_of controller Stop).frames (drops controller cause Stop h refl).0
 
 some_none : (frame : List ℕ) → Some frame ≡ None → ⊥

@@ -14,7 +14,7 @@ use Rattle.controller_frames.specs.Heard.{Alarms}
 use Rattle.controller_frames.specs.Sent.{Sent, Confirms, Replies}
 use Rattle.controller_core.specs.State.{Live}
 use Rattle.controller_core.specs.Machine.{Turn, requests_of, stays, where_due}
-use Rattle.end_laws.specs.turns.Turns.{Came, Hears, Passes, IsKind, Kind, Rests, Connects, Addresses, Ends, Releases, Relates, Writes, Waits, Forgets, Begins, Repeats, Follows, Takes, IsAcked, Gives, Flows, Breaks, Idles, turn_by, turn_for}
+use Rattle.end_laws.specs.turns.Turns.{Came, Hears, Passes, IsKind, Kind, Rests, Connects, Addresses, Ends, Releases, Relates, Writes, Waits, Forgets, Begins, Repeats, Follows, Takes, IsAcked, Gives, GivesStatus, Flows, Breaks, Idles, turn_by, turn_for}
 use Rattle.end_laws.proofs.TurnsOneTurn.{turn_is}
 
 -- ---- whether a message is of what either end of an exchange sent
@@ -68,6 +68,7 @@ module _ (setup : Setup) (live : Live) (came : Came) (plain : IsPlain came) wher
   inactive_by (Takes number alarm) holds = absurd (not_so (Hears (Alarms holds.1 holds.2 (notice.Data number alarm))) (λ none. none) holds.3)
   inactive_by (IsAcked number) holds = absurd (not_so (Hears (Alarms holds.1 holds.2 (notice.Ack number))) (λ none. none) holds.3)
   inactive_by (Gives slot subslot value) holds = record { alarms = refl; alarm = refl; sent = λ pdus acks nacks. tt }
+  inactive_by (GivesStatus slot subslot is_good) holds = record { alarms = refl; alarm = refl; sent = λ pdus acks nacks. tt }
   inactive_by Flows holds = absurd (not_so Passes (λ none. none) holds.0)
   inactive_by (Breaks reason) holds = absurd (not_so Passes (λ none. none) holds.0)
   inactive_by Idles holds = absurd (not_so Passes (λ none. none) holds.0)

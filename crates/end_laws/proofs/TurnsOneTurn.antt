@@ -20,7 +20,7 @@ use Rattle.controller_frames.specs.declared.request.Request.TheVariants as asks
 use Rattle.controller_frames.specs.Heard.{Heard, Nothing, Answers, Responds, Calls, Alarms, heard_of}
 use Rattle.controller_frames.specs.Heard.{Cyclic as Comes}
 use Rattle.controller_core.specs.declared.event.Event.{Event}
-use Rattle.controller_core.specs.declared.event.Event.TheVariants.{Frame, Tick, Give, Stop}
+use Rattle.controller_core.specs.declared.event.Event.TheVariants.{Frame, Tick, Give, Status, Stop}
 use Rattle.controller_core.specs.declared.state.Cause.{Cause}
 use Rattle.controller_core.specs.declared.state.Cause.TheVariants as why
 use Rattle.controller_core.specs.declared.state.State.{State}
@@ -30,7 +30,7 @@ use Rattle.controller_core.specs.Alarms.{is_alarm}
 use Rattle.controller_core.specs.Answers.{is_addressed, is_answer, is_found, is_ready, is_right, is_set_answer}
 use Rattle.controller_core.specs.Connect.{Chosen, chosen_of, found_in, is_whole, nothing}
 use Rattle.controller_core.specs.Machine.{Turn, answered, brought, called, connected, decided, done, flow_later, flowed, is_again, handled, later, noticed, readied, ready_in, related_by, requests_of, responded, stays, stopped, turn_of, turned, where_due}
-use Rattle.end_laws.specs.turns.Turns.{Came, Hears, Passes, Gets, Halts, Found, IsGoing, IsGranted, IsKind, IsReadied, IsSought, IsReported, IsTurn, Kind, Rests, Connects, Addresses, Ends, Releases, Relates, Writes, Waits, Forgets, Begins, Repeats, Follows, Takes, IsAcked, Gives, Flows, Breaks, Idles, came_by, chosen_in, turn_by, turn_for}
+use Rattle.end_laws.specs.turns.Turns.{Came, Hears, Passes, Gets, GetsStatus, Halts, Found, IsGoing, IsGranted, IsKind, IsReadied, IsSought, IsReported, IsTurn, Kind, Rests, Connects, Addresses, Ends, Releases, Relates, Writes, Waits, Forgets, Begins, Repeats, Follows, Takes, IsAcked, Gives, GivesStatus, Flows, Breaks, Idles, came_by, chosen_in, turn_by, turn_for}
 
 -- No other phase is an end.
 abbrev pub is_over : State → Bool
@@ -208,10 +208,12 @@ module _ (setup : Setup) (live : Live) where
   turn_is (Hears heard) = turned_is heard
   turn_is Passes = ticked_is live.stands refl
   turn_is (Gets slot subslot value) = as_kind (Gets slot subslot value) (Gives slot subslot value) refl
+  turn_is (GetsStatus slot subslot is_good) = as_kind (GetsStatus slot subslot is_good) (GivesStatus slot subslot is_good) refl
   turn_is Halts = stopped_is live.phase refl
 
   pub event_is : (event : Event) → IsTurn setup live (came_by setup event) (turn_of setup live event)
   event_is (Frame bytes) = turn_is (Hears (heard_of setup.plan.controller bytes.items))
   event_is Tick = turn_is Passes
   event_is (Give slot subslot value) = turn_is (Gets slot subslot value.items)
+  event_is (Status slot subslot is_good) = turn_is (GetsStatus slot subslot is_good)
   event_is Stop = turn_is Halts

@@ -18,7 +18,7 @@ use Rattle.controller_core.specs.State.{Controlling, Live}
 use Rattle.controller_core.specs.Machine.{Turn, behind_data, cause_of, confirming, first, flow_later, fresh, over, phase_for, released, standing, stays, step_of, taken, turn_of, writing}
 use Rattle.end_laws.specs.turns.Ended.{HasEnded, may_release}
 use Rattle.end_laws.specs.turns.Runs.{IsReached, behind_all}
-use Rattle.end_laws.specs.turns.Turns.{Came, IsEnd, IsKind, IsReported, Kind, Rests, Connects, Addresses, Ends, Releases, Relates, Writes, Waits, Forgets, Begins, Repeats, Follows, Takes, IsAcked, Gives, Flows, Breaks, Idles, came_by, turn_by}
+use Rattle.end_laws.specs.turns.Turns.{Came, IsEnd, IsKind, IsReported, Kind, Rests, Connects, Addresses, Ends, Releases, Relates, Writes, Waits, Forgets, Begins, Repeats, Follows, Takes, IsAcked, Gives, GivesStatus, Flows, Breaks, Idles, came_by, turn_by}
 use Rattle.end_laws.proofs.TurnsOneTurn.{event_is, is_over, not_over}
 
 -- After a turn the controller has not ended, or its end is complete.
@@ -84,6 +84,7 @@ kept_by setup live came (Takes number alarm) holds k =
     taken_kept (behind_data live number) alarm (taken_as live.alarms.seen number) (same live (behind_data live number) [] refl refl refl k)
 kept_by setup live came (IsAcked number) holds k = same live _ _ refl refl refl k
 kept_by setup live came (Gives slot subslot value) holds k = same live _ _ refl refl refl k
+kept_by setup live came (GivesStatus slot subslot is_good) holds k = same live _ _ refl refl refl k
 kept_by setup live came Flows holds k = same live _ _ refl refl refl k
 kept_by setup live came (Breaks reason) holds k = ends (cause_of reason) (flow_later live) _
 kept_by setup live came Idles holds k = same live _ _ refl refl refl k

@@ -42,7 +42,7 @@ use Rattle.controller_core.specs.declared.event.Event.{Event}
 use Rattle.controller_core.specs.declared.event.Event.TheVariants as event
 use Rattle.controller_core.specs.Machine.{Turn, alarmed, turn_of, turned}
 use Rattle.controller_core.specs.State.{Live as ControllerLive}
-use Rattle.end_laws.specs.turns.Alarms.{Relation, Move, AlarmComes, AckComes, Hears, PassesAtController, Gives, Stops, ack_comes, alarm_comes, behind, behind_one, is_looked_at, start, turns}
+use Rattle.end_laws.specs.turns.Alarms.{Relation, Move, AlarmComes, AckComes, Hears, PassesAtController, Gives, GivesStatus, Stops, ack_comes, alarm_comes, behind, behind_one, is_looked_at, start, turns}
 use Rattle.end_laws.specs.both.Small as small
 use Rattle.end_laws.specs.both.Small.{Rules, ToDevice}
 use Rattle.end_laws.specs.both.Steps.{DeviceSteps}
@@ -405,6 +405,7 @@ module _ (setup : Setup) (station : Station) (live : Live) (controlling : Contro
   event_turned (event.Frame bytes) is = heard_turned (heard_by setup.plan.controller bytes.items) is
   event_turned event.Tick is = turned_by PassesAtController _ refl
   event_turned (event.Give slot subslot value) is = turned_by (Gives slot subslot value.items) _ refl
+  event_turned (event.Status slot subslot is_good) is = turned_by (GivesStatus slot subslot is_good) _ refl
   event_turned event.Stop is = turned_by Stops _ refl
 
   -- ---- what the controller says

@@ -5,6 +5,7 @@ pub mod OutputsSix
 pub mod OutputsShows
 pub mod OutputsHeld
 pub mod OutputsValues
+pub mod OutputsSet
 pub mod OutputsMoves
 pub mod OutputsWorlds
 pub mod OutputsOneFrame

@@ -22,8 +22,8 @@ use Rattle.end_laws.specs.both.Outputs.{AreAsGiven, ComesFromOne, IsShownRun, Ou
 use Rattle.startup_law.specs.Played.{AreMade, AreMeant, Begins, last_world, moves_of}
 use Rattle.startup_law.specs.View.{move_of}
 use Rattle.exchange_laws.specs.Shown.{accepted_in, has_accepted, image_in, outputs_of, shown_of, shown_run, taken_in, zeros_for}
-use Rattle.exchange_laws.specs.Given.{AreOfOneFrame, image_given, last_given, places_for, zero_for}
-use Rattle.exchange_laws.proofs.OutputsMoves.{ArePlaced, image_shown}
+use Rattle.exchange_laws.specs.Given.{AreOfOneFrame, image_given, places_for, zero_for}
+use Rattle.exchange_laws.proofs.OutputsMoves.{ArePlaced, all_long, image_shown, values_of}
 use Rattle.exchange_laws.proofs.OutputsValues.{outputs_shown, zeros_are_shown}
 use Rattle.exchange_laws.proofs.OutputsTurns.{KindsSo}
 use Rattle.exchange_laws.proofs.OutputsWorlds.{TurnsSo, first_same, given_in_run, last_shown, rest_same, shown_runs, shows_none}
@@ -70,7 +70,10 @@ by_controller (move.Tick Device) by = absurd by
 by_controller (move.Tick Controller) by = refl
 by_controller (move.Input slot subslot value) by = absurd by
 by_controller (move.Alarm slot subslot octets) by = absurd by
+by_controller (move.Status slot subslot is_good) by = absurd by
+by_controller move.Ready by = absurd by
 by_controller (move.Give slot subslot value) by = refl
+by_controller (move.OutputStatus slot subslot is_good) by = refl
 by_controller move.Stop by = refl
 
 came_to : (one : Move) (number : ℕ) → move_of one ≡ small.ComesToDevice number → one ≡ move.Deliver Device number
@@ -83,7 +86,10 @@ came_to (move.Tick Device) number is = absurd cc
 came_to (move.Tick Controller) number is = absurd cc
 came_to (move.Input slot subslot value) number is = absurd cc
 came_to (move.Alarm slot subslot octets) number is = absurd cc
+came_to (move.Status slot subslot is_good) number is = absurd cc
+came_to move.Ready number is = absurd cc
 came_to (move.Give slot subslot value) number is = absurd cc
+came_to (move.OutputStatus slot subslot is_good) number is = absurd cc
 came_to move.Stop number is = absurd cc
 
 pub other_mac : (one other : Mac) → (one ≡ other → ⊥) → pointwise nat_eq one.octets other.octets ≡ false
@@ -140,7 +146,7 @@ module _ (turns : TurnsSo) (kinds : KindsSo) (sound : IsSound ethernet) (whole :
         brings = came.brings ∙ ap (λ (i : Image). Some (octets_of i)) given_is;
         taken = taken;
         shown = λ slot subslot. ap (λ (i : Image). option_map output_of (cell_at Data slot subslot i.cells)) taken
-            ∙ outputs_shown slot subslot (λ place. last_given place None moves) (places_for setup);
+            ∙ outputs_shown slot subslot (values_of moves) (places_for setup) (all_long moves (places_for setup));
       }
 
   pub as_given : ((rules : Outputs Image Image) (start : Shown Image Image) (steps : List (small.Move × Shown Image Image)) → ShowsNone rules start → IsShownRun rules start steps

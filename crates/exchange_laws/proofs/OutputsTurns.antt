@@ -12,10 +12,8 @@ use Rattle.frame_codec.specs.declared.udp.Caller.{Caller}
 use Rattle.connect_blocks.specs.declared.control.ControlBlock.{ControlBlock}
 use Rattle.record_blocks.specs.declared.alarm_ack.AlarmAck.{AlarmAck}
 use Rattle.record_blocks.specs.declared.alarm_notification.AlarmNotification.{AlarmNotification}
-use Rattle.cyclic_data.specs.declared.place.PlaceKind.TheVariants.{Data}
-use Rattle.cyclic_data.specs.Image.{Shown as Image, cell_at, changed, has_size}
+use Rattle.cyclic_data.specs.Image.{Cell, Shown as Image}
 use Rattle.cyclic_exchange.specs.Cyclic.{Cyclic}
-use Rattle.cyclic_exchange.specs.Process.{with_good}
 use Rattle.codec_laws.specs.frames.Sendable.{IsMac}
 use Rattle.pn_alarms.specs.declared.abort.Abort.{Abort}
 use Rattle.pn_alarms.specs.declared.message.Notice.TheVariants as notice
@@ -36,7 +34,8 @@ use Rattle.controller_frames.specs.Heard.{Alarms, Answers, Calls, Heard, Nothing
 use Rattle.controller_frames.specs.Heard.{Cyclic as Comes}
 use Rattle.controller_frames.specs.Sent.{Sent}
 use Rattle.controller_core.specs.declared.event.Event.{Event}
-use Rattle.controller_core.specs.declared.event.Event.TheVariants.{Frame, Give, Stop, Tick as Ticks}
+use Rattle.controller_core.specs.declared.event.Event.TheVariants.{Frame, Give, Status, Stop, Tick as Ticks}
+use Rattle.controller_core.specs.declared.outputs.OutputMark.{OutputMark}
 use Rattle.controller_core.specs.declared.state.Cause.{Cause}
 use Rattle.controller_core.specs.declared.state.Cause.TheVariants as cause
 use Rattle.controller_core.specs.declared.state.State.{State}
@@ -45,11 +44,12 @@ use Rattle.controller_core.specs.Alarms.{is_alarm}
 use Rattle.controller_core.specs.Answers.{is_addressed, is_answer, is_found, is_ready, is_right, is_set_answer}
 use Rattle.controller_core.specs.Connect.{Chosen, found_in, is_whole, nothing}
 use Rattle.controller_frames.specs.Requests.{writing_from}
-use Rattle.controller_core.specs.Machine.{Turn, acks_in, addressed, answered, asking, behind_data, brought, called, come, connected, decided, done, flow_later, flowed, found, given, is_again, handled, next_sequence, noticed, over, phase_for, readied, ready_in, standing, writing, related_by, released, requests_of, responded, stays, stopped, taken, ticked, turn_of, turned, where_due}
+use Rattle.controller_core.specs.Machine.{Turn, acks_in, addressed, answered, asking, behind_data, brought, called, come, connected, decided, done, flow_later, flowed, found, given, is_again, handled, next_sequence, noticed, over, phase_for, rated, readied, ready_in, standing, writing, related_by, released, requests_of, responded, stays, stopped, taken, ticked, turn_of, turned, where_due}
 use Rattle.controller_core.specs.State.{Live}
-use Rattle.end_laws.specs.turns.Turns.{Came, Hears, Passes, Gets, Halts, IsKind, IsReadied, IsSought, IsTurn, Kind, Rests, Connects, Addresses, Releases, Relates, Writes, Waits, Forgets, Begins, Repeats, Follows, Takes, IsAcked, Gives, Flows, Breaks, Idles, came_by, turn_by}
+use Rattle.end_laws.specs.turns.Turns.{Came, Hears, Passes, Gets, GetsStatus, Halts, IsKind, IsReadied, IsSought, IsTurn, Kind, Rests, Connects, Addresses, Releases, Relates, Writes, Waits, Forgets, Begins, Repeats, Follows, Takes, IsAcked, Gives, GivesStatus, Flows, Breaks, Idles, came_by, turn_by}
 use Rattle.end_laws.specs.turns.Turns as sort
 use Rattle.exchange_laws.proofs.OutputsBrings.{IsAddressed, IsNow, IsWay}
+use Rattle.exchange_laws.proofs.OutputsMoves.{Sets, sets_of}
 
 -- a controller that sends to stations, with an image of this many octets
 pub record IsKeptAs (many : ℕ) (station : Mac) (route : Route) (shown : Image) : Type 0 where
@@ -74,49 +74,51 @@ abbrev pub IsSixAt : Setup → Event → Type 0
 IsSixAt setup (Frame bytes) = IsSix (heard_of setup.plan.controller bytes.items)
 IsSixAt setup other = Unit {0}
 
--- the outputs that are sent after an event; a value that is set is among them
-abbrev pub shown_behind : Live → Event → Image
-shown_behind live (Give slot subslot value) = (given live slot subslot value.items).cyclic.shown
-shown_behind live other = live.cyclic.shown
+-- the outputs after an event; a value that is set is among them, and so is a status
+abbrev pub shown_behind : Live → Event → Sets
+shown_behind live (Give slot subslot value) = sets_of (given live slot subslot value.items)
+shown_behind live (Status slot subslot is_good) = sets_of (rated live slot subslot is_good)
+shown_behind live other = sets_of live
 
--- the station that is heard then has a MAC address of six octets, and no output is set
+-- the station that is heard then has a MAC address of six octets, and neither an output is set nor its status
 abbrev IsSixIn : Came → Type 0
 IsSixIn (Hears heard) = IsSix heard
 IsSixIn Passes = Unit {0}
 IsSixIn Halts = Unit {0}
 IsSixIn (Gets slot subslot value) = ⊥
+IsSixIn (GetsStatus slot subslot is_good) = ⊥
 
 -- each turn of a controller is of a kind
 abbrev pub KindsSo : Type 0
 KindsSo = (setup : Setup) (live : Live) (event : Event) → IsTurn setup live (came_by setup event) (turn_of setup live event)
 
 module _ (size : ℕ) where
-  -- a turn of the controller, after which it goes on like this, and the outputs that it sends are these
-  pub record Tells (shown : Image) (turn : Turn) : Type 0 where
+  -- a turn of the controller, after which it goes on like this, and its outputs are these
+  pub record Tells (sets : Sets) (turn : Turn) : Type 0 where
     pub reported : AllByRecursion (IsSaid turn.live.cyclic.shown) turn.sent
     pub kept : IsKept size turn.live
-    pub same : turn.live.cyclic.shown ≡ shown
+    pub same : sets_of turn.live ≡ sets
 
-  stays_tells : (live : Live) → IsKept size live → Tells live.cyclic.shown (stays live)
+  stays_tells : (live : Live) → IsKept size live → Tells (sets_of live) (stays live)
   stays_tells live k = record { reported = tt; kept = k; same = refl }
 
-  asking_tells : (phase : State) (request : Request) (live : Live) → IsKept size live → Tells live.cyclic.shown (asking phase request live)
+  asking_tells : (phase : State) (request : Request) (live : Live) → IsKept size live → Tells (sets_of live) (asking phase request live)
   asking_tells phase request live k = record { reported = ((tt, k.device), tt); kept = k; same = refl }
 
-  over_tells : (why : Cause) (live : Live) → IsKept size live → Tells live.cyclic.shown (stays (over why live))
+  over_tells : (why : Cause) (live : Live) → IsKept size live → Tells (sets_of live) (stays (over why live))
   over_tells why live k = record { reported = tt; kept = k; same = refl }
 
-  released_tells : (setup : Setup) (why : Cause) (live : Live) → IsKept size live → Tells live.cyclic.shown (released setup why live)
+  released_tells : (setup : Setup) (why : Cause) (live : Live) → IsKept size live → Tells (sets_of live) (released setup why live)
   released_tells setup why live k = asking_tells (Ended why) (asks.Release (next_sequence setup.plan live.asked)) (over why live) k
 
-  related_tells : (setup : Setup) (live : Live) (chosen : Chosen) → IsKept size live → Tells live.cyclic.shown (writing (writing_from setup.plan 0) (standing setup live chosen))
+  related_tells : (setup : Setup) (live : Live) (chosen : Chosen) → IsKept size live → Tells (sets_of live) (writing (writing_from setup.plan 0) (standing setup live chosen))
   related_tells setup live chosen k = record {
     reported = ((tt, k.device), tt);
     same = refl;
     kept = record { device = k.device; way = record { partner = k.device; sent_tag = omega arith; alarm_tag = omega arith }; size = k.size };
   }
 
-  taken_tells : (live : Live) (alarm : AlarmNotification) (as_is : Taken) → IsKept size live → Tells live.cyclic.shown (taken live alarm as_is)
+  taken_tells : (live : Live) (alarm : AlarmNotification) (as_is : Taken) → IsKept size live → Tells (sets_of live) (taken live alarm as_is)
   taken_tells live alarm New k = record { reported = ((tt, k.way), ((tt, k.way), tt)); same = refl; kept = k }
   taken_tells live alarm Again k = record { reported = ((tt, k.way), tt); same = refl; kept = k }
   taken_tells live alarm Refused k = record { reported = ((tt, k.way), tt); same = refl; kept = k }
@@ -166,7 +168,7 @@ module _ (size : ℕ) where
   acks_tell shown live (Some ack) way = ((tt, way), tt)
   acks_tell shown live None way = tt
 
-  flowed_tells : (live : Live) (is_request : Bool) (tick : Brought) (ending : Option Abort) → IsKept size live → Tells live.cyclic.shown (flowed live is_request tick ending)
+  flowed_tells : (live : Live) (is_request : Bool) (tick : Brought) (ending : Option Abort) → IsKept size live → Tells (sets_of live) (flowed live is_request tick ending)
   flowed_tells live is_request tick (Some reason) k = record { reported = ((tt, k.way), tt); same = refl; kept = k }
   flowed_tells live is_request tick None k =
       let shown = live.cyclic.shown in
@@ -180,14 +182,9 @@ module _ (size : ℕ) where
         kept = k;
       }
 
-  given_keeps : (live : Live) (slot subslot : ℕ) (value : List ℕ) → IsKept size live → IsKept size (given live slot subslot value)
-  given_keeps live slot subslot value k = by_size (has_size (length value) (cell_at Data slot subslot live.cyclic.shown.cells))
-    where
-      by_size : (b : Bool) → IsKept size (record live {
-        cyclic = unwrap_or (cond b (Some (record live.cyclic { shown = changed Data slot subslot (with_good value) live.cyclic.shown })) None) live.cyclic;
-      })
-      by_size true = record { device = k.device; way = k.way; size = k.size }
-      by_size false = k
+  set_keeps : (live : Live) (cells : List Cell) (outputs : List OutputMark) → IsKept size live
+      → IsKept size (record live { cyclic = record live.cyclic { shown = record live.cyclic.shown { cells = cells } }; outputs = outputs })
+  set_keeps live cells outputs k = record { device = k.device; way = k.way; size = k.size }
 
   -- ---- a turn of each kind
 
@@ -196,7 +193,7 @@ module _ (size : ℕ) where
     source_six source (inl same) = subst (λ (m : Mac). IsMac m) (sym same) k.device
     source_six source (inr heard) = subst (λ (c : Came). IsSixIn c) heard.1 six
 
-    met_tells : (phase : State) (request : Request) (source : Mac) → IsSought live came source → Tells live.cyclic.shown (asking phase request (record live { device = source }))
+    met_tells : (phase : State) (request : Request) (source : Mac) → IsSought live came source → Tells (sets_of live) (asking phase request (record live { device = source }))
     met_tells phase request source sought =
         let one = source_six source sought.known in
         record { reported = ((tt, one), tt); kept = record { device = one; way = k.way; size = k.size }; same = refl }
@@ -204,7 +201,7 @@ module _ (size : ℕ) where
     readied_tells : (caller : Caller) (call : Call) (block : ControlBlock) → IsReadied setup came caller call block → IsMac caller.mac
     readied_tells caller call block readied = subst (λ (c : Came). IsSixIn c) readied.comes six
 
-    kind_tells : (kind : Kind) → IsKind setup live came kind → Tells live.cyclic.shown (turn_by setup live kind)
+    kind_tells : (kind : Kind) → IsKind setup live came kind → Tells (sets_of live) (turn_by setup live kind)
     kind_tells Rests holds = stays_tells live k
     kind_tells (Connects source) holds = met_tells Connecting asks.Connect source holds
     kind_tells (Addresses source) holds = met_tells Addressing asks.Address source holds
@@ -216,20 +213,23 @@ module _ (size : ℕ) where
     kind_tells (Repeats caller call block) holds = record { reported = ((tt, readied_tells caller call block holds.1), tt); kept = k; same = refl }
     kind_tells (Follows source frame_id body) holds =
         let keeps = frame_keeps live.cyclic source frame_id body in
-        record { reported = tt; kept = with_cyclic live (behind_frame live.cyclic source frame_id body) keeps.0 (ap (λ (image : Image). image.data_length) keeps.1) k; same = keeps.1 }
+        record { reported = tt; kept = with_cyclic live (behind_frame live.cyclic source frame_id body) keeps.0 (ap (λ (image : Image). image.data_length) keeps.1) k; same = ap (λ (image : Image). let s : Sets = record { shown = image; marks = live.outputs } in s) keeps.1 }
     kind_tells (Takes number alarm) holds = taken_tells (behind_data live number) alarm (taken_as live.alarms.seen number) k
     kind_tells (Gives slot subslot value) holds = absurd (subst (λ (c : Came). IsSixIn c) holds six)
+    kind_tells (GivesStatus slot subslot is_good) holds = absurd (subst (λ (c : Came). IsSixIn c) holds six)
     kind_tells Flows holds = flowed_tells (flow_later live) (is_again live) (brought live) None k
     kind_tells (Breaks reason) holds = flowed_tells (flow_later live) (is_again live) (brought live) (Some reason) k
     kind_tells Idles holds =
         record { reported = due_tells live.cyclic.shown (is_again live) (requests_of live.device live.asked) (request_tells live.cyclic.shown live.device live.asked k.device); same = refl; kept = k }
     kind_tells other holds = record { reported = tt; kept = k; same = refl }
 
-    came_tells : (turn : Turn) → IsTurn setup live came turn → Tells live.cyclic.shown turn
-    came_tells turn of = subst (λ (t : Turn). Tells live.cyclic.shown t) (sym of.is) (kind_tells of.kind of.holds)
+    came_tells : (turn : Turn) → IsTurn setup live came turn → Tells (sets_of live) turn
+    came_tells turn of = subst (λ (t : Turn). Tells (sets_of live) t) (sym of.is) (kind_tells of.kind of.holds)
 
   pub turn_tells : KindsSo → (setup : Setup) (live : Live) (event : Event) → IsSixAt setup event → IsKept size live → Tells (shown_behind live event) (turn_of setup live event)
   turn_tells kinds setup live (Frame bytes) six k = came_tells setup live (Hears (heard_of setup.plan.controller bytes.items)) six k _ (kinds setup live (Frame bytes))
   turn_tells kinds setup live Ticks six k = came_tells setup live Passes tt k _ (kinds setup live Ticks)
-  turn_tells kinds setup live (Give slot subslot value) six k = record { reported = tt; same = refl; kept = given_keeps live slot subslot value.items k }
+  turn_tells kinds setup live (Give slot subslot value) six k = record { reported = tt; same = refl; kept = set_keeps live (given live slot subslot value.items).cyclic.shown.cells (given live slot subslot value.items).outputs k }
+  turn_tells kinds setup live (Status slot subslot is_good) six k =
+      record { reported = tt; same = refl; kept = set_keeps live (rated live slot subslot is_good).cyclic.shown.cells (rated live slot subslot is_good).outputs k }
   turn_tells kinds setup live Stop six k = came_tells setup live Halts tt k _ (kinds setup live Stop)

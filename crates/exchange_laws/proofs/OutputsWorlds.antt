@@ -12,7 +12,7 @@ use Rattle.rpc_core.specs.Cache.{Kept as Answer}
 use Rattle.cyclic_data.specs.Image.{Shown as Image}
 use Rattle.relations.specs.RelationState.{RelationState}
 use Rattle.device_frames.specs.declared.event.Event.TheVariants.{Frame}
-use Rattle.device_frames.specs.Heard.{Heard, Ticks, Given, Raised, heard_of}
+use Rattle.device_frames.specs.Heard.{Heard, Ticks, Given, Raised, Rated, Readied, heard_of}
 use Rattle.device_core.specs.State.{Live, Station}
 use Rattle.device_core.specs.Machine.{heard_step}
 use Rattle.controller_frames.specs.declared.setup.Setup.{Setup}
@@ -38,7 +38,7 @@ use Rattle.end_laws.specs.device.Small.{IsPlanned}
 use Rattle.end_laws.specs.device.Turn.{Turn}
 use Rattle.exchange_laws.specs.Shown.{accepted_in, brought_in, image_in, outputs_of, shown_of, shown_run, zeros_for}
 use Rattle.exchange_laws.specs.Given.{image_given}
-use Rattle.exchange_laws.proofs.OutputsMoves.{ArePlacedOnce, first_image, given_more, shown_with}
+use Rattle.exchange_laws.proofs.OutputsMoves.{ArePlacedOnce, Sets, first_image, given_more, sets_given, sets_of, shown_with}
 use Rattle.exchange_laws.proofs.OutputsBrings.{IsAddressed, IsNow, all_bring, request_silent}
 use Rattle.exchange_laws.proofs.OutputsTurns.{IsKept, KindsSo, IsSaid, shown_behind, turn_tells}
 use Rattle.exchange_laws.proofs.OutputsSix.{six_event}
@@ -102,10 +102,10 @@ module _ (turns : TurnsSo) (kinds : KindsSo) (sound : IsSound ethernet) (whole :
   abbrev Holds : World F → Type 0
   Holds w = HoldsBy w.controller.setup w.device.station w.device.live.rest.link w.device.live.rest.calls w.controller.live
 
-  -- the effect of a move on the world, that it is a step, and the outputs that the controller sends then
-  record Refines (before after : World F) (shown : Image) (steps : Type 0) : Type 0 where
+  -- the effect of a move on the world, that it is a step, and the outputs of the controller then
+  record Refines (before after : World F) (sets : Sets) (steps : Type 0) : Type 0 where
     is : steps
-    shown_is : after.controller.live.cyclic.shown ≡ shown
+    sets_are : sets_of after.controller.live ≡ sets
     setup : after.controller.setup ≡ before.controller.setup
     station : after.device.station ≡ before.device.station
     holds : Holds after
@@ -132,7 +132,7 @@ module _ (turns : TurnsSo) (kinds : KindsSo) (sound : IsSound ethernet) (whole :
           brings = all_bring setup before.device.station.identity sound holds.six shown tells.kept.size turn.sent (all_now shown turn.sent tells.reported) (all_addressed shown turn.sent tells.reported);
           behind = refl;
         };
-        shown_is = tells.same;
+        sets_are = tells.same;
         setup = refl;
         station = refl;
         holds = record { ours = holds.ours; calls_silent = holds.calls_silent; kept = tells.kept; apart = holds.apart; six = holds.six };
@@ -142,7 +142,7 @@ module _ (turns : TurnsSo) (kinds : KindsSo) (sound : IsSound ethernet) (whole :
 
   module _ {S : ℕ} (as_flash : Flash F S) where
     at_device_shows : (before after : World F) (heard : Heard) → Holds before → IsMeantAtDevice before heard → AtDevice as_flash before heard after
-        → Refines before after before.controller.live.cyclic.shown (ShowsAtDevice (rules_at before) (brought_in before.controller.setup heard) (shown_of before) (shown_of after))
+        → Refines before after (sets_of before.controller.live) (ShowsAtDevice (rules_at before) (brought_in before.controller.setup heard) (shown_of before) (shown_of after))
     at_device_shows before after heard holds meant made =
         let hears = made.hears in
         let setup = before.controller.setup in
@@ -167,7 +167,7 @@ module _ (turns : TurnsSo) (kinds : KindsSo) (sound : IsSound ethernet) (whole :
                 (frames_silent setup station sound holds.apart outcomes live heard hears.steps.sendable goes.known);
             behind = hears.behind;
           };
-          shown_is = ap (λ (c : Controlling). c.live.cyclic.shown) made.controller;
+          sets_are = ap (λ (c : Controlling). sets_of c.live) made.controller;
           setup = ap (λ (c : Controlling). c.setup) made.controller;
           station = hears.steps.same;
           holds = subst (λ (c : Controlling). HoldsBy c.setup after.device.station after.device.live.rest.link after.device.live.rest.calls c.live) (sym made.controller)
@@ -176,30 +176,30 @@ module _ (turns : TurnsSo) (kinds : KindsSo) (sound : IsSound ethernet) (whole :
               (record { ours = goes.ours; calls_silent = goes.calls hears.steps.sendable; kept = holds.kept; apart = holds.apart; six = holds.six })));
         }
 
-    rests : (before after : World F) (Does : Type 0) → Holds before → after ≡ before → Refines before after before.controller.live.cyclic.shown ((shown_of after ≡ shown_of before) ⊎ Does)
+    rests : (before after : World F) (Does : Type 0) → Holds before → after ≡ before → Refines before after (sets_of before.controller.live) ((shown_of after ≡ shown_of before) ⊎ Does)
     rests before after Does holds same = record {
       is = inl (ap shown_of same);
-      shown_is = ap (λ (w : World F). w.controller.live.cyclic.shown) same;
+      sets_are = ap (λ (w : World F). sets_of w.controller.live) same;
       setup = ap (λ (w : World F). w.controller.setup) same;
       station = ap (λ (w : World F). w.device.station) same;
       holds = subst (λ (w : World F). Holds w) (sym same) holds;
     }
 
-    does : (before after : World F) (shown : Image) (Same Does More : Type 0) → (Does → More) → Refines before after shown Does → Refines before after shown (Same ⊎ More)
-    does before after shown Same Does More more refines = record { is = inr (more refines.is); shown_is = refines.shown_is; setup = refines.setup; station = refines.station; holds = refines.holds }
+    does : (before after : World F) (sets : Sets) (Same Does More : Type 0) → (Does → More) → Refines before after sets Does → Refines before after sets (Same ⊎ More)
+    does before after sets Same Does More more refines = record { is = inr (more refines.is); sets_are = refines.sets_are; setup = refines.setup; station = refines.station; holds = refines.holds }
 
     module _ (before after : World F) (holds : Holds before) where
       comes_to_device : (number : ℕ) (octets : List ℕ) (skipped : Bool) → slice_get before.sent number ≡ Some octets
           → IsMeantAtDevice before (heard_of before.device.station.identity (Frame (record { items = octets })))
           → Comes as_flash skipped before Device octets after
-          → Refines before after before.controller.live.cyclic.shown (ShowsBehind (rules_at before) (shown_of before) (small.ComesToDevice number) (shown_of after))
+          → Refines before after (sets_of before.controller.live) (ShowsBehind (rules_at before) (shown_of before) (small.ComesToDevice number) (shown_of after))
       comes_to_device number octets true there meant comes = rests before after _ holds comes
       comes_to_device number octets false there meant comes =
           does before after _ _ _ _ (λ steps. record { frame = octets; there = there; steps = steps }) (at_device_shows before after _ holds meant comes)
 
       comes_to_controller : (number : ℕ) (octets : List ℕ) (skipped : Bool)
           → Comes as_flash skipped before Controller octets after
-          → Refines before after before.controller.live.cyclic.shown (ShowsBehind (rules_at before) (shown_of before) (small.ComesToController number) (shown_of after))
+          → Refines before after (sets_of before.controller.live) (ShowsBehind (rules_at before) (shown_of before) (small.ComesToController number) (shown_of after))
       comes_to_controller number octets true comes = rests before after _ holds comes
       comes_to_controller number octets false comes =
           does before after _ _ _ _ (λ steps. steps) (at_controller_gives before after (controller.Frame (record { items = octets })) holds comes)
@@ -207,14 +207,14 @@ module _ (turns : TurnsSo) (kinds : KindsSo) (sound : IsSound ethernet) (whole :
       delivered_to_device : (number : ℕ) (octets : Option (List ℕ)) → slice_get before.sent number ≡ octets
           → ((frame : List ℕ) → octets ≡ Some frame → IsMeantAtDevice before (heard_of before.device.station.identity (Frame (record { items = frame }))))
           → Delivers as_flash octets before Device after
-          → Refines before after before.controller.live.cyclic.shown (ShowsBehind (rules_at before) (shown_of before) (small.ComesToDevice number) (shown_of after))
+          → Refines before after (sets_of before.controller.live) (ShowsBehind (rules_at before) (shown_of before) (small.ComesToDevice number) (shown_of after))
       delivered_to_device number None there meant comes = rests before after _ holds comes
       delivered_to_device number (Some octets) there meant comes =
           comes_to_device number octets (is_skipped before.device before.controller Device octets) there (meant octets refl) comes
 
       delivered_to_controller : (number : ℕ) (octets : Option (List ℕ))
           → Delivers as_flash octets before Controller after
-          → Refines before after before.controller.live.cyclic.shown (ShowsBehind (rules_at before) (shown_of before) (small.ComesToController number) (shown_of after))
+          → Refines before after (sets_of before.controller.live) (ShowsBehind (rules_at before) (shown_of before) (small.ComesToController number) (shown_of after))
       delivered_to_controller number None comes = rests before after _ holds comes
       delivered_to_controller number (Some octets) comes =
           comes_to_controller number octets (is_skipped before.device before.controller Controller octets) comes
@@ -227,8 +227,12 @@ module _ (turns : TurnsSo) (kinds : KindsSo) (sound : IsSound ethernet) (whole :
       happens_shows (move.Tick Controller) meant happens = does before after _ _ _ _ (λ steps. steps) (at_controller_gives before after controller.Tick holds happens)
       happens_shows (move.Input slot subslot value) meant happens = does before after _ _ _ _ (λ steps. steps) (at_device_shows before after (Given slot subslot value.items) holds meant happens)
       happens_shows (move.Alarm slot subslot octets) meant happens = does before after _ _ _ _ (λ steps. steps) (at_device_shows before after (Raised slot subslot octets.items) holds meant happens)
+      happens_shows (move.Status slot subslot is_good) meant happens = does before after _ _ _ _ (λ steps. steps) (at_device_shows before after (Rated slot subslot is_good) holds meant happens)
+      happens_shows move.Ready meant happens = does before after _ _ _ _ (λ steps. steps) (at_device_shows before after Readied holds meant happens)
       happens_shows (move.Give slot subslot value) meant happens =
           does before after _ _ _ _ (λ steps. steps) (at_controller_gives before after (controller.Give slot subslot value) holds happens)
+      happens_shows (move.OutputStatus slot subslot is_good) meant happens =
+          does before after _ _ _ _ (λ steps. steps) (at_controller_gives before after (controller.Status slot subslot is_good) holds happens)
       happens_shows move.Stop meant happens = does before after _ _ _ _ (λ steps. steps) (at_controller_gives before after controller.Stop holds happens)
 
     -- ---- runs
@@ -245,21 +249,21 @@ module _ (turns : TurnsSo) (kinds : KindsSo) (sound : IsSound ethernet) (whole :
         )
 
     -- at each point of a run, the controller sends the outputs set before it
-    given_at : (setup : Setup) (places_once : ArePlacedOnce setup) (so_far : List Move) (before : World F) (run : List (Move × World F)) → Holds before → before.controller.live.cyclic.shown ≡ image_given setup so_far
+    given_at : (setup : Setup) (places_once : ArePlacedOnce setup) (so_far : List Move) (before : World F) (run : List (Move × World F)) → Holds before → sets_of before.controller.live ≡ sets_given setup so_far
         → AreMade as_flash before run → AreMeant before run
         → (front : List (Move × World F)) (one : Move × World F) (later : List (Move × World F)) → run ≡ front ++ one ∷ later
-        → one.1.controller.live.cyclic.shown ≡ image_given setup (so_far ++ moves_of (front ++ one ∷ []))
+        → sets_of one.1.controller.live ≡ sets_given setup (so_far ++ moves_of (front ++ one ∷ []))
     given_at setup once so_far before [] holds was made meant [] one later e = absurd cc
     given_at setup once so_far before [] holds was made meant (other ∷ front) one later e = absurd cc
     given_at setup once so_far before (next ∷ run) holds was made meant [] one later e =
         let step = happens_shows before next.1 holds next.0 meant.0 made.0 in
-        subst (λ (x : Move × World F). x.1.controller.live.cyclic.shown ≡ image_given setup (so_far ++ x.0 ∷ [])) (first_same next one run later e)
-        (step.shown_is ∙ given_more setup once so_far before.controller.live was next.0)
+        subst (λ (x : Move × World F). sets_of x.1.controller.live ≡ sets_given setup (so_far ++ x.0 ∷ [])) (first_same next one run later e)
+        (step.sets_are ∙ given_more setup once so_far before.controller.live was next.0)
     given_at setup once so_far before (next ∷ run) holds was made meant (other ∷ front) one later e =
         let step = happens_shows before next.1 holds next.0 meant.0 made.0 in
         let same = first_same next other run (front ++ one ∷ later) e in
-        given_at setup once (so_far ++ next.0 ∷ []) next.1 run step.holds (step.shown_is ∙ given_more setup once so_far before.controller.live was next.0) made.1 meant.1 front one later (rest_same next other run (front ++ one ∷ later) e)
-        ∙ ap (λ (moves : List Move). image_given setup moves)
+        given_at setup once (so_far ++ next.0 ∷ []) next.1 run step.holds (step.sets_are ∙ given_more setup once so_far before.controller.live was next.0) made.1 meant.1 front one later (rest_same next other run (front ++ one ∷ later) e)
+        ∙ ap (λ (moves : List Move). sets_given setup moves)
         (append_assoc so_far (next.0 ∷ []) (moves_of (front ++ one ∷ []))
         ∙ ap (λ (x : Move × World F). so_far ++ x.0 ∷ moves_of (front ++ one ∷ [])) same)
 
@@ -300,14 +304,14 @@ module _ (turns : TurnsSo) (kinds : KindsSo) (sound : IsSound ethernet) (whole :
       none = subst (λ (frames : List (List ℕ)). AllByRecursion (BringsNone (rules_at first)) frames) (sym begins.opened) (opening_silent, tt);
     })
 
-    first_given : first.controller.live.cyclic.shown ≡ image_given setup []
-    first_given = ap (λ (l : ControllerLive). l.cyclic.shown) begins.made ∙ first_image setup
+    first_given : sets_of first.controller.live ≡ sets_given setup []
+    first_given = ap (λ (l : ControllerLive). sets_of l) begins.made ∙ first_image setup
 
     pub given_in_run : ArePlacedOnce setup → {S : ℕ} (as_flash : Flash F S) (run : List (Move × World F)) → AreMade as_flash first run
         → AreMeant first run → (front : List (Move × World F)) (one : Move × World F) (later : List (Move × World F)) → run ≡ front ++ one ∷ later
         → one.1.controller.live.cyclic.shown ≡ image_given setup (moves_of (front ++ one ∷ []))
     given_in_run once as_flash run made meant front one later e =
-        given_at as_flash setup once [] first run holds_first first_given made meant front one later e
+        ap (λ (s : Sets). s.shown) (given_at as_flash setup once [] first run holds_first first_given made meant front one later e)
 
     pub shown_runs : {S : ℕ} (as_flash : Flash F S) (run : List (Move × World F)) → AreMade as_flash first run
         → AreMeant first run → IsShownRun (outputs_of setup identity) (shown_of first) (shown_run run)

@@ -1,6 +1,6 @@
 -- A controller sends to the station that responded, and its outputs under the FrameID that this station chose.
 use Rattle.std.proofs.Common.{◌≡◌, ◌&&◌, ◌+◌, ℕ, Bool, true, false, cond, List, length, Option, Some, None, refl, sym, ap, ◌∙◌}
-use Rattle.std.specs.Prelude.{nat_lt, unwrap_or}
+use Rattle.std.specs.Prelude.{nat_lt}
 use Rattle.std.specs.List.{AllByRecursion}
 use Rattle.pn_values.specs.declared.mac.Mac.{Mac}
 use Rattle.frame_codec.specs.declared.udp.Caller.{Caller}
@@ -12,12 +12,9 @@ use Rattle.rpc_core.specs.Response.{Answered as Response, is_done}
 use Rattle.connect_blocks.specs.declared.control.ControlBlock.{ControlBlock}
 use Rattle.record_blocks.specs.declared.alarm_ack.AlarmAck.{AlarmAck}
 use Rattle.record_blocks.specs.declared.alarm_notification.AlarmNotification.{AlarmNotification}
-use Rattle.cyclic_data.specs.declared.place.PlaceKind.TheVariants.{Data as at_data}
-use Rattle.cyclic_data.specs.Image.{cell_at, changed, has_size}
 use Rattle.cyclic_exchange.specs.declared.route.Route.{Route}
 use Rattle.cyclic_exchange.specs.Units.{Brought}
 use Rattle.cyclic_exchange.specs.Cyclic.{Cyclic}
-use Rattle.cyclic_exchange.specs.Process.{provided_at, with_good}
 use Rattle.cyclic_exchange.specs.Received.{behind_frame}
 use Rattle.pn_alarms.specs.declared.abort.Abort.{Abort}
 use Rattle.pn_alarms.specs.declared.message.Notice.TheVariants as notice
@@ -41,7 +38,7 @@ use Rattle.controller_core.specs.declared.state.State.TheVariants.{Looking, Addr
 use Rattle.controller_core.specs.Alarms.{is_alarm as is_of_relation}
 use Rattle.controller_core.specs.Answers.{is_addressed, is_answer, is_found, is_ready, is_right, is_set_answer}
 use Rattle.controller_core.specs.Connect.{Chosen, chosen_of, found_in, is_whole, nothing}
-use Rattle.controller_core.specs.Machine.{Turn, acks_in, addressed, answered, behind_data, brought, called, come, connected, decided, done, first, flow_later, flowed, found, given, is_again, handled, later, noticed, outputs_of, over, readied, ready_in, related_by, released, requests_of, responded, standing, stays, stopped, taken, turn_of, turned, where_due, writing}
+use Rattle.controller_core.specs.Machine.{Turn, acks_in, addressed, answered, behind_data, brought, called, come, connected, decided, done, first, flow_later, flowed, found, given, is_again, handled, later, noticed, outputs_of, over, rated, readied, ready_in, related_by, released, requests_of, responded, standing, stays, stopped, taken, turn_of, turned, where_due, writing}
 use Rattle.controller_core.specs.State.{Live}
 use Rattle.end_laws.specs.sending.Sized.{Found}
 use Rattle.exchange_laws.specs.Sized.{IsChosenWell}
@@ -195,13 +192,6 @@ module _ (setup : Setup) (mac : Mac) (apart : mac ≡ setup.plan.controller.mac 
   come_placed live source frame_id body true p = cyclic_placed live (behind_frame live.cyclic source frame_id body) (frame_route live.cyclic source frame_id body) p
   come_placed live source frame_id body false p = p
 
-  provided_route : (cyclic : Cyclic) (slot subslot : ℕ) (value : List ℕ) → (unwrap_or (provided_at cyclic slot subslot value) cyclic).route ≡ cyclic.route
-  provided_route cyclic slot subslot value = by_size (has_size (length value) (cell_at at_data slot subslot cyclic.shown.cells))
-    where
-      by_size : (b : Bool) → (unwrap_or (cond b (Some (record cyclic { shown = changed at_data slot subslot (with_good value) cyclic.shown })) None) cyclic).route ≡ cyclic.route
-      by_size true = refl
-      by_size false = refl
-
   -- ---- alarms
 
   partner_other : (live : Live) → live.stands ≡ true → IsPlaced mac live → live.cyclic.route.partner ≡ setup.plan.controller.mac → ⊥
@@ -290,7 +280,9 @@ module _ (setup : Setup) (mac : Mac) (apart : mac ≡ setup.plan.controller.mac 
   event_placed live (event.Frame bytes) is p = heard_placed live (heard_of setup.plan.controller bytes.items) is p
   event_placed live event.Tick is p = ticked_placed live live.stands refl p
   event_placed live (event.Give slot subslot value) is p =
-      stays_placed (given live slot subslot value.items) (cyclic_placed live (unwrap_or (provided_at live.cyclic slot subslot value.items) live.cyclic) (provided_route live.cyclic slot subslot value.items) p)
+      stays_placed (given live slot subslot value.items) (record { plain = p.plain; partner = p.partner; asking = p.asking; giving = p.giving; addressing = p.addressing })
+  event_placed live (event.Status slot subslot is_good) is p =
+      stays_placed (rated live slot subslot is_good) (record { plain = p.plain; partner = p.partner; asking = p.asking; giving = p.giving; addressing = p.addressing })
   event_placed live event.Stop is p = stopped_placed live live.phase p
 
   -- a controller that was just made

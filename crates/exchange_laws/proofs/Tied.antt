@@ -409,7 +409,7 @@ module _ (setup : Setup) (r : Relation) where
   turn_on real calls before heard after sent tied is unraised fresh (inl stays) = rests setup r before after sent (same_tied r before after stays.link tied) stays.calm
   turn_on real calls before heard after sent tied is unraised fresh (inr (inl makes)) =
       rests setup r before after sent
-      (λ l is_l. ap (λ (k : RelationState). k.flow.alarms) (some_is l (made_of makes.request makes.partner makes.rows) (sym is_l ∙ makes.made)) ∙ fresh makes) makes.calm
+      (λ l is_l. ap (λ (k : RelationState). k.flow.alarms) (some_is l (made_of makes.request makes.partner makes.rows makes.starting) (sym is_l ∙ makes.made)) ∙ fresh makes) makes.calm
   turn_on real calls before heard after sent tied is unraised fresh (inr (inr (inl raises))) = absurd (subst (λ (h : Heard). IsUnraised h) raises.is unraised)
   turn_on real calls before heard after sent tied is unraised fresh (inr (inr (inr (inl acked)))) = acks_on before heard after sent tied is acked
   turn_on real calls before heard after sent tied is unraised fresh (inr (inr (inr (inr (inl came))))) = data_on before heard after sent tied is came

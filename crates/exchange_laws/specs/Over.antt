@@ -38,7 +38,10 @@ module _ {F : Type 0} where
   raised_with world (move.Deliver end number) = []
   raised_with world (move.Tick end) = []
   raised_with world (move.Input slot subslot value) = []
+  raised_with world (move.Status slot subslot is_good) = []
+  raised_with world move.Ready = []
   raised_with world (move.Give slot subslot value) = []
+  raised_with world (move.OutputStatus slot subslot is_good) = []
   raised_with world move.Stop = []
 
   -- the alarms raised over a run, in order
@@ -83,7 +86,10 @@ module _ {F : Type 0} where
   taken_with world (move.Tick end) = []
   taken_with world (move.Input slot subslot value) = []
   taken_with world (move.Alarm slot subslot octets) = []
+  taken_with world (move.Status slot subslot is_good) = []
+  taken_with world move.Ready = []
   taken_with world (move.Give slot subslot value) = []
+  taken_with world (move.OutputStatus slot subslot is_good) = []
   taken_with world move.Stop = []
 
   -- the alarms accepted over a run, in order

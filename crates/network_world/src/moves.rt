@@ -21,8 +21,14 @@ pub enum Move {
     Input(u16, u16, Bytes),
     /// The device's application raises a process alarm of the submodule in this slot and subslot, with these octets.
     Alarm(u16, u16, Bytes),
+    /// The device's application says whether the inputs of the submodule in this slot and subslot are good.
+    Status(u16, u16, bool),
+    /// The device's application says that it is ready.
+    Ready,
     /// The controller's application sets the output of the submodule in this slot and subslot.
     Give(u16, u16, Bytes),
+    /// The controller's application says whether the output of the submodule in this slot and subslot is good.
+    OutputStatus(u16, u16, bool),
     /// The controller's application stops it.
     Stop,
 }

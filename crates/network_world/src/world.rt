@@ -184,9 +184,18 @@ fn happen<F: Flash<S>, const S: usize>(
             let alarm = DeviceEvent::Alarm(*slot, *subslot, bytes_of(octets.as_slice()));
             happen_at_device(device, sent, &alarm);
         }
+        Move::Status(slot, subslot, is_good) => {
+            let status = DeviceEvent::Status(*slot, *subslot, *is_good);
+            happen_at_device(device, sent, &status);
+        }
+        Move::Ready => happen_at_device(device, sent, &DeviceEvent::Ready),
         Move::Give(slot, subslot, value) => {
             let output = ControllerEvent::Give(*slot, *subslot, bytes_of(value.as_slice()));
             happen_at_controller(controller, sent, &output);
+        }
+        Move::OutputStatus(slot, subslot, is_good) => {
+            let status = ControllerEvent::Status(*slot, *subslot, *is_good);
+            happen_at_controller(controller, sent, &status);
         }
         Move::Stop => happen_at_controller(controller, sent, &ControllerEvent::Stop),
     }

@@ -16,7 +16,6 @@ use Rattle.relations.specs.declared.phase.Phase.TheVariants.{Exchanging}
 use Rattle.relations.specs.declared.farewell.Farewell.{Farewell}
 use Rattle.relations.specs.declared.phase.Phase.{Phase}
 use Rattle.relations.specs.RelationState.{RelationState, phase_of}
-use Rattle.relations.specs.Farewells.{farewell_of}
 use Rattle.relations.specs.Timers.{ending_of, unit_later, due_of}
 use Rattle.relations.specs.Runs.{unit_over, units_over, EndsBehind, IsPatientFor, IsHeldFor, IsGivenUp}
 use Rattle.relations.proofs.Kept.{updated_on, updated_off, due_off, same_farewell}

@@ -1,14 +1,13 @@
 -- Units of time, one by one.
-use Rattle.std.proofs.Common.{◌≡◌, ◌+◌, ◌*◌, ◌%◌, ◌<◌, ◌≤◌, ◌==◌, ◌&&◌, ℕ, zero, suc, Bool, true, false, nat_le, refl, ap, ◌∙◌, arith, add-one, Option, Some, None, if◌then◌else◌}
+use Rattle.std.proofs.Common.{◌≡◌, ◌+◌, ◌*◌, ◌%◌, ◌<◌, ◌≤◌, ◌==◌, ℕ, zero, suc, true, false, nat_le, refl, ap, ◌∙◌, arith, add-one, Option, Some, None, if◌then◌else◌}
 use Rattle.std.proofs.lemmas.Bool.Decides.{nat_tests}
 use Rattle.connect_requests.specs.Request.{Request}
 use Rattle.relations.specs.declared.phase.Phase.{Phase}
-use Rattle.relations.specs.declared.phase.Phase.TheVariants.{Started, Awaiting, Exchanging}
+use Rattle.relations.specs.declared.phase.Phase.TheVariants.{Started, Preparing, Awaiting, Exchanging}
 use Rattle.pn_alarms.specs.declared.abort.Abort.{Abort}
 use Rattle.pn_alarms.specs.declared.abort.Abort.TheVariants.{Activity}
 use Rattle.pn_alarms.specs.Numbers.{send_number, ack_number}
 use Rattle.relations.specs.declared.farewell.Farewell.{Farewell}
-use Rattle.relations.specs.Timers.{Due}
 use Rattle.relations.specs.RelationState.{RelationState, phase_of, is_awaiting}
 use Rattle.relations.specs.Farewells.{farewell_of}
 use Rattle.relations.specs.Timers.{is_timed, ending_of, is_again, limit_of, waited_later, inactive_later, unit_later, due_by, due_of}
@@ -33,6 +32,7 @@ pub record Stands (link : RelationState) (units : ℕ) : Type 0 where
 
 timed_where : (phase : Phase) → is_awaiting phase ≡ true → is_timed phase ≡ true
 timed_where Started h = refl
+timed_where Preparing h = refl
 timed_where Awaiting h = refl
 timed_where Exchanging h = cc
 

@@ -1,5 +1,5 @@
 -- Several units of time at once, before the next one that brings something to a relation.
-use Rattle.std.proofs.Common.{◌≡◌, ◌+◌, ◌*◌, ◌-◌, ◌<◌, ◌≤◌, ◌==◌, ◌&&◌, ℕ, zero, suc, Bool, true, false, nat_le, refl, ap, ◌∙◌, arith, Option, Some, None, if◌then◌else◌}
+use Rattle.std.proofs.Common.{◌≡◌, ◌+◌, ◌-◌, ◌<◌, ◌==◌, ◌&&◌, ℕ, zero, suc, Bool, false, nat_le, refl, ap, ◌∙◌, arith, Option, Some, None, if◌then◌else◌}
 use Rattle.std.specs.Prelude.{min, max}
 use Rattle.std.proofs.lemmas.Bool.{ne_eqb}
 use Rattle.std.proofs.lemmas.Bool.Decides.{nat_tests}
@@ -18,16 +18,16 @@ use Rattle.relations.specs.exchange.Flow.{Flow}
 use Rattle.relations.specs.exchange.Leaps.{BringNothing, nothing_brought}
 use Rattle.relations.specs.exchange.Units.{flow_later, tick_of}
 use Rattle.relations.specs.declared.phase.Phase.{Phase}
-use Rattle.relations.specs.declared.phase.Phase.TheVariants.{Started, Awaiting, Exchanging}
-use Rattle.relations.specs.RelationState.{HasBegunIn, RelationState, is_awaiting, is_exchanging}
-use Rattle.relations.specs.Leaps.{NothingDueFor, due_within, inactive_by, inactive_in, link_due_in, ready_in, waited_by}
+use Rattle.relations.specs.declared.phase.Phase.TheVariants.{Started, Preparing, Awaiting, Exchanging}
+use Rattle.relations.specs.RelationState.{HasBegunIn, RelationState, is_awaiting}
+use Rattle.relations.specs.Leaps.{NothingDueFor, inactive_by, inactive_in, link_due_in, ready_in, waited_by}
 use Rattle.relations.specs.Runs.{unit_over, units_over}
 use Rattle.relations.specs.Timers.{Due, due_by, due_in, due_of, ending_of, is_again, is_timed, limit_of, nothing, unit_later}
 use Rattle.relations.proofs.Kept.{updated_on}
 
 -- ---- the exchange
 
-pub flow_after : (flow : Flow) (units : ℕ) → after flow_later units flow ≡ record { cyclic = after cyclic_later units flow.cyclic; alarms = after end_later units flow.alarms }
+pub flow_after : (flow : Flow) (units : ℕ) → after flow_later units flow ≡ record { cyclic = after cyclic_later units flow.cyclic; alarms = after end_later units flow.alarms; marks = flow.marks }
 flow_after flow zero = refl
 flow_after flow (suc units) = ap flow_later (flow_after flow units)
 
@@ -76,17 +76,21 @@ no_ending : (phase : Phase) (limit inactive units : ℕ) (brought : Brought) →
     → ending_at phase limit (inactive_by phase units inactive) brought ≡ None
 no_ending Started limit inactive units brought before none =
     ap (λ (b : Bool). let o : Option Abort = if b then Some Activity else None in o) (le_false limit (inactive + units + 1) (timer_left limit inactive units before))
+no_ending Preparing limit inactive units brought before none =
+    ap (λ (b : Bool). let o : Option Abort = if b then Some Activity else None in o) (le_false limit (inactive + units + 1) (timer_left limit inactive units before))
 no_ending Awaiting limit inactive units brought before none =
     ap (λ (b : Bool). let o : Option Abort = if b then Some Activity else None in o) (le_false limit (inactive + units + 1) (timer_left limit inactive units before))
 no_ending Exchanging limit inactive units brought before none = ap (λ (b : Brought). b.ending) none
 
 not_again : (phase : Phase) (waited units : ℕ) → suc units < ready_in phase waited → (is_awaiting phase && (waited_by phase units waited + 1 == 32000)) ≡ false
 not_again Started waited units before = refl
+not_again Preparing waited units before = refl
 not_again Awaiting waited units before = ne_eqb (waited + units + 1) 32000 (λ e. omega (arith, e, before))
 not_again Exchanging waited units before = refl
 
 inactive_next : (phase : Phase) (inactive units : ℕ) → (if is_timed phase then inactive_by phase units inactive + 1 else inactive_by phase units inactive) ≡ inactive_by phase (suc units) inactive
 inactive_next Started inactive units = omega arith
+inactive_next Preparing inactive units = omega arith
 inactive_next Awaiting inactive units = omega arith
 inactive_next Exchanging inactive units = refl
 
@@ -94,6 +98,7 @@ waited_next : (phase : Phase) (waited units : ℕ) → suc units < ready_in phas
     → (if (is_awaiting phase && (waited_by phase units waited + 1 == 32000)) then 0 else (if is_awaiting phase then waited_by phase units waited + 1 else waited_by phase units waited))
     ≡ waited_by phase (suc units) waited
 waited_next Started waited units before = refl
+waited_next Preparing waited units before = refl
 waited_next Awaiting waited units before =
     let one : waited + units + 1 ≡ waited + suc units = omega arith in
     ap (λ (b : Bool). if b then 0 else waited + units + 1) (not_again Awaiting waited units before) ∙ one
@@ -101,11 +106,13 @@ waited_next Exchanging waited units before = refl
 
 inactive_none : (phase : Phase) (inactive : ℕ) → inactive ≡ inactive_by phase 0 inactive
 inactive_none Started inactive = omega arith
+inactive_none Preparing inactive = omega arith
 inactive_none Awaiting inactive = omega arith
 inactive_none Exchanging inactive = refl
 
 waited_none : (phase : Phase) (waited : ℕ) → waited ≡ waited_by phase 0 waited
 waited_none Started waited = refl
+waited_none Preparing waited = refl
 waited_none Awaiting waited = omega arith
 waited_none Exchanging waited = refl
 

@@ -14,6 +14,7 @@ use Rattle.connect_requests.specs.declared.parts.Iocr.{Iocr}
 use Rattle.connect_requests.specs.Request.{Request}
 use Rattle.connect_requests.specs.Handled.{request_of, request_within}
 use Rattle.relations.specs.declared.phase.Partner.{Partner}
+use Rattle.relations.specs.exchange.Marks.{Starting}
 use Rattle.relations.specs.RelationState.{RelationState, uuid_of}
 use Rattle.relations.specs.Phases.{Handled, Made, Unmoved, differing_octets}
 
@@ -64,6 +65,6 @@ connect_answer identity real smallest link blocks =
     connect_within smallest link blocks >>= λ request. Ok (connect_blocks identity request (differing_of request real))
 
 -- The outcome of the Connect.
-abbrev pub making : Real → Partner → Result Request CallFault → Handled
-making real partner (Ok request) = Made request partner (rows_of request real)
-making real partner (Err fault) = Unmoved
+abbrev pub making : Real → Partner → Starting → Result Request CallFault → Handled
+making real partner starting (Ok request) = Made request partner (rows_of request real) starting
+making real partner starting (Err fault) = Unmoved

@@ -1,16 +1,18 @@
 -- What a relation exchanges: cyclic frames, inputs, alarms, and the PDUs of its partner.
-use Rattle.std.specs.Prelude.{ℕ, List, Option, Some, None}
+use Rattle.std.specs.Prelude.{ℕ, Bool, List, Option, Some, None}
 use Rattle.pn_values.specs.declared.mac.Mac.{Mac}
 use Rattle.pn_values.specs.declared.real.RealModule.{RealModule}
 use Rattle.pn_alarms.specs.declared.device.PduFate.{PduFate}
 use Rattle.pn_alarms.specs.declared.device.PduFate.TheVariants.{Data, Done, Ignored, Aborted}
 use Rattle.pn_alarms.specs.Message.{ToDevice}
 use Rattle.pn_alarms.specs.Device.{heard_as}
+use Rattle.cyclic_exchange.specs.declared.exchange.ProviderStatus.{ProviderStatus}
+use Rattle.cyclic_exchange.specs.Process.{provider_at}
 use Rattle.cyclic_exchange.specs.declared.received.Received.{Received}
 use Rattle.cyclic_exchange.specs.declared.received.Received.TheVariants.{Foreign, Short, Stale, Taken}
 use Rattle.relations.specs.exchange.Flow.{Flow}
 use Rattle.relations.specs.exchange.Received.{behind_frame, received_as}
-use Rattle.relations.specs.exchange.Process.{given_at, output_at}
+use Rattle.relations.specs.exchange.Process.{given_at, output_at, rated_at}
 use Rattle.relations.specs.exchange.Notices.{behind_message, raised_at}
 use Rattle.relations.specs.RelationState.{RelationState}
 use Rattle.relations.specs.Phases.{Handled, Ended, Exchanged, Unmoved}
@@ -41,6 +43,11 @@ abbrev pub given_to : ℕ → ℕ → List ℕ → Option RelationState → Opti
 given_to slot subslot value None = None
 given_to slot subslot value (Some link) = given_at link.flow slot subslot value
 
+-- The exchange after the application says that the inputs of a submodule are good or bad.
+abbrev pub rating : ℕ → ℕ → Bool → Option RelationState → Handled
+rating slot subslot is_good None = Unmoved
+rating slot subslot is_good (Some link) = Exchanged (rated_at link.flow slot subslot is_good)
+
 abbrev pub raised_to : List RealModule → ℕ → ℕ → List ℕ → Option RelationState → Option Flow
 raised_to real slot subslot octets None = None
 raised_to real slot subslot octets (Some link) = raised_at link.flow real slot subslot octets
@@ -49,6 +56,11 @@ raised_to real slot subslot octets (Some link) = raised_at link.flow real slot s
 abbrev pub output_in : ℕ → ℕ → Option RelationState → Option (List ℕ)
 output_in slot subslot None = None
 output_in slot subslot (Some link) = output_at link.flow slot subslot
+
+-- What the controller says of the output of a submodule in its last accepted frame.
+abbrev pub provider_in : ℕ → ℕ → Option RelationState → Option ProviderStatus
+provider_in slot subslot None = None
+provider_in slot subslot (Some link) = provider_at link.flow.cyclic slot subslot
 
 -- What happens to a PDU of the partner, and to the relation, which ERR ends.
 abbrev pub heard_by : ToDevice → Option RelationState → PduFate

@@ -1,4 +1,5 @@
 pub mod Options
+pub mod Statuses
 pub mod RelationState
 pub mod Farewells
 pub mod Timers

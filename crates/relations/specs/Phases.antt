@@ -1,5 +1,5 @@
 -- The phases of a relation: what moves it, and where to.
-use Rattle.std.specs.Prelude.{◌==◌, ℕ, List, [], length, Option, Some, None, Result, Ok, Err, option_map, if◌then◌else◌}
+use Rattle.std.specs.Prelude.{◌==◌, ℕ, Bool, List, [], length, Option, Some, None, Result, Ok, Err, option_map, if◌then◌else◌}
 use Rattle.block_fields.specs.modules.Lists.{Listed}
 use Rattle.module_blocks.specs.declared.module_diff.DiffModule.{DiffModule}
 use Rattle.module_blocks.specs.declared.module_diff.DiffSubmodule.{DiffSubmodule}
@@ -12,19 +12,23 @@ use Rattle.records.specs.declared.writes.taken.TakenRecord.{TakenRecord}
 use Rattle.records.specs.writes.Taken.{keep_of}
 use Rattle.pn_alarms.specs.declared.abort.Abort.{Abort}
 use Rattle.relations.specs.exchange.Flow.{Flow}
+use Rattle.relations.specs.exchange.Marks.{Starting}
 use Rattle.relations.specs.exchange.Opening.{begun_of, opened}
-use Rattle.relations.specs.declared.phase.Phase.TheVariants.{Started, Awaiting, Exchanging}
+use Rattle.relations.specs.declared.phase.Phase.{Phase}
+use Rattle.relations.specs.declared.phase.Phase.TheVariants.{Started, Preparing, Awaiting, Exchanging}
 use Rattle.relations.specs.declared.phase.Partner.{Partner}
-use Rattle.relations.specs.RelationState.{RelationState}
+use Rattle.relations.specs.RelationState.{RelationState, is_preparing}
 use Rattle.relations.specs.Timers.{ending_of, unit_later}
 
--- The outcome of an event. A Connect is accepted; PrmEnd is accepted; ApplicationReady was confirmed; another call that
--- names the relation is answered positively; one more parameter record is accepted, after which the records are these;
--- the exchange became this; a unit of time is over and ends nothing; the relation ended, by Release, a timeout, a
--- reset, the ERR of the controller, or because ApplicationReady was refused; or none of these.
+-- The outcome of an event. A Connect is accepted; PrmEnd is accepted, and the application says when it is ready or not;
+-- the application says that it is ready; ApplicationReady was confirmed; another call that names the relation is answered positively;
+-- one more parameter record is accepted, after which the records are these; the exchange became this; a unit of time is
+-- over and ends nothing; the relation ended, by Release, a timeout, a reset, the ERR of the controller, or because
+-- ApplicationReady was refused; or none of these.
 pub data Handled : Type 0 where
-  Made : (request : Request) → (partner : Partner) → (rows : Listed DiffModule DiffSubmodule) → Handled
-  Parameterized : Handled
+  Made : (request : Request) → (partner : Partner) → (rows : Listed DiffModule DiffSubmodule) → (starting : Starting) → Handled
+  Parameterized : (by_application : Bool) → Handled
+  Prepared : Handled
   Confirmed : Handled
   Named : Handled
   Took : (taken : List TakenRecord) → Handled
@@ -37,9 +41,9 @@ pub data Handled : Type 0 where
 abbrev pub differing_octets : Listed DiffModule DiffSubmodule → List ℕ
 differing_octets rows = if length rows.modules == 0 then [] else block_bytes (is.ModuleDiffBlock (record { api = 0; modules = rows }))
 
--- A relation that is established now, if these modules differ.
-abbrev pub made_of : Request → Partner → Listed DiffModule DiffSubmodule → RelationState
-made_of request partner rows = record {
+-- A relation that is established now, if these modules differ, and if the application says this of its inputs.
+abbrev pub made_of : Request → Partner → Listed DiffModule DiffSubmodule → Starting → RelationState
+made_of request partner rows starting = record {
   phase = Started;
   request = request;
   partner = partner;
@@ -47,12 +51,19 @@ made_of request partner rows = record {
   waited = 0;
   taken = [];
   differing = differing_octets rows;
-  flow = opened request rows;
+  flow = opened request rows starting;
 }
 
--- All its parameters are written, and ApplicationReady is sent.
-abbrev pub awaiting_from : RelationState → RelationState
-awaiting_from link = record link { phase = Awaiting; inactive = 0; waited = 0 }
+-- All its parameters are written. ApplicationReady is sent, unless the application says when it is ready.
+abbrev pub phase_behind : Bool → Phase
+phase_behind by_application = if by_application then Preparing else Awaiting
+
+abbrev pub parameterized_from : Bool → RelationState → RelationState
+parameterized_from by_application link = record link { phase = phase_behind by_application; inactive = 0; waited = 0 }
+
+-- If it waited for its application, the application is ready, and ApplicationReady is sent. The activity timer goes on.
+abbrev pub prepared_from : RelationState → RelationState
+prepared_from link = if is_preparing (Some link.phase) then record link { phase = Awaiting; waited = 0 } else link
 
 -- Data is exchanged.
 abbrev pub exchanging_from : RelationState → RelationState
@@ -72,8 +83,9 @@ with_flow flow link = record link { flow = flow }
 
 -- The outcome moves the relation.
 abbrev pub updated : Handled → Option RelationState → Option RelationState
-updated (Made request partner rows) link = Some (made_of request partner rows)
-updated Parameterized link = option_map awaiting_from link
+updated (Made request partner rows starting) link = Some (made_of request partner rows starting)
+updated (Parameterized by_application) link = option_map (parameterized_from by_application) link
+updated Prepared link = option_map prepared_from link
 updated Confirmed link = option_map exchanging_from link
 updated Named link = option_map restarted link
 updated (Took taken) link = option_map (with_taken taken) link

@@ -7,7 +7,7 @@ use Rattle.connect_requests.specs.Request.{Request}
 use Rattle.records.specs.declared.writes.taken.TakenRecord.{TakenRecord}
 use Rattle.relations.specs.exchange.Flow.{Flow}
 use Rattle.relations.specs.declared.phase.Phase.{Phase}
-use Rattle.relations.specs.declared.phase.Phase.TheVariants.{Started, Awaiting, Exchanging}
+use Rattle.relations.specs.declared.phase.Phase.TheVariants.{Started, Preparing, Awaiting, Exchanging}
 use Rattle.relations.specs.declared.phase.Partner.{Partner}
 
 -- A relation: its phase, what its Connect asked for and who sent that, how many units the activity timer has run, how
@@ -56,21 +56,39 @@ abbrev pub is_session : ℕ → Option RelationState → Bool
 is_session key None = false
 is_session key (Some link) = link.request.ar.session_key == key
 
--- Whether it waits for PrmEnd, and whether it waits for the answer to ApplicationReady.
+-- Whether it waits for PrmEnd, for its application, and for the answer to ApplicationReady.
 abbrev pub is_started : Option Phase → Bool
 is_started (Some Started) = true
+is_started (Some Preparing) = false
 is_started (Some Awaiting) = false
 is_started (Some Exchanging) = false
 is_started None = false
 
+abbrev pub is_preparing : Option Phase → Bool
+is_preparing (Some Started) = false
+is_preparing (Some Preparing) = true
+is_preparing (Some Awaiting) = false
+is_preparing (Some Exchanging) = false
+is_preparing None = false
+
+-- Whether PrmEnd was accepted.
+abbrev pub is_parameterized : Option Phase → Bool
+is_parameterized (Some Started) = false
+is_parameterized (Some Preparing) = true
+is_parameterized (Some Awaiting) = true
+is_parameterized (Some Exchanging) = true
+is_parameterized None = false
+
 abbrev pub is_awaiting : Phase → Bool
 is_awaiting Started = false
+is_awaiting Preparing = false
 is_awaiting Awaiting = true
 is_awaiting Exchanging = false
 
 -- Whether data is exchanged in a phase.
 abbrev pub is_exchanging : Phase → Bool
 is_exchanging Started = false
+is_exchanging Preparing = false
 is_exchanging Awaiting = false
 is_exchanging Exchanging = true
 

@@ -1,13 +1,13 @@
 -- Relations over many units of time.
-use Rattle.std.specs.Prelude.{◌≡◌, ◌+◌, ◌%◌, ◌==◌, ◌<◌, ℕ, Bool, zero, suc, true, false, List, [], ◌∷◌, Option, Some, None}
+use Rattle.std.specs.Prelude.{◌≡◌, ◌+◌, ◌%◌, ◌==◌, ◌<◌, ◌⊎◌, ℕ, Bool, zero, suc, true, false, List, [], ◌∷◌, Option, Some, None}
 use Rattle.pn_alarms.specs.declared.abort.Abort.{Abort}
 use Rattle.pn_alarms.specs.declared.abort.Abort.TheVariants.{Activity, DataHold, Other}
 use Rattle.pn_alarms.specs.Sending.{Sending}
-use Rattle.relations.specs.declared.phase.Phase.TheVariants.{Started, Awaiting, Exchanging}
+use Rattle.relations.specs.declared.phase.Phase.TheVariants.{Started, Preparing, Awaiting, Exchanging}
 use Rattle.relations.specs.RelationState.{RelationState, phase_of, is_awaiting}
 use Rattle.relations.specs.Farewells.{farewell_of}
 use Rattle.relations.specs.Timers.{due_of, is_again, is_timed, limit_of}
-use Rattle.relations.specs.Phases.{Handled, Made, Parameterized, Confirmed, Named, Took, Exchanged, Passed, Ended, Unmoved, updated, passing}
+use Rattle.relations.specs.Phases.{Handled, Made, Parameterized, Prepared, Confirmed, Named, Took, Exchanged, Passed, Ended, Unmoved, updated, passing}
 
 -- The relation one unit later, and several units later, without other events.
 abbrev pub unit_over : Option RelationState → Option RelationState
@@ -38,8 +38,9 @@ IsDueEachSecond = (link : RelationState) (units : ℕ) → is_awaiting link.phas
 -- The events that leave a relation in its phase: a unit that ends nothing, a call that is answered or refused, a record
 -- that is written, a frame.
 abbrev pub leaves_waiting : Handled → Bool
-leaves_waiting (Made request partner rows) = false
-leaves_waiting Parameterized = false
+leaves_waiting (Made request partner rows starting) = false
+leaves_waiting (Parameterized by_application) = false
+leaves_waiting Prepared = false
 leaves_waiting Confirmed = false
 leaves_waiting Named = true
 leaves_waiting (Took taken) = true
@@ -97,9 +98,17 @@ IsGivenUp = (link : RelationState) (units waited : ℕ) → link.phase ≡ Excha
 
 -- ---- from phase to phase
 
--- Only an accepted PrmEnd moves a relation from Started to Awaiting.
+-- Only an accepted PrmEnd moves a relation from Started on: to Awaiting, or to Preparing if the application says when it is
+-- ready.
 abbrev pub IsByPrmEnd : Type 0
-IsByPrmEnd = (handled : Handled) (link : Option RelationState) → phase_of link ≡ Some Started → phase_of (updated handled link) ≡ Some Awaiting → handled ≡ Parameterized
+IsByPrmEnd = (handled : Handled) (link : Option RelationState) → phase_of link ≡ Some Started
+    → (phase_of (updated handled link) ≡ Some Awaiting → handled ≡ Parameterized false)
+    × (phase_of (updated handled link) ≡ Some Preparing → handled ≡ Parameterized true)
+
+-- Only the application moves a relation from Preparing to Awaiting. An accepted PrmEnd would too, but it is refused there.
+abbrev pub IsByApplication : Type 0
+IsByApplication = (handled : Handled) (link : Option RelationState) → phase_of link ≡ Some Preparing → phase_of (updated handled link) ≡ Some Awaiting
+    → (handled ≡ Prepared) ⊎ (handled ≡ Parameterized false)
 
 -- Only the answer that confirms ApplicationReady moves a relation from Awaiting to Exchanging.
 abbrev pub IsByReady : Type 0

@@ -1,7 +1,7 @@
 -- What a unit of time, 31.25 microseconds, does to a relation.
 use Rattle.std.specs.Prelude.{◌≡◌, ◌⊎◌, ◌==◌, ◌+◌, ◌*◌, ◌&&◌, ℕ, Bool, true, false, nat_le, not, Option, Some, None, is_none, option_map, if◌then◌else◌}
 use Rattle.relations.specs.declared.phase.Phase.{Phase}
-use Rattle.relations.specs.declared.phase.Phase.TheVariants.{Started, Awaiting, Exchanging}
+use Rattle.relations.specs.declared.phase.Phase.TheVariants.{Started, Preparing, Awaiting, Exchanging}
 use Rattle.relations.specs.exchange.Units.{flow_later, tick_of}
 use Rattle.pn_alarms.specs.declared.abort.Abort.{Abort}
 use Rattle.pn_alarms.specs.declared.abort.Abort.TheVariants.{Activity, DataHold, Other}
@@ -14,6 +14,7 @@ use Rattle.relations.specs.Farewells.{farewell_of}
 -- The activity timer runs until data is exchanged.
 abbrev pub is_timed : Phase → Bool
 is_timed Started = true
+is_timed Preparing = true
 is_timed Awaiting = true
 is_timed Exchanging = false
 
@@ -33,7 +34,7 @@ ending_of link = if is_timed link.phase then (if is_over link then Some Activity
 -- The phase in which a timeout ends a relation: the activity timer only before data is exchanged, data hold and an
 -- alarm without an ACK only while data is exchanged.
 abbrev pub EndsIn : Abort → Option Phase → Type 0
-EndsIn Activity phase = (phase ≡ Some Started) ⊎ (phase ≡ Some Awaiting)
+EndsIn Activity phase = (phase ≡ Some Started) ⊎ ((phase ≡ Some Preparing) ⊎ (phase ≡ Some Awaiting))
 EndsIn DataHold phase = phase ≡ Some Exchanging
 EndsIn Other phase = phase ≡ Some Exchanging
 

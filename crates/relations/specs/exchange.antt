@@ -1,3 +1,4 @@
+pub mod Marks
 pub mod Flow
 pub mod Opening
 pub mod Units

@@ -1,9 +1,9 @@
 //! PrmEnd and Release (IEC 61158-6-10, 5.2.4.5).
 ghost use Rattle.std.specs.Prelude.{◌≡◌, ◌≤◌, [], IfErr, IfOk, OnOk, Err, Ok, Some};
 ghost use Rattle.wire.specs.Codec.{Gives};
-ghost use Rattle.relations.specs.declared.phase.Phase.TheVariants.{Started, Awaiting};
+ghost use Rattle.relations.specs.declared.phase.Phase.TheVariants.{Started};
 ghost use Rattle.relations.specs.Calls.{control_block, done_of, named_of, prm_end_of, release_of, prm_end_answer, release_answer};
-ghost use Rattle.relations.specs.Phases.{Parameterized, Ended, answered, updated};
+ghost use Rattle.relations.specs.Phases.{Parameterized, Ended, answered, phase_behind, updated};
 ghost use Rattle.relations.specs.RelationState.{phase_of};
 
 use crate::{Phase, Relation};
@@ -28,6 +28,17 @@ fn control_block(blocks: &[u8], kind: BlockType) -> Result<ControlBlock, CallFau
         Block::PrmEnd(block) => Ok(block),
         Block::Release(block) => Ok(block),
         _ => Err(CallFault::BlockForm),
+    }
+}
+
+/// The phase of a relation whose PrmEnd was accepted.
+fn phase_behind(by_application: bool) -> Phase
+    ensures { result ≡ phase_behind by_application }
+{
+    if by_application {
+        Phase::Preparing
+    } else {
+        Phase::Awaiting
     }
 }
 
@@ -58,12 +69,13 @@ impl Relation {
         Ok(())
     }
 
-    /// Handles PrmEnd, the block of a Control (operation 4): all parameters of a relation in `Started` are written, and
-    /// ApplicationReady must be sent. Writes the block of the answer into an empty list, or returns why the call is
-    /// refused.
+    /// Handles PrmEnd, the block of a Control (operation 4): all parameters of a relation in `Started` are written. Then
+    /// ApplicationReady must be sent, unless the application says when it is ready (`by_application`). Writes the block of
+    /// the answer into an empty list, or returns why the call is refused.
     #[tactic(auto, unfolding(crate::specs::Calls::prm_end_of, block_codec::specs::Block::block_size, block_codec::specs::Block::fields_of, block_fields::specs::Fields::body, block_fields::specs::Fields::version))]
     pub fn control<const N: usize>(
         &mut self,
+        by_application: bool,
         blocks: &[u8],
         answer: &mut ArrayVec<u8, N>,
     ) -> Result<(), CallFault>
@@ -71,9 +83,10 @@ impl Relation {
         requires room { 32 ≤ N }
         ensures done { IfOk result (λ _. prm_end_answer self.old blocks.now ≡ Ok answer.new.items) }
         ensures refused { IfErr result (λ fault. (prm_end_answer self.old blocks.now ≡ Err fault) × (answer.new.items ≡ [])) }
-        ensures state { self.new ≡ updated (answered Parameterized (prm_end_of self.old blocks.now)) self.old }
-        // It succeeds only in Started, and the relation is in Awaiting afterwards.
-        ensures phase { OnOk result ((phase_of self.old ≡ Some Started) × (phase_of self.new ≡ Some Awaiting)) }
+        ensures state { self.new ≡ updated (answered (Parameterized by_application) (prm_end_of self.old blocks.now)) self.old }
+        // It succeeds only in Started. Afterwards the relation is in Awaiting, or, if the application says when it is ready,
+        // in Preparing.
+        ensures phase { OnOk result ((phase_of self.old ≡ Some Started) × (phase_of self.new ≡ Some (phase_behind by_application))) }
     {
         let block = control_block(blocks, BlockType::PrmEnd)?;
         self.check_control(&block, PRM_END)?;
@@ -85,7 +98,7 @@ impl Relation {
         let done = done(block);
         let _size = control_len(&done);
         write_block(answer, &Block::PrmEndRes(done));
-        self.phase = Some(Phase::Awaiting);
+        self.phase = Some(phase_behind(by_application));
         self.inactive = 0;
         self.waited = 0;
         Ok(())

@@ -4,7 +4,8 @@ ghost use Rattle.arrayvec.specs.ArrayVec.{array_vec_len};
 ghost use Rattle.relations.specs.Connect.{connect_answer, connect_blocks, connect_within, iocr_answer, iocrs_answer, making};
 ghost use Rattle.relations.specs.Phases.{differing_octets, updated};
 
-use crate::{DeviceOptions, Partner, Phase, Relation};
+use crate::exchange::Starting;
+use crate::{Application, Partner, Phase, Relation};
 use arrayvec::ArrayVec;
 use block_codec::{AlarmCrBlockRes, ArBlockRes, Block, IocrBlockRes, write_block};
 use connect_blocks::{alarm_cr_block_res_len, ar_block_res_len, iocr_block_res_len};
@@ -103,30 +104,36 @@ impl Relation {
         &mut self,
         identity: &Identity,
         real: &Real,
-        options: &DeviceOptions,
+        application: Application<'_>,
         partner: Partner,
         blocks: &[u8],
         answer: &mut ArrayVec<u8, N>,
     ) -> Result<(), CallFault>
         requires empty { answer.old.items ≡ [] }
         requires room { 1236 ≤ N }
-        ensures done { IfOk result (λ _. connect_answer identity.now real.now options.now.smallest_interval self.old blocks.now
+        ensures done { IfOk result (λ _. connect_answer identity.now real.now application.entry.options.now.smallest_interval self.old blocks.now
             ≡ Ok answer.new.items) }
         ensures refused { IfErr result (λ fault.
-            (connect_answer identity.now real.now options.now.smallest_interval self.old blocks.now ≡ Err fault)
+            (connect_answer identity.now real.now application.entry.options.now.smallest_interval self.old blocks.now ≡ Err fault)
             × (answer.new.items ≡ [])) }
         ensures state { self.new ≡ updated (making real.now partner
-            (connect_within options.now.smallest_interval self.old blocks.now)) self.old }
+            (record { begin_bad = application.entry.options.now.inputs_begin_bad; statuses = application.entry.statuses.now })
+            (connect_within application.entry.options.now.smallest_interval self.old blocks.now)) self.old }
     {
         // Only one relation, and the controller that has it keeps it: a second controller must not take a running
         // station from the first.
         if let Some(_) = self.phase {
             return Err(refuse(&self.request.ar().uuid, blocks));
         }
-        self.request.read(options.smallest_interval, blocks)?;
+        self.request
+            .read(application.options.smallest_interval, blocks)?;
         let rows = diff(self.request.expected(), real);
         put_differing(&mut self.differing, &rows);
-        self.exchange.open(&self.request, &rows);
+        let starting = Starting {
+            begin_bad: application.options.inputs_begin_bad,
+            statuses: application.statuses,
+        };
+        self.exchange.open(&self.request, &rows, starting);
         // Parameters of an earlier relation do not belong to this one.
         self.taken.clear();
         self.partner = partner;

@@ -9,9 +9,11 @@ mod alarms;
 mod cyclic;
 mod data_exchange;
 mod laws;
+mod marks;
 mod opening;
 
 pub use alarms::OWN_REFERENCE;
 pub use cyclic_exchange::{Received, Route, Tick};
 pub use data_exchange::DataExchange;
 pub use laws::exchange_is_kept;
+pub use marks::{Mark, Starting};

@@ -1,12 +1,13 @@
 //! What a relation exchanges.
 ghost use Rattle.std.specs.Prelude.{◌≡◌, ◌≤◌, IfSome, Some, is_some, length, option_map, true};
 ghost use Rattle.relations.specs.declared.phase.Phase.TheVariants.{Exchanging};
-ghost use Rattle.relations.specs.Exchanged.{becoming, given_to, heard_by, hearing, output_in, raised_to, received_by, receiving};
+ghost use Rattle.relations.specs.Exchanged.{becoming, given_to, heard_by, hearing, output_in, provider_in, raised_to, rating, received_by, receiving};
 ghost use Rattle.relations.specs.RelationState.{flow_of, phase_of};
 ghost use Rattle.relations.specs.Phases.{updated};
 
 use crate::Relation;
 use crate::exchange::{DataExchange, Received};
+use cyclic_exchange::ProviderStatus;
 use pn_alarms::{Message, PduFate};
 use pn_values::{Mac, Real};
 
@@ -45,6 +46,15 @@ impl Relation {
         }
     }
 
+    /// Says that the inputs of a submodule are good or bad from now on, if there is a relation.
+    pub fn rate(&mut self, slot: u16, subslot: u16, is_good: bool)
+        ensures { self.new ≡ updated (rating slot subslot is_good self.old) self.old }
+    {
+        if self.phase.is_some() {
+            self.exchange.rate(slot, subslot, is_good);
+        }
+    }
+
     /// The output of a submodule, if there is a relation in which it has a place.
     pub(crate) fn placed_output(&self, slot: u16, subslot: u16) -> Option<&[u8]>
         ensures value { option_map (λ value. value.now) result ≡ output_in slot subslot self.now }
@@ -52,6 +62,17 @@ impl Relation {
     {
         match self.phase {
             Some(_) => self.exchange.output(slot, subslot),
+            None => None,
+        }
+    }
+
+    /// What the controller says of the output of a submodule in its last accepted frame: the IOPS and DataStatus. `None`
+    /// if there is no relation, if the output has no place in it, or if no frame was accepted yet.
+    pub fn provider(&self, slot: u16, subslot: u16) -> Option<ProviderStatus>
+        ensures { result ≡ provider_in slot subslot self.now }
+    {
+        match self.phase {
+            Some(_) => self.exchange.cyclic().provider(slot, subslot),
             None => None,
         }
     }

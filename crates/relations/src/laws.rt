@@ -1,5 +1,5 @@
 //! What holds for relations over many events.
-ghost use Rattle.relations.specs.Runs.{StandsUntil, EndsAt, IsByPrmEnd, IsByReady, IsDueEachSecond, IsDueWhateverComes, IsGivenUp};
+ghost use Rattle.relations.specs.Runs.{StandsUntil, EndsAt, IsByApplication, IsByPrmEnd, IsByReady, IsDueEachSecond, IsDueWhateverComes, IsGivenUp};
 ghost use Rattle.relations.specs.Runs.{IsHeldFor};
 
 /// The timers over any number of units without other events, and ApplicationReady with other events between. These are
@@ -26,8 +26,11 @@ pub fn time_is_kept()
 /// How a relation moves from phase to phase. This is a law of the definition that specifies each call of a relation;
 /// the function has no code.
 pub fn phases_are_kept()
-    // Only an accepted PrmEnd moves a relation from Started to Awaiting.
+    // Only an accepted PrmEnd moves a relation from Started to Awaiting, or, if the application says when it is ready, to
+    // Preparing.
     ensures ready { IsByPrmEnd }
+    // Only the application moves a relation from Preparing to Awaiting: PrmEnd is refused there.
+    ensures application { IsByApplication }
     // Only the answer that confirms ApplicationReady moves a relation from Awaiting to Exchanging.
     ensures exchanging { IsByReady }
 {}

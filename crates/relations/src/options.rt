@@ -1,4 +1,14 @@
 //! What the application of a device decides where the device is made.
+use crate::statuses::InputStatus;
+
+/// What the application of a device says: its options, and the statuses that it gave to its inputs.
+#[derive(Clone, Copy)]
+pub struct Application<'a> {
+    /// The options.
+    pub options: &'a DeviceOptions,
+    /// The statuses.
+    pub statuses: &'a [InputStatus],
+}
 
 /// The options of a device. The default is a device that decides everything by itself.
 #[derive(Clone, Copy, Debug, PartialEq, Eq)]
@@ -6,6 +16,11 @@ pub struct DeviceOptions {
     /// The smallest interval of cyclic frames, SendClockFactor times ReductionRatio, in units of 31.25 microseconds: 1 to
     /// 65,536. A Connect that asks for a smaller one is refused. 0 is as 1.
     pub smallest_interval: u32,
+    /// Whether the IOPS of a submodule with at least one octet of input is bad until its first input of the relation is
+    /// given.
+    pub inputs_begin_bad: bool,
+    /// Whether the application says when it is ready: ApplicationReady is sent then, and not with the answer to PrmEnd.
+    pub ready_by_application: bool,
 }
 
 impl Default for DeviceOptions {
@@ -14,10 +29,12 @@ impl Default for DeviceOptions {
 
     ghost is_default = { λ options. options ≡ default_options };
 
-    /// Any interval is accepted.
+    /// Any interval is accepted, inputs begin good, and the device is ready as soon as its parameters have ended.
     fn default() -> DeviceOptions {
         DeviceOptions {
             smallest_interval: 1,
+            inputs_begin_bad: false,
+            ready_by_application: false,
         }
     }
 }

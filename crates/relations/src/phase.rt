@@ -6,6 +6,9 @@ use pn_values::Mac;
 pub enum Phase {
     /// It waits for PrmEnd, the end of the parameters (CMDEV state W_PEIND).
     Started,
+    /// PrmEnd was accepted, and the application has not said yet that it is ready (CMDEV state W_ARDY). Only a device whose
+    /// application says so is ever in this phase.
+    Preparing,
     /// It waits for the answer to ApplicationReady (CMDEV state W_ARDYCNF).
     Awaiting,
     /// It waits for cyclic frames (CMDEV states WDATA and DATA).

@@ -1,11 +1,14 @@
 //! ApplicationReady, the call with which a device says that it has accepted its parameters (IEC 61158-6-10, 5.2.4.5).
-ghost use Rattle.std.specs.Prelude.{◌≡◌, ◌+◌, ◌≤◌, ◌++◌, option_map};
+ghost use Rattle.std.specs.Prelude.{◌≡◌, ◌+◌, ◌≤◌, ◌++◌, Some, false, option_map, true};
 ghost use Rattle.arrayvec.specs.ArrayVec.{array_vec_len};
 ghost use Rattle.block_codec.specs.Block.{block_bytes};
 ghost use Rattle.block_codec.specs.declared.block.Block.TheVariants.{ApplicationReady};
+ghost use Rattle.relations.specs.declared.phase.Phase.TheVariants.{Awaiting, Preparing};
+ghost use Rattle.relations.specs.Phases.{Prepared, updated};
 ghost use Rattle.relations.specs.Ready.{ready_of};
+ghost use Rattle.relations.specs.RelationState.{is_preparing, phase_of};
 
-use crate::{Partner, Relation};
+use crate::{Partner, Phase, Relation};
 use arrayvec::ArrayVec;
 use block_codec::{Block, ControlBlock, write_block};
 use connect_blocks::control_len;
@@ -41,6 +44,23 @@ impl Ready {
 }
 
 impl Relation {
+    /// The application is ready. Returns whether the relation waited for that, and ApplicationReady must be sent; if not,
+    /// nothing changes. The activity timer does not restart.
+    pub fn get_ready(&mut self) -> bool
+        ensures done { result ≡ is_preparing (phase_of self.old) }
+        ensures state { self.new ≡ updated Prepared self.old }
+        ensures refused { result ≡ false → self.new ≡ self.old }
+        // It counts only after PrmEnd, and only once.
+        ensures phase { result ≡ true → (phase_of self.old ≡ Some Preparing) × (phase_of self.new ≡ Some Awaiting) }
+    {
+        if !matches!(self.phase, Some(Phase::Preparing)) {
+            return false;
+        }
+        self.phase = Some(Phase::Awaiting);
+        self.waited = 0;
+        true
+    }
+
     /// The call ApplicationReady of the relation, if there is one: to the station that sent its Connect, with the
     /// ARUUID as activity.
     pub fn ready(&self) -> Option<Ready>

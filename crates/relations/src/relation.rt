@@ -2,7 +2,7 @@
 ghost use Rattle.std.specs.Prelude.{◌≡◌, ◌≤◌, Err, IfErr, IsOk, None, OnOk, if◌then◌else◌, length, option_map};
 ghost use Rattle.relations.specs.Phases.{Ended, Named, Unmoved, answered, keeping, updated, taking};
 ghost use Rattle.relations.specs.Farewells.{farewell_of};
-ghost use Rattle.relations.specs.RelationState.{IsInStep, differing_in, is_alarm_of, is_named, phase_of, taken_of, uuid_of};
+ghost use Rattle.relations.specs.RelationState.{IsInStep, differing_in, is_alarm_of, is_named, is_parameterized, phase_of, taken_of, uuid_of};
 
 use crate::exchange::{DataExchange, OWN_REFERENCE};
 use crate::{Farewell, Partner, Phase};
@@ -84,6 +84,16 @@ impl Relation {
         ensures step { IsInStep self.now }
     {
         self.phase
+    }
+
+    /// Whether the relation has accepted PrmEnd, so that its parameter records are complete.
+    pub fn parameters_end(&self) -> bool
+        ensures { result ≡ is_parameterized (phase_of self.now) }
+    {
+        matches!(
+            self.phase,
+            Some(Phase::Preparing | Phase::Awaiting | Phase::Exchanging)
+        )
     }
 
     /// The ARUUID of the relation, if there is one.

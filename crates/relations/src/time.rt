@@ -74,7 +74,7 @@ fn is_timed(phase: Phase) -> bool
     ensures { result ≡ is_timed phase }
 {
     match phase {
-        Phase::Started | Phase::Awaiting => true,
+        Phase::Started | Phase::Preparing | Phase::Awaiting => true,
         Phase::Exchanging => false,
     }
 }
@@ -85,7 +85,7 @@ fn is_awaiting(phase: Phase) -> bool
 {
     match phase {
         Phase::Awaiting => true,
-        Phase::Started | Phase::Exchanging => false,
+        Phase::Started | Phase::Preparing | Phase::Exchanging => false,
     }
 }
 

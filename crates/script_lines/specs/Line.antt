@@ -1,5 +1,5 @@
 -- The lines of a script, and the commands in them.
-use Rattle.std.specs.Prelude.{◌≡◌, ◌==◌, ◌||◌, ◌&&◌, take, drop, ℕ, zero, suc, Bool, nat_lt, nat_eq, List, [], ◌∷◌, length, slice_index, if◌then◌else◌, codes, Option, Some, None, Result, Ok, Err}
+use Rattle.std.specs.Prelude.{◌≡◌, ◌==◌, ◌||◌, ◌&&◌, take, drop, ℕ, zero, suc, Bool, true, false, nat_lt, nat_eq, List, [], ◌∷◌, length, slice_index, if◌then◌else◌, codes, Option, Some, None, Result, Ok, Err}
 use Rattle.std.specs.List.{slice_split, list_any}
 use Rattle.std.specs.Option.{option_map}
 use Rattle.std.specs.Cmp.Lexicographic.{pointwise}
@@ -9,24 +9,35 @@ use Rattle.flash_model.specs.declared.flash.Order.{Order}
 use Rattle.flash_model.specs.declared.flash.Order.TheVariants.{Cut, Fault}
 use Rattle.script_lines.specs.Numbers.{number_of, repeated}
 use Rattle.hex.specs.declared.error.FromHexError.{FromHexError}
+use Rattle.script_lines.specs.declared.command.Choice.{Choice}
+use Rattle.script_lines.specs.declared.command.Choice.TheVariants.{InputsBad, ReadyLater, Interval}
 use Rattle.script_lines.specs.declared.command.Words.{Words}
 use Rattle.script_lines.specs.declared.command.Words.TheVariants.{One, Two, Three, Four, More}
 
--- The commands of a script: hand in these bytes, switch the power off and on again, let time pass, show the settings,
--- order the flash to fail, set the input of the submodule in a slot and subslot, or raise an alarm of it with these
--- octets; make a plan, start a controller with this ARUUID and activity UUID at the other end, set an output of the
--- controller, end the relation, hand over the frames that wait.
+-- The commands of a script: hand in these bytes, switch the power off and on again, let time pass unit by unit or by
+-- leaps, show the settings or when something is due, set an option for the next restart, say that the application is ready,
+-- order the flash to fail, set the input of the submodule in a slot and subslot, raise an alarm of it with these octets, say
+-- whether its inputs are good, or show what the controller says of its output; make a plan, start a controller with this
+-- ARUUID and activity UUID at the other end, set an output of the controller or say whether it is good, end the relation,
+-- hand over the frames that wait.
 pub data Command : Type 0 where
   Frame : (bytes : List ℕ) → Command
   Restart : Command
   Tick : (units : ℕ) → Command
+  Elapse : (units : ℕ) → Command
   Show : Command
+  Due : Command
+  Choose : (choice : Choice) → Command
+  Ready : Command
   Arm : (order : Order) → Command
   Input : (slot : ℕ) → (subslot : ℕ) → (bytes : List ℕ) → Command
   Alarm : (slot : ℕ) → (subslot : ℕ) → (bytes : List ℕ) → Command
+  Status : (slot : ℕ) → (subslot : ℕ) → (is_good : Bool) → Command
+  Provider : (slot : ℕ) → (subslot : ℕ) → Command
   Config : (catalogue : List ℕ) → Command
   Start : (ar : List ℕ) → (activity : List ℕ) → Command
   Give : (slot : ℕ) → (subslot : ℕ) → (bytes : List ℕ) → Command
+  OutputStatus : (slot : ℕ) → (subslot : ℕ) → (is_good : Bool) → Command
   Stop : Command
   Deliver : Command
 
@@ -71,18 +82,23 @@ abbrev pub bare_of_both : List ℕ → Option Command
 bare_of_both word = if is_text word (codes "deliver") then Some Deliver else (if is_text word (codes "stop") then Some Stop else None)
 
 abbrev pub bare : List ℕ → Option Command
-bare word = if is_text word (codes "restart") then Some Restart else (if is_text word (codes "show") then Some Show else bare_of_both word)
+bare word =
+    if is_text word (codes "restart") then Some Restart
+    else (if is_text word (codes "show") then Some Show
+    else (if is_text word (codes "due") then Some Due
+    else (if is_text word (codes "ready") then Some Ready else bare_of_both word)))
 
 -- Units of time, at least one.
-abbrev pub ticks_of : Option ℕ → Option Command
-ticks_of None = None
-ticks_of (Some zero) = None
-ticks_of (Some (suc more)) = Some (Tick (suc more))
+abbrev pub units_of : Option ℕ → Option ℕ
+units_of None = None
+units_of (Some zero) = None
+units_of (Some (suc more)) = Some (suc more)
 
 abbrev pub with_one : List ℕ → List ℕ → Option Command
 with_one word first =
     if is_text word (codes "frame") then option_map Frame (bytes_of first)
-    else (if is_text word (codes "tick") then ticks_of (number_of 1000000 first) else None)
+    else (if is_text word (codes "tick") then option_map Tick (units_of (number_of 1000000 first))
+    else (if is_text word (codes "elapse") then option_map Elapse (units_of (number_of 1000000 first)) else None))
 
 -- The mask of decoded bytes.
 abbrev pub mask_of : Result (List ℕ) FromHexError → Option (List ℕ)
@@ -110,22 +126,47 @@ abbrev pub start_of : Option (List ℕ) → Option (List ℕ) → Option Command
 start_of None activity = None
 start_of (Some ar) activity = option_map (Start ar) activity
 
+-- One of two words: the first means true, the second false.
+abbrev pub one_of : List ℕ → List ℕ → List ℕ → Option Bool
+one_of positive negative word = if is_text word positive then Some true else (if is_text word negative then Some false else None)
+
+-- The option of the device with this name and this value.
+abbrev pub choice_of : List ℕ → List ℕ → Option Choice
+choice_of name value =
+    if is_text name (codes "inputs-bad") then option_map InputsBad (one_of (codes "on") (codes "off") value)
+    else (if is_text name (codes "ready") then option_map ReadyLater (one_of (codes "on") (codes "off") value)
+    else (if is_text name (codes "interval") then option_map Interval (units_of (number_of 65536 value)) else None))
+
+-- The command that shows what the controller says of the output in a slot and subslot.
+abbrev pub provider_of : Option ℕ → Option ℕ → Option Command
+provider_of None subslot = None
+provider_of (Some slot) subslot = option_map (Provider slot) subslot
+
 abbrev pub with_two : List ℕ → List ℕ → List ℕ → Option Command
 with_two word first second =
     if is_text word (codes "start") then start_of (parsed first) (parsed second)
-    else ordered word (strike_of (number_of 4294967295 first) (mask_of (decode_of second)))
+    else (if is_text word (codes "option") then option_map Choose (choice_of first second)
+    else (if is_text word (codes "provider") then provider_of (number_of 65535 first) (number_of 65535 second)
+    else ordered word (strike_of (number_of 4294967295 first) (mask_of (decode_of second)))))
 
 -- The command of a word with a slot, a subslot and bytes.
-abbrev pub targeted : List ℕ → Option ℕ → Option ℕ → Option (List ℕ) → Option Command
-targeted word (Some slot) (Some subslot) (Some bytes) =
+abbrev pub targeted : List ℕ → ℕ → ℕ → Option (List ℕ) → Option Command
+targeted word slot subslot None = None
+targeted word slot subslot (Some bytes) =
     if is_text word (codes "input") then Some (Input slot subslot bytes)
     else (if is_text word (codes "alarm") then Some (Alarm slot subslot bytes) else (if is_text word (codes "give") then Some (Give slot subslot bytes) else None))
-targeted word (Some slot) (Some subslot) None = None
-targeted word (Some slot) None bytes = None
-targeted word None subslot bytes = None
+
+-- The command of a word with a slot, a subslot, and bytes or a status.
+abbrev pub placed : List ℕ → Option ℕ → Option ℕ → List ℕ → Option Command
+placed word None subslot third = None
+placed word (Some slot) None third = None
+placed word (Some slot) (Some subslot) third =
+    if is_text word (codes "status") then option_map (Status slot subslot) (one_of (codes "good") (codes "bad") third)
+    else (if is_text word (codes "output-status") then option_map (OutputStatus slot subslot) (one_of (codes "good") (codes "bad") third)
+    else targeted word slot subslot (bytes_of third))
 
 abbrev pub with_three : List ℕ → List ℕ → List ℕ → List ℕ → Option Command
-with_three word first second third = targeted word (number_of 65535 first) (number_of 65535 second) (bytes_of third)
+with_three word first second third = placed word (number_of 65535 first) (number_of 65535 second) third
 
 -- The command that some words spell.
 abbrev pub command_of : List (List ℕ) → Option Command

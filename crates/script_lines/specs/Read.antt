@@ -3,19 +3,26 @@ use Rattle.script_lines.specs.declared.command.Command.{Command as Code}
 use Rattle.script_lines.specs.declared.command.Command.TheVariants as code
 use Rattle.script_lines.specs.declared.command.Line.{Line as CodeLine}
 use Rattle.script_lines.specs.declared.command.Line.TheVariants as line
-use Rattle.script_lines.specs.Line.{Command, Frame, Restart, Tick, Show, Arm, Input, Alarm, Config, Start, Give, Stop, Deliver, Line, Unfit, Skipped, Asks, Unknown}
+use Rattle.script_lines.specs.Line.{Command, Frame, Restart, Tick, Elapse, Show, Due, Choose, Ready, Arm, Input, Alarm, Status, Provider, Config, Start, Give, OutputStatus, Stop, Deliver, Line, Unfit, Skipped, Asks, Unknown}
 
 abbrev pub command_read : Code → Command
 command_read (code.Frame bytes) = Frame bytes.now
 command_read code.Restart = Restart
 command_read (code.Tick units) = Tick units
+command_read (code.Elapse units) = Elapse units
 command_read code.Show = Show
+command_read code.Due = Due
+command_read (code.Choose choice) = Choose choice
+command_read code.Ready = Ready
 command_read (code.Arm order) = Arm order
 command_read (code.Input slot subslot bytes) = Input slot subslot bytes.now
 command_read (code.Alarm slot subslot bytes) = Alarm slot subslot bytes.now
+command_read (code.Status slot subslot is_good) = Status slot subslot is_good
+command_read (code.Provider slot subslot) = Provider slot subslot
 command_read (code.Config catalogue) = Config catalogue.now
 command_read (code.Start ar activity) = Start ar activity
 command_read (code.Give slot subslot bytes) = Give slot subslot bytes.now
+command_read (code.OutputStatus slot subslot is_good) = OutputStatus slot subslot is_good
 command_read code.Stop = Stop
 command_read code.Deliver = Deliver
 

@@ -1,16 +1,18 @@
--- The lines that show the settings and the lamp.
-use Rattle.std.specs.Prelude.{ℕ, List, [], ◌++◌, length, ◌==◌, slice_index, codes, decimal, flat_map, if◌then◌else◌, Option, Some, None}
+-- The lines that show the settings, the lamp, and what the controller says.
+use Rattle.std.specs.Prelude.{ℕ, List, [], ◌∷◌, ◌++◌, length, ◌==◌, slice_index, codes, decimal, flat_map, if◌then◌else◌, Option, Some, None}
+use Rattle.std.specs.Int.RustNames.{bit_and}
 use Rattle.hex.specs.Hex.{encode_lower}
 use Rattle.pn_values.specs.IpSuite.{Suite}
 use Rattle.pn_values.specs.declared.settings.Settings.{Settings}
 use Rattle.pn_values.specs.declared.real.Real.{Real}
 use Rattle.pn_values.specs.declared.real.RealModule.{RealModule}
 use Rattle.pn_values.specs.declared.real.RealSubmodule.{RealSubmodule}
+use Rattle.cyclic_exchange.specs.declared.exchange.ProviderStatus.{ProviderStatus}
 use Rattle.relations.specs.Outputs.{output_of}
 use Rattle.relations.specs.Exchanged.{output_in}
 use Rattle.relations.specs.RelationState.{RelationState}
 use Rattle.relations.specs.declared.phase.Phase.{Phase}
-use Rattle.relations.specs.declared.phase.Phase.TheVariants.{Started, Awaiting, Exchanging}
+use Rattle.relations.specs.declared.phase.Phase.TheVariants.{Started, Preparing, Awaiting, Exchanging}
 use Rattle.controller_core.specs.declared.state.State.{State}
 use Rattle.controller_core.specs.declared.state.State.TheVariants.{Looking, Addressing, Connecting, Writing, Ending, Waiting, Ended}
 use Rattle.controller_core.specs.declared.state.State.TheVariants as controller
@@ -39,6 +41,7 @@ text_line label bytes = printed (label ++ encode_lower bytes)
 abbrev pub phase_word : Option Phase → List ℕ
 phase_word None = codes "none"
 phase_word (Some Started) = codes "started"
+phase_word (Some Preparing) = codes "awaiting"
 phase_word (Some Awaiting) = codes "awaiting"
 phase_word (Some Exchanging) = codes "exchanging"
 
@@ -48,6 +51,10 @@ phase_line phase = printed (codes "phase " ++ phase_word phase)
 -- For how many units of time the lamp still flashes.
 unfoldable pub lamp_line : ℕ → List ℕ
 lamp_line units = printed (codes "lamp " ++ decimal units)
+
+-- The number of units up to and with the next one with which something happens at the device.
+unfoldable pub due_line : ℕ → List ℕ
+due_line units = printed (codes "due " ++ decimal units)
 
 -- The output of a submodule, in hex.
 abbrev pub shown_or : Option (List ℕ) → List ℕ
@@ -82,6 +89,17 @@ shown running stored phase lamp =
     ++ text_line (codes "im4 ") running.im4
     ++ phase_line phase
     ++ lamp_line lamp
+
+-- What the controller says of an output: its IOPS in hex, and whether it runs, by bit 4 of DataStatus, or is stopped; '-'
+-- if it said nothing.
+abbrev pub provider_word : Option ProviderStatus → List ℕ
+provider_word None = codes "-"
+provider_word (Some status) =
+    encode_lower (status.iops ∷ []) ++ (if bit_and status.data_status.0 16 == 16 then codes " run" else codes " stop")
+
+-- What the controller says of the output of a submodule.
+unfoldable pub provider_line : ℕ → ℕ → Option ProviderStatus → List ℕ
+provider_line slot subslot status = printed (codes "provider " ++ decimal slot ++ codes " " ++ decimal subslot ++ codes " " ++ provider_word status)
 
 -- The state of the controller.
 abbrev pub state_word : State → List ℕ

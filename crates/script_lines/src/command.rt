@@ -1,12 +1,13 @@
 // The lines of a script, and the commands in them.
-ghost use Rattle.std.specs.Prelude.{◌≡◌, ◌≢◌, ◌∷◌, ◌==◌, ◌<◌, ◌/◌, [], ℕ, List, nat_lt, true, false, length, IsErr, IfOk, IfSome};
+ghost use Rattle.std.specs.Prelude.{◌≡◌, ◌≢◌, ◌∷◌, ◌==◌, ◌<◌, ◌/◌, [], ℕ, List, nat_lt, true, false, codes, length, IsErr, IfOk, IfSome};
 ghost use Rattle.std.specs.List.{slice_split, list_any, position};
 ghost use Rattle.std.specs.Option.{option_map, option_copied};
 ghost use Rattle.std.specs.Str.Lines.{lines, strip_carriage_return};
 ghost use Rattle.hex.specs.Hex.{decode_of};
 ghost use Rattle.uuid.specs.Text.{parsed};
 ghost use Rattle.script_lines.specs.Line.{behind, AreWords, bytes_of, catalogue_in, command_in, command_of, meaning_of, words_of, bare};
-ghost use Rattle.script_lines.specs.Line.{bare_of_both, with_one, with_two, with_three, ordered, start_of, ticks_of, mask_of, strike_of};
+ghost use Rattle.script_lines.specs.Line.{bare_of_both, with_one, with_two, with_three, ordered, start_of, units_of, mask_of, strike_of};
+ghost use Rattle.script_lines.specs.Line.{Choose, Elapse, OutputStatus, Status, Tick, choice_of, one_of, provider_of, targeted};
 ghost use Rattle.script_lines.specs.Numbers.{number_of};
 ghost use Rattle.script_lines.specs.Read.{command_read, line_read};
 
@@ -19,8 +20,11 @@ use uuid::Uuid;
 /// The most bytes of a line, without its line end.
 const LONGEST_LINE: usize = 65_536;
 
-/// The most units of time of a line `tick`.
-const MOST_TICKS: u32 = 1_000_000;
+/// The most units of time of a line `tick` or `elapse`.
+const MOST_UNITS: u32 = 1_000_000;
+
+/// The longest interval of cyclic frames, in units of time.
+const LONGEST_INTERVAL: u32 = 65_536;
 
 /// A command of a script.
 #[derive(Clone, Copy)]
@@ -29,26 +33,51 @@ pub enum Command<'a> {
     Frame(&'a [u8]),
     /// Switches the device's power off and on again.
     Restart,
-    /// Lets this number of units of time pass.
+    /// Lets this number of units of time pass, one by one.
     Tick(u32),
+    /// Lets this number of units of time pass, by leaps of several units at once.
+    Elapse(u32),
+    /// Shows the number of units up to and with the next one with which something happens at the device.
+    Due,
     /// Shows the settings, the relation and the lamp.
     Show,
+    /// Sets an option of the device, from the next restart on.
+    Choose(Choice),
+    /// The device's application says that its parameters are checked and its data is valid.
+    Ready,
     /// Orders the flash to fail at a later call.
     Arm(Order),
     /// Sets the input of the submodule in this slot and subslot.
     Input(u16, u16, &'a [u8]),
     /// Raises an alarm of the submodule in this slot and subslot, with these octets.
     Alarm(u16, u16, &'a [u8]),
+    /// Sets whether the inputs of the submodule in this slot and subslot are good.
+    Status(u16, u16, bool),
+    /// Shows what the controller says of the output of the submodule in this slot and subslot.
+    Provider(u16, u16),
     /// Makes the plan of this catalogue, for the next controller.
     Config(&'a [u8]),
     /// Starts a controller with this ARUUID and this activity UUID at the other end.
     Start(Uuid, Uuid),
     /// Sets the controller's output for the submodule in this slot and subslot.
     Give(u16, u16, &'a [u8]),
+    /// Sets whether the controller's outputs for the submodule in this slot and subslot are good.
+    OutputStatus(u16, u16, bool),
     /// Makes the controller end the relation.
     Stop,
     /// Hands over the frames that wait: those for the device, then those for the controller.
     Deliver,
+}
+
+/// An option of the device, and its value.
+#[derive(Clone, Copy)]
+pub enum Choice {
+    /// Whether the IOPS of a submodule with inputs is bad until its first input of a relation is given.
+    InputsBad(bool),
+    /// Whether ApplicationReady is sent only when the application is ready.
+    ReadyLater(bool),
+    /// The smallest interval of cyclic frames that a Connect may ask for, in units of time.
+    Interval(u32),
 }
 
 /// The meaning of a line.
@@ -222,6 +251,10 @@ fn bare(word: &[u8]) -> Option<Command<'static>>
         Some(Command::Restart)
     } else if word == b"show".as_slice() {
         Some(Command::Show)
+    } else if word == b"due".as_slice() {
+        Some(Command::Due)
+    } else if word == b"ready".as_slice() {
+        Some(Command::Ready)
     } else {
         bare_of_both(word)
     }
@@ -250,18 +283,37 @@ fn with_one<'a>(
     if word == b"frame".as_slice() {
         Ok(decoded(first, buffer)?.map(Command::Frame))
     } else if word == b"tick".as_slice() {
-        Ok(ticks(first))
+        Ok(tick(first))
+    } else if word == b"elapse".as_slice() {
+        Ok(elapse(first))
     } else {
         Ok(None)
     }
 }
 
-fn ticks(digits: &[u8]) -> Option<Command<'static>>
-    ensures { option_map command_read result ≡ ticks_of (number_of 1000000 digits.now) }
+/// The command that lets units of time pass, one by one.
+fn tick(digits: &[u8]) -> Option<Command<'static>>
+    ensures { option_map command_read result ≡ option_map Tick (units_of (number_of 1000000 digits.now)) }
 {
-    match numbers::decimal(digits, MOST_TICKS) {
+    let units = units(digits, MOST_UNITS)?;
+    Some(Command::Tick(units))
+}
+
+/// The command that lets units of time pass, by leaps.
+fn elapse(digits: &[u8]) -> Option<Command<'static>>
+    ensures { option_map command_read result ≡ option_map Elapse (units_of (number_of 1000000 digits.now)) }
+{
+    let units = units(digits, MOST_UNITS)?;
+    Some(Command::Elapse(units))
+}
+
+/// A number of units of time, at least one and at most `most`.
+fn units(digits: &[u8], most: u32) -> Option<u32>
+    ensures { result ≡ units_of (number_of most digits.now) }
+{
+    match numbers::decimal(digits, most) {
         None | Some(0) => None,
-        Some(units) => Some(Command::Tick(units)),
+        Some(units) => Some(units),
     }
 }
 
@@ -274,9 +326,72 @@ fn with_two(
     ensures { IfOk result (λ command. option_map command_read command ≡ with_two word.now first.now second.now) }
 {
     if word == b"start".as_slice() {
-        return Ok(start(first, second));
+        Ok(start(first, second))
+    } else if word == b"option".as_slice() {
+        Ok(choose(first, second))
+    } else if word == b"provider".as_slice() {
+        Ok(provider(first, second))
+    } else {
+        ordered(word, first, second, buffer)
     }
-    ordered(word, first, second, buffer)
+}
+
+/// The command that sets the option of the device with this name to this value.
+fn choose(name: &[u8], value: &[u8]) -> Option<Command<'static>>
+    ensures { option_map command_read result ≡ option_map Choose (choice_of name.now value.now) }
+{
+    let choice = option_named(name, value)?;
+    Some(Command::Choose(choice))
+}
+
+/// The option of the device that two words spell: its name and its value.
+fn option_named(name: &[u8], value: &[u8]) -> Option<Choice>
+    ensures { result ≡ choice_of name.now value.now }
+{
+    if name == b"inputs-bad".as_slice() {
+        switch(value).map(Choice::InputsBad)
+    } else if name == b"ready".as_slice() {
+        switch(value).map(Choice::ReadyLater)
+    } else if name == b"interval".as_slice() {
+        units(value, LONGEST_INTERVAL).map(Choice::Interval)
+    } else {
+        None
+    }
+}
+
+/// Whether a word is `on`, and not `off`.
+fn switch(word: &[u8]) -> Option<bool>
+    ensures { result ≡ one_of (codes "on") (codes "off") word.now }
+{
+    if word == b"on".as_slice() {
+        Some(true)
+    } else if word == b"off".as_slice() {
+        Some(false)
+    } else {
+        None
+    }
+}
+
+/// Whether a word is `good`, and not `bad`.
+fn quality(word: &[u8]) -> Option<bool>
+    ensures { result ≡ one_of (codes "good") (codes "bad") word.now }
+{
+    if word == b"good".as_slice() {
+        Some(true)
+    } else if word == b"bad".as_slice() {
+        Some(false)
+    } else {
+        None
+    }
+}
+
+/// The command that shows what the controller says of an output.
+fn provider(first: &[u8], second: &[u8]) -> Option<Command<'static>>
+    ensures { option_map command_read result ≡ provider_of (number_of 65535 first.now) (number_of 65535 second.now) }
+{
+    let slot = place_number(first)?;
+    let subslot = place_number(second)?;
+    Some(Command::Provider(slot, subslot))
 }
 
 /// The command that starts a controller with this ARUUID and this activity UUID.
@@ -336,7 +451,42 @@ fn with_three<'a>(
     let Some(subslot) = place_number(second) else {
         return Ok(None);
     };
-    let Some(bytes) = decoded(third, buffer)? else {
+    if word == b"status".as_slice() {
+        Ok(status(slot, subslot, third))
+    } else if word == b"output-status".as_slice() {
+        Ok(output_status(slot, subslot, third))
+    } else {
+        targeted(word, slot, subslot, third, buffer)
+    }
+}
+
+/// The command that says whether the inputs of a submodule are good.
+fn status(slot: u16, subslot: u16, word: &[u8]) -> Option<Command<'static>>
+    ensures { option_map command_read result ≡ option_map (Status slot subslot) (one_of (codes "good") (codes "bad") word.now) }
+{
+    let is_good = quality(word)?;
+    Some(Command::Status(slot, subslot, is_good))
+}
+
+/// The command that says whether the controller's outputs for a submodule are good.
+fn output_status(slot: u16, subslot: u16, word: &[u8]) -> Option<Command<'static>>
+    ensures { option_map command_read result ≡ option_map (OutputStatus slot subslot) (one_of (codes "good") (codes "bad") word.now) }
+{
+    let is_good = quality(word)?;
+    Some(Command::OutputStatus(slot, subslot, is_good))
+}
+
+/// The command with the bytes of an input, of an alarm or of an output.
+fn targeted<'a>(
+    word: &[u8],
+    slot: u16,
+    subslot: u16,
+    digits: &[u8],
+    buffer: &'a mut Vec<u8>,
+) -> Result<Option<Command<'a>>, AllocError>
+    ensures { IfOk result (λ command. option_map command_read command ≡ targeted word.now slot subslot (bytes_of digits.now)) }
+{
+    let Some(bytes) = decoded(digits, buffer)? else {
         return Ok(None);
     };
     if word == b"input".as_slice() {

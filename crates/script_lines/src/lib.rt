@@ -7,4 +7,4 @@ mod numbers;
 pub mod render;
 pub mod show;
 
-pub use command::{Command, Line, first_line, meaning};
+pub use command::{Choice, Command, Line, first_line, meaning};

@@ -1,14 +1,16 @@
-//! The lines that show the settings, the relation, the lamp and the state of the controller. Each function appends one of
-//! them to a text.
+//! The lines that show the settings, the relation, the lamp, what the controller says of an output, and the state of the
+//! controller. Each function appends one of them to a text.
 ghost use Rattle.std.specs.Prelude.{◌≡◌, ◌++◌, ◌≤◌, length, OnOk, decimal};
-ghost use Rattle.script_lines.specs.Show.{name_line, suite_line, dotted, text_line, phase_line, phase_word, lamp_line, output_line, shown};
-ghost use Rattle.script_lines.specs.Show.{state_line, state_word};
+ghost use Rattle.script_lines.specs.Show.{name_line, suite_line, dotted, text_line, phase_line, phase_word, lamp_line, output_line, shown, due_line};
+ghost use Rattle.script_lines.specs.Show.{provider_line, provider_word, state_line, state_word};
 
 use crate::render::hex_digits;
+use bitflags::Flags;
 use controller_core::{Cause, State};
+use cyclic_data::DataStatus;
 use itoa::Buffer;
 use pn_values::{IpSuite, Settings, StationName};
-use relations::Phase;
+use relations::{Phase, ProviderStatus};
 use std::alloc::AllocError;
 
 /// All of the lines: the running settings, the stored name and suite, the phase of the application relation, and for how
@@ -108,7 +110,7 @@ fn phase_word(phase: Option<Phase>) -> &'static [u8]
     match phase {
         None => b"none",
         Some(Phase::Started) => b"started",
-        Some(Phase::Awaiting) => b"awaiting",
+        Some(Phase::Preparing | Phase::Awaiting) => b"awaiting",
         Some(Phase::Exchanging) => b"exchanging",
     }
 }
@@ -119,6 +121,16 @@ fn lamp_units(units: u32, text: &mut Vec<u8>) -> Result<(), AllocError>
     ensures { OnOk result (text.new.items ≡ text.old.items ++ lamp_line units) }
 {
     text.extend_from_slice(b"lamp ")?;
+    number(units, text)?;
+    text.extend_from_slice(b"\n")
+}
+
+/// The number of units up to and with the next one with which something happens at the device.
+#[tactic(auto, unfolding(crate::specs::Show::due_line))]
+pub fn due(units: u32, text: &mut Vec<u8>) -> Result<(), AllocError>
+    ensures { OnOk result (text.new.items ≡ text.old.items ++ due_line units) }
+{
+    text.extend_from_slice(b"due ")?;
     number(units, text)?;
     text.extend_from_slice(b"\n")
 }
@@ -136,6 +148,40 @@ pub fn output(slot: u16, subslot: u16, value: &[u8], text: &mut Vec<u8>) -> Resu
     text.extend_from_slice(b" ")?;
     hex_digits(value, text)?;
     text.extend_from_slice(b"\n")
+}
+
+/// What the controller says of the output of a submodule: the IOPS in hex, and whether it runs or is stopped; or `-`.
+#[tactic(auto, unfolding(crate::specs::Show::provider_line))]
+pub fn provider(
+    slot: u16,
+    subslot: u16,
+    status: Option<ProviderStatus>,
+    text: &mut Vec<u8>,
+) -> Result<(), AllocError>
+    ensures { OnOk result (text.new.items ≡ text.old.items ++ provider_line slot subslot status) }
+{
+    text.extend_from_slice(b"provider ")?;
+    number(u32::from(slot), text)?;
+    text.extend_from_slice(b" ")?;
+    number(u32::from(subslot), text)?;
+    text.extend_from_slice(b" ")?;
+    provider_word(status, text)?;
+    text.extend_from_slice(b"\n")
+}
+
+/// The IOPS in hex and a word for bit 4 of DataStatus. This is not a line of its own.
+fn provider_word(status: Option<ProviderStatus>, text: &mut Vec<u8>) -> Result<(), AllocError>
+    ensures { OnOk result (text.new.items ≡ text.old.items ++ provider_word status) }
+{
+    let Some(status) = status else {
+        return text.extend_from_slice(b"-");
+    };
+    hex_digits(&[status.iops], text)?;
+    if status.data_status.contains(DataStatus::PROVIDER_RUNS) {
+        text.extend_from_slice(b" run")
+    } else {
+        text.extend_from_slice(b" stop")
+    }
 }
 
 /// The state of the controller.

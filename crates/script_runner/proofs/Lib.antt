@@ -6,3 +6,4 @@ mod SessionOnePlan
 pub mod SessionFlashes
 pub mod SessionObeying
 pub mod SessionTicking
+pub mod SessionLeaping

@@ -1,17 +1,18 @@
 -- The effect of a line at both ends.
-use Rattle.std.proofs.Common.{◌≡◌, inl, ℕ, List, [], ◌∷◌, ◌++◌, length, arith, Bool, true, false, Option, None, Result, Ok, Err, OnOk, IfOk, IsErr, MatchResult, is_ok, if◌then◌else◌, refl, sym, subst, append-nil}
+use Rattle.std.proofs.Common.{◌≡◌, inl, ℕ, List, [], ◌∷◌, ◌++◌, length, arith, Bool, true, false, Option, None, Result, Ok, Err, OnOk, IfOk, IsErr, MatchResult, is_ok, if◌then◌else◌, refl, sym, ap, subst, append-nil, ◌∙◌}
 use Rattle.flash_model.specs.declared.flash.Order.{Order}
 use Rattle.flash_model.specs.declared.memory.MemoryFlash.{MemoryFlash}
 use Rattle.plans.specs.declared.parts.Parts.{Parts}
 use Rattle.configurator.specs.declared.fault.PlanFault.{PlanFault}
 use Rattle.configurator.specs.declared.fault.PlanFault.TheVariants.{OutOfMemory}
 use Rattle.device_core.specs.State.{State}
-use Rattle.script_lines.specs.Line.{Command, Frame, Restart, Tick, Show, Arm, Input, Alarm, Config, Start, Give, Stop, Deliver, Line, Unfit, Skipped, Asks, Unknown, meaning_of}
+use Rattle.script_lines.specs.Line.{Command, Frame, Restart, Tick, Elapse, Show, Due, Choose, Ready, Arm, Input, Alarm, Status, Provider, Config, Start, Give, OutputStatus, Stop, Deliver, Line, Unfit, Skipped, Asks, Unknown, meaning_of}
+use Rattle.script_lines.specs.declared.command.Choice.{Choice}
 use Rattle.script_runner.specs.declared.session.power.Power.{Power}
 use Rattle.script_runner.specs.declared.session.power.Power.TheVariants.{On, Off, Away}
-use Rattle.script_runner.specs.session.Ends.{Network, Station, Other}
+use Rattle.script_runner.specs.session.Ends.{Network, Station, Other, chosen}
 use Rattle.script_runner.specs.session.Power.{Held, IsRunning, is_off, refusal_of}
-use Rattle.script_runner.specs.session.Said.{Answer, Answers, Outcome, outcome_of, unchanged}
+use Rattle.script_runner.specs.session.Said.{Answer, Answers, Outcome, choose_answer, outcome_of, unchanged}
 use Rattle.script_runner.specs.session.Off.{Orders, TakesOrder}
 use Rattle.script_runner.specs.session.Session.{Are, Comes, IsDone, IsObeyed, Obeys}
 
@@ -44,6 +45,14 @@ empty_is_skipped (octet ∷ octets) none = absurd (omega (arith, none))
 -- A line that is skipped changes nothing.
 pub skipped_obeys : (network : Network) (held : Held) (before : List ℕ) → Are network held → Obeys (Answers (unchanged network)) held before before (Ok true)
 skipped_obeys network held before are = (refl, record { runs = are.0; waits = are.1; text = sym (append-nil before) })
+
+-- An option that is set changes nothing else, and prints nothing.
+pub chosen_obeyed : (network : Network) (choice : Choice) (power : Power) (far other : Other) (before : List ℕ) → IsRunning network.station power → far ≡ network.other → other ≡ chosen far choice → IsObeyed (choose_answer network choice) (record { power = power; other = other }) before before
+chosen_obeyed network choice power far other before runs same set = record {
+  runs = runs;
+  waits = set ∙ ap (λ (o : Other). chosen o choice) same;
+  text = sym (append-nil before);
+}
 
 -- A text was appended, if there was memory.
 pub appended : {E : Type 0} (done : Result (Unit {0}) E) (now before more : List ℕ) → now ≡ (if is_ok done then before ++ more else before) → OnOk done (now ≡ before ++ more)
@@ -85,12 +94,19 @@ untaken (Asks (Arm order)) held before = (refl, refl, refl)
 untaken (Asks (Frame bytes)) held before = tt
 untaken (Asks Restart) held before = tt
 untaken (Asks (Tick units)) held before = tt
+untaken (Asks (Elapse units)) held before = tt
 untaken (Asks Show) held before = tt
+untaken (Asks Due) held before = tt
+untaken (Asks (Choose choice)) held before = tt
+untaken (Asks Ready) held before = tt
 untaken (Asks (Input slot subslot bytes)) held before = tt
 untaken (Asks (Alarm slot subslot bytes)) held before = tt
+untaken (Asks (Status slot subslot is_good)) held before = tt
+untaken (Asks (Provider slot subslot)) held before = tt
 untaken (Asks (Config catalogue)) held before = tt
 untaken (Asks (Start ar activity)) held before = tt
 untaken (Asks (Give slot subslot bytes)) held before = tt
+untaken (Asks (OutputStatus slot subslot is_good)) held before = tt
 untaken (Asks Stop) held before = tt
 untaken (Asks Deliver) held before = tt
 
@@ -101,11 +117,18 @@ order_taken (Arm order) old new before now result orders = orders order refl
 order_taken (Frame bytes) old new before now result orders = tt
 order_taken Restart old new before now result orders = tt
 order_taken (Tick units) old new before now result orders = tt
+order_taken (Elapse units) old new before now result orders = tt
 order_taken Show old new before now result orders = tt
+order_taken Due old new before now result orders = tt
+order_taken (Choose choice) old new before now result orders = tt
+order_taken Ready old new before now result orders = tt
 order_taken (Input slot subslot bytes) old new before now result orders = tt
 order_taken (Alarm slot subslot bytes) old new before now result orders = tt
+order_taken (Status slot subslot is_good) old new before now result orders = tt
+order_taken (Provider slot subslot) old new before now result orders = tt
 order_taken (Config catalogue) old new before now result orders = tt
 order_taken (Start ar activity) old new before now result orders = tt
 order_taken (Give slot subslot bytes) old new before now result orders = tt
+order_taken (OutputStatus slot subslot is_good) old new before now result orders = tt
 order_taken Stop old new before now result orders = tt
 order_taken Deliver old new before now result orders = tt

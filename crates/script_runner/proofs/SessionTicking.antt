@@ -1,15 +1,13 @@
 -- Events at either end, one after the other.
-use Rattle.std.proofs.Common.{◌≡◌, ℕ, ◌-◌, ◌<◌, ◌≤◌, List, [], ◌∷◌, ◌++◌, suc, replicate, length, drop, append_assoc, append-nil, arith, refl, ap, subst, sym, ◌∙◌, Option, Some, None}
+use Rattle.std.proofs.Common.{◌≡◌, ℕ, ◌+◌, ◌-◌, ◌<◌, ◌≤◌, List, [], ◌∷◌, ◌++◌, zero, suc, replicate, length, drop, append_assoc, append-nil, arith, refl, ap, subst, sym, ◌∙◌, Option, Some, None}
 use Rattle.std.proofs.lemmas.Grind.{flat_map-append}
 use Rattle.std.proofs.lemmas.List.{drop_all}
 use Rattle.arrayvec.specs.ArrayVec.{ArrayVec}
 use Rattle.flash_model.specs.declared.memory.MemoryFlash.{MemoryFlash}
 use Rattle.device_frames.specs.declared.event.Event.{Event}
-use Rattle.device_frames.specs.declared.event.Event.TheVariants as event
 use Rattle.device_core.specs.State.{State}
 use Rattle.device_core.specs.Machine.{step_of}
 use Rattle.controller_core.specs.declared.event.Event.{Event as ControllerEvent}
-use Rattle.controller_core.specs.declared.event.Event.TheVariants as heard
 use Rattle.controller_core.specs.Machine.{Stepped as ControllerRun, step_of as controller_step}
 use Rattle.controller_core.specs.State.{Controlling}
 use Rattle.script_runner.specs.session.Ends.{Station, turned_to, Other, DeviceRun, IsRun, controller_run, device_run, frames_for_device, kept, octets_of, printed_for, with_sent}
@@ -51,6 +49,36 @@ sent_on far a b = ap (λ waiting. record far { to_controller = waiting }) (kept_
 sent_none : (far : Other) → with_sent far [] ≡ far
 sent_none far = ap (λ waiting. record far { to_controller = waiting }) (kept_none far.controller far.to_controller)
 
+-- ---- events, and then more
+
+abbrev and_run : List (List ℕ) → DeviceRun → DeviceRun
+and_run frames later = record { station = later.station; frames = frames ++ later.frames }
+
+abbrev ran_at : Station → List (List ℕ) → DeviceRun
+ran_at station frames = record { station = station; frames = frames }
+
+device_more : (now : Station) (events more : List Event) → device_run now (events ++ more) ≡ and_run (device_run now events).frames (device_run (device_run now events).station more)
+device_more now [] more = refl
+device_more now (event ∷ events) more =
+    let step = step_of [] now.device now.live event in
+    let first = device_run (turned_to now step.live) events in
+    let last = device_run first.station more in
+    ap (and_run step.frames) (device_more (turned_to now step.live) events more) ∙ ap (ran_at last.station) (sym (append_assoc step.frames first.frames last.frames))
+
+abbrev and_heard : List (List ℕ) → ControllerRun → ControllerRun
+and_heard frames later = record { controller = later.controller; frames = frames ++ later.frames }
+
+abbrev heard_at : Controlling → List (List ℕ) → ControllerRun
+heard_at controller frames = record { controller = controller; frames = frames }
+
+controller_more : (now : Controlling) (events more : List ControllerEvent) → controller_run now (events ++ more) ≡ and_heard (controller_run now events).frames (controller_run (controller_run now events).controller more)
+controller_more now [] more = refl
+controller_more now (event ∷ events) more =
+    let step = controller_step now event in
+    let first = controller_run step.controller events in
+    let last = controller_run first.controller more in
+    ap (and_heard step.frames) (controller_more step.controller events more) ∙ ap (heard_at last.controller) (sym (append_assoc step.frames first.frames last.frames))
+
 -- The state before the first event.
 pub underway_first : (events : List Event) (now : Station) (device : State (MemoryFlash 4096)) (far : Other) (before : List ℕ) → Runs now device → IsUnderway (device_run now events) events now device far far before before
 underway_first events now device far before runs = record {
@@ -77,6 +105,21 @@ underway_on whole event left now device after far other later before text more u
           ∙ ap (λ t. t ++ printed_for far.controller step.frames) underway.printed ∙ append_assoc before _ _ ∙ ap (λ t. before ++ t) (printed_on far.controller underway.sent step.frames);
     }
 
+-- The state after several more events.
+pub underway_run : (whole : DeviceRun) (events left : List Event) (now : Station) (device after : State (MemoryFlash 4096)) (far other later : Other) (before text more : List ℕ) → IsUnderway whole (events ++ left) now device far other before text → IsRunOf (device_run now events) after other later text more → IsUnderway whole left (device_run now events).station after far later before more
+underway_run whole events left now device after far other later before text more underway ran =
+    let run = device_run now events in
+    let all = device_more now events left in
+    record {
+      runs = ran.runs;
+      station = underway.station ∙ ap (λ (r : DeviceRun). r.station) all;
+      sent = underway.sent ++ run.frames;
+      frames = underway.frames ∙ ap (λ (r : DeviceRun). underway.sent ++ r.frames) all ∙ sym (append_assoc underway.sent run.frames (device_run run.station left).frames);
+      waits = ran.waits ∙ ap (λ o. with_sent o run.frames) underway.waits ∙ sent_on far underway.sent run.frames;
+      printed = ran.text ∙ ap (λ o. text ++ printed_for o.controller run.frames) underway.waits
+          ∙ ap (λ t. t ++ printed_for far.controller run.frames) underway.printed ∙ append_assoc before _ _ ∙ ap (λ t. before ++ t) (printed_on far.controller underway.sent run.frames);
+    }
+
 -- The state after all events.
 pub underway_all : (whole : DeviceRun) (left : List Event) (now : Station) (device : State (MemoryFlash 4096)) (far other : Other) (before text : List ℕ) → left ≡ [] → IsUnderway whole left now device far other before text → IsRunOf whole device far other before text
 underway_all whole left now device far other before text none underway =
@@ -93,6 +136,18 @@ pub some_left : (A : Type 0) (tick : A) (left : ℕ) → 0 < left → replicate 
 some_left A tick left some =
     let e : left ≡ suc (left - 1) = omega arith in
     ap (λ units. replicate units tick) e
+
+-- Some of the remaining units of time, and then the others.
+some_more : (A : Type 0) (tick : A) (units more : ℕ) → replicate (units + more) tick ≡ replicate units tick ++ replicate more tick
+some_more A tick zero more = let e : zero + more ≡ more = omega arith in ap (λ left. replicate left tick) e
+some_more A tick (suc units) more =
+    let e : suc units + more ≡ suc (units + more) = omega arith in
+    ap (λ left. replicate left tick) e ∙ ap (λ ticks. tick ∷ ticks) (some_more A tick units more)
+
+pub parted : (A : Type 0) (tick : A) (left units : ℕ) → units ≤ left → replicate left tick ≡ replicate units tick ++ replicate (left - units) tick
+parted A tick left units most =
+    let e : left ≡ units + (left - units) = omega arith in
+    ap (λ left. replicate left tick) e ∙ some_more A tick units (left - units)
 
 -- ---- frames that are handed to the device
 
@@ -142,6 +197,16 @@ hearing_on whole event left now after before waiting more hearing run =
       controller = hearing.controller ∙ ap (λ c. (controller_run c left).controller) (sym run.0);
       frames = hearing.frames ∙ sym (append_assoc (octets_of waiting) step.frames (controller_run step.controller left).frames)
           ∙ ap (λ t. t ++ (controller_run step.controller left).frames) (sym run.1) ∙ ap (λ c. octets_of more ++ (controller_run c left).frames) (sym run.0);
+    }
+
+pub hearing_run : (whole : ControllerRun) (events left : List ControllerEvent) (now after : Controlling) (before waiting more : List (ArrayVec ℕ)) → IsHearing whole (events ++ left) now before waiting → IsRun (controller_run now events) after waiting more → IsHearing whole left after before more
+hearing_run whole events left now after before waiting more hearing ran =
+    let run = controller_run now events in
+    let all = controller_more now events left in
+    record {
+      controller = hearing.controller ∙ ap (λ (r : ControllerRun). r.controller) all ∙ ap (λ c. (controller_run c left).controller) (sym ran.0);
+      frames = hearing.frames ∙ ap (λ (r : ControllerRun). octets_of waiting ++ r.frames) all ∙ sym (append_assoc (octets_of waiting) run.frames (controller_run run.controller left).frames)
+          ∙ ap (λ t. t ++ (controller_run run.controller left).frames) (sym ran.1) ∙ ap (λ c. octets_of more ++ (controller_run c left).frames) (sym ran.0);
     }
 
 pub heard_all : (whole : ControllerRun) (left : List ControllerEvent) (now : Controlling) (before waiting : List (ArrayVec ℕ)) → left ≡ [] → IsHearing whole left now before waiting → IsRun whole now before waiting

@@ -1,5 +1,5 @@
 -- The device's response to the Connect of a plan, and what its controller makes of it.
-use Rattle.std.proofs.Common.{◌≡◌, ◌==◌, ◌&&◌, ◌++◌, ℕ, Bool, true, List, [], ◌∷◌, Option, Some, None, Result, Ok, append_assoc, append-nil, refl, sym, ap, subst, ◌∙◌}
+use Rattle.std.proofs.Common.{◌≡◌, ◌==◌, ◌&&◌, ◌++◌, ℕ, Bool, true, false, List, [], ◌∷◌, Option, Some, None, Result, Ok, append_assoc, append-nil, refl, sym, ap, subst, ◌∙◌}
 use Rattle.std.specs.Prelude.{if◌then◌else◌}
 use Rattle.std.proofs.lemmas.Cmp.{nat_list_eq_equiv}
 use Rattle.pn_values.specs.declared.identity.Identity.{Identity}
@@ -47,7 +47,7 @@ answers_so setup identity device none =
     let address = device.values.running.suite.address in
     let link = device.rest.link in
     let rest = kept_behind identity device.rest call (answer_from address caller call Connect (connect_answer identity setup.plan.real 1 link blocks))
-    (updated (making setup.plan.real (partner_of caller) (connect_within 1 link blocks)) link) in
+    (updated (making setup.plan.real (partner_of caller) (record { begin_bad = false; statuses = device.rest.statuses }) (connect_within 1 link blocks)) link) in
     (rest, ap (λ (l : Option RelationState). Moves rest (answer_from address caller call Connect (connect_answer identity setup.plan.real 1 l blocks) ∷ [])) none)
 
 -- if the device reads the plan's request and no module differs, it responds with these blocks

@@ -8,7 +8,7 @@ use Rattle.settings_store.specs.Machine.{Outcome}
 use Rattle.connect_requests.specs.Request.{Request}
 use Rattle.records.specs.declared.writes.taken.TakenRecord.{TakenRecord}
 use Rattle.relations.specs.RelationState.{RelationState}
-use Rattle.device_frames.specs.Heard.{Heard, Ticks, Given, Raised}
+use Rattle.device_frames.specs.Heard.{Heard, Ticks, Given, Raised, Rated, Readied}
 use Rattle.device_core.specs.State.{Station, Live}
 use Rattle.device_core.specs.Machine.{heard_step}
 use Rattle.controller_frames.specs.declared.setup.Setup.{Setup}
@@ -208,8 +208,12 @@ module _ {F : Type 0} where
       happens_steps (move.Tick Controller) meant happens = does before after _ _ _ (λ steps. steps) (at_controller_steps on frames_are before after controller.Tick in_step meant happens)
       happens_steps (move.Input slot subslot value) meant happens = does before after _ _ _ (λ steps. steps) (at_device_steps before after (Given slot subslot value.items) in_step meant happens)
       happens_steps (move.Alarm slot subslot octets) meant happens = does before after _ _ _ (λ steps. steps) (at_device_steps before after (Raised slot subslot octets.items) in_step meant happens)
+      happens_steps (move.Status slot subslot is_good) meant happens = does before after _ _ _ (λ steps. steps) (at_device_steps before after (Rated slot subslot is_good) in_step meant happens)
+      happens_steps move.Ready meant happens = does before after _ _ _ (λ steps. steps) (at_device_steps before after Readied in_step meant happens)
       happens_steps (move.Give slot subslot value) meant happens =
           does before after _ _ _ (λ steps. steps) (at_controller_steps on frames_are before after (controller.Give slot subslot value) in_step meant happens)
+      happens_steps (move.OutputStatus slot subslot is_good) meant happens =
+          does before after _ _ _ (λ steps. steps) (at_controller_steps on frames_are before after (controller.Status slot subslot is_good) in_step meant happens)
       happens_steps move.Stop meant happens = does before after _ _ _ (λ steps. steps) (at_controller_steps on frames_are before after controller.Stop in_step meant happens)
 
 -- ---- the law

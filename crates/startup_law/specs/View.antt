@@ -7,7 +7,7 @@ use Rattle.records.specs.declared.writes.taken.TakenRecord.{TakenRecord}
 use Rattle.plans.specs.declared.parts.PlanRecord.{PlanRecord}
 use Rattle.startup_law.specs.request.Request.{request_for}
 use Rattle.device_frames.specs.declared.event.Event.TheVariants.{Frame}
-use Rattle.device_frames.specs.Heard.{Heard, Ticks, Given, Raised, heard_of}
+use Rattle.device_frames.specs.Heard.{Heard, Ticks, Given, Raised, Rated, Readied, heard_of}
 use Rattle.device_frames.specs.Sendable.{AreSendable}
 use Rattle.device_core.specs.State.{Station}
 use Rattle.device_core.specs.Machine.{heard_step}
@@ -58,7 +58,10 @@ move_of (move.Tick Device) = small.AtDevice
 move_of (move.Tick Controller) = small.AtController
 move_of (move.Input slot subslot value) = small.AtDevice
 move_of (move.Alarm slot subslot octets) = small.AtDevice
+move_of (move.Status slot subslot is_good) = small.AtDevice
+move_of move.Ready = small.AtDevice
 move_of (move.Give slot subslot value) = small.AtController
+move_of (move.OutputStatus slot subslot is_good) = small.AtController
 move_of move.Stop = small.AtController
 
 -- ---- what is heard as it is meant
@@ -94,5 +97,8 @@ IsMeant world (move.Tick Device) = IsMeantAtDevice world Ticks
 IsMeant world (move.Tick Controller) = IsMeantAtController world controller.Tick
 IsMeant world (move.Input slot subslot value) = IsMeantAtDevice world (Given slot subslot value.items)
 IsMeant world (move.Alarm slot subslot octets) = IsMeantAtDevice world (Raised slot subslot octets.items)
+IsMeant world (move.Status slot subslot is_good) = IsMeantAtDevice world (Rated slot subslot is_good)
+IsMeant world move.Ready = IsMeantAtDevice world Readied
 IsMeant world (move.Give slot subslot value) = IsMeantAtController world (controller.Give slot subslot value)
+IsMeant world (move.OutputStatus slot subslot is_good) = IsMeantAtController world (controller.Status slot subslot is_good)
 IsMeant world move.Stop = IsMeantAtController world controller.Stop

@@ -11,7 +11,7 @@ use Rattle.frame_codec.specs.Meaning.{Meaning, Content, RealTime, ArpPacket, Udp
 use Rattle.frame_codec.specs.Frame.{frame_of}
 use Rattle.settings_store.specs.Machine.{Outcome}
 use Rattle.device_frames.specs.declared.event.Event.{Event}
-use Rattle.device_frames.specs.declared.event.Event.TheVariants.{Frame, Tick, Input, Alarm}
+use Rattle.device_frames.specs.declared.event.Event.TheVariants.{Frame, Tick, Input, Alarm, Status, Ready}
 use Rattle.flash_model.specs.declared.flash.Flash.{Ghosts as Flash}
 use Rattle.device_frames.specs.declared.note.Note.{Note}
 use Rattle.device_frames.specs.declared.note.Note.TheVariants.{NotMine}
@@ -85,3 +85,5 @@ undisputed as_flash old new (Frame bytes) sent said state steps dropped silent =
 undisputed as_flash old new Tick sent said state steps dropped silent = tt
 undisputed as_flash old new (Input slot subslot value) sent said state steps dropped silent = tt
 undisputed as_flash old new (Alarm slot subslot octets) sent said state steps dropped silent = tt
+undisputed as_flash old new (Status slot subslot is_good) sent said state steps dropped silent = tt
+undisputed as_flash old new Ready sent said state steps dropped silent = tt

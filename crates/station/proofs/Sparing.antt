@@ -4,7 +4,7 @@ use Rattle.std.specs.Prelude.{if◌then◌else◌}
 use Rattle.flash_model.specs.declared.flash.Flash.{Ghosts as Flash}
 use Rattle.pn_values.specs.declared.identity.Identity.{Identity}
 use Rattle.device_frames.specs.declared.event.Event.{Event}
-use Rattle.device_frames.specs.declared.event.Event.TheVariants.{Frame, Tick, Input, Alarm}
+use Rattle.device_frames.specs.declared.event.Event.TheVariants.{Frame, Tick, Input, Alarm, Status, Ready}
 use Rattle.device_frames.specs.declared.note.Note.{Note}
 use Rattle.device_frames.specs.declared.note.Note.TheVariants.{Done, NotMine, Fault, Filter, OldCall, NoRelation, StaleCycle, Refused}
 use Rattle.device_frames.specs.Heard.{Heard, Ticks, heard_of}
@@ -49,11 +49,15 @@ sparing_by true identity state address note (Frame bytes) frames e silent = inl 
 sparing_by true identity state address note Tick frames e silent = inl e
 sparing_by true identity state address note (Input slot subslot value) frames e silent = e
 sparing_by true identity state address note (Alarm slot subslot octets) frames e silent = e
+sparing_by true identity state address note (Status slot subslot is_good) frames e silent = e
+sparing_by true identity state address note Ready frames e silent = e
 sparing_by false identity state address note (Frame bytes) frames e silent =
     sparing_frame (is_dropped note) (answered identity state bytes.items) frames e (λ dropped. silent (not_done note dropped)) bytes
 sparing_by false identity state address note Tick frames e silent = subst AtMostOne (sym e) (at_most_one (sent_by_tick state))
 sparing_by false identity state address note (Input slot subslot value) frames e silent = e
 sparing_by false identity state address note (Alarm slot subslot octets) frames e silent = e
+sparing_by false identity state address note (Status slot subslot is_good) frames e silent = e
+sparing_by false identity state address note Ready frames e silent = e
 
 -- ---- power that was lost
 
@@ -92,6 +96,8 @@ refused_by false identity state address note said (Frame bytes) sent e f refused
 refused_by false identity state address note said Tick sent e f refused tick = absurd (refused (f ∙ tick refl))
 refused_by false identity state address note said (Input slot subslot value) sent e f refused tick = (e, λ done. refused (f ∙ done))
 refused_by false identity state address note said (Alarm slot subslot octets) sent e f refused tick = (e, λ done. refused (f ∙ done))
+refused_by false identity state address note said (Status slot subslot is_good) sent e f refused tick = (e, λ done. refused (f ∙ done))
+refused_by false identity state address note said Ready sent e f refused tick = (e, λ done. refused (f ∙ done))
 
 module _ {F : Type 0} {S : ℕ} (as_flash : Flash F S) (old new : State F) (event : Event) (frames : Frames) (said : Note) (steps : StationSteps as_flash old event frames said new) where
   pub sparing : IsSparing event frames

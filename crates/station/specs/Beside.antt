@@ -3,7 +3,7 @@ use Rattle.std.specs.Prelude.{◌≡◌, ◌||◌, ⊤, ℕ, Bool, true, false, 
 use Rattle.pn_values.specs.declared.identity.Identity.{Identity}
 use Rattle.settings_store.specs.State.{Values}
 use Rattle.device_frames.specs.declared.event.Event.{Event}
-use Rattle.device_frames.specs.declared.event.Event.TheVariants.{Frame, Tick, Input, Alarm}
+use Rattle.device_frames.specs.declared.event.Event.TheVariants.{Frame, Tick, Input, Alarm, Status, Ready}
 use Rattle.device_frames.specs.declared.note.Note.{Note}
 use Rattle.device_frames.specs.declared.note.Note.TheVariants.{Done, NotMine, Fault, Filter, OldCall, NoRelation, StaleCycle, Refused}
 use Rattle.services.specs.State.{State, frames_in, observed, sent_by_tick, ticked}
@@ -62,6 +62,8 @@ event_beside identity state note (Frame bytes) = heard_beside identity state not
 event_beside identity state note Tick = record { services = ticked state; sent = frames_in (sent_by_tick state); note = note }
 event_beside identity state note (Input slot subslot value) = idle state note
 event_beside identity state note (Alarm slot subslot octets) = idle state note
+event_beside identity state note (Status slot subslot is_good) = idle state note
+event_beside identity state note Ready = idle state note
 
 -- At the end of a step the services see the running address.
 abbrev pub observing : List ℕ → Beside → Beside
@@ -83,3 +85,5 @@ IsUndisputed state (Frame bytes) = disputes state bytes.items ≡ false
 IsUndisputed state Tick = ⊤
 IsUndisputed state (Input slot subslot value) = ⊤
 IsUndisputed state (Alarm slot subslot octets) = ⊤
+IsUndisputed state (Status slot subslot is_good) = ⊤
+IsUndisputed state Ready = ⊤

@@ -7,7 +7,7 @@ use Rattle.dcp_core.specs.Request.{Asked}
 use Rattle.rpc_core.specs.Call.{Asked as Called}
 use Rattle.rpc_core.specs.Cache.{looked, again}
 use Rattle.device_frames.specs.declared.event.Event.{Event}
-use Rattle.device_frames.specs.declared.event.Event.TheVariants.{Frame, Tick, Input, Alarm}
+use Rattle.device_frames.specs.declared.event.Event.TheVariants.{Frame, Tick, Input, Alarm, Status, Ready}
 use Rattle.device_frames.specs.declared.note.Note.{Note}
 use Rattle.device_frames.specs.declared.note.Note.TheVariants.{Done}
 use Rattle.device_frames.specs.Heard.{Asks, heard_of}
@@ -52,3 +52,5 @@ IsSparing (Frame bytes) frames = (frames.services ≡ []) ⊎ ((frames.device �
 IsSparing Tick frames = AtMostOne frames.services
 IsSparing (Input slot subslot value) frames = frames.services ≡ []
 IsSparing (Alarm slot subslot octets) frames = frames.services ≡ []
+IsSparing (Status slot subslot is_good) frames = frames.services ≡ []
+IsSparing Ready frames = frames.services ≡ []

@@ -135,7 +135,7 @@ fn advance(
     match event {
         Event::Frame(bytes) => hear_beside(services, bytes.as_slice(), sent, outbox),
         Event::Tick => services.tick(outbox),
-        Event::Give(_, _, _) | Event::Stop => {}
+        Event::Give(_, _, _) | Event::Status(_, _, _) | Event::Stop => {}
     }
 }
 

@@ -93,7 +93,7 @@ fn attend(
             services.tick(outbox);
             note
         }
-        Event::Input(..) | Event::Alarm(..) => note,
+        Event::Input(..) | Event::Alarm(..) | Event::Status(..) | Event::Ready => note,
     }
 }
 

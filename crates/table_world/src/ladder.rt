@@ -13,7 +13,7 @@ fn phase_name(phase: Option<Phase>) -> &'static str {
     match phase {
         None => "none",
         Some(Phase::Started) => "started",
-        Some(Phase::Awaiting) => "awaiting",
+        Some(Phase::Preparing | Phase::Awaiting) => "awaiting",
         Some(Phase::Exchanging) => "exchanging",
     }
 }

@@ -62,7 +62,9 @@ pub(crate) fn is_row_of_device(
 ) -> bool {
     match (before, now) {
         (None, Some(Phase::Started)) => came == Some(Kind::Connect),
-        (Some(Phase::Started), Some(Phase::Awaiting)) => came == Some(Kind::PrmEnd),
+        (Some(Phase::Started), Some(Phase::Preparing | Phase::Awaiting)) => {
+            came == Some(Kind::PrmEnd)
+        },
         (Some(Phase::Awaiting), Some(Phase::Exchanging)) => came == Some(Kind::Confirm),
         (Some(_), None) => true,
         _ => before == now,

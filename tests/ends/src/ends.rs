@@ -448,3 +448,184 @@ fn a_second_controller_is_refused() {
     ends.is_at(State::Ended(Cause::Refused));
     ends.is_related(Some(Phase::Exchanging));
 }
+
+// ---- the statuses of outputs
+
+impl Ends {
+    /// The next cyclic frame of the controller, which the device hears: outputs are due each 32 units. Inputs come as often, so that
+    /// neither end waits longer than its data hold time.
+    fn outputs(&mut self) -> Bytes {
+        self.hear_inputs(0x35);
+        for _ in 0..32 {
+            let sent = told(&mut self.controller, &ControllerEvent::Tick);
+            if let Some(outputs) = one(&sent) {
+                self.notes(&frame(outputs.as_slice()), Note::Done);
+                return outputs;
+            }
+        }
+        panic!("there are no outputs");
+    }
+
+    /// The next cyclic frame of the device.
+    fn inputs(&mut self) -> Bytes {
+        for _ in 0..32 {
+            self.notes(&Event::Tick, Note::Done);
+            if let Some(frame) = one(&self.answers) {
+                return frame;
+            }
+        }
+        panic!("there are no inputs");
+    }
+
+    /// The application of the controller sets the output of slot 2.
+    fn give(&mut self, value: [u8; 2]) {
+        let sent = told(&mut self.controller, &ControllerEvent::Give(2, 1, octets(&value)));
+        assert_eq!(sent.len(), 0);
+    }
+
+    /// It says whether the output of a submodule is good.
+    fn rate(&mut self, slot: u16, subslot: u16, is_good: bool) {
+        let status = ControllerEvent::Status(slot, subslot, is_good);
+        let sent = told(&mut self.controller, &status);
+        assert_eq!(sent.len(), 0);
+    }
+
+    /// The next frame carries these octets for slot 2: its output, and IOPS.
+    fn sends(&mut self, carried: [u8; 3]) {
+        let frame = self.outputs();
+        assert_eq!(frame.get(20..23), Some(carried.as_slice()));
+    }
+
+    /// The same, and the device shows this output, and this IOPS with it. The provider runs.
+    fn shows(&mut self, carried: [u8; 3], shown: [u8; 2]) {
+        self.sends(carried);
+        assert_eq!(self.device.output(2, 1), Some(shown.as_slice()));
+        let provider = self.device.provider(2, 1).expect("a frame was accepted");
+        assert_eq!((provider.iops, provider.data_status.0), (carried[2], 0x35));
+    }
+
+    /// The controller hears the next inputs, with this DataStatus.
+    fn hear_inputs(&mut self, data_status: u8) {
+        let mut inputs = self.inputs();
+        let place = inputs.len() - 2;
+        set(&mut inputs, place, data_status);
+        let sent = told(&mut self.controller, &ControllerEvent::Frame(inputs));
+        assert_eq!(sent.len(), 0);
+    }
+
+    /// What the controller tells of an input: IOPS and DataStatus.
+    fn provided(&self, slot: u16, subslot: u16) -> Option<(u8, u8)> {
+        self.controller
+            .provider(slot, subslot)
+            .map(|told| (told.iops, told.data_status.0))
+    }
+}
+
+// The frame of outputs, octet by octet: MAC addresses, VLAN tag of priority 6, EtherType 0x8892 and FrameID, the first
+// of its class; the output of slot 2 and its IOPS; four IOCS, of the access point and its two ports and of slot 1; zeros up to 40 octets; CycleCounter, DataStatus and
+// TransferStatus.
+const OUTPUTS: [u8; 64] = *b"\x02\x00\x00\x00\x00\x01\x02\x00\x00\x00\x00\x02\x81\x00\xc0\x00\x88\x92\xc0\x00\
+    \x12\x34\x80\x80\x80\x80\x80\x00\x00\x00\x00\x00\x00\x00\x00\x00\x00\x00\x00\x00\x00\x00\x00\x00\x00\x00\x00\x00\x00\x00\
+    \x00\x00\x00\x00\x00\x00\x00\x00\x00\x00\x00\x20\x35\x00";
+
+// A status changes one octet, the IOPS; the value stays.
+#[test]
+fn a_status_is_one_octet() {
+    let mut ends = Ends::started(Global);
+    ends.give([0x12, 0x34]);
+    let first = ends.outputs();
+    assert_eq!(first.as_slice(), OUTPUTS.as_slice());
+    ends.rate(2, 1, false);
+    let second = ends.outputs();
+    let mut wanted = OUTPUTS;
+    wanted[22] = 0;
+    wanted[61] = 0x40;
+    assert_eq!(second.as_slice(), wanted.as_slice());
+}
+
+// IOPS is good where a value was given and the status is good. It is bad before a value was given, whatever the status.
+#[test]
+fn an_output_is_good_once_it_was_given() {
+    let mut ends = Ends::started(Global);
+    ends.sends([0, 0, 0]);
+    ends.rate(2, 1, true);
+    ends.sends([0, 0, 0]);
+    ends.rate(2, 1, false);
+    ends.sends([0, 0, 0]);
+    ends.rate(2, 1, true);
+    ends.give([0x12, 0x34]);
+    ends.sends([0x12, 0x34, 0x80]);
+    ends.give([0x12, 0x35]);
+    ends.sends([0x12, 0x35, 0x80]);
+}
+
+// A bad status is kept over values that are given, over frames, and over the start-up, until it is given again.
+#[test]
+fn a_bad_status_is_kept() {
+    let mut ends = Ends::new(Global, PUMP);
+    ends.rate(2, 1, false);
+    ends.give([1, 2]);
+    ends.turns(5);
+    ends.is_at(State::Exchanging);
+    ends.shows([1, 2, 0], [0, 0]);
+    ends.give([3, 4]);
+    ends.shows([3, 4, 0], [0, 0]);
+    ends.shows([3, 4, 0], [0, 0]);
+    ends.rate(2, 1, false);
+    ends.shows([3, 4, 0], [0, 0]);
+    ends.rate(2, 1, true);
+    ends.shows([3, 4, 0x80], [3, 4]);
+    ends.rate(2, 1, true);
+    ends.shows([3, 4, 0x80], [3, 4]);
+    ends.rate(2, 1, false);
+    ends.shows([3, 4, 0], [0, 0]);
+    ends.give([5, 6]);
+    ends.rate(2, 1, true);
+    ends.shows([5, 6, 0x80], [5, 6]);
+}
+
+// A value of another length is not set, and is not the first one.
+#[test]
+fn a_value_of_another_length_is_not_the_first() {
+    let mut ends = Ends::started(Global);
+    for value in [[].as_slice(), &[1], &[1, 2, 3]] {
+        let _ = told(&mut ends.controller, &ControllerEvent::Give(2, 1, octets(value)));
+        ends.sends([0, 0, 0]);
+    }
+    ends.give([1, 2]);
+    ends.sends([1, 2, 0x80]);
+}
+
+// A submodule without an output, and one that the plan does not have: the frames stay the same, their IOCS too.
+#[test]
+fn a_status_of_no_output_changes_nothing() {
+    let mut ends = Ends::started(Global);
+    ends.give([0x12, 0x34]);
+    for (slot, subslot) in [(0, 1), (0, 0x8000), (1, 1), (2, 0), (2, 2), (3, 1), (0x102, 1), (2, 0x101)] {
+        ends.rate(slot, subslot, false);
+    }
+    assert_eq!(ends.outputs().as_slice(), OUTPUTS.as_slice());
+}
+
+// IOPS and DataStatus of inputs, while the relation is established and as soon as a frame was accepted. Bit 4 of DataStatus is
+// clear where the device is stopped.
+#[test]
+fn what_the_device_says_of_its_inputs() {
+    let mut ends = Ends::new(Global, PUMP);
+    assert_eq!(ends.provided(1, 1), None);
+    ends.turns(5);
+    ends.is_at(State::Exchanging);
+    assert_eq!(ends.provided(1, 1), None);
+    ends.hear_inputs(0x35);
+    assert_eq!(ends.provided(1, 1), Some((0x80, 0x35)));
+    assert_eq!(ends.provided(0, 1), Some((0x80, 0x35)));
+    for (slot, subslot) in [(2, 1), (1, 2), (3, 1), (0x101, 1), (1, 0x101)] {
+        assert_eq!(ends.provided(slot, subslot), None, "{slot} {subslot}");
+    }
+    ends.notes(&Event::Status(1, 1, false), Note::Done);
+    ends.hear_inputs(0x25);
+    assert_eq!(ends.provided(1, 1), Some((0, 0x25)));
+    assert_eq!(ends.provided(0, 1), Some((0x80, 0x25)));
+    let _ = told(&mut ends.controller, &ControllerEvent::Stop);
+    assert_eq!(ends.provided(1, 1), None);
+}

@@ -11,6 +11,7 @@ fn lines_that_need_others_before_them() {
         ("deliver", 1),
         ("stop", 1),
         ("give 2 1 0011", 1),
+        ("output-status 2 1 bad", 1),
         ("config", 1),
         ("config ", 1),
         ("start 0 0", 1),

@@ -34,6 +34,7 @@ fn asked(what: u32) -> Op {
         note: 0,
         phase: 0,
         work: 0,
+        more: 0,
         sector: 0,
         place: 0,
         length: 0,
@@ -72,7 +73,7 @@ fn state(port: &mut Port) -> (u32, u32) {
 #[test]
 fn events_wait_for_the_frames() {
     let mut port = begun(Global);
-    for what in [3, 4, 5, 13] {
+    for what in [3, 4, 5, 13, 16] {
         assert_eq!(answer(&mut port, what), 7);
     }
     let mut op = asked(7);
@@ -88,11 +89,11 @@ fn events_wait_for_the_frames() {
 #[test]
 fn no_such_operation_or_slot() {
     let mut port = begun(Global);
-    for what in [0, 1, 2, 6, 10, 11, 14, u32::MAX] {
+    for what in [0, 1, 2, 6, 10, 11, 14, 17, 19, u32::MAX] {
         assert_eq!(answer(&mut port, what), 10);
     }
     assert_eq!(next(&mut port), 3);
-    for what in [5, 8] {
+    for what in [5, 8, 16] {
         let mut op = asked_of(what, 65536 + 1, 1);
         assert_eq!(serve(&mut port, &mut op, &[0, 0]), 9);
     }
@@ -123,6 +124,41 @@ fn a_value_is_set_where_the_plan_has_an_output_of_its_length() {
         assert_eq!(serve(&mut port, &mut op, &vec![0; length]), wanted, "{slot} {subslot} {length}");
         assert_eq!((op.slot, op.subslot, op.work), (slot, subslot, 0));
     }
+}
+
+// A status is that of an output of the plan. Nothing is known of the device yet.
+#[test]
+fn a_status_is_given_where_the_plan_has_an_output() {
+    let mut port = begun(Global);
+    assert_eq!(next(&mut port), 3);
+    for (slot, subslot, wanted) in [(2, 1, 0), (1, 1, 9), (0, 1, 9), (2, 2, 9), (3, 1, 9), (2, 65536 + 1, 9)] {
+        for place in [0, 1, u32::MAX] {
+            let mut op = asked_of(16, slot, subslot);
+            op.place = place;
+            assert_eq!(serve(&mut port, &mut op, &[]), wanted, "{slot} {subslot}");
+            assert_eq!((op.place, op.work), (place, 0));
+        }
+    }
+    for (slot, subslot) in [(1, 1), (2, 1), (65536 + 1, 1)] {
+        let mut op = asked_of(18, slot, subslot);
+        op.length = 5;
+        assert_eq!(serve(&mut port, &mut op, &[]), 24);
+        assert_eq!(op.length, 5);
+    }
+}
+
+// A request waits a second before it is sent again.
+#[test]
+fn what_is_due_is_told() {
+    let mut port = begun(Global);
+    assert_eq!(next(&mut port), 3);
+    let mut op = asked(4);
+    op.units = 12;
+    assert_eq!(serve(&mut port, &mut op, &[]), 0);
+    let mut op = asked(15);
+    op.work = 9;
+    assert_eq!(serve(&mut port, &mut op, &[]), 0);
+    assert_eq!((op.units, op.work, op.note), (SECOND - 12, 9, 0));
 }
 
 #[test]

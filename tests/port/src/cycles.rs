@@ -41,8 +41,10 @@ fn stops_behind_a_unit_that_sends() {
     assert_eq!(kind(&port), 3);
     assert_eq!(calls::tick(&mut port, left), 7);
     port.advance();
+    assert_eq!(port.due().ok(), Some(32));
     assert_eq!(calls::left(&mut port, 31), Some(0));
     assert_eq!(kind(&port), 0);
+    assert_eq!(port.due().ok(), Some(1));
     assert_eq!(calls::left(&mut port, 5), Some(4));
     assert_eq!(kind(&port), 3);
 }

@@ -28,6 +28,9 @@ fn station() -> Station {
         order_id: [b' '; 20],
         serial_number: [b' '; 16],
         software_revision: [b'V', 0, 0, 0],
+        smallest_interval: 0,
+        inputs_begin_bad: 0,
+        ready_by_application: 0,
         module_count: 3,
         modules: std::array::from_fn(|slot| Module {
             ident: 1,
@@ -46,12 +49,12 @@ fn station() -> Station {
 fn fault(change: fn(&mut Station)) -> u32 {
     let mut station = station();
     change(&mut station);
-    judge(81920, 2, 1560, &station)
+    judge(81920, 2, 1564, &station)
 }
 
 #[test]
 fn each_fault_has_its_number() {
-    let rows: [(fn(&mut Station), u32); 30] = [
+    let rows: [(fn(&mut Station), u32); 35] = [
         (|_| (), 0),
         (|s| s.station_type_length = 26, 4),
         (|s| s.module_count = 17, 4),
@@ -80,7 +83,12 @@ fn each_fault_has_its_number() {
         (|s| s.modules[1].submodules[0].parameters[1].length = 65, 22),
         (|s| s.modules[1].submodules[0].parameters[1].index = 32768, 22),
         (|s| s.modules[1].submodules[0].parameters[1].index = 0, 22),
+        (|s| s.smallest_interval = 65537, 23),
+        (|s| s.smallest_interval = u32::MAX, 23),
+        (|s| s.smallest_interval = 65536, 0),
+        (|s| (s.inputs_begin_bad, s.ready_by_application) = (65535, 2), 0),
         // Of several faults the first in this order is told.
+        (|s| (s.smallest_interval, s.modules[1].submodules[0].parameters[1].index) = (65537, 32768), 22),
         (|s| (s.mac[0], s.modules[1].slot) = (1, 16), 18),
         (|s| (s.modules[1].submodules[0].input, s.modules[1].submodules[0].subslot) = (1440, 0), 20),
     ];
@@ -92,7 +100,7 @@ fn each_fault_has_its_number() {
 #[test]
 fn another_header_or_a_small_room() {
     let station = station();
-    for (size, abi, op_size, wanted) in [(81920, 1, 1560, 2), (81920, 3, 1560, 2), (81920, 2, 1556, 2), (81919, 2, 1560, 3)] {
+    for (size, abi, op_size, wanted) in [(81920, 1, 1564, 2), (81920, 3, 1564, 2), (81920, 2, 1560, 2), (81919, 2, 1564, 3)] {
         assert_eq!(judge(size, abi, op_size, &station), wanted);
     }
 }

@@ -1,6 +1,7 @@
 //! The ports that are tried.
 use crate::calls;
 use pn_values::{Real, demo_identity};
+use relations::DeviceOptions;
 use device_abi::{Port, Recorded, Work};
 use flash_model::Sector;
 use test_stations::{SET, plugged};
@@ -25,7 +26,7 @@ fn demo() -> Real {
 
 /// A port that did not start.
 pub(crate) fn made() -> Port {
-    Port::new(demo_identity(), demo())
+    Port::new(demo_identity(), demo(), DeviceOptions::default())
 }
 
 /// One that started from a chip that was never written.

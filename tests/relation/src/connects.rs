@@ -58,6 +58,25 @@ pub(crate) const MOVED: Plan = Plan {
     ..THREE
 };
 
+/// The same as `THREE`, with the input in front in the frames of inputs.
+pub(crate) const INPUT_MOVED: Plan = Plan {
+    inputs: (
+        &[(1, 1, 0), (0, 1, 3), (0, 0x8000, 4), (0, 0x8001, 5)],
+        &[(2, 1, 6)],
+    ),
+    ..THREE
+};
+
+/// The same as `THREE`, with another module in slot 1.
+pub(crate) const OTHER: Plan = Plan {
+    modules: &[
+        (0, 1, ACCESS_POINT),
+        (1, 17, &[(1, 17, Some(2), None)]),
+        (2, 32, &[(1, 32, None, Some(2))]),
+    ],
+    ..THREE
+};
+
 /// The same with another module in slot 2, and one without data in slot 3.
 pub(crate) const FOUR: Plan = Plan {
     modules: &[

@@ -12,9 +12,11 @@ use test_stations::{Station, frame, is_padded, step};
 mod connects;
 mod exchange;
 mod options;
+mod readiness;
 mod records;
 mod relation;
 mod requests;
+mod statuses;
 
 /// A station that is tried, and what it sent last.
 struct Tried {

@@ -10,7 +10,7 @@ use test_stations::{CONNECT, Station, call, plugged, set_address};
 
 /// A station with an address and this smallest interval.
 fn hasty(smallest_interval: u32) -> Option<Station> {
-    let options = DeviceOptions { smallest_interval };
+    let options = DeviceOptions { smallest_interval, ..DeviceOptions::default() };
     let mut device = Device::unstarted(demo_identity(), plugged(), options, MemoryFlash::blank());
     device.load().ok()?;
     let _ = device.step(&set_address(), &mut Outbox::new());

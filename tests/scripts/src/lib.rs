@@ -7,6 +7,7 @@ use rattle_std::alloc::{AllocError, Global};
 use rattle_std::{String, Vec, format};
 use script_runner::{RunFault, run};
 
+mod application;
 mod calls;
 mod exchange;
 mod faults;
@@ -61,9 +62,13 @@ fn ends(alloc: Global, script: &[u8], wanted: Result<(), RunFault>, printed: &[u
     assert_eq!(text.as_slice(), printed);
 }
 
-/// The script has no line that is refused, and prints this text.
+/// The script has no line that is refused, and prints this text, also if its units of time pass by leaps.
 fn prints(alloc: Global, script: &str, wanted: &str) {
     ends(alloc, script.as_bytes(), Ok(()), wanted.as_bytes());
+    if script.contains("tick ") {
+        let leaping = script.replace("tick ", "elapse ");
+        ends(alloc, leaping.as_bytes(), Ok(()), wanted.as_bytes());
+    }
 }
 
 /// The line of this number, counted from 1, is refused, and up to there this text is printed.

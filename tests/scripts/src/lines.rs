@@ -29,7 +29,7 @@ fn a_name_is_kept_over_a_restart() {
     prints(Global, script.as_str(), wanted.as_str());
 }
 
-const SHORT: [(&str, &str); 10] = [
+const SHORT: [(&str, &str); 17] = [
     ("", "boot ok\n"),
     (
         "frame 010ecf00000002000000000281000000\n",
@@ -54,7 +54,17 @@ const SHORT: [(&str, &str); 10] = [
     ("input 01 1 0A", "boot ok\nnote refused\n"),
     ("alarm 1 65535 aa", "boot ok\nnote refused\n"),
     ("tick 0001000000", "boot ok\nnote done\n"),
+    ("elapse 1", "boot ok\nnote done\n"),
+    ("due", "boot ok\ndue 4294967295\n"),
     ("cut 0004294967295 Ff", "boot ok\n"),
+    (
+        "option inputs-bad on\noption ready off\noption interval 065536",
+        "boot ok\n",
+    ),
+    ("status 01 1 bad\nstatus 1 1 good", "boot ok\nnote done\nnote done\n"),
+    ("status 1 2 good", "boot ok\nnote refused\n"),
+    ("option ready on\nready\nrestart\nready", "boot ok\nnote refused\nboot ok\nnote refused\n"),
+    ("provider 002 1\nprovider 65535 65535", "boot ok\nprovider 2 1 -\nprovider 65535 65535 -\n"),
 ];
 
 #[test]
@@ -93,7 +103,7 @@ fn hex_digits() {
     }
 }
 
-const REFUSED: [&str; 42] = [
+const REFUSED: [&str; 75] = [
     "x",
     " ",
     "\r",
@@ -111,6 +121,39 @@ const REFUSED: [&str; 42] = [
     "tick 1000001",
     "tick +1",
     "tick 99999999999999999999999",
+    "elapse",
+    "elapse 0",
+    "elapse 1000001",
+    "due 1",
+    "due ",
+    "ready ",
+    "ready 1",
+    "status",
+    "status 1 1",
+    "status 1 1 ",
+    "status 1 1 Good",
+    "status 1 1 1",
+    "status 1 1 good bad",
+    "status 1 65536 good",
+    "status 65536 1 bad",
+    "provider",
+    "provider 1",
+    "provider 1 ",
+    "provider 65536 1",
+    "provider 1 65536",
+    "provider 1 1 1",
+    "option",
+    "option ready",
+    "option ready ",
+    "option ready On",
+    "option ready on on",
+    "option inputs-bad 1",
+    "option inputs_bad on",
+    "option interval 0",
+    "option interval 65537",
+    "option interval off",
+    "option speed 1",
+    "output-status 2 1 good",
     "show 1",
     "cut",
     "cut 0",
@@ -157,4 +200,12 @@ fn flashing_lamp() {
     let script = "set 0503000400000100\nshow\ntick 1\nshow\nrestart\nshow";
     let wanted = "boot ok\nanswer 0504000305030000\nflashing 96000\nnote done\nflashing 95999\nboot ok\nflashing 0";
     means(Global, script, wanted)
+}
+
+// What is due of a lamp that flashes: its end.
+#[test]
+fn the_end_of_the_lamp_is_due() {
+    let script = "set 0503000400000100\ndue\nelapse 95999\ndue\nshow\nelapse 1\ndue\nshow";
+    let wanted = "boot ok\nanswer 0504000305030000\ndue 96000\nnote done\ndue 1\nflashing 1\nnote done\ndue 4294967295\nflashing 0";
+    means(Global, script, wanted);
 }

@@ -5,7 +5,7 @@ use records::{
     Blocks, CallFault, Effect, Operation, Write, judge_write, names_relation, put_write_answer,
     read_implicit, read_within,
 };
-use relations::{DeviceOptions, Partner, Relation};
+use relations::{Application, DeviceOptions, Partner, Relation};
 use std::mem;
 
 /// The station with its texts and its relation.
@@ -50,18 +50,21 @@ impl Device {
     ) -> Result<(), CallFault> {
         match operation {
             Operation::Connect => {
-                let options = DeviceOptions::default();
+                let application = Application {
+                    options: &DeviceOptions::default(),
+                    statuses: &[],
+                };
                 self.relation.connect(
                     &self.identity,
                     &self.real,
-                    &options,
+                    application,
                     PARTNER,
                     blocks,
                     answer,
                 )
             }
             Operation::Release => self.relation.release(blocks, answer),
-            Operation::Control => self.relation.control(blocks, answer),
+            Operation::Control => self.relation.control(false, blocks, answer),
             Operation::Write => self.write(blocks, answer),
             Operation::Read => self.read(blocks, answer),
             Operation::ReadImplicit => self.read_implicit(blocks, answer),

@@ -86,7 +86,7 @@ fn phase_word(phase: Option<Phase>) -> &'static str {
     match phase {
         None => "none",
         Some(Phase::Started) => "started",
-        Some(Phase::Awaiting) => "awaiting",
+        Some(Phase::Preparing | Phase::Awaiting) => "awaiting",
         Some(Phase::Exchanging) => "exchanging",
     }
 }

@@ -1,8 +1,12 @@
-//! What scripts print in which the controller meets the demo device. `stdin` has them one after another, each after a line
-//! `script NAME`; `stdout` has that line, what the script prints, and the fault that ends it, if one does.
+//! What scripts print. `stdin` of each table has them one after another, each after a line `script NAME`; `stdout` has that
+//! line, what the script prints, and the fault that ends it, if one does.
 //!
-//! `stdout` comes from a reference model of both ends that was written from the rules alone and shares no line with this
-//! repository. A script that a wrong line ends has the output of the lines before it.
+//! In `scripts` the controller meets the demo device. In `application` the device's application is in charge: it says
+//! whether inputs are good and when it is ready, it sets options, and time passes by leaps; in its last scripts a controller
+//! meets that device.
+//!
+//! Each `stdout` comes from a reference model of both ends that was written from the rules alone and shares no line with
+//! this repository. A script that a wrong line ends has the output of the lines before it.
 
 use crate::is_same;
 use rattle_std::alloc::Global;
@@ -19,12 +23,28 @@ fn printed(script: &str) -> String {
     text
 }
 
-#[test]
-fn each_script_prints_what_the_model_prints() {
+/// What the scripts of a table print.
+fn all_printed(scripts: &str) -> String {
     let mut text = String::new();
-    for script in include_str!("../scripts/stdin").split("script ").skip(1) {
+    for script in scripts.split("script ").skip(1) {
         let (name, lines) = script.split_once('\n').expect("a name");
         text += &format!("script {name}\n{}", printed(lines));
     }
+    text
+}
+
+#[test]
+fn each_script_prints_what_the_model_prints() {
+    let text = all_printed(include_str!("../scripts/stdin"));
     is_same(&text, include_str!("../scripts/stdout"));
+}
+
+#[test]
+fn with_an_application_in_charge_each_script_prints_what_the_model_prints() {
+    let scripts = include_str!("../application/stdin");
+    let wanted = include_str!("../application/stdout");
+    is_same(&all_printed(scripts), wanted);
+    // Leaps do what as many single units do.
+    is_same(&all_printed(&scripts.replace("\nelapse ", "\ntick ")), wanted);
+    is_same(&all_printed(&scripts.replace("\ntick ", "\nelapse ")), wanted);
 }

@@ -10,7 +10,7 @@ use flash_model::MemoryFlash;
 use frame_codec::Outbox;
 use network_world::World;
 use rattle_std::alloc::Global;
-use relations::Phase;
+use relations::{DeviceOptions, Phase};
 use table_world::kind::Kind;
 use table_world::schedule::{Choice, Schedule};
 use table_world::station::Fresh;
@@ -81,13 +81,18 @@ pub(crate) fn as_planned() -> Real {
 
 /// The station "pump-1" with these modules.
 pub(crate) fn station(real: Real) -> Station {
+    station_with(real, DeviceOptions::default())
+}
+
+/// The station "pump-1" with these modules and options.
+pub(crate) fn station_with(real: Real, options: DeviceOptions) -> Station {
     let mut named: Station = Device::boot(demo_identity(), no_modules(), MemoryFlash::blank())
         .ok()
         .expect("a station");
     step(&mut named, &set_pump(b'1'), &mut Outbox::new());
-    Device::boot(demo_identity(), real, named.into_flash())
-        .ok()
-        .expect("a station")
+    let mut device = Device::unstarted(demo_identity(), real, options, named.into_flash());
+    device.load().ok().expect("a station");
+    device
 }
 
 /// The station "pump-1" in which this is plugged, and a controller of the plan of the catalogue.

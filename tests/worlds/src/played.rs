@@ -1,6 +1,6 @@
 //! Worlds that are begun and played in one call (`play_both_ends`), over a network that loses frames. Each frame has its number among all
 //! that were sent; a frame that is not delivered is lost. What both ends must show was worked out by hand.
-use crate::otherwise::{RECORDS, as_planned, station};
+use crate::otherwise::{RECORDS, as_planned, station, station_with};
 use exchange_laws::play_both_ends;
 use configurator::plan_from_json;
 use controller_core::State;
@@ -8,10 +8,10 @@ use controller_frames::Setup;
 use pn_values::{ParameterRecord, Real, demo_identity};
 use network_world::{End, Move};
 use rattle_std::alloc::Global;
-use relations::Phase;
+use relations::{DeviceOptions, Phase};
 use table_world::kind::Kind;
 use table_world::station::Net;
-use test_stations::octets;
+use test_stations::{Station, octets};
 use uuid::Uuid;
 use startup_law::can_meet;
 
@@ -39,7 +39,12 @@ fn played(moves: &[Move]) -> Net {
 
 /// What comes of these moves, at a station with these modules and a controller of the plan of a catalogue.
 fn played_with(real: Real, catalogue: &str, moves: &[Move]) -> Net {
-    let (device, setup) = (station(real), setup(catalogue));
+    played_at(station(real), catalogue, moves)
+}
+
+/// What comes of these moves, at this station and a controller of the plan of a catalogue.
+fn played_at(device: Station, catalogue: &str, moves: &[Move]) -> Net {
+    let setup = setup(catalogue);
     assert!(can_meet(&setup, &demo_identity()));
     let (world, result) = play_both_ends(Global, device, setup, &demo_identity(), moves);
     assert!(result.is_ok());
@@ -145,6 +150,28 @@ fn the_device_does_not_exchange_before_its_answer_came() {
     assert_eq!(world.controller().state(), State::Exchanging);
     assert_eq!(world.device().phase(), Some(Phase::Awaiting));
     are_taken(&world);
+}
+
+// The application says when it is ready: ApplicationReady follows its word, whatever comes between, and a status of its inputs changes
+// nothing of that.
+#[test]
+fn a_start_up_whose_application_is_ready_later() {
+    let options = DeviceOptions { ready_by_application: true, ..DeviceOptions::default() };
+    let mut moves = start_up();
+    // Frame 16, ApplicationReady, is not there yet: nothing is delivered.
+    moves.extend([Move::Status(1, 1, false), to_device(14), to_device(17)]);
+    let waits = played_at(station_with(as_planned(), options), RECORDS, &moves);
+    // PrmEnd is answered again as frame 16.
+    are_sent(&waits, &[&START_UP[..16], &[Kind::Positive]].concat());
+    assert_eq!(waits.controller().state(), State::Waiting);
+    assert_eq!(waits.device().phase(), Some(Phase::Preparing));
+    are_taken(&waits);
+    moves.extend([Move::Ready, Move::Ready, to_controller(17), to_device(18)]);
+    let ready = played_at(station_with(as_planned(), options), RECORDS, &moves);
+    are_sent(&ready, &[&START_UP[..16], &[Kind::Positive, Kind::Ready, Kind::Confirm]].concat());
+    assert_eq!(ready.controller().state(), State::Exchanging);
+    assert_eq!(ready.device().phase(), Some(Phase::Exchanging));
+    are_taken(&ready);
 }
 
 // Nothing that the device sends arrives: the controller looks for it, and never exchanges data.

@@ -2,21 +2,23 @@
 -- afterwards: an equation of the whole operation says which fields are written, and with what. All other fields are
 -- unchanged, and so are the octets after those that are written. A refused operation changes nothing, neither in the
 -- port nor in the operation.
-use Rattle.std.specs.Prelude.{◌≡◌, ◌==◌, ◌++◌, ℕ, if◌then◌else◌, List, [], ◌∷◌, take, slice_get, Option, Some, None, Result, Ok, Err, MatchResult}
+use Rattle.std.specs.Prelude.{◌≡◌, ◌==◌, ◌++◌, ℕ, not, if◌then◌else◌, List, [], ◌∷◌, take, slice_get, Option, Some, None, Result, Ok, Err, MatchResult}
 use Rattle.flash_model.specs.Calls.{Call, Programs, Erases, Arms}
 use Rattle.flash_model.specs.declared.flash.Sector.{Sector}
 use Rattle.flash_model.specs.declared.flash.Sector.TheVariants.{First, Second}
 use Rattle.pn_values.specs.declared.settings.Settings.{Settings}
+use Rattle.cyclic_exchange.specs.declared.exchange.ProviderStatus.{ProviderStatus}
 use Rattle.records.specs.declared.writes.taken.TakenRecord.{TakenRecord}
 use Rattle.relations.specs.declared.phase.Phase.{Phase}
-use Rattle.relations.specs.declared.phase.Phase.TheVariants.{Started, Awaiting, Exchanging}
-use Rattle.relations.specs.Exchanged.{output_in}
+use Rattle.relations.specs.declared.phase.Phase.TheVariants.{Started, Preparing, Awaiting, Exchanging}
+use Rattle.relations.specs.Exchanged.{output_in, provider_in}
 use Rattle.relations.specs.RelationState.{phase_of, taken_of}
 use Rattle.relations.specs.Outputs.{output_of}
 use Rattle.device_frames.specs.declared.event.Event.{Event}
-use Rattle.device_frames.specs.declared.event.Event.TheVariants.{Frame, Input, Alarm}
+use Rattle.device_frames.specs.declared.event.Event.TheVariants.{Frame, Input, Alarm, Status, Ready}
 use Rattle.device_frames.specs.declared.note.Note.{Note}
 use Rattle.device_frames.specs.Notes.{note_number}
+use Rattle.device_core.specs.Leaps.{live_due_in}
 use Rattle.device_abi.specs.recorded.Entry.{call_of}
 use Rattle.c_layout.specs.Places.{place_in}
 use Rattle.c_layout.specs.Reported.{with_octets}
@@ -25,7 +27,7 @@ use Rattle.device_abi.specs.declared.port.device.Work.{Work}
 use Rattle.device_abi.specs.declared.port.device.Work.TheVariants.{Nothing, Carry, Send}
 use Rattle.device_abi.specs.declared.port.refusal.Refusal.{Refusal}
 use Rattle.device_abi.specs.port.Refusals.{refusal_number}
-use Rattle.device_abi.specs.port.State.{State, advanced, closed, lost}
+use Rattle.device_abi.specs.port.State.{State, advanced, closed, kind_of, lost, waiting}
 use Rattle.device_abi.specs.port.Steps.{Answers, KnowsOrNot, PassesOrNot, StartsOrNot}
 use Rattle.device_abi.specs.declared.operations.operation.Operation.{Operation}
 use Rattle.device_abi.specs.declared.operations.operation.Operation.TheVariants as operation
@@ -46,7 +48,11 @@ operation_of what =
     if what == 11 then Some operation.Stored else
     if what == 12 then Some operation.Lose else
     if what == 13 then Some operation.Record else
-    if what == 14 then Some operation.Left else None
+    if what == 14 then Some operation.Left else
+    if what == 15 then Some operation.Due else
+    if what == 16 then Some operation.Status else
+    if what == 17 then Some operation.Ready else
+    if what == 18 then Some operation.Provider else None
 
 -- The result of what was done, or of what was refused.
 abbrev pub answer_of : {T : Type 0} → Result T Refusal → ℕ
@@ -55,15 +61,15 @@ answer_of (Err refusal) = refusal_number refusal
 
 -- ---- events
 
--- The outcome of an event.
-abbrev pub noted : Result Note Refusal → Op → Op
-noted (Ok note) asked = record asked { note = note_number note }
-noted (Err refusal) asked = asked
+-- The outcome of an event, and the kind of the first piece of its work.
+abbrev pub noted : Result Note Refusal → State → Op → Op
+noted (Ok note) new asked = record asked { note = note_number note; work = waiting new.calls new.frames }
+noted (Err refusal) new asked = asked
 
--- An event was handled, and its outcome is reported, or it was refused and nothing changed.
+-- An event was handled, and its outcome is reported and what work it made, or it was refused and nothing changed.
 abbrev pub IsEvent : State → Event → Op → ℕ → State → Op → Type 0
 IsEvent old event asked answer new reported =
-    (result : Result Note Refusal) × Answers old event result new × (answer ≡ answer_of result) × (reported ≡ noted result asked)
+    (result : Result Note Refusal) × Answers old event result new × (answer ≡ answer_of result) × (reported ≡ noted result new asked)
 
 -- 9 if the slot or the subslot is not a number of 16 bits: nothing is plugged there.
 abbrev pub IsInput : Option (ℕ × ℕ) → State → List ℕ → Op → ℕ → State → Op → Type 0
@@ -76,16 +82,21 @@ IsAlarm (Some place) old given asked answer new reported =
     IsEvent old (Alarm place.0 place.1 (record { items = take 1519 given })) asked answer new reported
 IsAlarm None old given asked answer new reported = (answer ≡ 9) × (new ≡ old) × (reported ≡ asked)
 
--- The number of units that remain. The note is 0, done.
-abbrev pub passed : Result ℕ Refusal → Op → Op
-passed (Ok left) asked = record asked { units = left; note = 0 }
-passed (Err refusal) asked = asked
+-- The status of the inputs of a submodule: bad if `place` is 0.
+abbrev pub IsStatus : Option (ℕ × ℕ) → State → Op → ℕ → State → Op → Type 0
+IsStatus (Some place) old asked answer new reported = IsEvent old (Status place.0 place.1 (not (asked.place == 0))) asked answer new reported
+IsStatus None old asked answer new reported = (answer ≡ 9) × (new ≡ old) × (reported ≡ asked)
+
+-- The number of units that remain, and the kind of the first piece of work. The note is 0, done.
+abbrev pub passed : Result ℕ Refusal → State → Op → Op
+passed (Ok left) new asked = record asked { units = left; note = 0; work = waiting new.calls new.frames }
+passed (Err refusal) new asked = asked
 
 -- The units of time that are asked for passed, and the number that remains is reported, or none passed and nothing
 -- changed.
 abbrev pub IsTick : State → Op → ℕ → State → Op → Type 0
 IsTick old asked answer new reported =
-    (result : Result ℕ Refusal) × PassesOrNot old asked.units result new × (answer ≡ answer_of result) × (reported ≡ passed result asked)
+    (result : Result ℕ Refusal) × PassesOrNot old asked.units result new × (answer ≡ answer_of result) × (reported ≡ passed result new asked)
 
 -- ---- a start
 
@@ -127,16 +138,23 @@ IsHanded [] [] asked reported = reported ≡ with_nothing asked
 IsHanded [] (frame ∷ frames) asked reported = reported ≡ with_frame frame asked
 IsHanded (call ∷ calls) frames asked reported = IsCall call asked reported
 
+-- The kind of a piece of work: 0 if it is none, 1 for a program call, 2 for an erase, 3 for a frame.
+abbrev pub work_kind : Work → ℕ
+work_kind Nothing = 0
+work_kind (Carry call) = kind_of (call_of call.now)
+work_kind (Send frame) = 3
+
 -- A piece of work as it is reported.
 abbrev pub IsPiece : Work → Op → Op → Type 0
 IsPiece Nothing asked reported = reported ≡ with_nothing asked
 IsPiece (Carry call) asked reported = IsCall (call_of call.now) asked reported
 IsPiece (Send frame) asked reported = reported ≡ with_frame frame.now.items asked
 
--- The next piece of work is reported and marked as fetched, if the port is open.
+-- The next piece of work is reported, and the kind of the one after it, and it is marked as fetched, if the port is open.
 abbrev pub IsNextOf : Option Refusal → State → Op → ℕ → State → Op → Type 0
 IsNextOf (Some refusal) old asked answer new reported = (answer ≡ refusal_number refusal) × (new ≡ old) × (reported ≡ asked)
-IsNextOf None old asked answer new reported = (answer ≡ 0) × IsHanded old.calls old.frames asked reported × (new ≡ advanced old)
+IsNextOf None old asked answer new reported =
+    (answer ≡ 0) × IsHanded old.calls old.frames (record asked { more = waiting new.calls new.frames }) reported × (new ≡ advanced old)
 
 -- Power is lost.
 abbrev pub IsLoss : State → ℕ → State → Type 0
@@ -155,6 +173,11 @@ abbrev pub IsSettings : Option Refusal → Settings → Op → ℕ → Op → Ty
 IsSettings (Some refusal) settings asked answer reported = (answer ≡ refusal_number refusal) × (reported ≡ asked)
 IsSettings None settings asked answer reported = (answer ≡ 0) × (reported ≡ with_octets (settings_octets settings) asked)
 
+-- The number of units up to and with the next one with which anything is due.
+abbrev pub IsDue : Option Refusal → ℕ → Op → ℕ → Op → Type 0
+IsDue (Some refusal) due asked answer reported = (answer ≡ refusal_number refusal) × (reported ≡ asked)
+IsDue None due asked answer reported = (answer ≡ 0) × (reported ≡ record asked { units = due })
+
 -- The number of commits that the flash still accepts.
 abbrev pub IsLeft : Option Refusal → ℕ → Op → ℕ → Op → Type 0
 IsLeft (Some refusal) left asked answer reported = (answer ≡ refusal_number refusal) × (reported ≡ asked)
@@ -163,6 +186,7 @@ IsLeft None left asked answer reported = (answer ≡ 0) × (reported ≡ record 
 abbrev pub phase_number : Option Phase → ℕ
 phase_number None = 0
 phase_number (Some Started) = 1
+phase_number (Some Preparing) = 2
 phase_number (Some Awaiting) = 2
 phase_number (Some Exchanging) = 3
 
@@ -187,6 +211,23 @@ IsValueOf None value asked answer reported = IsValue value asked answer reported
 abbrev pub IsOutput : Option (ℕ × ℕ) → State → Op → ℕ → Op → Type 0
 IsOutput (Some place) port asked answer reported = IsValueOf (closed port.stage) (value_of port place.0 place.1) asked answer reported
 IsOutput None port asked answer reported = (answer ≡ 9) × (reported ≡ asked)
+
+-- What the controller says of the output of a submodule: IOPS, then DataStatus; 24 if no frame with it was accepted.
+abbrev pub with_statuses : ProviderStatus → Op → Op
+with_statuses status asked = with_octets (status.iops ∷ status.data_status.0 ∷ []) asked
+
+abbrev pub IsProviderAt : Option ProviderStatus → Op → ℕ → Op → Type 0
+IsProviderAt (Some status) asked answer reported = (answer ≡ 0) × (reported ≡ with_statuses status asked)
+IsProviderAt None asked answer reported = (answer ≡ 24) × (reported ≡ asked)
+
+abbrev pub IsProviderOf : Option Refusal → Option ProviderStatus → Op → ℕ → Op → Type 0
+IsProviderOf (Some refusal) status asked answer reported = (answer ≡ refusal_number refusal) × (reported ≡ asked)
+IsProviderOf None status asked answer reported = IsProviderAt status asked answer reported
+
+abbrev pub IsProvider : Option (ℕ × ℕ) → State → Op → ℕ → Op → Type 0
+IsProvider (Some place) port asked answer reported =
+    IsProviderOf (closed port.stage) (provider_in place.0 place.1 port.device.live.rest.link) asked answer reported
+IsProvider None port asked answer reported = (answer ≡ 24) × (reported ≡ asked)
 
 -- A parameter record that the relation accepted: its submodule, its index and its octets; 15 if no record has this
 -- number.
@@ -226,4 +267,10 @@ Serves (Some operation.Record) old asked given answer new reported =
     (new ≡ old) × IsRecordOf (closed old.stage) (slice_get (taken_of old.device.live.rest.link) asked.place) asked answer reported
 Serves (Some operation.Left) old asked given answer new reported =
     (new ≡ old) × IsLeft (closed old.stage) old.device.live.values.room asked answer reported
+Serves (Some operation.Due) old asked given answer new reported =
+    (new ≡ old) × IsDue (closed old.stage) (live_due_in old.device.live) asked answer reported
+Serves (Some operation.Status) old asked given answer new reported = IsStatus (place_in asked.slot asked.subslot) old asked answer new reported
+Serves (Some operation.Ready) old asked given answer new reported = IsEvent old Ready asked answer new reported
+Serves (Some operation.Provider) old asked given answer new reported =
+    (new ≡ old) × IsProvider (place_in asked.slot asked.subslot) old asked answer reported
 Serves None old asked given answer new reported = (answer ≡ 10) × (new ≡ old) × (reported ≡ asked)

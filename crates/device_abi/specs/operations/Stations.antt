@@ -4,7 +4,7 @@ use Rattle.std.specs.List.{list_all, list_any}
 use Rattle.pn_values.specs.declared.real.Real.{Real}
 use Rattle.pn_values.specs.declared.identity.Identity.{Identity}
 use Rattle.device_core.specs.State as device
-use Rattle.device_core.specs.State.{plain}
+use Rattle.relations.specs.declared.options.DeviceOptions.{DeviceOptions}
 use Rattle.c_layout.specs.declared.plugged.Module.{Module}
 use Rattle.c_layout.specs.declared.plugged.Submodule.{Submodule}
 use Rattle.c_layout.specs.Modules.{are_parameters, is_module, module_of, parameters_in, submodules_in}
@@ -63,10 +63,15 @@ has_parameters part = are_parameters (parameters_in part)
 abbrev pub is_described : Module → Bool
 is_described plugged = list_all has_parameters (submodules_in plugged)
 
+-- The smallest interval is one that a Connect may have: at most 65,536 units.
+abbrev pub has_interval : Station → Bool
+has_interval station = nat_le station.smallest_interval 65536
+
 -- ---- why no device is made from a station
 
 -- The first fault of a station; 0 if it has none: 4, a count is greater than its list can hold; 18, the MAC address is
--- that of a group; 19, slots; 20, subslots; 21, data that no cyclic frame can carry; 22, parameter records.
+-- that of a group; 19, slots; 20, subslots; 21, data that no cyclic frame can carry; 22, parameter records; 23, the
+-- smallest interval.
 abbrev pub fault_of : Station → ℕ
 fault_of station =
     if not (has_room station) then 4 else
@@ -74,7 +79,8 @@ fault_of station =
     (if not (are_slots (modules_in station)) then 19 else
     (if not (list_all is_parted (modules_in station)) then 20 else
     (if not (list_all is_carried (modules_in station)) then 21 else
-    (if not (list_all is_described (modules_in station)) then 22 else 0)))))
+    (if not (list_all is_described (modules_in station)) then 22 else
+    (if not (has_interval station) then 23 else 0))))))
 
 abbrev pub is_station : Station → Bool
 is_station station = fault_of station == 0
@@ -99,6 +105,14 @@ identity_of station = record {
 abbrev pub real_of : Station → Real
 real_of station = record { modules = record { items = map module_of (modules_in station) } }
 
--- The identity, the modules that are plugged, and the default options.
+-- What the application decides: a number that is not 0 is yes.
+abbrev pub options_of : Station → DeviceOptions
+options_of station = record {
+  smallest_interval = station.smallest_interval;
+  inputs_begin_bad = not (station.inputs_begin_bad == 0);
+  ready_by_application = not (station.ready_by_application == 0);
+}
+
+-- The identity, the modules that are plugged, and the options.
 abbrev pub station_of : Station → device.Station
-station_of station = plain (identity_of station) (real_of station)
+station_of station = record { identity = identity_of station; real = real_of station; options = options_of station }

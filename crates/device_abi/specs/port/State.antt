@@ -1,6 +1,6 @@
 -- What a host sees of a port.
 use Rattle.std.specs.Prelude.{◌≡◌, Bool, true, false, ℕ, List, [], ◌∷◌, drop, if◌then◌else◌, Option, Some, None}
-use Rattle.flash_model.specs.Calls.{Call}
+use Rattle.flash_model.specs.Calls.{Call, Programs, Erases, Arms}
 use Rattle.device_abi.specs.declared.recorded.flash.RecordedFlash.{RecordedFlash}
 use Rattle.device_abi.specs.recorded.Entry.{call_of}
 use Rattle.device_core.specs.State as device
@@ -40,11 +40,29 @@ past_start Made = None
 past_start Booted = Some refusal.IsBooted
 past_start Lost = Some refusal.PowerLost
 
+-- Whether any of these remain.
+abbrev pub has_some : {T : Type 0} → List T → Bool
+has_some [] = false
+has_some (one ∷ others) = true
+
 -- Whether work remains.
 abbrev pub has_work : List Call → List (List ℕ) → Bool
 has_work [] [] = false
 has_work [] (frame ∷ frames) = true
 has_work (call ∷ calls) frames = true
+
+-- The kind of a flash call: 1 is a program call, 2 an erase. No other call is handed out.
+abbrev pub kind_of : Call → ℕ
+kind_of (Programs sector place bytes) = 1
+kind_of (Erases sector) = 2
+kind_of (Arms order) = 0
+
+-- The kind of the next piece of work: that of the first call if one remains, 3 for a frame if only frames do, and 0 if no
+-- work remains.
+abbrev pub waiting : List Call → List (List ℕ) → ℕ
+waiting [] [] = 0
+waiting [] (frame ∷ frames) = 3
+waiting (call ∷ calls) frames = kind_of call
 
 -- Why it accepts no event: it is closed, or work of the step before remains.
 abbrev pub barred_by : Stage → Bool → Option Refusal

@@ -1,6 +1,6 @@
 -- The contents of a recorded flash, and the effect of calls on them.
-use Rattle.std.specs.Prelude.{◌≡◌, ◌+◌, ◌≤◌, ◌%◌, ◌^◌, ℕ, List, [], ◌∷◌, ◌++◌, length, map, drop, if◌then◌else◌, nat_lt}
-use Rattle.flash_model.specs.Calls.{Call, Programs, Erases, Arms}
+use Rattle.std.specs.Prelude.{◌≡◌, ◌+◌, ◌%◌, ◌^◌, ℕ, List, [], ◌∷◌, ◌++◌, length, map, drop, if◌then◌else◌, nat_lt}
+use Rattle.flash_model.specs.Calls.{Call}
 use Rattle.flash_model.specs.Image.{Image, with_sector, programmed, erased}
 use Rattle.flash_model.specs.declared.flash.Sector.{Sector}
 use Rattle.flash_model.specs.Memory as memory

@@ -1,5 +1,5 @@
 -- The calls of accepted commands, and the state of a chip whose host carries them out and is cut off.
-use Rattle.std.specs.Prelude.{◌≡◌, ◌⊎◌, ◌-◌, ◌≤◌, ℕ, Bool, false, List, [], ◌∷◌, ◌++◌, length}
+use Rattle.std.specs.Prelude.{◌≡◌, ◌⊎◌, ◌-◌, ℕ, false, List, [], ◌∷◌, ◌++◌}
 use Rattle.pn_values.specs.Command.{apply}
 use Rattle.pn_values.specs.declared.settings.Settings.{Settings}
 use Rattle.flash_model.specs.Calls.{Call}

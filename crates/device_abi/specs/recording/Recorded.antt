@@ -1,5 +1,5 @@
 -- What a step records for its host.
-use Rattle.std.specs.Prelude.{◌≡◌, ◌≤◌, ℕ, List, [], ◌++◌, length}
+use Rattle.std.specs.Prelude.{◌≡◌, ◌≤◌, ℕ, List, ◌++◌, length}
 use Rattle.flash_model.specs.Calls.{Call}
 use Rattle.device_abi.specs.recorded.Record.{image_of, record_of, after_all}
 use Rattle.device_abi.specs.declared.recorded.flash.RecordedFlash.{RecordedFlash}

@@ -19,6 +19,10 @@ pub enum Operation {
     Lose,
     Record,
     Left,
+    Due,
+    Status,
+    Ready,
+    Provider,
 }
 
 // The operation of this number, if it exists.
@@ -40,6 +44,10 @@ pub(crate) fn operation_of(what: u32) -> Option<Operation>
         12 => Some(Operation::Lose),
         13 => Some(Operation::Record),
         14 => Some(Operation::Left),
+        15 => Some(Operation::Due),
+        16 => Some(Operation::Status),
+        17 => Some(Operation::Ready),
+        18 => Some(Operation::Provider),
         _ => None,
     }
 }

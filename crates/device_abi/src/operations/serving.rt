@@ -1,24 +1,26 @@
 //! One operation of the host.
-ghost use Rattle.std.specs.Prelude.{◌≡◌, ◌≤◌, Some, slice_get, take};
-ghost use Rattle.device_frames.specs.declared.event.Event.TheVariants.{Frame as Framed};
+ghost use Rattle.std.specs.Prelude.{◌≡◌, ◌≤◌, IfOk, Some, [], slice_get, take};
+ghost use Rattle.device_frames.specs.declared.event.Event.TheVariants.{Frame as Framed, Ready as IsReady};
 ghost use Rattle.device_abi.specs.recorded.Entry.{call_of};
+ghost use Rattle.relations.specs.Exchanged.{provider_in};
 ghost use Rattle.relations.specs.RelationState.{phase_of, taken_of};
-ghost use Rattle.device_abi.specs.port.State.{closed};
+ghost use Rattle.device_core.specs.Leaps.{live_due_in};
+ghost use Rattle.device_abi.specs.port.State.{advanced, closed, kind_of, waiting as kind_in};
 ghost use Rattle.c_layout.specs.Places.{place_in};
 ghost use Rattle.c_layout.specs.Reported.{with_octets};
-ghost use Rattle.device_abi.specs.operations.Serves.{IsAlarm, IsBoot, IsCall, IsEvent, IsInput, IsLeft, IsLoss, IsNextOf, IsOutput, IsPiece};
-ghost use Rattle.device_abi.specs.operations.Serves.{IsRecordAt, IsRecordOf, IsSector, IsSettings, IsState, IsTick, IsValueOf, Serves, answer_of};
+ghost use Rattle.device_abi.specs.operations.Serves.{IsAlarm, IsBoot, IsCall, IsDue, IsEvent, IsInput, IsLeft, IsLoss, IsNextOf, IsOutput, IsPiece};
+ghost use Rattle.device_abi.specs.operations.Serves.{IsRecordAt, IsRecordOf, IsProvider, IsProviderAt, IsProviderOf, IsSector, IsSettings, IsState, IsStatus, IsTick, IsValueOf, Serves, answer_of};
 ghost use Rattle.device_abi.specs.operations.Serves.{noted as is_noted, operation_of as operation_in, passed as is_passed, phase_number};
-ghost use Rattle.device_abi.specs.operations.Serves.{sector_number as number_of, sector_of, settings_octets, value_of};
+ghost use Rattle.device_abi.specs.operations.Serves.{sector_number as number_of, sector_of, settings_octets, value_of, work_kind};
 
 use crate::operations::operation::{Operation, operation_of};
 use crate::{Port, Recorded, Refusal, Work};
-use c_layout::{BAD_LENGTH, NO_RECORD, NO_SLOT, Op, UNKNOWN, place_of, put, put_more};
+use c_layout::{BAD_LENGTH, NO_FRAME, NO_RECORD, NO_SLOT, Op, UNKNOWN, place_of, put, put_more};
 use device_core::Note;
 use flash_model::Sector;
 use pn_values::Settings;
 use records::TakenRecord;
-use relations::Phase;
+use relations::{Phase, ProviderStatus};
 
 /// Carries out one operation, with the given octets. Returns 0, or why nothing changed.
 pub fn serve(port: &mut Port, op: &mut Op, given: &[u8]) -> u32
@@ -30,7 +32,8 @@ pub fn serve(port: &mut Port, op: &mut Op, given: &[u8]) -> u32
     }
 }
 
-// Carries out a known operation.
+// Carries out a known operation. Each has a function of its own, so that a unit of time saves no register that only another
+// operation needs.
 fn perform(operation: Operation, port: &mut Port, op: &mut Op, given: &[u8]) -> u32
     ensures { Serves (Some operation) port.old op.old given.now result port.new op.new }
 {
@@ -49,12 +52,17 @@ fn perform(operation: Operation, port: &mut Port, op: &mut Op, given: &[u8]) -> 
         Operation::Lose => lose(port),
         Operation::Record => tell_taken(port, op),
         Operation::Left => left(port, op),
+        Operation::Due => due(port, op),
+        Operation::Status => status(port, op),
+        Operation::Ready => ready(port, op),
+        Operation::Provider => provider(port, op),
     }
 }
 
 // ---- a start
 
 // The content of a sector of the chip, before a start.
+#[inline(never)]
 fn fill(port: &mut Port, op: &Op, given: &[u8]) -> u32
     ensures { IsSector (sector_of op.now.sector) port.old given.now result port.new }
 {
@@ -95,60 +103,99 @@ fn done(outcome: Result<(), Refusal>) -> u32
 
 // ---- events
 
+#[inline(never)]
 fn frame(port: &mut Port, op: &mut Op, given: &[u8]) -> u32
     ensures { IsEvent port.old (Framed (record { items = take 1519 given.now })) op.old result port.new op.new }
 {
-    noted(port.frame(given), op)
+    let outcome = port.frame(given);
+    noted(outcome, port, op)
 }
 
+#[inline(never)]
 fn input(port: &mut Port, op: &mut Op, given: &[u8]) -> u32
     ensures { IsInput (place_in op.old.slot op.old.subslot) port.old given.now op.old result port.new op.new }
 {
     match place_of(op) {
-        Some(place) => noted(port.input(place.0, place.1, given), op),
+        Some(place) => {
+            let outcome = port.input(place.0, place.1, given);
+            noted(outcome, port, op)
+        }
         None => NO_SLOT,
     }
 }
 
+#[inline(never)]
 fn alarm(port: &mut Port, op: &mut Op, given: &[u8]) -> u32
     ensures { IsAlarm (place_in op.old.slot op.old.subslot) port.old given.now op.old result port.new op.new }
 {
     match place_of(op) {
-        Some(place) => noted(port.alarm(place.0, place.1, given), op),
+        Some(place) => {
+            let outcome = port.alarm(place.0, place.1, given);
+            noted(outcome, port, op)
+        }
         None => NO_SLOT,
     }
 }
 
-// The outcome of an event, or why it was refused.
-fn noted(outcome: Result<Note, Refusal>, op: &mut Op) -> u32
+// The status of the inputs of a submodule: `place` is 0 if they are bad.
+#[inline(never)]
+fn status(port: &mut Port, op: &mut Op) -> u32
+    ensures { IsStatus (place_in op.old.slot op.old.subslot) port.old op.old result port.new op.new }
+{
+    match place_of(op) {
+        Some(place) => {
+            let is_good = op.place != 0;
+            let outcome = port.status(place.0, place.1, is_good);
+            noted(outcome, port, op)
+        }
+        None => NO_SLOT,
+    }
+}
+
+// The application is ready.
+#[inline(never)]
+fn ready(port: &mut Port, op: &mut Op) -> u32
+    ensures { IsEvent port.old IsReady op.old result port.new op.new }
+{
+    let outcome = port.ready();
+    noted(outcome, port, op)
+}
+
+// The outcome of an event and the kind of the first piece of its work, or why it was refused.
+fn noted(outcome: Result<Note, Refusal>, port: &Port, op: &mut Op) -> u32
     ensures answer { result ≡ answer_of outcome }
-    ensures reported { op.new ≡ is_noted outcome op.old }
+    ensures reported { op.new ≡ is_noted outcome port.now op.old }
 {
     match outcome {
         Ok(note) => {
             op.note = u32::from(note.number());
+            op.work = waiting(port);
             0
         }
         Err(refusal) => refusal.number(),
     }
 }
 
+#[inline(never)]
 fn tick(port: &mut Port, op: &mut Op) -> u32
     ensures { IsTick port.old op.old result port.new op.new }
 {
     let units = op.units;
-    passed(port.tick(units), op)
+    let outcome = port.tick(units);
+    passed(outcome, port, op)
 }
 
-// The number of units that remain, or why none passed.
-fn passed(outcome: Result<u32, Refusal>, op: &mut Op) -> u32
+// The number of units that remain and the kind of the first piece of work, or why none passed.
+fn passed(outcome: Result<u32, Refusal>, port: &Port, op: &mut Op) -> u32
+    requires { IfOk outcome (λ left. port.now.calls ≡ []) }
     ensures answer { result ≡ answer_of outcome }
-    ensures reported { op.new ≡ is_passed outcome op.old }
+    ensures reported { op.new ≡ is_passed outcome port.now op.old }
 {
     match outcome {
         Ok(left) => {
             op.units = left;
             op.note = 0;
+            op.work = if port.has_frames() { 3 } else { 0 };
             0
         }
         Err(refusal) => refusal.number(),
@@ -156,6 +203,7 @@ fn passed(outcome: Result<u32, Refusal>, op: &mut Op) -> u32
 }
 
 // Power is lost on the host's side.
+#[inline(never)]
 fn lose(port: &mut Port) -> u32
     ensures { IsLoss port.old result port.new }
 {
@@ -164,21 +212,80 @@ fn lose(port: &mut Port) -> u32
 
 // ---- work
 
-// The next piece of work, which is marked as fetched.
+// The kind of the next piece of work.
+fn waiting(port: &Port) -> u32
+    ensures { result ≡ kind_in port.now.calls port.now.frames }
+{
+    if port.has_calls() {
+        return kind(&port.next());
+    }
+    if port.has_frames() { 3 } else { 0 }
+}
+
+// The kind of a piece of work.
+fn kind(work: &Work<'_>) -> u32
+    ensures { result ≡ work_kind work.now }
+{
+    match work {
+        Work::Nothing => 0,
+        Work::Carry(call) => call_kind(call),
+        Work::Send(_) => 3,
+    }
+}
+
+// The kind of a flash call.
+#[inline(never)]
+fn call_kind(call: &Recorded) -> u32
+    ensures { result ≡ kind_of (call_of call.now) }
+{
+    match call {
+        Recorded::Program { .. } => 1,
+        Recorded::Erase { .. } => 2,
+    }
+}
+
+// The next piece of work, which is marked as fetched, and the kind of the one after it. A frame has its own path.
+#[inline(never)]
 fn next(port: &mut Port, op: &mut Op) -> u32
     ensures { IsNextOf (closed port.old.stage) port.old op.old result port.new op.new }
 {
     match port.work() {
+        Ok(Work::Send(frame)) => {
+            op.work = 3;
+            put(op, frame.as_slice());
+            go_on(port, op);
+            0
+        }
         Ok(work) => {
             tell(work, op);
-            port.advance();
+            past(port, op);
             0
         }
         Err(refusal) => refusal.number(),
     }
 }
 
+// Marks the next piece of work as fetched, and reports the kind of the one after it.
+#[inline(always)]
+fn go_on(port: &mut Port, op: &mut Op)
+    ensures port { port.new ≡ advanced port.old }
+    ensures more { op.new ≡ record op.old { more = kind_in port.new.calls port.new.frames } }
+{
+    port.advance();
+    op.more = waiting(port);
+}
+
+// The same, after a piece of work that is rare.
+#[inline(never)]
+fn past(port: &mut Port, op: &mut Op)
+    ensures port { port.new ≡ advanced port.old }
+    ensures more { op.new ≡ record op.old { more = kind_in port.new.calls port.new.frames } }
+{
+    go_on(port, op);
+}
+
 // Reports a piece of work.
+#[inline(never)]
 fn tell(work: Work<'_>, op: &mut Op)
     ensures { IsPiece work.entry op.old op.new }
 {
@@ -196,6 +303,7 @@ fn tell(work: Work<'_>, op: &mut Op)
 }
 
 // Reports a flash call.
+#[inline(never)]
 fn tell_call(call: &Recorded, op: &mut Op)
     ensures { IsCall (call_of call.now) op.old op.new }
 {
@@ -229,6 +337,7 @@ fn sector_number(sector: Sector) -> u32
 
 // ---- values that are reported
 
+#[inline(never)]
 fn output(port: &Port, op: &mut Op) -> u32
     ensures { IsOutput (place_in op.old.slot op.old.subslot) port.now op.old result op.new }
 {
@@ -251,6 +360,7 @@ fn tell_output(port: &Port, slot: u16, subslot: u16, op: &mut Op) -> u32
     }
 }
 
+#[inline(never)]
 fn state(port: &Port, op: &mut Op) -> u32
     ensures { IsState (closed port.now.stage) port.now op.old result op.new }
 {
@@ -281,11 +391,12 @@ fn number_of_phase(phase: Option<Phase>) -> u32
     match phase {
         None => 0,
         Some(Phase::Started) => 1,
-        Some(Phase::Awaiting) => 2,
+        Some(Phase::Preparing | Phase::Awaiting) => 2,
         Some(Phase::Exchanging) => 3,
     }
 }
 
+#[inline(never)]
 fn running(port: &Port, op: &mut Op) -> u32
     ensures { IsSettings (closed port.now.stage) port.now.device.live.values.running op.old result op.new }
 {
@@ -298,6 +409,7 @@ fn running(port: &Port, op: &mut Op) -> u32
     }
 }
 
+#[inline(never)]
 fn stored(port: &Port, op: &mut Op) -> u32
     ensures { IsSettings (closed port.now.stage) port.now.device.live.values.stored op.old result op.new }
 {
@@ -324,7 +436,56 @@ fn put_settings(settings: &Settings, op: &mut Op)
     put_more(op, settings.name.as_bytes());
 }
 
+// The number of units up to and with the next one with which anything is due.
+#[inline(never)]
+fn due(port: &Port, op: &mut Op) -> u32
+    ensures { IsDue (closed port.now.stage) (live_due_in port.now.device.live) op.old result op.new }
+{
+    match port.due() {
+        Ok(due) => {
+            op.units = due;
+            0
+        }
+        Err(refusal) => refusal.number(),
+    }
+}
+
+// What the controller says of the output of a submodule.
+#[inline(never)]
+fn provider(port: &Port, op: &mut Op) -> u32
+    ensures { IsProvider (place_in op.old.slot op.old.subslot) port.now op.old result op.new }
+{
+    match place_of(op) {
+        Some(place) => tell_provider(port, place.0, place.1, op),
+        None => NO_FRAME,
+    }
+}
+
+// The same, or why nothing is known of it.
+fn tell_provider(port: &Port, slot: u16, subslot: u16, op: &mut Op) -> u32
+    ensures { IsProviderOf (closed port.now.stage) (provider_in slot subslot port.now.device.live.rest.link) op.old result op.new }
+{
+    match port.provider(slot, subslot) {
+        Ok(status) => tell_statuses(status, op),
+        Err(refusal) => refusal.number(),
+    }
+}
+
+// The IOPS and DataStatus of the last accepted frame, if there was one.
+fn tell_statuses(status: Option<ProviderStatus>, op: &mut Op) -> u32
+    ensures { IsProviderAt status op.old result op.new }
+{
+    match status {
+        Some(status) => {
+            put(op, &[status.iops, status.data_status.0]);
+            0
+        }
+        None => NO_FRAME,
+    }
+}
+
 // The number of commits that the flash still accepts.
+#[inline(never)]
 fn left(port: &Port, op: &mut Op) -> u32
     ensures { IsLeft (closed port.now.stage) port.now.device.live.values.room op.old result op.new }
 {
@@ -338,6 +499,7 @@ fn left(port: &Port, op: &mut Op) -> u32
 }
 
 // A parameter record that the relation accepted, by its number.
+#[inline(never)]
 fn tell_taken(port: &Port, op: &mut Op) -> u32
     ensures { IsRecordOf (closed port.now.stage) (slice_get (taken_of port.now.device.live.rest.link) op.old.place) op.old result op.new }
 {

@@ -3,17 +3,18 @@ ghost use Rattle.std.specs.Prelude.{◌≡◌, ◌≤◌, true};
 ghost use Rattle.std.specs.List.{list_all};
 ghost use Rattle.c_layout.specs.Modules.{is_module};
 ghost use Rattle.device_abi.specs.operations.Made.{IsMade, why_not_made};
-ghost use Rattle.device_abi.specs.operations.Stations.{fault_of, has_room as has_all_room, identity_of, is_single as has_own_mac, is_station};
-ghost use Rattle.device_abi.specs.operations.Stations.{modules_in, real_of};
+ghost use Rattle.device_abi.specs.operations.Stations.{fault_of, has_interval, has_room as has_all_room, identity_of, is_single as has_own_mac, is_station};
+ghost use Rattle.device_abi.specs.operations.Stations.{modules_in, options_of, real_of};
 
 use crate::Port;
 use crate::operations::plugged::{are_carried, are_described, are_parted, are_slots};
 use arrayvec::ArrayVec;
 use c_layout::{
-    BAD_ABI, BAD_DATA, BAD_MAC, BAD_PARAMETER, BAD_SLOT, BAD_STATION, BAD_SUBSLOT, Module,
-    SMALL_ROOM, are_modules, modules,
+    BAD_ABI, BAD_DATA, BAD_MAC, BAD_OPTION, BAD_PARAMETER, BAD_SLOT, BAD_STATION, BAD_SUBSLOT,
+    Module, SMALL_ROOM, are_modules, modules,
 };
 use pn_values::{Identity, Mac, Real};
+use relations::DeviceOptions;
 
 /// The version of the header.
 const ABI: u32 = 2;
@@ -22,7 +23,7 @@ const ABI: u32 = 2;
 const ROOM: usize = 81920;
 
 /// The number of octets of an operation.
-const OP_SIZE: usize = 1560;
+const OP_SIZE: usize = 1564;
 
 /// The identity that a device has from the factory, and the modules that are plugged, at most 16.
 #[repr(C)]
@@ -40,6 +41,12 @@ pub struct Station {
     pub order_id: [u8; 20],
     pub serial_number: [u8; 16],
     pub software_revision: [u8; 4],
+    /// The smallest interval of cyclic frames, in units of 31.25 microseconds; 0 is as 1.
+    pub smallest_interval: u32,
+    /// Not 0: inputs are bad until they are given.
+    pub inputs_begin_bad: u16,
+    /// Not 0: the application says when it is ready.
+    pub ready_by_application: u16,
     pub module_count: u32,
     pub modules: [Module; 16],
 }
@@ -64,7 +71,7 @@ pub fn port_of(station: &Station) -> Port
     requires { is_station station.now ≡ true }
     ensures { IsMade station.now result }
 {
-    Port::new(identity_in(station), real_in(station))
+    Port::new(identity_in(station), real_in(station), options_in(station))
 }
 
 // ---- whether it is a valid station
@@ -92,6 +99,9 @@ fn fault_in(station: &Station) -> u32
     if !are_described(modules) {
         return BAD_PARAMETER;
     }
+    if !is_interval(station) {
+        return BAD_OPTION;
+    }
     0
 }
 
@@ -109,6 +119,13 @@ fn is_single(station: &Station) -> bool
     ensures { result ≡ has_own_mac station.now }
 {
     station.mac[0] % 2 == 0
+}
+
+// Whether the smallest interval is one that a Connect may have.
+fn is_interval(station: &Station) -> bool
+    ensures { result ≡ has_interval station.now }
+{
+    station.smallest_interval <= 65536
 }
 
 // ---- the values
@@ -136,6 +153,17 @@ fn identity_in(station: &Station) -> Identity
         software_revision: station.software_revision,
         profile_id: station.profile_id,
         profile_specific_type: station.profile_specific_type,
+    }
+}
+
+// What the application decides where the device is made.
+fn options_in(station: &Station) -> DeviceOptions
+    ensures { result ≡ options_of station.now }
+{
+    DeviceOptions {
+        smallest_interval: station.smallest_interval,
+        inputs_begin_bad: station.inputs_begin_bad != 0,
+        ready_by_application: station.ready_by_application != 0,
     }
 }
 

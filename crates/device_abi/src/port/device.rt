@@ -1,25 +1,25 @@
 //! A device, and the work of its last step that the host has not fetched yet.
-ghost use Rattle.std.specs.Prelude.{◌≡◌, ◌+◌, ◌-◌, ◌<◌, ◌≤◌, ◌%◌, ◌^◌, None, Some, IfOk, MatchResult, ℕ, length, take};
+ghost use Rattle.std.specs.Prelude.{◌≡◌, ◌≢◌, ◌+◌, ◌-◌, ◌<◌, ◌≤◌, ◌%◌, ◌^◌, [], None, Some, IfOk, MatchResult, ℕ, length, take};
 ghost use Rattle.flash_model.specs.Image.{erased};
 ghost use Rattle.device_abi.specs.recorded.Record.{image_of, record_of};
-ghost use Rattle.device_frames.specs.declared.event.Event.TheVariants.{Alarm, Frame as Framed, Input};
-ghost use Rattle.relations.specs.Exchanged.{output_in};
+ghost use Rattle.device_frames.specs.declared.event.Event.TheVariants.{Alarm, Frame as Framed, Input, Ready, Status};
+ghost use Rattle.relations.specs.Exchanged.{output_in, provider_in};
 ghost use Rattle.relations.specs.RelationState.{phase_of, taken_of};
 ghost use Rattle.relations.specs.Outputs.{output_of};
-ghost use Rattle.device_core.specs.State.{plain};
-ghost use Rattle.device_abi.specs.port.State.{IsIdle, IsNext, IsUnreported, advanced, barred, closed, has_work as is_left, lost};
+ghost use Rattle.device_abi.specs.port.State.{IsIdle, IsNext, IsUnreported, advanced, barred, closed, has_some, has_work as is_left, lost};
 ghost use Rattle.device_abi.specs.port.State.{past_start as too_late};
-ghost use Rattle.device_abi.specs.port.Steps.{Answers, KnowsOrNot, Passes, PassesOrNot, StartsOrNot, Takes};
+ghost use Rattle.device_abi.specs.port.Steps.{Answers, KnowsOrNot, Passes, PassesOrNot, StartsOrNot, Takes, Ticks};
+ghost use Rattle.device_core.specs.Leaps.{live_due_in};
 ghost use Rattle.frame_codec.specs.Outbox.{boxed};
 
 use crate::port::{Refusal, Stage};
-use crate::{Recorded, RecordedFlash, step};
+use crate::{Recorded, RecordedFlash, leap, skip, step, step_frame, unit};
 use device_core::{Device, Event, Note};
 use flash_model::Sector;
 use frame_codec::{Bytes, Frame, Outbox};
 use pn_values::{Identity, Real, Settings};
 use records::TakenRecord;
-use relations::{DeviceOptions, Phase};
+use relations::{DeviceOptions, Phase, ProviderStatus};
 use settings_journal::Fill;
 use std::marker::Model;
 use wire::at_most;
@@ -97,19 +97,14 @@ impl Fill<RecordedFlash<4096>> for Chip<'_> {
 impl Port {
     /// A device that did not start, over a chip whose content is not known yet.
     #[inline(always)]
-    pub fn new(identity: Identity, real: Real) -> Port
-        ensures station { result.device.station ≡ plain identity real }
+    pub fn new(identity: Identity, real: Real, options: DeviceOptions) -> Port
+        ensures station { result.device.station ≡ record { identity = identity; real = real; options = options } }
         ensures stage { result.stage ≡ Stage.Made }
         ensures idle { IsIdle result }
         ensures chip { image_of result.device.flash ≡ record { first = erased 4096; second = erased 4096 } }
     {
         Port {
-            device: Device::unstarted(
-                identity,
-                real,
-                DeviceOptions::default(),
-                RecordedFlash::blank(),
-            ),
+            device: Device::unstarted(identity, real, options, RecordedFlash::blank()),
             outbox: Outbox::new(),
             stage: Stage::Made,
             calls_past: 0,
@@ -128,7 +123,24 @@ impl Port {
     pub fn has_work(&self) -> bool
         ensures { result ≡ is_left self.now.calls self.now.frames }
     {
-        self.calls_past < self.device.flash().recent().len() || self.frames_past < self.outbox.len()
+        if self.has_calls() {
+            return true;
+        }
+        self.has_frames()
+    }
+
+    /// Whether flash calls of the last step remain.
+    pub fn has_calls(&self) -> bool
+        ensures { result ≡ has_some self.now.calls }
+    {
+        self.calls_past < self.device.flash().recent().len()
+    }
+
+    /// Whether frames of the last step remain.
+    pub fn has_frames(&self) -> bool
+        ensures { result ≡ has_some self.now.frames }
+    {
+        self.frames_past < self.outbox.len()
     }
 
     // ---- a start
@@ -175,11 +187,13 @@ impl Port {
 
     /// Handles a received frame: its octets from the destination address on. Of a frame that is longer than any valid
     /// one only the first 1,519 octets are read.
-    #[inline(never)]
     pub fn frame(&mut self, octets: &[u8]) -> Result<Note, Refusal>
         ensures { Answers self.old (Framed (record { items = take 1519 octets.now })) result self.new }
     {
-        self.offer(&Event::Frame(first_of(octets)))
+        match self.barred() {
+            Some(refusal) => Err(refusal),
+            None => Ok(self.take_frame(at_most(octets, 1519))),
+        }
     }
 
     /// Sets the input of a submodule.
@@ -198,9 +212,27 @@ impl Port {
         self.offer(&Event::Alarm(slot, subslot, first_of(octets)))
     }
 
+    /// Sets the status of the inputs of a submodule.
+    #[inline(never)]
+    pub fn status(&mut self, slot: u16, subslot: u16, is_good: bool) -> Result<Note, Refusal>
+        ensures { Answers self.old (Status slot subslot is_good) result self.new }
+    {
+        self.offer(&Event::Status(slot, subslot, is_good))
+    }
+
+    /// The application is ready.
+    #[inline(never)]
+    pub fn ready(&mut self) -> Result<Note, Refusal>
+        ensures { Answers self.old Ready result self.new }
+    {
+        self.offer(&Event::Ready)
+    }
+
     /// Lets units of time pass, up to the first that sends something. Returns how many remain.
     pub fn tick(&mut self, units: u32) -> Result<u32, Refusal>
-        ensures { PassesOrNot self.old units result self.new }
+        ensures passes { PassesOrNot self.old units result self.new }
+        // No unit makes a flash call.
+        ensures quiet { IfOk result (λ left. self.new.calls ≡ []) }
     {
         match self.barred() {
             Some(refusal) => Err(refusal),
@@ -230,14 +262,14 @@ impl Port {
         ensures { MatchResult result (λ work. (closed self.now.stage ≡ None)
             × IsNext self.now work) (λ refusal. closed self.now.stage ≡ Some refusal) }
     {
-        match why_closed(self.stage) {
-            Some(refusal) => Err(refusal),
-            None => Ok(self.next()),
+        match self.stage {
+            Stage::Booted => Ok(self.next()),
+            Stage::Made | Stage::Lost => Err(unopened(self.stage)),
         }
     }
 
     // The next piece of work.
-    fn next(&self) -> Work<'_>
+    pub(crate) fn next(&self) -> Work<'_>
         ensures { IsNext self.now result }
     {
         let recent = self.device.flash().recent();
@@ -308,6 +340,18 @@ impl Port {
         }
     }
 
+    /// The number of units up to and with the next one with which something is sent, an alarm is given up, the relation
+    /// ends, or the lamp goes off. 4,294,967,295 if no unit ever does any of these.
+    pub fn due(&self) -> Result<u32, Refusal>
+        ensures { MatchResult result (λ due. (closed self.now.stage ≡ None)
+            × (due ≡ live_due_in self.now.device.live)) (λ refusal. closed self.now.stage ≡ Some refusal) }
+    {
+        match why_closed(self.stage) {
+            Some(refusal) => Err(refusal),
+            None => Ok(self.device.due()),
+        }
+    }
+
     /// The number of units for which the lamp still flashes.
     pub fn lamp(&self) -> Result<u32, Refusal>
         ensures { MatchResult result (λ lamp. (closed self.now.stage ≡ None)
@@ -327,6 +371,18 @@ impl Port {
         match why_closed(self.stage) {
             Some(refusal) => Err(refusal),
             None => Ok(self.device.taken()),
+        }
+    }
+
+    /// What the controller says of the output of a submodule in its last accepted frame. `None` if there is no relation, if
+    /// the output has no place in it, or if no frame was accepted yet.
+    pub fn provider(&self, slot: u16, subslot: u16) -> Result<Option<ProviderStatus>, Refusal>
+        ensures { MatchResult result (λ status. (closed self.now.stage ≡ None)
+            × (status ≡ provider_in slot subslot self.now.device.live.rest.link)) (λ refusal. closed self.now.stage ≡ Some refusal) }
+    {
+        match why_closed(self.stage) {
+            Some(refusal) => Err(refusal),
+            None => Ok(self.device.provider(slot, subslot)),
         }
     }
 
@@ -354,10 +410,9 @@ impl Port {
         ensures { result ≡ barred self.now }
     {
         match self.stage {
-            Stage::Made => Some(Refusal::NotBooted),
-            Stage::Lost => Some(Refusal::PowerLost),
             Stage::Booted if self.has_work() => Some(Refusal::HasWork),
             Stage::Booted => None,
+            Stage::Made | Stage::Lost => Some(unopened(self.stage)),
         }
     }
 
@@ -383,18 +438,86 @@ impl Port {
         note
     }
 
-    // Lets units of time pass, up to the first that sends something. Returns how many remain.
+    // The same with a received frame, which is only read.
+    fn take_frame(&mut self, octets: &[u8]) -> Note
+        requires { barred self.old ≡ None }
+        ensures { Takes self.old (Framed (record { items = octets.now })) result self.new }
+    {
+        let before = counted(self.device.flash());
+        let note = step_frame(&mut self.device, octets, &mut self.outbox);
+        let past = older(before, self.device.flash());
+        self.calls_past = past;
+        self.frames_past = 0;
+        note
+    }
+
+    // Lets units of time pass, up to the first that sends something. Returns how many remain. One unit is the most frequent
+    // case, and has its own path. No unit makes a flash call, so the flash is not looked at.
     fn pass(&mut self, units: u32) -> u32
         requires { barred self.old ≡ None }
-        ensures { Passes self.old units result self.new }
+        ensures passes { Passes self.old units result self.new }
+        ensures quiet { self.new.calls ≡ [] }
     {
-        for passed in 0..units {
+        if units == 1 {
+            self.pass_unit();
+            return 0;
+        }
+        self.pass_all(units)
+    }
+
+    // Lets one unit pass. All work of the step before is fetched.
+    fn pass_unit(&mut self)
+        requires { barred self.old ≡ None }
+        ensures ticks { Ticks 1 self.old self.new }
+        ensures quiet { self.new.calls ≡ [] }
+    {
+        unit(&mut self.device, &mut self.outbox);
+        self.frames_past = 0;
+    }
+
+    // Lets units of time pass by leaps, up to the first that sends something. Returns how many remain.
+    #[inline(never)]
+    fn pass_all(&mut self, units: u32) -> u32
+        requires { barred self.old ≡ None }
+        ensures passes { Passes self.old units result self.new }
+        ensures quiet { self.new.calls ≡ [] }
+    {
+        let mut left = units;
+        while left > 0 {
             if self.has_work() {
-                return units - passed;
+                return left;
             }
-            let _ = self.take(&Event::Tick);
+            let due = self.device.due();
+            if left < due {
+                self.skip(left);
+                return 0;
+            }
+            self.leap(due);
+            left -= due;
         }
         0
+    }
+
+    // Lets several units of time pass at once, at most as many as are due. All work of the step before is fetched.
+    fn leap(&mut self, units: u32)
+        requires free { barred self.old ≡ None }
+        requires few { units ≤ live_due_in self.old.device.live }
+        ensures ticks { Ticks units self.old self.new }
+        ensures stage { self.new.stage ≡ Stage.Booted }
+        ensures quiet { self.new.calls ≡ [] }
+    {
+        leap(&mut self.device, units, &mut self.outbox);
+        self.frames_past = 0;
+    }
+
+    // Lets units of time pass with which nothing is sent.
+    fn skip(&mut self, units: u32)
+        requires free { barred self.old ≡ None }
+        requires few { units < live_due_in self.old.device.live }
+        ensures ticks { Ticks units self.old self.new }
+        ensures quiet { self.new.calls ≡ [] }
+    {
+        skip(&mut self.device, units);
     }
 }
 
@@ -406,6 +529,18 @@ fn why_closed(stage: Stage) -> Option<Refusal>
         Stage::Made => Some(Refusal::NotBooted),
         Stage::Booted => None,
         Stage::Lost => Some(Refusal::PowerLost),
+    }
+}
+
+// Why a port is not open. It has a function of its own, so that an open port only compares its stage once.
+#[inline(never)]
+fn unopened(stage: Stage) -> Refusal
+    requires { stage ≢ Stage.Booted }
+    ensures { closed stage ≡ Some result }
+{
+    match stage {
+        Stage::Made => Refusal::NotBooted,
+        Stage::Booted | Stage::Lost => Refusal::PowerLost,
     }
 }
 

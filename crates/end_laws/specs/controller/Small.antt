@@ -14,7 +14,7 @@ use Rattle.controller_frames.specs.Sent.{Sent, Requests, Agrees, Cycles, Confirm
 use Rattle.controller_core.specs.declared.state.State.{State}
 use Rattle.controller_core.specs.declared.state.State.TheVariants.{Looking, Addressing, Connecting, Writing, Ending, Waiting, Exchanging, Ended}
 use Rattle.controller_core.specs.declared.event.Event.{Event}
-use Rattle.controller_core.specs.declared.event.Event.TheVariants.{Frame, Tick, Give, Stop}
+use Rattle.controller_core.specs.declared.event.Event.TheVariants.{Frame, Tick, Give, Status, Stop}
 use Rattle.controller_core.specs.State.{Live}
 use Rattle.controller_core.specs.Answers.{is_ready}
 use Rattle.controller_core.specs.Machine.{Turn, ready_in}
@@ -105,4 +105,5 @@ abbrev pub said_in : Setup → (List ℕ → Heard) → Event → ToController
 said_in setup heard (Frame bytes) = said_to setup (heard bytes.items)
 said_in setup heard Tick = small.Nothing
 said_in setup heard (Give slot subslot value) = small.Nothing
+said_in setup heard (Status slot subslot is_good) = small.Nothing
 said_in setup heard Stop = small.Nothing

@@ -1,6 +1,6 @@
 -- What one turn of a device does: nothing; something that is no call; that a response confirms ApplicationReady; that a
 -- response is sent again; or that a call is answered, with its operation, its outcome and the relation afterwards.
-use Rattle.std.specs.Prelude.{◌≡◌, ◌⊎◌, ◌++◌, ℕ, List, [], ◌∷◌, Option, Some, None, option_map, Result, Ok, Err}
+use Rattle.std.specs.Prelude.{◌≡◌, ◌⊎◌, ◌++◌, ℕ, Bool, List, [], ◌∷◌, Option, Some, None, option_map, Result, Ok, Err}
 use Rattle.std.specs.List.{AllByRecursion}
 use Rattle.frame_codec.specs.declared.udp.Caller.{Caller}
 use Rattle.rpc_core.specs.Cache.{Kept, kept_more, kept_of, looked, new}
@@ -18,8 +18,9 @@ use Rattle.records.specs.writes.Handled.{write_of}
 use Rattle.relations.specs.declared.phase.Phase.TheVariants.{Started, Awaiting}
 use Rattle.relations.specs.declared.ready.Ready.{Ready}
 use Rattle.relations.specs.Connect.{connect_blocks, connect_of, differing_of, rows_of}
-use Rattle.relations.specs.Phases.{awaiting_from, exchanging_from, made_of, restarted, with_taken}
+use Rattle.relations.specs.Phases.{exchanging_from, made_of, parameterized_from, restarted, with_taken}
 use Rattle.relations.specs.RelationState.{RelationState, uuid_of}
+use Rattle.relations.specs.exchange.Marks.{Starting}
 use Rattle.device_frames.specs.Heard.{Heard, Calls, Reported}
 use Rattle.device_frames.specs.Sent.{Sent, CallAnswer, Again, ReadyCall}
 use Rattle.device_core.specs.Handled.{answer_from, kept_for, outcome_of, partner_of}
@@ -87,8 +88,9 @@ pub record Repeats (live : Live) (heard : Heard) (after : Rest) (sent : List Sen
 -- a Connect is accepted, and its response says what differs
 pub record Connected (station : Station) (caller : Caller) (blocks octets : List ℕ) (before after : Option RelationState) : Type 0 where
   pub request : Request
+  pub starting : Starting
   pub read : connect_of before blocks ≡ Ok request
-  pub made : after ≡ Some (made_of request (partner_of caller) (rows_of request station.real))
+  pub made : after ≡ Some (made_of request (partner_of caller) (rows_of request station.real) starting)
   pub answer : octets ≡ connect_blocks station.identity request (differing_of request station.real)
 
 -- a Write is accepted, and the relation has one more record
@@ -101,12 +103,13 @@ pub record Written (station : Station) (blocks : List ℕ) (before after : Optio
   pub keeps : write.effect ≡ Keeps value
   pub becomes : after ≡ Some (restarted (with_taken (link.taken ++ value ∷ []) link))
 
--- a PrmEnd is accepted
+-- a PrmEnd is accepted, by a device whose application says when it is ready, or by another
 pub record Parameterized (before after : Option RelationState) : Type 0 where
   pub link : RelationState
   pub was : before ≡ Some link
   pub started : link.phase ≡ Started
-  pub becomes : after ≡ Some (awaiting_from link)
+  pub by_application : Bool
+  pub becomes : after ≡ Some (parameterized_from by_application link)
 
 -- a Release is accepted
 pub record Released (before after : Option RelationState) : Type 0 where

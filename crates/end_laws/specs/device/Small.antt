@@ -18,10 +18,10 @@ use Rattle.records.specs.declared.writes.write.Effect.TheVariants.{Keeps}
 use Rattle.records.specs.declared.writes.write.Write.{Write}
 use Rattle.records.specs.writes.Handled.{write_of}
 use Rattle.relations.specs.declared.phase.Phase.{Phase}
-use Rattle.relations.specs.declared.phase.Phase.TheVariants.{Started, Awaiting, Exchanging}
+use Rattle.relations.specs.declared.phase.Phase.TheVariants.{Started, Preparing, Awaiting, Exchanging}
 use Rattle.relations.specs.RelationState.{RelationState}
 use Rattle.relations.specs.Ready.{confirmed_block}
-use Rattle.device_frames.specs.Heard.{Heard, Ticks, Unreadable, Elsewhere, Asks, Resolves, Reported, Cyclic, Alarms, Given, Raised, Said, Calls, Responds, Garbled}
+use Rattle.device_frames.specs.Heard.{Heard, Ticks, Unreadable, Elsewhere, Asks, Resolves, Reported, Cyclic, Alarms, Given, Raised, Rated, Readied, Said, Calls, Responds, Garbled}
 use Rattle.device_frames.specs.Sent.{Sent, IdentifyAnswer, GetAnswer, SetAnswer, ArpReply, CallAnswer, Again, ReadyCall, Ends, Exchanges, bytes_of}
 use Rattle.device_core.specs.State.{Live}
 use Rattle.end_laws.specs.both.Small as small
@@ -30,9 +30,11 @@ use Rattle.end_laws.specs.both.Steps.{SaysAtMost}
 
 -- ---- its state
 
--- the phase of a relation, as a start-up sees it
+-- the phase of a relation, as a start-up sees it: from PrmEnd on it awaits the response to ApplicationReady, which may be
+-- sent at any time then
 abbrev pub phase_in : Phase → small.Phase
 phase_in Started = small.Started
+phase_in Preparing = small.Awaiting
 phase_in Awaiting = small.Awaiting
 phase_in Exchanging = small.Exchanging
 
@@ -90,6 +92,8 @@ heard_as (Cyclic source frame_id body) = small.Idle
 heard_as (Alarms source header message) = small.Idle
 heard_as (Given slot subslot value) = small.Idle
 heard_as (Raised slot subslot octets) = small.Idle
+heard_as (Rated slot subslot is_good) = small.Idle
+heard_as Readied = small.Idle
 
 -- ---- the calls of a start-up
 
@@ -137,6 +141,8 @@ IsPlanned rules activity real (Cyclic source frame_id body) = Unit {0}
 IsPlanned rules activity real (Alarms source header message) = Unit {0}
 IsPlanned rules activity real (Given slot subslot value) = Unit {0}
 IsPlanned rules activity real (Raised slot subslot octets) = Unit {0}
+IsPlanned rules activity real (Rated slot subslot is_good) = Unit {0}
+IsPlanned rules activity real Readied = Unit {0}
 
 -- ---- what it says
 

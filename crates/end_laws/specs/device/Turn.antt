@@ -26,6 +26,7 @@ use Rattle.cyclic_exchange.specs.declared.received.Received.TheVariants as recei
 use Rattle.cyclic_exchange.specs.declared.route.Route.{Route}
 use Rattle.relations.specs.exchange.Flow.{Flow}
 use Rattle.relations.specs.exchange.Frames.{Inputs, Notifies, Replies}
+use Rattle.relations.specs.exchange.Marks.{Starting}
 use Rattle.relations.specs.exchange.Notices.{behind_message, raised_at}
 use Rattle.relations.specs.exchange.Received.{behind_frame, received_as}
 use Rattle.relations.specs.exchange.Units.{flow_later, tick_of}
@@ -109,8 +110,9 @@ pub record Makes (calls : List Kept) (before : Option RelationState) (heard : He
   pub request : Request
   pub partner : Partner
   pub rows : Listed DiffModule DiffSubmodule
+  pub starting : Starting
   pub read : connect_of before blocks ≡ Ok request
-  pub made : after ≡ Some (made_of request partner rows)
+  pub made : after ≡ Some (made_of request partner rows starting)
   pub calm : AreCalm before sent
 
 -- an alarm is raised

@@ -6,7 +6,7 @@ use Rattle.controller_frames.specs.declared.setup.Setup.{Setup}
 use Rattle.controller_frames.specs.Heard.{Heard, Nothing, Answers, Responds, Calls, Cyclic, Alarms, heard_of}
 use Rattle.controller_frames.specs.Sent.{Sent, Requests, Agrees, Cycles, Confirms, Replies, Ends}
 use Rattle.controller_core.specs.declared.event.Event.{Event}
-use Rattle.controller_core.specs.declared.event.Event.TheVariants.{Frame, Tick, Give, Stop}
+use Rattle.controller_core.specs.declared.event.Event.TheVariants.{Frame, Tick, Give, Status, Stop}
 use Rattle.controller_core.specs.State.{Live}
 use Rattle.codec_laws.specs.frames.Sendable.{IsMac}
 use Rattle.rpc_core.specs.Sendable.{CanBeAnswered, IsHeader}
@@ -39,6 +39,7 @@ abbrev pub IsEventFrom : Mac → Setup → Event → Type 0
 IsEventFrom mac setup (Frame bytes) = IsHeardFrom mac (heard_of setup.plan.controller bytes.items)
 IsEventFrom mac setup Tick = ⊤
 IsEventFrom mac setup (Give slot subslot value) = ⊤
+IsEventFrom mac setup (Status slot subslot is_good) = ⊤
 IsEventFrom mac setup Stop = ⊤
 
 -- a message that goes to a station; a response to a call goes to this one

@@ -9,7 +9,7 @@ use Rattle.controller_frames.specs.declared.request.Request.TheVariants as asks
 use Rattle.controller_frames.specs.declared.setup.Setup.{Setup}
 use Rattle.controller_frames.specs.Heard.{Heard, Nothing, Answers, Responds, Calls, Cyclic, Alarms, heard_of}
 use Rattle.controller_core.specs.declared.event.Event.{Event}
-use Rattle.controller_core.specs.declared.event.Event.TheVariants.{Frame, Tick, Give, Stop}
+use Rattle.controller_core.specs.declared.event.Event.TheVariants.{Frame, Tick, Give, Status, Stop}
 use Rattle.controller_core.specs.Connect.{Chosen, chosen_of, found_in, nothing}
 use Rattle.controller_core.specs.State.{Live}
 use Rattle.codec_laws.specs.frames.Sendable.{IsMac}
@@ -101,4 +101,5 @@ abbrev pub IsSizedEvent : Setup → Event → Type 0
 IsSizedEvent setup (Frame bytes) = IsSized (heard_of setup.plan.controller bytes.items)
 IsSizedEvent setup Tick = ⊤
 IsSizedEvent setup (Give slot subslot value) = ⊤
+IsSizedEvent setup (Status slot subslot is_good) = ⊤
 IsSizedEvent setup Stop = ⊤

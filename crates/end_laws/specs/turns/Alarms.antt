@@ -20,7 +20,7 @@ use Rattle.controller_frames.specs.declared.setup.Setup.{Setup}
 use Rattle.controller_frames.specs.Heard.{Heard, Alarms}
 use Rattle.controller_frames.specs.Sent.{Sent, Confirms, Replies}
 use Rattle.controller_core.specs.Alarms.{is_alarm, kept_alarm}
-use Rattle.controller_core.specs.Machine.{Turn, alarmed, first, given, stays, stopped, ticked, turned}
+use Rattle.controller_core.specs.Machine.{Turn, alarmed, first, given, rated, stays, stopped, ticked, turned}
 use Rattle.controller_core.specs.State.{Live}
 
 -- The device's end; the state of the controller; the alarms: those that were raised, each PDU of one that the device's
@@ -36,7 +36,7 @@ pub record Relation : Type 0 where
 -- What may happen: the device raises an alarm; a unit passes at its end; the message at this position, of all that the
 -- controller ever sent, arrives at it; the data, or the ACK, at this position, of all that it ever sent, arrives at the
 -- controller in a frame of this station with these endpoints; anything else is received by the controller, also an ERR
--- or a NACK; a unit passes at the controller; or its application sets an output, or stops it.
+-- or a NACK; a unit passes at the controller; or its application sets an output or its status, or stops it.
 pub data Move : Type 0 where
   Raises : (alarm : Alarm) → Move
   PassesAtDevice : Move
@@ -46,6 +46,7 @@ pub data Move : Type 0 where
   Hears : (heard : Heard) → Move
   PassesAtController : Move
   Gives : (slot subslot : ℕ) → (value : List ℕ) → Move
+  GivesStatus : (slot subslot : ℕ) → (is_good : Bool) → Move
   Stops : Move
 
 -- ---- at the device
@@ -125,6 +126,7 @@ behind_one setup r (AckComes source header place) = ack_comes r source header (s
 behind_one setup r (Hears heard) = hears setup r heard
 behind_one setup r PassesAtController = turns r (ticked r.live)
 behind_one setup r (Gives slot subslot value) = turns r (stays (given r.live slot subslot value))
+behind_one setup r (GivesStatus slot subslot is_good) = turns r (stays (rated r.live slot subslot is_good))
 behind_one setup r Stops = turns r (stopped setup r.live r.live.phase)
 
 abbrev pub behind : Setup → List Move → Relation → Relation

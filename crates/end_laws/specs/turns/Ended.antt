@@ -9,7 +9,7 @@ use Rattle.controller_frames.specs.declared.request.Request.TheVariants as asks
 use Rattle.controller_frames.specs.Heard.{Heard, Responds, heard_of}
 use Rattle.controller_frames.specs.Sent.{Requests, bytes_of}
 use Rattle.controller_core.specs.declared.event.Event.{Event}
-use Rattle.controller_core.specs.declared.event.Event.TheVariants.{Frame, Tick, Give, Stop}
+use Rattle.controller_core.specs.declared.event.Event.TheVariants.{Frame, Tick, Give, Status, Stop}
 use Rattle.controller_core.specs.declared.state.Cause.{Cause}
 use Rattle.controller_core.specs.declared.state.Cause.TheVariants as why
 use Rattle.controller_core.specs.declared.state.State.TheVariants.{Ended}
@@ -49,13 +49,17 @@ pub record IsAnswered (setup : Setup) (live : Live) (heard : Heard) : Type 0 whe
   pub comes : heard ≡ Responds response
   pub right : is_answer setup (asks.Release sequence) response.header ≡ true
 
--- What comes is dropped: a frame, except that a Release that is answered is no longer active; a stop; and an output,
--- which is sent to nobody.
+-- What comes is dropped: a frame, except that a Release that is answered is no longer active; a stop; and an output or its
+-- status, which is sent to nobody.
+abbrev pub IsOnlySet : Live → Live → Type 0
+IsOnlySet before after = after ≡ record before { cyclic = record before.cyclic { shown = after.cyclic.shown }; outputs = after.outputs }
+
 abbrev pub IsDropped : Setup → Event → Live → Live → Type 0
 IsDropped setup (Frame bytes) before after =
     (after ≡ before) ⊎ (IsAnswered setup before (heard_of setup.plan.controller bytes.items) × (after ≡ record before { asked = None }))
 IsDropped setup Tick before after = ⊥
-IsDropped setup (Give slot subslot value) before after = after ≡ record before { cyclic = record before.cyclic { shown = after.cyclic.shown } }
+IsDropped setup (Give slot subslot value) before after = IsOnlySet before after
+IsDropped setup (Status slot subslot is_good) before after = IsOnlySet before after
 IsDropped setup Stop before after = after ≡ before
 
 -- Whether an event is a unit of time.
@@ -86,7 +90,7 @@ IsSilent = (controller : Controlling) (cause : Cause) (events : List Event) → 
     → frames_of events controller ≡ []
 
 -- For an event other than a unit of time no frame is sent. It changes nothing, except that the response to the active
--- Release ends that, and that an output is stored.
+-- Release ends that, and that an output and its status are stored.
 abbrev pub DropsWhatComes : Type 0
 DropsWhatComes = (controller : Controlling) (cause : Cause) (event : Event) → HasEnded cause controller → is_unit event ≡ false
     → ((step_of controller event).frames ≡ []) × IsDropped controller.setup event controller.live (step_of controller event).controller.live

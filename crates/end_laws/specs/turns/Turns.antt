@@ -1,5 +1,5 @@
 -- Each turn of a controller is of one of these kinds: its next state, what it sends, and when it makes such a turn.
-use Rattle.std.specs.Prelude.{◌≡◌, ◌⊎◌, ◌+◌, ◌∷◌, [], ℕ, true, false, List, option_and_then, Option, Some, None}
+use Rattle.std.specs.Prelude.{◌≡◌, ◌⊎◌, ◌+◌, ◌∷◌, [], ℕ, Bool, true, false, List, option_and_then, Option, Some, None}
 use Rattle.pn_values.specs.declared.mac.Mac.{Mac}
 use Rattle.frame_codec.specs.declared.udp.Caller.{Caller}
 use Rattle.dcp_core.specs.Response.{Answered}
@@ -21,34 +21,38 @@ use Rattle.controller_frames.specs.Heard.{Heard, Answers, Responds, Calls, Alarm
 use Rattle.controller_frames.specs.Requests.{writing_from}
 use Rattle.controller_frames.specs.Sent.{Agrees, ready_answer}
 use Rattle.controller_core.specs.declared.event.Event.{Event}
-use Rattle.controller_core.specs.declared.event.Event.TheVariants.{Frame, Tick, Give, Stop}
+use Rattle.controller_core.specs.declared.event.Event.TheVariants.{Frame, Tick, Give, Status, Stop}
 use Rattle.controller_core.specs.declared.state.Cause.{Cause}
 use Rattle.controller_core.specs.declared.state.State.TheVariants.{Looking, Addressing, Connecting, Ending, Waiting, Exchanging, Ended}
 use Rattle.controller_core.specs.State.{Live}
 use Rattle.controller_core.specs.Answers.{is_answer, is_ready}
 use Rattle.controller_core.specs.Connect.{Chosen, chosen_of, found_in, nothing}
-use Rattle.controller_core.specs.Machine.{Turn, asking, behind_data, brought, due_frames, ended_by, flow_later, given, is_again, later, over, ready_in, released, requests_of, standing, stays, stopped, taken, ticked, turned, where_due, writing}
+use Rattle.controller_core.specs.Machine.{Turn, asking, behind_data, brought, due_frames, ended_by, flow_later, given, is_again, later, over, rated, ready_in, released, requests_of, standing, stays, stopped, taken, ticked, turned, where_due, writing}
 use Rattle.end_laws.specs.turns.Ended.{IsAnswered, may_release}
 
 -- ---- what comes
 
--- A frame is received, with any octets; a unit passes; an output is set; or the application stops the controller.
+-- A frame is received, with any octets; a unit passes; an output is set, or its status; or the application stops the
+-- controller.
 pub data Came : Type 0 where
   Hears : (heard : Heard) → Came
   Passes : Came
   Gets : (slot subslot : ℕ) → (value : List ℕ) → Came
+  GetsStatus : (slot subslot : ℕ) → (is_good : Bool) → Came
   Halts : Came
 
 abbrev pub came_by : Setup → Event → Came
 came_by setup (Frame bytes) = Hears (heard_of setup.plan.controller bytes.items)
 came_by setup Tick = Passes
 came_by setup (Give slot subslot value) = Gets slot subslot value.items
+came_by setup (Status slot subslot is_good) = GetsStatus slot subslot is_good
 came_by setup Stop = Halts
 
 abbrev pub turn_for : Setup → Live → Came → Turn
 turn_for setup live (Hears heard) = turned setup live heard
 turn_for setup live Passes = ticked live
 turn_for setup live (Gets slot subslot value) = stays (given live slot subslot value)
+turn_for setup live (GetsStatus slot subslot is_good) = stays (rated live slot subslot is_good)
 turn_for setup live Halts = stopped setup live live.phase
 
 -- ---- a complete end
@@ -75,8 +79,8 @@ IsGoing live = (cause : Cause) → IsEnd cause live → ⊥
 -- ends, or ends and informs the device; the relation is established with what the device chose, and the first record is
 -- written; the record after this one is written; the controller waits for ApplicationReady; a Release
 -- is no longer active; ApplicationReady is answered, and data is exchanged from then on, or was before; a cyclic frame
--- is received; an alarm is received, or the ACK of an AlarmAck; an output is set; a unit of the relation passes, or
--- ends it, or a unit passes without a relation.
+-- is received; an alarm is received, or the ACK of an AlarmAck; an output is set, or its status; a unit of the relation
+-- passes, or ends it, or a unit passes without a relation.
 pub data Kind : Type 0 where
   Rests : Kind
   Connects : (source : Mac) → Kind
@@ -93,6 +97,7 @@ pub data Kind : Type 0 where
   Takes : (number : ℕ) → (alarm : AlarmNotification) → Kind
   IsAcked : (number : ℕ) → Kind
   Gives : (slot subslot : ℕ) → (value : List ℕ) → Kind
+  GivesStatus : (slot subslot : ℕ) → (is_good : Bool) → Kind
   Flows : Kind
   Breaks : (reason : Abort) → Kind
   Idles : Kind
@@ -117,6 +122,7 @@ turn_by setup live (Follows source frame_id body) = stays (record live { cyclic 
 turn_by setup live (Takes number alarm) = taken (behind_data live number) alarm (taken_as live.alarms.seen number)
 turn_by setup live (IsAcked number) = stays (record live { alarms = with_ack live.alarms number })
 turn_by setup live (Gives slot subslot value) = stays (given live slot subslot value)
+turn_by setup live (GivesStatus slot subslot is_good) = stays (rated live slot subslot is_good)
 turn_by setup live Flows = record { live = flow_later live; sent = due_frames (flow_later live) (brought live).is_alarm (is_again live) (brought live).is_cyclic }
 turn_by setup live (Breaks reason) = ended_by (flow_later live) reason
 turn_by setup live Idles = record { live = later live; sent = where_due (is_again live) (requests_of live.device live.asked) }
@@ -171,6 +177,7 @@ IsKind setup live came (Takes number alarm) =
     (live.stands ≡ true) × (source : Mac) × (header : Header) × (came ≡ Hears (Alarms source header (notice.Data number alarm)))
 IsKind setup live came (IsAcked number) = (live.stands ≡ true) × (source : Mac) × (header : Header) × (came ≡ Hears (Alarms source header (notice.Ack number)))
 IsKind setup live came (Gives slot subslot value) = came ≡ Gets slot subslot value
+IsKind setup live came (GivesStatus slot subslot is_good) = came ≡ GetsStatus slot subslot is_good
 IsKind setup live came Flows = (came ≡ Passes) × (live.stands ≡ true) × ((brought live).ending ≡ None)
 IsKind setup live came (Breaks reason) = (came ≡ Passes) × (live.stands ≡ true) × ((brought live).ending ≡ Some reason)
 IsKind setup live came Idles = (came ≡ Passes) × (live.stands ≡ false)

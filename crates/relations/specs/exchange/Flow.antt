@@ -1,8 +1,12 @@
 -- What a relation exchanges with its partner.
+use Rattle.std.specs.Prelude.{List}
 use Rattle.cyclic_exchange.specs.Cyclic.{Cyclic}
 use Rattle.pn_alarms.specs.Ends.{DeviceEnd}
+use Rattle.relations.specs.declared.exchange.marks.Mark.{Mark}
 
--- An exchange: the device's end of cyclic data, which sends inputs and accepts outputs, and its end of the alarms.
+-- An exchange: the device's end of cyclic data, which sends inputs and accepts outputs, its end of the alarms, and why
+-- the IOPS of inputs are not good.
 pub record Flow : Type 0 where
   pub cyclic : Cyclic
   pub alarms : DeviceEnd
+  pub marks : List Mark

@@ -1,9 +1,10 @@
 -- The exchange of a relation that is established now, with the answer to its Connect (IEC 61158-6-10, 5.2.4).
-use Rattle.std.specs.Prelude.{◌*◌, ◌-◌, ℕ, None, replicate, if◌then◌else◌}
+use Rattle.std.specs.Prelude.{◌*◌, ℕ, List, None, map, if◌then◌else◌}
 use Rattle.block_fields.specs.modules.Lists.{Listed}
 use Rattle.module_blocks.specs.declared.module_diff.DiffModule.{DiffModule}
 use Rattle.module_blocks.specs.declared.module_diff.DiffSubmodule.{DiffSubmodule}
 use Rattle.module_diff.specs.Diff.{is_listed}
+use Rattle.cyclic_data.specs.declared.place.PlaceKind.TheVariants.{Data, Iocs}
 use Rattle.cyclic_data.specs.declared.place.Place.{Place}
 use Rattle.cyclic_data.specs.Image.{Cell, good}
 use Rattle.connect_requests.specs.declared.parts.Iocr.{Iocr}
@@ -12,6 +13,8 @@ use Rattle.pn_alarms.specs.Device.{idle}
 use Rattle.cyclic_exchange.specs.declared.route.Route.{Route}
 use Rattle.cyclic_exchange.specs.Opening.{StatusOf}
 use Rattle.cyclic_exchange.specs.Opening.{begun_of as cyclic_begun, first_cell as first_with, opened as cyclic_opened}
+use Rattle.relations.specs.declared.exchange.marks.Mark.{Mark}
+use Rattle.relations.specs.exchange.Marks.{Starting, first_mark, iops_of, mark_at}
 use Rattle.relations.specs.exchange.Flow.{Flow}
 
 -- Cyclic frames and alarms go to CMInitiatorMacAdd and come from there.
@@ -29,25 +32,31 @@ route_of request = record {
 abbrev pub interval_of : Iocr → ℕ
 interval_of iocr = iocr.send_clock_factor * iocr.reduction_ratio
 
--- The IOPS and IOCS of a submodule: 0, bad, if the ModuleDiffBlock lists it, otherwise good.
+-- The IOCS of a submodule: 0, bad, if the ModuleDiffBlock lists it, otherwise good. Its IOPS is by its mark.
 abbrev pub status_of : Listed DiffModule DiffSubmodule → ℕ → ℕ → ℕ
 status_of rows slot subslot = if is_listed slot subslot rows then 0 else good
 
-abbrev pub statuses_of : Listed DiffModule DiffSubmodule → StatusOf
-statuses_of rows kind slot subslot = status_of rows slot subslot
+abbrev pub statuses_of : Listed DiffModule DiffSubmodule → List Mark → StatusOf
+statuses_of rows marks Data slot subslot = iops_of (mark_at slot subslot marks)
+statuses_of rows marks Iocs slot subslot = status_of rows slot subslot
 
 -- A place of an input that was not given yet: zeros.
-abbrev pub first_cell : Listed DiffModule DiffSubmodule → Place → Cell
-first_cell rows place = first_with (statuses_of rows) place
+abbrev pub first_cell : Listed DiffModule DiffSubmodule → List Mark → Place → Cell
+first_cell rows marks place = first_with (statuses_of rows marks) place
 
--- The exchange that a Connect asks for, if these modules and submodules differ. The interval of the inputs is counted
--- from now. The data hold time is DataHoldFactor times the interval of the outputs.
-abbrev pub opened : Request → Listed DiffModule DiffSubmodule → Flow
-opened request rows = record {
+-- The exchange that a Connect asks for, if these modules and submodules differ, and if the application says this of its
+-- inputs. The interval of the inputs is counted from now. The data hold time is DataHoldFactor times the interval of the
+-- outputs.
+abbrev pub first_marks : Request → Listed DiffModule DiffSubmodule → Starting → List Mark
+first_marks request rows starting = map (first_mark starting rows) request.input.layout.places
+
+abbrev pub opened : Request → Listed DiffModule DiffSubmodule → Starting → Flow
+opened request rows starting = record {
   cyclic = cyclic_opened (route_of request) (record { interval = interval_of request.input; elapsed = 0 })
       (record { last = None; held = 0; limit = request.output.data_hold_factor * interval_of request.output })
-      (statuses_of rows) request.input.layout request.output.layout;
+      (statuses_of rows (first_marks request rows starting)) request.input.layout request.output.layout;
   alarms = idle request.alarm.timeout_factor request.alarm.retries;
+  marks = first_marks request rows starting;
 }
 
 -- ApplicationReady was answered: data is exchanged, and the data hold time runs from now on.

@@ -27,4 +27,4 @@ tick_of flow = cyclic_tick flow.cyclic (alarm_due flow)
 
 -- The state after a unit of time.
 abbrev pub flow_later : Flow → Flow
-flow_later flow = record { cyclic = cyclic_later flow.cyclic; alarms = end_later flow.alarms }
+flow_later flow = record flow { cyclic = cyclic_later flow.cyclic; alarms = end_later flow.alarms }

@@ -1,9 +1,11 @@
 //! The data exchange of a relation.
 ghost use Rattle.std.specs.Prelude.{◌≡◌, ◌≤◌, IfSome, None, [], false, is_some, length, option_map, unwrap_or};
 ghost use Rattle.relations.specs.exchange.Opening.{begun_of, opened};
-ghost use Rattle.relations.specs.exchange.Process.{given_at, output_at};
+ghost use Rattle.relations.specs.exchange.Process.{given_at, output_at, rated_at, remarked};
 
+use crate::exchange::marks::{Mark, Starting, awaits, begin, change, iops_in};
 use crate::exchange::opening::{Differing, route_of};
+use arrayvec::ArrayVec;
 use connect_requests::ConnectRequest;
 use cyclic_data::{Consumer, Provider};
 use cyclic_exchange::{CyclicExchange, Route};
@@ -17,6 +19,8 @@ use std::marker::Model;
 pub struct DataExchange {
     pub(crate) cyclic: CyclicExchange,
     pub(crate) alarms: DeviceAlarms,
+    /// Why the IOPS of inputs are not good, for each place.
+    pub(crate) marks: ArrayVec<Mark, 128>,
 }
 
 // Its model: one value for each place, and the states of the sender and of the receiver.
@@ -25,7 +29,7 @@ impl Model for DataExchange {
 
     ghost Value = { Flow };
 
-    ghost view = { λ exchange. record { cyclic = exchange.cyclic; alarms = exchange.alarms } };
+    ghost view = { λ exchange. record { cyclic = exchange.cyclic; alarms = exchange.alarms; marks = exchange.marks.items } };
 }
 
 impl DataExchange {
@@ -40,23 +44,29 @@ impl DataExchange {
         DataExchange {
             cyclic: CyclicExchange::new(),
             alarms: DeviceAlarms::new(1, 1),
+            marks: ArrayVec::new(),
         }
     }
 
     /// Opens the exchange when a Connect is answered; `rows` lists the modules and submodules that differ. No data was
     /// given and none accepted, and the interval of the inputs is counted from now. Nothing of an earlier relation
     /// remains.
-    pub fn open(&mut self, request: &ConnectRequest, rows: &DiffRows)
-        ensures { self.new ≡ opened request.now rows.now }
+    pub fn open(&mut self, request: &ConnectRequest, rows: &DiffRows, starting: Starting<'_>)
+        ensures { self.new ≡ opened request.now rows.now
+            (record { begin_bad = starting.entry.begin_bad; statuses = starting.entry.statuses.now }) }
     {
         let (input, output, alarm) = (request.input(), request.output(), request.alarm());
+        begin(&mut self.marks, input.layout.places(), rows, starting);
         self.cyclic.open(
             route_of(request),
             Provider::start(input.send_clock_factor, input.reduction_ratio),
             Consumer::new(output.data_hold_factor, output.interval()),
             &input.layout,
             &output.layout,
-            &Differing(rows),
+            &Differing {
+                rows,
+                marks: self.marks.as_slice(),
+            },
         );
         self.alarms = DeviceAlarms::new(alarm.timeout_factor, alarm.retries);
     }
@@ -85,12 +95,35 @@ impl DataExchange {
     }
 
     /// Sets the input of a submodule, which frames carry from now on. Returns whether the submodule has an input of
-    /// this length; if not, nothing changes. A submodule without data has an input of no octets.
+    /// this length; if not, nothing changes. A submodule without data has an input of no octets. If the first input was
+    /// awaited, the IOPS is good from now on, unless something else is against it.
     pub fn give(&mut self, slot: u16, subslot: u16, value: &[u8]) -> bool
         ensures done { result ≡ is_some (given_at self.old slot subslot value.now) }
         ensures state { self.new ≡ unwrap_or (given_at self.old slot subslot value.now) self.old }
     {
-        self.cyclic.give(slot, subslot, value)
+        if !self.cyclic.give(slot, subslot, value) {
+            return false;
+        }
+        if awaits(self.marks.as_slice(), slot, subslot) {
+            self.remark(slot, subslot, None);
+        }
+        true
+    }
+
+    /// Says that the inputs of a submodule are good or bad from now on. The IOPS follows.
+    pub fn rate(&mut self, slot: u16, subslot: u16, is_good: bool)
+        ensures { self.new ≡ rated_at self.old slot subslot is_good }
+    {
+        self.remark(slot, subslot, Some(is_good));
+    }
+
+    /// Changes the marks of the inputs of a submodule: an input was given, or this status. The IOPS follows.
+    fn remark(&mut self, slot: u16, subslot: u16, status: Option<bool>)
+        ensures { self.new ≡ remarked self.old slot subslot status }
+    {
+        change(&mut self.marks, slot, subslot, status);
+        let iops = iops_in(self.marks.as_slice(), slot, subslot);
+        self.cyclic.state(slot, subslot, iops);
     }
 
     /// The output of a submodule, if it has one: its data in the last accepted frame. All zeros if no frame was

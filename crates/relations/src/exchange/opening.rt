@@ -2,12 +2,13 @@
 ghost use Rattle.std.specs.Prelude.{◌≡◌};
 ghost use Rattle.relations.specs.exchange.Opening.{route_of, status_of};
 
+use crate::exchange::marks::{Mark, iops_in};
 use connect_requests::ConnectRequest;
 use cyclic_data::{GOOD, PlaceKind};
 use cyclic_exchange::{Route, Statuses};
 use module_diff::DiffRows;
 
-/// The IOPS and IOCS of a submodule: bad if these rows list it, otherwise good.
+/// The IOCS of a submodule: bad if these rows list it, otherwise good.
 fn status_of(rows: &DiffRows, slot: u16, subslot: u16) -> u8
     ensures { result ≡ status_of rows.now slot subslot }
 {
@@ -20,17 +21,23 @@ fn status_of(rows: &DiffRows, slot: u16, subslot: u16) -> u8
     }
 }
 
-/// The statuses of a device in which these modules and submodules differ.
+/// The statuses of a device in which these modules and submodules differ, and whose inputs have these marks.
 #[derive(Drop)]
-pub(crate) struct Differing<'a>(pub(crate) &'a DiffRows);
+pub(crate) struct Differing<'a> {
+    pub(crate) rows: &'a DiffRows,
+    pub(crate) marks: &'a [Mark],
+}
 
 impl Statuses for Differing<'_> {
     ghost use Rattle.relations.specs.exchange.Opening.{statuses_of};
 
-    ghost status_of = { λ differing. statuses_of differing.0.now };
+    ghost status_of = { λ differing. statuses_of differing.rows.now differing.marks.now };
 
-    fn status(&self, _kind: PlaceKind, slot: u16, subslot: u16) -> u8 {
-        status_of(self.0, slot, subslot)
+    fn status(&self, kind: PlaceKind, slot: u16, subslot: u16) -> u8 {
+        match kind {
+            PlaceKind::Data => iops_in(self.marks, slot, subslot),
+            PlaceKind::Iocs => status_of(self.rows, slot, subslot),
+        }
     }
 }
 

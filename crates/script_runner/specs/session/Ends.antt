@@ -13,6 +13,10 @@ use Rattle.controller_core.specs.declared.event.Event.{Event as ControllerEvent}
 use Rattle.controller_core.specs.declared.event.Event.TheVariants as heard
 use Rattle.controller_core.specs.State.{Controlling}
 use Rattle.controller_core.specs.Machine.{Stepped as ControllerRun, step_of as controller_step, fresh, opening_of}
+use Rattle.relations.specs.Options.{default_options}
+use Rattle.relations.specs.declared.options.DeviceOptions.{DeviceOptions}
+use Rattle.script_lines.specs.declared.command.Choice.{Choice}
+use Rattle.script_lines.specs.declared.command.Choice.TheVariants.{InputsBad, ReadyLater, Interval}
 use Rattle.script_lines.specs.Text.{out_lines}
 
 -- A device without its flash: what is fixed, and what changes.
@@ -24,9 +28,10 @@ pub record Station : Type 0 where
 abbrev pub turned_to : Station → Live → Station
 turned_to station live = record { device = station.device; live = live }
 
--- The other end: the plan of the next controller, the controller once there is one, and the frames that wait at either
--- end, in order.
+-- What is kept besides the device: the options of its next start, and the other end: the plan of the next controller, the
+-- controller once there is one, and the frames that wait at either end, in order.
 pub record Other : Type 0 where
+  pub options : DeviceOptions
   pub plan : Option Parts
   pub controller : Option Controlling
   pub to_device : List (List ℕ)
@@ -55,9 +60,9 @@ KnowsThePlan = (plans : List ℕ → Option Parts) (catalogue : List ℕ) (plan 
 abbrev pub KnowsTheRefusal : Type 0
 KnowsTheRefusal = (plans : List ℕ → Option Parts) (catalogue : List ℕ) (fault : PlanFault) → IsRefused catalogue fault → fault ≢ OutOfMemory → plans catalogue ≡ None → IsRightFor plans catalogue
 
--- The other end before a catalogue was read.
+-- The other end before a catalogue was read. All options have their defaults.
 abbrev pub nobody : Other
-nobody = record { plan = None; controller = None; to_device = []; to_controller = [] }
+nobody = record { options = default_options; plan = None; controller = None; to_device = []; to_controller = [] }
 
 -- ---- events, one after another, and the frames that they send
 
@@ -116,6 +121,15 @@ with_fresh other plan ar activity =
 -- The other end with a plan for the next controller.
 abbrev pub with_plan : Other → Parts → Other
 with_plan other plan = record other { plan = Some plan }
+
+-- An option of the device is set.
+abbrev pub with_choice : DeviceOptions → Choice → DeviceOptions
+with_choice options (InputsBad is_on) = record options { inputs_begin_bad = is_on }
+with_choice options (ReadyLater is_on) = record options { ready_by_application = is_on }
+with_choice options (Interval units) = record options { smallest_interval = units }
+
+abbrev pub chosen : Other → Choice → Other
+chosen other choice = record other { options = with_choice other.options choice }
 
 -- The other end without frames that wait.
 abbrev pub cleared : Other → Other

@@ -4,7 +4,7 @@ use Rattle.std.specs.Prelude.{◌≡◌, ℕ, Bool, true, false, List, [], ◌++
 use Rattle.flash_model.specs.declared.flash.Order.{Order}
 use Rattle.configurator.specs.declared.fault.PlanFault.{PlanFault}
 use Rattle.configurator.specs.declared.fault.PlanFault.TheVariants.{OutOfMemory}
-use Rattle.script_lines.specs.Line.{Command, Frame, Restart, Tick, Show, Arm, Input, Alarm, Config, Start, Give, Stop, Deliver, Line, Unfit, Skipped, Asks, Unknown}
+use Rattle.script_lines.specs.Line.{Command, Frame, Restart, Tick, Elapse, Show, Due, Choose, Ready, Arm, Input, Alarm, Status, Provider, Config, Start, Give, OutputStatus, Stop, Deliver, Line, Unfit, Skipped, Asks, Unknown}
 use Rattle.script_lines.specs.Text.{boot_line, lost_line, off_line}
 use Rattle.script_runner.specs.session.Ends.{Other, cleared}
 use Rattle.script_runner.specs.declared.session.power.Power.{Power}
@@ -24,9 +24,10 @@ PrintsOff text before now (Ok true) = (line : List ℕ) × (text ≡ Some line) 
 PrintsOff text before now (Ok false) = text ≡ None
 PrintsOff text before now (Err fault) = fault ≡ OutOfMemory
 
--- Power was switched on again, no frame waits, and the result of the start is printed; or memory was refused.
+-- Power was switched on again, with the options that were set, no frame waits, and the result of the start is printed; or
+-- memory was refused.
 abbrev pub GivesBack : Held → Held → List ℕ → List ℕ → Result Bool PlanFault → Type 0
-GivesBack old new before now (Ok true) = IsBack old.power new.power × (new.other ≡ cleared old.other) × (now ≡ before ++ boot_line (refusal_of new.power))
+GivesBack old new before now (Ok true) = IsBack old.other.options old.power new.power × (new.other ≡ cleared old.other) × (now ≡ before ++ boot_line (refusal_of new.power))
 GivesBack old new before now (Ok false) = ⊥
 GivesBack old new before now (Err fault) = fault ≡ OutOfMemory
 
@@ -43,19 +44,26 @@ is_heard_off Skipped = true
 is_heard_off (Asks Restart) = true
 is_heard_off line = false
 
--- A command that hands something to the device, in which a call of its flash may fail: a frame, an input, an alarm, or
--- the frames that wait.
+-- A command that hands something to the device, in which a call of its flash may fail: a frame, an event of its
+-- application, or the frames that wait.
 abbrev pub hands : Command → Bool
 hands (Frame bytes) = true
 hands Restart = false
 hands (Tick units) = false
+hands (Elapse units) = false
 hands Show = false
+hands Due = false
+hands (Choose choice) = false
+hands Ready = true
 hands (Arm order) = false
 hands (Input slot subslot bytes) = true
 hands (Alarm slot subslot bytes) = true
+hands (Status slot subslot is_good) = true
+hands (Provider slot subslot) = false
 hands (Config catalogue) = false
 hands (Start ar activity) = false
 hands (Give slot subslot bytes) = false
+hands (OutputStatus slot subslot is_good) = false
 hands Stop = false
 hands Deliver = true
 
@@ -67,10 +75,10 @@ is_handed (Asks command) = hands command
 is_handed Unknown = false
 
 -- What a line leaves at the other end if power is lost in it: all as it was. If it handed over the frames that wait for
--- the device, none of these waits any longer; the answers from before the loss wait for the controller, and the plan and
--- the controller stay as they were.
+-- the device, none of these waits any longer; the answers from before the loss wait for the controller, and the options,
+-- the plan and the controller stay as they were.
 abbrev pub Delivers : Other → Other → Type 0
-Delivers old new = (new.plan ≡ old.plan) × (new.controller ≡ old.controller) × (new.to_device ≡ [])
+Delivers old new = (new.options ≡ old.options) × (new.plan ≡ old.plan) × (new.controller ≡ old.controller) × (new.to_device ≡ [])
 
 abbrev pub Leaves : Command → Other → Other → Type 0
 Leaves Deliver old new = Delivers old new

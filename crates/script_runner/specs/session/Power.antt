@@ -10,6 +10,7 @@ use Rattle.settings_journal.specs.Commit.{HasBootCause}
 use Rattle.settings_journal.specs.Image.{StartsWith, IsForeign, LeftByDevice}
 use Rattle.settings_journal.specs.declared.journal.BootFault.{BootFault}
 use Rattle.settings_journal.specs.declared.journal.BootFault.TheVariants.{Foreign}
+use Rattle.relations.specs.declared.options.DeviceOptions.{DeviceOptions}
 use Rattle.device_core.specs.Cycle.{started}
 use Rattle.device_core.specs.State.{State}
 use Rattle.script_runner.specs.declared.session.power.Power.{Power}
@@ -43,9 +44,9 @@ is_off (On device) = is_powerless device.flash
 is_off (Off fault flash) = true
 is_off Away = true
 
--- The demo device runs, with any settings, or its start was refused.
+-- The demo device runs, with any settings and options, or its start was refused.
 abbrev pub IsDemo : Power → Type 0
-IsDemo (On device) = device.station ≡ demo_device
+IsDemo (On device) = device.station ≡ demo_device device.station.options
 IsDemo (Off fault flash) = Unit {0}
 IsDemo Away = ⊥
 
@@ -54,16 +55,16 @@ IsDemo Away = ⊥
 abbrev pub IsSameFlash : MemoryFlash 4096 → MemoryFlash 4096 → Type 0
 IsSameFlash old new = (image_of new ≡ image_of old) × (against_writes (armed_in new) ≡ against_writes (armed_in old))
 
--- The demo device was started over this flash, which is still the same. It runs what is stored, and nothing of an earlier
--- cycle remains; or its start was refused, for a reason that holds of the flash. The reason Foreign means that no journal
--- of this layout left the flash.
-abbrev pub IsOver : MemoryFlash 4096 → Power → Type 0
-IsOver flash (On device) =
-    IsDemo (On device) × (device.live ≡ started device.live.values.stored device.live.values.room)
+-- The demo device was started with these options over this flash, which is still the same. It runs what is stored, and
+-- nothing of an earlier cycle remains; or its start was refused, for a reason that holds of the flash. The reason Foreign
+-- means that no journal of this layout left the flash.
+abbrev pub IsOver : DeviceOptions → MemoryFlash 4096 → Power → Type 0
+IsOver options flash (On device) =
+    (device.station ≡ demo_device options) × (device.live ≡ started device.live.values.stored device.live.values.room)
     × StartsWith (image_of device.flash) device.live.values.stored device.live.values.room × IsSameFlash flash device.flash
-IsOver flash (Off fault left) =
+IsOver options flash (Off fault left) =
     HasBootCause fault (failures_of flash) (failures_of left) × (fault ≡ Foreign → IsForeign (image_of left)) × IsSameFlash flash left
-IsOver flash Away = ⊥
+IsOver options flash Away = ⊥
 
 -- The flash was given this order, and nothing else of the run changed.
 abbrev pub IsArmed : Order → Power → Power → Type 0
@@ -72,11 +73,11 @@ IsArmed order (Off fault old) (Off still new) = (still ≡ fault) × IsAsked old
 IsArmed order Away Away = Unit {0}
 IsArmed order old new = ⊥
 
--- The flash has power again, and the demo device was started over it.
-abbrev pub IsBack : Power → Power → Type 0
-IsBack (On device) power = IsOver device.flash power
-IsBack (Off fault flash) power = IsOver flash power
-IsBack Away power = power ≡ Away
+-- The flash has power again, and the demo device was started over it with these options.
+abbrev pub IsBack : DeviceOptions → Power → Power → Type 0
+IsBack options (On device) power = IsOver options device.flash power
+IsBack options (Off fault flash) power = IsOver options flash power
+IsBack options Away power = power ≡ Away
 
 -- Both ends, as a run holds them.
 pub record Held : Type 0 where

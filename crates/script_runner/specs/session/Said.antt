@@ -1,30 +1,34 @@
 -- The effect of a line: a command to the demo device, whose flash never fails, or to the other end.
-use Rattle.std.specs.Prelude.{◌+◌, ℕ, Bool, true, false, List, [], ◌++◌, codes, length, replicate, take, Option, Some, None}
-use Rattle.std.specs.Str.Lines.{lines}
+use Rattle.std.specs.Prelude.{ℕ, Bool, true, false, List, [], ◌++◌, codes, length, replicate, take, Option, Some, None}
 use Rattle.arrayvec.specs.ArrayVec.{ArrayVec}
 use Rattle.pn_values.specs.Settings.{factory_settings}
 use Rattle.pn_values.specs.declared.settings.Settings.{Settings}
 use Rattle.settings_journal.specs.Image.{capacity}
+use Rattle.relations.specs.Exchanged.{provider_in}
+use Rattle.relations.specs.Options.{default_options}
 use Rattle.relations.specs.RelationState.{phase_of}
+use Rattle.relations.specs.declared.options.DeviceOptions.{DeviceOptions}
 use Rattle.plans.specs.declared.parts.Parts.{Parts}
 use Rattle.device_frames.specs.declared.event.Event.{Event}
 use Rattle.device_frames.specs.declared.event.Event.TheVariants as event
 use Rattle.device_frames.specs.declared.note.Note.TheVariants.{Done}
 use Rattle.device_core.specs.Machine.{Stepped, step_of}
 use Rattle.device_core.specs.Cycle.{started}
+use Rattle.device_core.specs.Leaps.{live_due_in}
 use Rattle.controller_core.specs.declared.event.Event.{Event as ControllerEvent}
 use Rattle.controller_core.specs.declared.event.Event.TheVariants as heard
 use Rattle.controller_core.specs.Machine.{step_of as controller_step}
 use Rattle.controller_core.specs.State.{Controlling}
 use Rattle.script_runner.specs.session.Demo.{demo_device}
-use Rattle.script_runner.specs.session.Ends.{Station, turned_to, Other, Network, DeviceRun, with_ends, arrived_at, cleared, device_run, frames_for_device, nobody, printed_for, ticked_by, with_fresh, with_plan, with_run, with_sent}
-use Rattle.script_lines.specs.Line.{Command, Frame, Restart, Tick, Show, Arm, Input, Alarm, Config, Start, Give, Stop, Deliver, Line, Unfit, Skipped, Asks, Unknown}
-use Rattle.script_lines.specs.Show.{shown, outputs_shown, controller_shown}
+use Rattle.script_runner.specs.session.Ends.{Station, turned_to, Other, Network, DeviceRun, with_ends, arrived_at, chosen, cleared, device_run, frames_for_device, nobody, printed_for, ticked_by, with_fresh, with_plan, with_run, with_sent}
+use Rattle.script_lines.specs.Line.{Command, Frame, Restart, Tick, Elapse, Show, Due, Choose, Ready, Arm, Input, Alarm, Status, Provider, Config, Start, Give, OutputStatus, Stop, Deliver, Line, Unfit, Skipped, Asks, Unknown}
+use Rattle.script_lines.specs.declared.command.Choice.{Choice}
+use Rattle.script_lines.specs.Show.{shown, outputs_shown, controller_shown, due_line, provider_line}
 use Rattle.script_lines.specs.Text.{boot_line, moved_line, note_line, printed}
 
--- The demo device, started from these settings.
-abbrev pub demo_started : Settings → ℕ → Station
-demo_started settings room = record { device = demo_device; live = started settings room }
+-- The demo device, started with these options from these settings.
+abbrev pub demo_started : DeviceOptions → Settings → ℕ → Station
+demo_started options settings room = record { device = demo_device options; live = started settings room }
 
 -- Both ends after a line, and the text that the line prints.
 pub record Answer : Type 0 where
@@ -46,14 +50,15 @@ handed bytes = record { items = take 1519 bytes }
 abbrev pub event_answer : Network → Event → Answer
 event_answer network event = step_answer network (step_of [] network.station.device network.station.live event)
 
--- A restart starts the device from what is stored; no frame waits afterwards, and the controller is as it was.
+-- A restart starts the device from what is stored, with the options that were set; no frame waits afterwards, and the
+-- controller is as it was.
 abbrev pub restart_answer : Network → Answer
 restart_answer network = record {
-  network = with_ends (demo_started network.station.live.values.stored network.station.live.values.room) (cleared network.other);
+  network = with_ends (demo_started network.other.options network.station.live.values.stored network.station.live.values.room) (cleared network.other);
   text = boot_line None;
 }
 
--- Units of time at both ends, and then the note.
+-- Units of time at both ends, and then the note. Leaps do what as many single units do.
 abbrev pub tick_answer : Network → ℕ → Answer
 tick_answer network units =
     let run = device_run network.station (replicate units event.Tick) in
@@ -70,6 +75,18 @@ show_answer network =
       text = shown live.values.running live.values.stored (phase_of live.rest.link) live.rest.lamp
           ++ (outputs_shown network.station.device.real live.rest.link ++ controller_shown network.other.controller);
     }
+
+-- The number of units up to and with the next one with which something happens at the device.
+abbrev pub due_answer : Network → Answer
+due_answer network = record { network = network; text = due_line (live_due_in network.station.live) }
+
+-- What the controller says of the output of a submodule in its last accepted frame.
+abbrev pub provider_answer : Network → ℕ → ℕ → Answer
+provider_answer network slot subslot = record { network = network; text = provider_line slot subslot (provider_in slot subslot network.station.live.rest.link) }
+
+-- An option is set for the device's next start; nothing is printed.
+abbrev pub choose_answer : Network → Choice → Answer
+choose_answer network choice = record { network = with_ends network.station (chosen network.other choice); text = [] }
 
 -- An order to the flash changes nothing at either end.
 abbrev pub unchanged : Network → Answer
@@ -125,13 +142,20 @@ unfoldable pub said : (List ℕ → Option Parts) → Network → Command → Ou
 said plans network (Frame bytes) = Answers (event_answer network (event.Frame (handed bytes)))
 said plans network Restart = Answers (restart_answer network)
 said plans network (Tick units) = Answers (tick_answer network units)
+said plans network (Elapse units) = Answers (tick_answer network units)
 said plans network Show = Answers (show_answer network)
+said plans network Due = Answers (due_answer network)
+said plans network (Choose choice) = Answers (choose_answer network choice)
+said plans network Ready = Answers (event_answer network event.Ready)
 said plans network (Arm order) = Answers (unchanged network)
 said plans network (Input slot subslot bytes) = Answers (event_answer network (event.Input slot subslot (handed bytes)))
 said plans network (Alarm slot subslot bytes) = Answers (event_answer network (event.Alarm slot subslot (handed bytes)))
+said plans network (Status slot subslot is_good) = Answers (event_answer network (event.Status slot subslot is_good))
+said plans network (Provider slot subslot) = Answers (provider_answer network slot subslot)
 said plans network (Config catalogue) = config_outcome network catalogue (plans catalogue)
 said plans network (Start ar activity) = start_outcome network ar activity network.other.plan
 said plans network (Give slot subslot bytes) = heard_outcome network (heard.Give slot subslot (handed bytes)) network.other.controller
+said plans network (OutputStatus slot subslot is_good) = heard_outcome network (heard.Status slot subslot is_good) network.other.controller
 said plans network Stop = heard_outcome network heard.Stop network.other.controller
 said plans network Deliver = deliver_outcome network network.other.controller
 
@@ -147,13 +171,20 @@ abbrev pub arms : Command → Bool
 arms (Frame bytes) = false
 arms Restart = false
 arms (Tick units) = false
+arms (Elapse units) = false
 arms Show = false
+arms Due = false
+arms (Choose choice) = false
+arms Ready = false
 arms (Arm order) = true
 arms (Input slot subslot bytes) = false
 arms (Alarm slot subslot bytes) = false
+arms (Status slot subslot is_good) = false
+arms (Provider slot subslot) = false
 arms (Config catalogue) = false
 arms (Start ar activity) = false
 arms (Give slot subslot bytes) = false
+arms (OutputStatus slot subslot is_good) = false
 arms Stop = false
 arms Deliver = false
 
@@ -164,9 +195,9 @@ is_order Skipped = false
 is_order (Asks command) = arms command
 is_order Unknown = false
 
--- The demo device with the factory settings.
+-- The demo device with the factory settings and all options at their defaults.
 abbrev pub factory_device : Station
-factory_device = demo_started factory_settings (capacity 4096)
+factory_device = demo_started default_options factory_settings (capacity 4096)
 
 abbrev pub alone : Network
 alone = with_ends factory_device nobody

@@ -1,7 +1,8 @@
 // The effect of a line at both ends.
-ghost use Rattle.std.specs.Prelude.{◌≡◌, ◌++◌, [], true, OnOk, replicate};
+ghost use Rattle.std.specs.Prelude.{◌≡◌, ◌≤◌, ◌++◌, [], true, OnOk, replicate};
 ghost use Rattle.flash_model.specs.Memory.{is_powerless};
 ghost use Rattle.device_frames.specs.declared.event.Event.TheVariants as event;
+ghost use Rattle.device_core.specs.Leaps.{live_due_in};
 ghost use Rattle.device_core.specs.Machine.{step_of};
 ghost use Rattle.script_lines.specs.Text.{lost_line};
 ghost use Rattle.script_runner.specs.session.Ends.{Network, Station, device_run};
@@ -82,6 +83,46 @@ pub(crate) fn ticks(
     while left > 0 {
         tick(device, outbox, other, text)?;
         left -= 1;
+    }
+    Ok(())
+}
+
+/// Lets several units of time pass at the device at once, at most as many as are due.
+fn leap(
+    device: &mut DemoDevice<'_>,
+    units: u32,
+    outbox: &mut Outbox,
+    other: &mut OtherEnd,
+    text: &mut Vec<u8>,
+) -> Result<(), AllocError>
+    requires { units ≤ live_due_in device.old.live }
+    ensures leapt { (station : Station) → Runs station device.old →
+        OnOk result (IsRunOf (device_run station (replicate units event.Tick)) device.new other.old other.new text.old.items
+        text.new.items) }
+    ensures same { device.new.station ≡ device.old.station }
+{
+    device.elapse(units, outbox);
+    other.send(outbox.as_slice(), text)
+}
+
+/// Lets units of time pass at the device, by leaps.
+pub(crate) fn leaps(
+    device: &mut DemoDevice<'_>,
+    units: u32,
+    outbox: &mut Outbox,
+    other: &mut OtherEnd,
+    text: &mut Vec<u8>,
+) -> Result<(), AllocError>
+    ensures leapt { (station : Station) → Runs station device.old →
+        OnOk result (IsRunOf (device_run station (replicate units event.Tick)) device.new other.old other.new text.old.items
+        text.new.items) }
+    ensures same { device.new.station ≡ device.old.station }
+{
+    let mut left = units;
+    while left > 0 {
+        let passing = left.min(device.due());
+        leap(device, passing, outbox, other, text)?;
+        left -= passing;
     }
     Ok(())
 }

@@ -1,5 +1,7 @@
-// The other end of the wire: the controller, and the frames that wait between the two ends.
-ghost use Rattle.std.specs.Prelude.{◌≡◌, ◌++◌, OnOk, IfOk, replicate};
+// The other end of the wire: the controller, and the frames that wait between the two ends; and the options of the
+// device's next start.
+ghost use Rattle.std.specs.Prelude.{◌≡◌, ◌≤◌, ◌++◌, OnOk, IfOk, replicate};
+ghost use Rattle.controller_core.specs.Leaps.{live_due_in};
 ghost use Rattle.controller_core.specs.Machine.{step_of};
 ghost use Rattle.controller_core.specs.declared.event.Event.TheVariants as event;
 ghost use Rattle.script_runner.specs.session.Ends.{IsRun, Station, controller_run, device_run, frames_for_controller, frames_for_device};
@@ -17,16 +19,18 @@ use configurator::{PlanFault, plan_from_json};
 use controller_core::{Controller, Event};
 use frame_codec::{Frame, Outbox};
 use plans::Plan;
-use script_lines::{render, show};
+use relations::DeviceOptions;
+use script_lines::{Choice, render, show};
 use std::alloc::{AllocError, Global};
 use std::marker::Model;
 use uuid::Uuid;
 
-/// The other end of the wire: the plan of the next controller, the controller once there is one, and the frames that wait
-/// at either end. In clauses it is these four.
+/// What is kept besides the device: the options of its next start, and the other end of the wire: the plan of the next
+/// controller, the controller once there is one, and the frames that wait at either end. In clauses it is these five.
 #[derive(Drop)]
 pub(crate) struct OtherEnd {
     alloc: Global,
+    options: DeviceOptions,
     plan: Option<Plan>,
     controller: Option<Controller>,
     to_device: Vec<Frame>,
@@ -40,6 +44,7 @@ impl Model for OtherEnd {
     ghost Value = { Other };
 
     ghost view = { λ end. record {
+      options = end.options;
       plan = end.plan;
       controller = end.controller;
       to_device = octets_of end.to_device.items;
@@ -50,19 +55,38 @@ impl Model for OtherEnd {
 impl OtherEnd {
     ghost use Rattle.std.specs.Prelude.{is_some, length};
     ghost use Rattle.script_lines.specs.Show.{controller_shown};
-    ghost use Rattle.script_runner.specs.session.Ends.{Hears, Plans, Starts, arrived_at, cleared, nobody, printed_for, ticked_by, with_sent};
+    ghost use Rattle.script_runner.specs.session.Ends.{Hears, Plans, Starts, arrived_at, chosen, cleared, nobody, printed_for, ticked_by, with_sent};
 
-    /// The other end before a catalogue was read: no plan, no controller and no frames.
+    /// The other end before a catalogue was read: no plan, no controller and no frames. All options have their defaults.
     pub(crate) fn new(alloc: Global) -> OtherEnd
         ensures { result ≡ nobody }
     {
         OtherEnd {
             alloc,
+            options: DeviceOptions::default(),
             plan: None,
             controller: None,
             to_device: Vec::new(alloc),
             to_controller: Vec::new(alloc),
             outbox: Outbox::new(),
+        }
+    }
+
+    /// The options of the device's next start.
+    pub(crate) fn options(&self) -> DeviceOptions
+        ensures { result ≡ self.now.options }
+    {
+        self.options
+    }
+
+    /// Sets an option of the device's next start.
+    pub(crate) fn choose(&mut self, choice: Choice)
+        ensures { self.new ≡ chosen self.old choice }
+    {
+        match choice {
+            Choice::InputsBad(is_on) => self.options.inputs_begin_bad = is_on,
+            Choice::ReadyLater(is_on) => self.options.ready_by_application = is_on,
+            Choice::Interval(units) => self.options.smallest_interval = units,
         }
     }
 
@@ -187,6 +211,51 @@ impl OtherEnd {
         };
         ticks(controller, units, &mut self.outbox, &mut self.to_device)
     }
+
+    /// Lets units of time pass at the controller, if there is one, by leaps.
+    pub(crate) fn leaps(&mut self, units: u32) -> Result<(), AllocError>
+        ensures { OnOk result (self.new ≡ ticked_by self.old.controller self.old units) }
+    {
+        let Some(controller) = &mut self.controller else {
+            return Ok(());
+        };
+        leaps(controller, units, &mut self.outbox, &mut self.to_device)
+    }
+}
+
+/// Lets several units of time pass at the controller at once, at most as many as are due. What it sends waits for the
+/// device.
+fn leap(
+    controller: &mut Controller,
+    units: u32,
+    outbox: &mut Outbox,
+    to_device: &mut Vec<Frame>,
+) -> Result<(), AllocError>
+    requires { units ≤ live_due_in controller.old.live }
+    ensures { OnOk result (IsRun (controller_run controller.old (replicate units event.Tick)) controller.new to_device.old.items
+        to_device.new.items) }
+{
+    controller.elapse(units, outbox);
+    append(outbox.as_slice(), to_device)
+}
+
+/// Lets units of time pass at the controller, by leaps.
+fn leaps(
+    controller: &mut Controller,
+    units: u32,
+    outbox: &mut Outbox,
+    to_device: &mut Vec<Frame>,
+) -> Result<(), AllocError>
+    ensures { OnOk result (IsRun (controller_run controller.old (replicate units event.Tick)) controller.new to_device.old.items
+        to_device.new.items) }
+{
+    let mut left = units;
+    while left > 0 {
+        let passing = left.min(controller.due());
+        leap(controller, passing, outbox, to_device)?;
+        left -= passing;
+    }
+    Ok(())
 }
 
 /// Makes a step of the controller. What it sends waits for the device.

@@ -10,7 +10,7 @@ ghost use Rattle.script_runner.specs.session.Power.{IsDemo, IsRunning};
 ghost use Rattle.script_runner.specs.session.Off.{TellsLoss, is_heard_off};
 ghost use Rattle.script_runner.specs.session.Session.{IsObeyed};
 
-use crate::session::both::{exchange, respond, ticks};
+use crate::session::both::{exchange, leaps, respond, ticks};
 use crate::session::bytes::copied;
 use crate::session::device::receive;
 use crate::session::other_end::OtherEnd;
@@ -57,7 +57,7 @@ impl<'a> Session<'a> {
     ghost use Rattle.script_runner.specs.session.Ends.{IsRightFor, cleared, nobody};
     ghost use Rattle.script_runner.specs.session.Said.{arms, config_outcome, deliver_answer, deliver_outcome, factory_device};
     ghost use Rattle.script_runner.specs.session.Said.{heard_outcome, is_order, outcome_of, restart_answer, said, show_answer, start_outcome};
-    ghost use Rattle.script_runner.specs.session.Said.{tick_answer};
+    ghost use Rattle.script_runner.specs.session.Said.{due_answer, provider_answer, tick_answer};
     ghost use Rattle.script_runner.specs.session.Power.{IsArmed, IsBack, is_off, refusal_of};
     ghost use Rattle.script_runner.specs.session.Session.{Are, AreRightFor, Comes, Obeys};
     ghost use Rattle.script_runner.specs.session.Off.{Delivers, GivesBack, Leaves, LeavesBy, Orders, TakesOff, TakesOrder, hands, is_handed};
@@ -68,9 +68,10 @@ impl<'a> Session<'a> {
             IsRunning factory_device result.power }
         ensures other { result.other ≡ nobody }
     {
+        let other = OtherEnd::new(alloc);
         Session {
-            power: Power::start(Lent::new(flash)),
-            other: OtherEnd::new(alloc),
+            power: Power::start(other.options(), Lent::new(flash)),
+            other,
             received: Event::Tick,
             outbox: Outbox::new(),
         }
@@ -145,9 +146,20 @@ impl<'a> Session<'a> {
             Command::Frame(bytes) => always(self.hand_in(bytes, text)),
             Command::Input(slot, subslot, bytes) => always(self.give(slot, subslot, bytes, text)),
             Command::Alarm(slot, subslot, bytes) => always(self.alarm(slot, subslot, bytes, text)),
+            Command::Status(slot, subslot, is_good) => {
+                always(self.status(slot, subslot, is_good, text))
+            }
+            Command::Provider(slot, subslot) => always(self.provider(slot, subslot, text)),
             Command::Restart => always(self.restart(text)),
             Command::Tick(units) => always(self.tick(units, text)),
+            Command::Elapse(units) => always(self.elapse(units, text)),
             Command::Show => always(self.show(text)),
+            Command::Due => always(self.due(text)),
+            Command::Choose(choice) => {
+                self.other.choose(choice);
+                always(Ok(()))
+            }
+            Command::Ready => always(self.ready(text)),
             Command::Arm(order) => {
                 self.arm(order);
                 Ok(true)
@@ -156,6 +168,9 @@ impl<'a> Session<'a> {
             Command::Start(ar, activity) => if_there(self.start(ar, activity, text)),
             Command::Give(slot, subslot, bytes) => {
                 if_there(self.give_output(slot, subslot, bytes, text))
+            }
+            Command::OutputStatus(slot, subslot, is_good) => {
+                if_there(self.output_status(slot, subslot, is_good, text))
             }
             Command::Stop => if_there(self.stop(text)),
             Command::Deliver => if_there(self.deliver(text)),
@@ -228,16 +243,55 @@ impl<'a> Session<'a> {
         )
     }
 
+    /// Says whether the inputs of a submodule are good.
+    fn status(
+        &mut self,
+        slot: u16,
+        subslot: u16,
+        is_good: bool,
+        text: &mut Vec<u8>,
+    ) -> Result<(), AllocError>
+        ensures obeys { (network : Network) → Are network self.old →
+            OnOk result (IsObeyed (event_answer network (event.Status slot subslot is_good)) self.new text.old.items text.new.items) }
+        ensures demo { IsDemo self.old.power → IsDemo self.new.power }
+        ensures lost { TellsLoss (self.new.other ≡ self.old.other) self.old.power self.new.power text.old.items text.new.items result }
+    {
+        let event = Event::Status(slot, subslot, is_good);
+        answered(
+            &mut self.power,
+            &event,
+            &mut self.outbox,
+            &mut self.other,
+            text,
+        )
+    }
+
+    /// Says that the device's application is ready.
+    fn ready(&mut self, text: &mut Vec<u8>) -> Result<(), AllocError>
+        ensures obeys { (network : Network) → Are network self.old →
+            OnOk result (IsObeyed (event_answer network event.Ready) self.new text.old.items text.new.items) }
+        ensures demo { IsDemo self.old.power → IsDemo self.new.power }
+        ensures lost { TellsLoss (self.new.other ≡ self.old.other) self.old.power self.new.power text.old.items text.new.items result }
+    {
+        answered(
+            &mut self.power,
+            &Event::Ready,
+            &mut self.outbox,
+            &mut self.other,
+            text,
+        )
+    }
+
     /// Switches the device's power off and on again. The frames that wait are lost.
     fn restart(&mut self, text: &mut Vec<u8>) -> Result<(), AllocError>
         ensures obeys { (network : Network) → Are network self.old →
             OnOk result (IsObeyed (restart_answer network) self.new text.old.items text.new.items) }
-        ensures back { IsBack self.old.power self.new.power }
+        ensures back { IsBack self.old.other.options self.old.power self.new.power }
         ensures other { self.new.other ≡ cleared self.old.other }
         ensures printed { OnOk result (text.new.items ≡ text.old.items ++ boot_line (refusal_of self.new.power)) }
     {
         let power = mem::replace(&mut self.power, Power::Away);
-        self.power = power.restart();
+        self.power = power.restart(self.other.options());
         self.other.clear();
         render::boot(self.power.refusal(), text)
     }
@@ -253,6 +307,46 @@ impl<'a> Session<'a> {
                 ticks(device, units, &mut self.outbox, &mut self.other, text)?;
                 self.other.ticks(units)?;
                 render::note(Note::Done, text)
+            }
+            Power::Off(_, _) | Power::Away => text.extend_from_slice(b"off\n"),
+        }
+    }
+
+    /// Lets units of time pass at both ends, by leaps: it does what as many single units do.
+    fn elapse(&mut self, units: u32, text: &mut Vec<u8>) -> Result<(), AllocError>
+        ensures obeys { (network : Network) → Are network self.old →
+            OnOk result (IsObeyed (tick_answer network units) self.new text.old.items text.new.items) }
+        ensures demo { IsDemo self.old.power → IsDemo self.new.power }
+    {
+        match &mut self.power {
+            Power::On(device) => {
+                leaps(device, units, &mut self.outbox, &mut self.other, text)?;
+                self.other.leaps(units)?;
+                render::note(Note::Done, text)
+            }
+            Power::Off(_, _) | Power::Away => text.extend_from_slice(b"off\n"),
+        }
+    }
+
+    /// Shows the number of units up to and with the next one with which something happens at the device.
+    fn due(&self, text: &mut Vec<u8>) -> Result<(), AllocError>
+        ensures { (network : Network) → Are network self.now →
+            OnOk result (IsObeyed (due_answer network) self.now text.old.items text.new.items) }
+    {
+        match &self.power {
+            Power::On(device) => show::due(device.due(), text),
+            Power::Off(_, _) | Power::Away => text.extend_from_slice(b"off\n"),
+        }
+    }
+
+    /// Shows what the controller says of the output of a submodule.
+    fn provider(&self, slot: u16, subslot: u16, text: &mut Vec<u8>) -> Result<(), AllocError>
+        ensures { (network : Network) → Are network self.now →
+            OnOk result (IsObeyed (provider_answer network slot subslot) self.now text.old.items text.new.items) }
+    {
+        match &self.power {
+            Power::On(device) => {
+                show::provider(slot, subslot, device.provider(slot, subslot), text)
             }
             Power::Off(_, _) | Power::Away => text.extend_from_slice(b"off\n"),
         }
@@ -325,6 +419,24 @@ impl<'a> Session<'a> {
         ensures same { self.new.power ≡ self.old.power }
     {
         self.hear(&output(slot, subslot, bytes), text)
+    }
+
+    /// Says whether the controller's outputs for a submodule are good. Returns whether there is a controller.
+    #[inline(never)]
+    fn output_status(
+        &mut self,
+        slot: u16,
+        subslot: u16,
+        is_good: bool,
+        text: &mut Vec<u8>,
+    ) -> Result<bool, AllocError>
+        ensures obeys { (network : Network) → Are network self.old →
+            IfOk result (Comes (heard_outcome network (heard.Status slot subslot is_good) network.other.controller) self.new
+            text.old.items text.new.items) }
+        ensures same { self.new.power ≡ self.old.power }
+    {
+        let event = ControllerEvent::Status(slot, subslot, is_good);
+        self.hear(&event, text)
     }
 
     /// Makes the controller end the relation. Returns whether there is a controller.

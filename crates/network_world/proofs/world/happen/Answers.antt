@@ -23,6 +23,14 @@ returns-in-Alarm g c = rw c.in-Alarm.is (record {
   controller = refl;
 })
 
+pub returns-in-Status : goal.returns-in-Status
+unfolding heard_of
+returns-in-Status g c = rw c.in-Status.is (record { hears = c.happen_at_device-in-Status.ensures; controller = refl })
+
+pub returns-in-Ready : goal.returns-in-Ready
+unfolding heard_of
+returns-in-Ready g c = rw c.in-Ready.is (record { hears = c.happen_at_device-in-Ready.ensures; controller = refl })
+
 -- the controller and the frames after its step are those of the world
 given_at : {F : Type 0} (before : World F) (event : ControllerEvent) (after : Controlling) (frames : List (List ℕ)) → after ≡ (step_of before.controller event).controller
     → frames ≡ before.sent ++ (step_of before.controller event).frames → record before { controller = after; sent = frames } ≡ at_controller before event

@@ -1,23 +1,49 @@
--- One more unit passes, or the rest of them remains.
-use Rattle.std.proofs.Common.{◌≡◌, ℕ, Bool, true, sym, ap, subst, ◌∙◌, arith}
+-- More units pass, or the rest of them remains.
+use Rattle.std.proofs.Common.{◌≡◌, ◌+◌, ◌-◌, ℕ, Bool, true, refl, sym, ap, subst, ◌∙◌, arith}
+use Rattle.controller_core.specs.Leaps.{live_due_in}
 use Rattle.controller_abi.specs.State.{is_over, is_stopped}
 use Rattle.controller_abi.specs.Steps.{Ticks}
-use Rattle.controller_abi.proofs.Left.{one_more}
+use Rattle.controller_abi.proofs.Leaps.{idle_of, ticks_on}
 use Rattle.controller_abi.proofs.port.Port.pass.Goals as goal
 
-pub loop-passed-preserved : goal.loop-passed-preserved
-loop-passed-preserved c =
-    one_more _ c.loop-passed.passed c.args.self.now c.loop-passed.self c.take.new.self c.loop-passed.invariant
-    (sym c.if-is_stopped.ensures) c.take.ensures
+pub loop-left-init : goal.loop-left-init
+loop-left-init c =
+    let none : 0 ≡ c.args.units - c.args.units = omega arith in
+    record { few = omega arith; ticks = subst (λ (n : ℕ). Ticks c.is_over-was_over.result n c.args.self.now c.args.self.now) none refl }
+
+pub leap-requires : goal.leap-requires
+leap-requires c =
+    let due : c.due.result ≡ live_due_in c.loop-left.self.controller.live = c.due.ensures.value ∙ ap (λ port. live_due_in port.controller.live) c.self-in-loop-left.view_is in
+    record { idle = idle_of c.loop-left.self _ (sym c.if-is_stopped.ensures); few = omega (arith, due) }
+
+pub loop-left-preserved : goal.loop-left-preserved
+loop-left-preserved c =
+    let count : c.min-passing.result + (c.args.units - c.loop-left.left) ≡ c.args.units - (c.loop-left.left - c.min-passing.result) = omega arith in
+    record {
+      few = omega arith;
+      ticks = subst (λ (n : ℕ). Ticks c.is_over-was_over.result n c.args.self.now c.leap.new.self) count
+          (ticks_on _ (c.args.units - c.loop-left.left) c.min-passing.result c.args.self.now c.loop-left.self c.leap.new.self c.loop-left.invariant.ticks
+          (c.leap.ensures _ (sym c.if-is_stopped.ensures)));
+    }
 
 -- All units passed except those that remain.
 pub returns-then-is_stopped : goal.returns-then-is_stopped
 returns-then-is_stopped c =
     let was = c.is_over-was_over.ensures ∙ ap is_over c.state.ensures ∙ ap (λ port. is_over port.controller.live.phase) c.self.view_is in
-    let ticks = subst (λ (over : Bool). Ticks over c.loop-passed.passed c.args.self.now c.loop-passed.self) was c.loop-passed.invariant in
+    record {
+      few = c.loop-left.invariant.few;
+      ticks = subst (λ (over : Bool). Ticks over (c.args.units - c.loop-left.left) c.args.self.now c.loop-left.self) was c.loop-left.invariant.ticks;
+      stops = λ left. subst (λ over. is_stopped over c.loop-left.self ≡ true) was (sym c.if-is_stopped.ensures);
+    }
+
+pub returns : goal.returns
+returns c =
+    let was = c.is_over-was_over.ensures ∙ ap is_over c.state.ensures ∙ ap (λ port. is_over port.controller.live.phase) c.self.view_is in
+    let none : c.loop-left.left ≡ 0 = omega arith in
     let over : Bool = is_over c.args.self.now.controller.live.phase in
+    let ticks = subst (λ (o : Bool). Ticks o (c.args.units - c.loop-left.left) c.args.self.now c.loop-left.self) was c.loop-left.invariant.ticks in
     record {
       few = omega arith;
-      ticks = subst (λ (n : ℕ). Ticks over n c.args.self.now c.loop-passed.self) (omega (arith, c.loop-passed-test.true)) ticks;
-      stops = λ left. subst (λ over. is_stopped over c.loop-passed.self ≡ true) was (sym c.if-is_stopped.ensures);
+      ticks = subst (λ (n : ℕ). Ticks over (c.args.units - n) c.args.self.now c.loop-left.self) none ticks;
+      stops = λ left. absurd (left refl);
     }

@@ -1,6 +1,10 @@
 -- The units so far passed, one step each.
+use Rattle.std.proofs.Common.{◌-◌, ◌≤◌}
 use Rattle.controller_abi.specs.Steps.{Ticks}
 use Rattle.controller_abi.proofs.port.Port.pass.Given as goal
 
-abbrev pub invariant-loop-passed : goal.invariant-loop-passed
-invariant-loop-passed l = Ticks l.was_over l.passed l.initial.self l.self
+abbrev pub invariant-loop-left : goal.invariant-loop-left
+invariant-loop-left l = record { few : l.left ≤ l.units; ticks : Ticks l.was_over (l.units - l.left) l.initial.self l.self }
+
+abbrev pub decreases-loop-left : goal.decreases-loop-left
+decreases-loop-left l = l.left

@@ -2,4 +2,4 @@
 use Rattle.device_abi.proofs.operations.serving.frame.Goals as goal
 
 pub returns : goal.returns
-returns c = (c.frame.result, c.frame.ensures, c.noted.ensures.answer, c.noted.ensures.reported)
+returns c = (c.frame-outcome.result, c.frame-outcome.ensures, c.noted.ensures.answer, c.noted.ensures.reported)

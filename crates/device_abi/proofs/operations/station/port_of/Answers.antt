@@ -1,6 +1,5 @@
 -- What the counts allow.
 use Rattle.std.proofs.Common.{◌∙◌}
-use Rattle.device_core.specs.State.{plain}
 use Rattle.device_abi.proofs.OperationsCounts.{station_small}
 use Rattle.device_abi.proofs.operations.station.port_of.Goals as goal
 
@@ -15,7 +14,7 @@ real_in-requires-clause-small c = (station_small c.args.station.now c.requires).
 
 pub returns : goal.returns
 returns c = record {
-  station = c.new.ensures.station ∙ (λ i. plain (c.identity_in.ensures i) (c.real_in.ensures i));
+  station = c.new.ensures.station ∙ (λ i. record { identity = c.identity_in.ensures i; real = c.real_in.ensures i; options = c.options_in.ensures i });
   stage = c.new.ensures.stage;
   idle = c.new.ensures.idle;
 }

@@ -1,5 +1,6 @@
--- A PrmEnd that is accepted is answered, and ApplicationReady follows. One that is refused is only answered.
-use Rattle.std.proofs.Common.{◌≡◌, ℕ, true, false, List, [], ◌∷◌, map, Option, Result, Ok, Err, IfOk, IfErr, is_ok, refl, sym, ap, subst, ◌∙◌}
+-- A PrmEnd that is accepted is answered, and ApplicationReady follows, unless the application says when it is ready. One
+-- that is refused is only answered.
+use Rattle.std.proofs.Common.{◌≡◌, ◌&&◌, ℕ, Bool, true, false, cond, not, List, [], ◌∷◌, map, Option, Result, Ok, Err, IfOk, IfErr, is_ok, refl, sym, ap, subst, ◌∙◌}
 use Rattle.connect_blocks.specs.declared.control.ControlBlock.{ControlBlock}
 use Rattle.records.specs.declared.status.call_fault.CallFault.{CallFault}
 use Rattle.records.specs.declared.status.operation.Operation.TheVariants as operation
@@ -7,14 +8,13 @@ use Rattle.rpc_core.specs.Call.{asked}
 use Rattle.relations.specs.Calls.{prm_end_answer, prm_end_of}
 use Rattle.relations.specs.RelationState.{RelationState}
 use Rattle.relations.specs.Phases.{Parameterized, answered, updated}
-use Rattle.device_frames.specs.Relation.{ready_calls}
+use Rattle.device_frames.specs.Relation.{ready_calls, where_due}
 use Rattle.device_frames.specs.Sendable.{AreSendable}
 use Rattle.device_frames.specs.Sent.{Sent, bytes_of}
 use Rattle.device_core.specs.Behind.{CanSend, called, frames_of}
 use Rattle.frame_codec.specs.Outbox.{boxed}
 use Rattle.device_core.specs.Handled.{answer_from, came_with, ready_behind}
 use Rattle.device_core.proofs.device.Device.control.Goals as goal
-use Rattle.device_core.proofs.device.Device.control.Goals.{then-is_ok, else-is_ok}
 
 -- The answer is the specified one.
 answer_as : (came : Result (Unit {0}) CallFault) (answer : Result (List ℕ) CallFault) (blocks : List ℕ)
@@ -22,18 +22,19 @@ answer_as : (came : Result (Unit {0}) CallFault) (answer : Result (List ℕ) Cal
 answer_as (Ok it) answer blocks done refused = sym done
 answer_as (Err fault) answer blocks done refused = sym refused.0
 
--- A call that is done has a block, and one that is refused has none.
-follows : (address : List ℕ) (now link : Option RelationState) (octets : List ℕ) (came : Result (Unit {0}) CallFault) (ended : Result ControlBlock CallFault) (blocks : List ℕ)
-    → prm_end_of link octets ≡ ended → IfOk came (λ _. prm_end_answer link octets ≡ Ok blocks) → is_ok came ≡ true → ready_behind address now ended ≡ ready_calls address now
-follows address now link octets (Ok it) (Ok block) blocks is done so = refl
-follows address now link octets (Ok it) (Err fault) blocks is done so = let e : ◌≡◌ {A = Result (List ℕ) CallFault} (Err fault) (Ok blocks) = rw is at done in cc
-follows address now link octets (Err fault) ended blocks is done so = cc
+-- What follows it.
+due_where : (by_application : Bool) (calls : List Sent) → cond by_application [] calls ≡ where_due (true && not by_application) calls
+due_where true calls = refl
+due_where false calls = refl
 
-alone : (address : List ℕ) (now link : Option RelationState) (octets : List ℕ) (came : Result (Unit {0}) CallFault) (ended : Result ControlBlock CallFault) (blocks : List ℕ)
-    → prm_end_of link octets ≡ ended → IfErr came (λ fault. (prm_end_answer link octets ≡ Err fault) × (blocks ≡ [])) → is_ok came ≡ false → ready_behind address now ended ≡ []
-alone address now link octets (Ok it) ended blocks is refused so = cc
-alone address now link octets (Err fault) (Err other) blocks is refused so = refl
-alone address now link octets (Err fault) (Ok block) blocks is refused so = let e = rw is at refused.0 in cc
+follows : (by_application : Bool) (address : List ℕ) (now link : Option RelationState) (octets : List ℕ) (came : Result (Unit {0}) CallFault) (ended : Result ControlBlock CallFault) (blocks : List ℕ)
+    → prm_end_of link octets ≡ ended → IfOk came (λ _. prm_end_answer link octets ≡ Ok blocks) → IfErr came (λ fault. (prm_end_answer link octets ≡ Err fault) × (blocks ≡ []))
+    → ready_behind by_application address now ended ≡ where_due (is_ok came && not by_application) (ready_calls address now)
+follows by_application address now link octets (Ok it) (Ok block) blocks is done refused = due_where by_application (ready_calls address now)
+follows by_application address now link octets (Ok it) (Err fault) blocks is done refused =
+    let e : ◌≡◌ {A = Result (List ℕ) CallFault} (Err fault) (Ok blocks) = rw is at done in absurd cc
+follows by_application address now link octets (Err fault) (Err other) blocks is done refused = refl
+follows by_application address now link octets (Err fault) (Ok block) blocks is done refused = let e = rw is at refused.0 in absurd cc
 
 -- An answer, and what follows it.
 behind_answer : (f : Sent → List ℕ) (frames : List (List ℕ)) (answer : Sent) (ready behind : List Sent)
@@ -44,40 +45,30 @@ pub returns-clause-frames : goal.returns-clause-frames
 returns-clause-frames g c =
     let link = c.self.inside.relation in
     let address = c.self.inside.store.values.running.suite.address in
+    let by_application = c.self.inside.options.ready_by_application in
     let blocks = c.args.serving.now.blocks.now in
     let ended = prm_end_of link blocks in
-    let now = updated (answered Parameterized ended) link in
+    let now = updated (answered (Parameterized by_application) ended) link in
     let f = bytes_of c.self.inside.identity in
     let answer = answer_from address c.args.serving.now.caller.now (asked c.args.serving.now.call.now) operation.Control (prm_end_answer link blocks) in
     let out = answer_as c.control-came.result (prm_end_answer link blocks) c.control-came.new.answer.items c.control-came.ensures.done c.control-came.ensures.refused in
     let first = rw (c.address-address.ensures.value, c.running.ensures, c.requires.operation, out) at c.give.ensures.frames in
-    subst (λ old. boxed c.if-is_ok.outbox ≡ frames_of old (called old c.args.serving.now operation.Control)) c.self.view_is
-    (elim c.if-is_ok.branch [
-      | then-is_ok w ↦
-          let all = rw (first, c.address-address.ensures.value, c.running.ensures, c.control-came.ensures.state) at w.send_ready.ensures.frames in
-          let same = follows address now link blocks c.control-came.result ended c.control-came.new.answer.items refl c.control-came.ensures.done (sym c.is_ok.ensures.value ∙ w.if-is_ok.true) in
-          behind_answer f (boxed c.if-is_ok.outbox) answer (ready_calls address now) (ready_behind address now ended) (ap boxed w.outbox-is ∙ all) same
-      | else-is_ok w ↦
-          let same = alone address now link blocks c.control-came.result ended c.control-came.new.answer.items refl c.control-came.ensures.refused (sym c.is_ok.ensures.value ∙ w.if-is_ok.false) in
-          behind_answer f (boxed c.if-is_ok.outbox) answer [] (ready_behind address now ended) (ap boxed w.outbox-is ∙ first) same
-    ])
+    let all = rw (first, c.address-address.ensures.value, c.running.ensures, c.is_ready_due-is_due.ensures, c.control-came.ensures.state) at c.send_ready_again.ensures.frames in
+    let same = follows by_application address now link blocks c.control-came.result ended c.control-came.new.answer.items refl c.control-came.ensures.done c.control-came.ensures.refused in
+    subst (λ old. boxed c.send_ready_again.new.outbox ≡ frames_of old (called old c.args.serving.now operation.Control)) c.self.view_is
+    (behind_answer f (boxed c.send_ready_again.new.outbox) answer _ (ready_behind by_application address now ended) all same)
 
 pub returns-clause-sendable : goal.returns-clause-sendable
 returns-clause-sendable g c =
     let link = c.self.inside.relation in
     let address = c.self.inside.store.values.running.suite.address in
+    let by_application = c.self.inside.options.ready_by_application in
     let blocks = c.args.serving.now.blocks.now in
     let ended = prm_end_of link blocks in
-    let now = updated (answered Parameterized ended) link in
+    let now = updated (answered (Parameterized by_application) ended) link in
     let out = answer_as c.control-came.result (prm_end_answer link blocks) c.control-came.new.answer.items c.control-came.ensures.done c.control-came.ensures.refused in
     let first = rw (c.address-address.ensures.value, c.running.ensures, c.requires.operation, out) at c.give.ensures.sendable in
+    let ready = rw (c.address-address.ensures.value, c.running.ensures, c.is_ready_due-is_due.ensures, c.control-came.ensures.state) at c.send_ready_again.ensures.sendable in
+    let same = follows by_application address now link blocks c.control-came.result ended c.control-came.new.answer.items refl c.control-came.ensures.done c.control-came.ensures.refused in
     subst (λ old. CanSend old (called old c.args.serving.now operation.Control)) c.self.view_is
-    (elim c.if-is_ok.branch [
-      | then-is_ok w ↦
-          let ready = rw (c.address-address.ensures.value, c.running.ensures, c.control-came.ensures.state) at w.send_ready.ensures.sendable in
-          let same = follows address now link blocks c.control-came.result ended c.control-came.new.answer.items refl c.control-came.ensures.done (sym c.is_ok.ensures.value ∙ w.if-is_ok.true) in
-          (first, subst (λ (sent : List Sent). AreSendable c.self.inside.identity sent) (sym same) ready)
-      | else-is_ok w ↦
-          let same = alone address now link blocks c.control-came.result ended c.control-came.new.answer.items refl c.control-came.ensures.refused (sym c.is_ok.ensures.value ∙ w.if-is_ok.false) in
-          (first, subst (λ (sent : List Sent). AreSendable c.self.inside.identity sent) (sym same) tt)
-    ])
+    (first, subst (λ (sent : List Sent). AreSendable c.self.inside.identity sent) (sym same) ready)

@@ -34,4 +34,4 @@ returns-clause-strange g c = rw (← c.self.view_is) c.in_ok-load.ensures.strang
 pub returns-clause-known : goal.returns-clause-known
 returns-clause-known g c = rw (← c.self.view_is) (λ settings room starts.
     let known = c.in_ok-load.ensures.known settings room starts in
-    as_started c.load.new.self.values _ _ settings room c.in_ok-load.ensures.running c.in_ok-load.ensures.fresh.0 c.in_ok-load.ensures.fresh.1 c.new-self-inside.ensures c.end.ensures.state known.0 known.1)
+    as_started c.load.new.self.values _ _ _ settings room c.in_ok-load.ensures.running c.in_ok-load.ensures.fresh.0 c.in_ok-load.ensures.fresh.1 c.new-self-inside.ensures c.end.ensures.state c.clear.ensures known.0 known.1)

@@ -1,11 +1,7 @@
 -- An alarm is refused, or sent.
 use Rattle.std.proofs.Common.{◌≡◌, true, false, map, is_some, refl, sym, ap, ◌∙◌}
-use Rattle.relations.specs.Exchanged.{becoming, raised_to}
-use Rattle.relations.specs.RelationState.{flow_of}
-use Rattle.relations.specs.Phases.{updated}
-use Rattle.device_core.specs.State.{with_rest}
+use Rattle.relations.specs.Exchanged.{raised_to}
 use Rattle.device_frames.specs.Sent.{bytes_of}
-use Rattle.device_frames.specs.Relation.{alarms_of}
 use Rattle.device_core.proofs.Exchanged.{notice_leaves, notice_refused, notice_raised}
 use Rattle.device_core.proofs.Sendable.{none_sendable}
 use Rattle.device_core.proofs.device.Device.raise.Goals as goal

@@ -1,6 +1,5 @@
 -- The outcome of an alarm frame follows from its content, or it cannot be read.
 use Rattle.std.proofs.Common.{ap, map, refl, subst, sym, ◌∙◌}
-use Rattle.pn_alarms.specs.Message.{message_of}
 use Rattle.device_frames.specs.declared.note.Note.TheVariants.{Fault}
 use Rattle.device_frames.specs.Heard.{Alarms, Unreadable, heard_alarm}
 use Rattle.device_core.specs.Handled.{handled_alarm}

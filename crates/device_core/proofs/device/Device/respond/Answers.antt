@@ -1,11 +1,14 @@
--- A unit of time is a move, and so are inputs and alarms of the application.
+-- A unit of time is a move, and so are inputs, alarms and the word of the application that it is ready.
 use Rattle.std.proofs.Common.{ap, map, refl, rules, subst, sym, ◌∙◌}
 use Rattle.device_frames.specs.Sent.{bytes_of}
 use Rattle.settings_store.specs.Carries.{Holds}
 use Rattle.relations.specs.Exchanged.{given_to, raised_to}
-use Rattle.device_frames.specs.Heard.{Ticks, Given, Raised, heard_of}
-use Rattle.device_core.specs.Handled.{handled_given, handled_raised}
-use Rattle.device_core.proofs.Handled.{input_asks_nothing, input_sends_nothing, notice_asks_nothing}
+use Rattle.device_frames.specs.declared.event.Event.TheVariants.{Frame}
+use Rattle.device_frames.specs.Heard.{Ticks, Given, Raised, Rated, Readied, heard_of}
+use Rattle.relations.specs.Statuses.{statuses_at}
+use Rattle.device_core.specs.Handled.{handled_given, handled_raised, handled_rated, handled_ready}
+use Rattle.device_core.specs.Steps.{Steps}
+use Rattle.device_core.proofs.Handled.{input_asks_nothing, input_sends_nothing, notice_asks_nothing, ready_asks_nothing, status_asks_nothing, status_sends_nothing}
 use Rattle.device_core.proofs.Sendable.{none_sendable}
 use Rattle.device_core.proofs.Steps.{inactive_steps, moves_steps}
 use Rattle.device_core.proofs.device.Device.respond.Goals as goal
@@ -34,6 +37,28 @@ returns-in-Input-clause-steps g c =
     (ap (map (λ frame. frame.items)) c.requires.empty ∙ sym (ap (map (bytes_of old.station.identity)) (input_sends_nothing old.station old.live flow)))
     c.give.ensures.note (none_sendable old.station.identity _ (input_sends_nothing old.station old.live flow)))
 
+pub returns-in-Status-clause-steps : goal.returns-in-Status-clause-steps
+unfolding heard_of
+returns-in-Status-clause-steps g c =
+    let old = c.args.self.now in
+    let slot = c.in-Status.slot in
+    let subslot = c.in-Status.subslot in
+    let is_good = c.in-Status.is_good in
+    let statuses = statuses_at old.station.real.modules.items (record { slot = slot; subslot = subslot; is_good = is_good }) old.live.rest.statuses in
+    rw c.in-Status.is
+    (inactive_steps g.F.Flash old _ (Rated slot subslot is_good) (handled_rated old.station old.live slot subslot is_good) _ _ (subst (λ s. Holds (g.F.Flash.image s.flash) s.live.values) c.self.view_is c.self.invariant) refl
+    (status_asks_nothing old.live slot subslot is_good statuses) c.rate.ensures.state
+    (ap (map (λ frame. frame.items)) c.requires.empty ∙ sym (ap (map (bytes_of old.station.identity)) (status_sends_nothing old.station old.live slot subslot is_good statuses)))
+    c.rate.ensures.note (none_sendable old.station.identity _ (status_sends_nothing old.station old.live slot subslot is_good statuses)))
+
+pub returns-in-Ready-clause-steps : goal.returns-in-Ready-clause-steps
+unfolding heard_of
+returns-in-Ready-clause-steps g c =
+    let old = c.args.self.now in
+    rw c.in-Ready.is
+    (inactive_steps g.F.Flash old _ Readied (handled_ready old.live) _ _ (subst (λ s. Holds (g.F.Flash.image s.flash) s.live.values) c.self.view_is c.self.invariant) refl
+    (ready_asks_nothing old.live) c.get_ready.ensures.state c.get_ready.ensures.frames c.get_ready.ensures.note c.get_ready.ensures.sendable)
+
 pub returns-in-Alarm-clause-steps : goal.returns-in-Alarm-clause-steps
 unfolding heard_of
 returns-in-Alarm-clause-steps g c =
@@ -44,3 +69,11 @@ returns-in-Alarm-clause-steps g c =
     rw (c.in-Alarm.is, ← c.as_slice-in-Alarm.ensures.value)
     (inactive_steps g.F.Flash old _ (Raised slot subslot octets) (handled_raised old.station old.live slot subslot octets) _ _ (subst (λ s. Holds (g.F.Flash.image s.flash) s.live.values) c.self.view_is c.self.invariant) refl
     (notice_asks_nothing old.live (raised_to old.station.real.modules.items slot subslot octets old.live.rest.link)) c.raise.ensures.state c.raise.ensures.frames c.raise.ensures.note c.raise.ensures.sendable)
+
+-- The octets of the event are those that are heard.
+pub returns-in-Frame-clause-steps : goal.returns-in-Frame-clause-steps
+returns-in-Frame-clause-steps g c =
+    let old = c.args.self.now in
+    rw c.in-Frame.is
+    (subst (λ items. Steps g.F.Flash old (heard_of old.station.identity (Frame (record { items = items }))) (map (λ frame. frame.items) c.hear.new.outbox.items) c.hear.result c.hear.new.self)
+    c.as_slice-in-Frame.ensures.value c.hear.ensures.steps)

@@ -18,8 +18,8 @@ returns-clause-steps g c =
     let left = c.end_if.ensures.link ∙ ap (λ e. link_after e link) ended in
     rw (← c.self.view_is) (asked_set_steps g.F.Flash _ _ c.args.asker request answers _ _
     c.requires.service (rw (c.as_slice.ensures.value ∙ plan) at c.carry_out-answers.ensures.carries) refl
-    (ap (λ l. record { lamp = l; calls = c.self.inside.answers.kept; link = c.end_if.new.relation; units = c.self.inside.units }) lamp
-    ∙ ap (λ r. record { lamp = lamp_after c.self.inside.lamp (plan_of (is_some link) request); calls = c.self.inside.answers.kept; link = r; units = c.self.inside.units }) left)
+    (ap (λ l. record { lamp = l; calls = c.self.inside.answers.kept; link = c.end_if.new.relation; units = c.self.inside.units; statuses = c.self.inside.statuses.items }) lamp
+    ∙ ap (λ r. record { lamp = lamp_after c.self.inside.lamp (plan_of (is_some link) request); calls = c.self.inside.answers.kept; link = r; units = c.self.inside.units; statuses = c.self.inside.statuses.items }) left)
     (rw (c.send_dcp_answer.ensures.frames, c.end_if.ensures.frames, c.requires.empty, ended, c.set_answer-answer.ensures.items) refl) refl
     (rw ended at c.end_if.ensures.sendable) (rw c.set_answer-answer.ensures.items at c.send_dcp_answer.ensures.sendable))
 

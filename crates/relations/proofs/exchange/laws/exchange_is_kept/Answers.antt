@@ -1,5 +1,5 @@
 use Rattle.relations.proofs.ExchangeKept.{are_of_the_last, is_due_each_interval, is_held_so_long}
-use Rattle.relations.proofs.ExchangeGiven.{are_still_the_statuses, are_the_last_given}
+use Rattle.relations.proofs.ExchangeGiven.{are_still_the_iocs, are_the_iops, are_the_last_given}
 use Rattle.relations.proofs.exchange.laws.exchange_is_kept.Goals as goal
 
 pub returns-clause-interval : goal.returns-clause-interval
@@ -11,8 +11,11 @@ returns-clause-last c = are_of_the_last c.cyclic_data_is_kept.ensures.last
 pub returns-clause-given : goal.returns-clause-given
 returns-clause-given c = are_the_last_given
 
-pub returns-clause-statuses : goal.returns-clause-statuses
-returns-clause-statuses c = are_still_the_statuses
+pub returns-clause-iops : goal.returns-clause-iops
+returns-clause-iops c = are_the_iops
+
+pub returns-clause-iocs : goal.returns-clause-iocs
+returns-clause-iocs c = are_still_the_iocs
 
 pub returns-clause-hold : goal.returns-clause-hold
 returns-clause-hold c = is_held_so_long c.cyclic_data_is_kept.ensures.hold

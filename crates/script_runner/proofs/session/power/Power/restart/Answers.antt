@@ -12,4 +12,4 @@ returns-in-On-clause-runs c station running =
     let reliable = subst IsReliable same runs.reliable in
     let left = subst (λ flash. LeftByDevice (image_of flash)) same runs.left in
     let starts = subst (λ flash. StartsWith (image_of flash) c.in-On.device.live.values.stored c.in-On.device.live.values.room) same (c.stored.ensures.holds runs.unfailed) in
-    subst (λ l. IsRunning (demo_started l.values.stored l.values.room) c.with_power.result) runs.live_is (c.with_power.ensures.runs _ _ reliable left starts)
+    subst (λ l. IsRunning (demo_started c.args.options l.values.stored l.values.room) c.with_power.result) runs.live_is (c.with_power.ensures.runs _ _ reliable left starts)

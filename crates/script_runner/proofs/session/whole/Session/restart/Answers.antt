@@ -1,8 +1,9 @@
 use Rattle.std.proofs.Common.{◌≡◌, ◌++◌, subst, sym, ap, ◌∙◌, None}
 use Rattle.std.proofs.lemmas.Result.{on_ok_weaker}
 use Rattle.script_lines.specs.Text.{boot_line}
-use Rattle.script_runner.specs.session.Ends.{cleared}
+use Rattle.script_runner.specs.session.Ends.{Other, cleared}
 use Rattle.script_runner.specs.session.Power.{IsRunning}
+use Rattle.script_runner.specs.session.Said.{demo_started}
 use Rattle.script_runner.specs.session.Session.{Are}
 use Rattle.script_runner.proofs.SessionObeying.{unrefused}
 use Rattle.script_runner.proofs.session.whole.Session.restart.Goals as goal
@@ -10,7 +11,9 @@ use Rattle.script_runner.proofs.session.whole.Session.restart.Goals as goal
 pub returns-clause-obeys : goal.returns-clause-obeys
 returns-clause-obeys c network are =
     let ends = subst (Are network) (sym c.self.view_is) are in
-    let runs = c.restart-self-inside.ensures.runs network.station (subst (IsRunning network.station) (sym c.replace-power.ensures.value) ends.0) in
+    let values = network.station.live.values in
+    let set : c.options.result ≡ network.other.options = c.options.ensures ∙ ap (λ (o : Other). o.options) ends.1 in
+    let runs = subst (λ options. IsRunning (demo_started options values.stored values.room) c.restart-self-inside.result) set (c.restart-self-inside.ensures.runs network.station (subst (IsRunning network.station) (sym c.replace-power.ensures.value) ends.0)) in
     let unrefused : c.refusal.result ≡ None = c.refusal.ensures ∙ unrefused _ _ runs in
     on_ok_weaker c.boot.result (λ text. record {
       runs = runs;

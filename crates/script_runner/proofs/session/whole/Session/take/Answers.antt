@@ -4,7 +4,7 @@ use Rattle.script_lines.specs.Read.{line_read}
 use Rattle.script_runner.specs.session.Said.{is_order}
 use Rattle.script_runner.specs.session.Off.{is_handed}
 use Rattle.script_runner.specs.session.Session.{AreRightFor}
-use Rattle.script_runner.proofs.SessionObeying.{empty_is_skipped, order_taken, skipped_obeys, untaken}
+use Rattle.script_runner.proofs.SessionObeying.{empty_is_skipped, order_taken, skipped_obeys}
 use Rattle.script_runner.proofs.session.whole.Session.take.Goals as goal
 
 pub returns-then-is_empty-clause-takes : goal.returns-then-is_empty-clause-takes

@@ -1,0 +1,96 @@
+-- Units of time that pass at once: those before the last one send nothing and end nothing.
+use Rattle.std.proofs.Common.{◌≡◌, ◌+◌, ◌≤◌, ◌++◌, ℕ, zero, suc, Bool, true, false, List, [], ◌∷◌, map, Some, None, if◌then◌else◌, refl, sym, ap, subst, ◌∙◌, arith}
+use Rattle.std.specs.Prelude.{◌||◌, ◌&&◌, not}
+use Rattle.cyclic_exchange.specs.Units.{Brought}
+use Rattle.controller_core.specs.declared.event.Event.TheVariants.{Tick}
+use Rattle.controller_core.specs.declared.state.State as phase
+use Rattle.controller_core.specs.Leaps.{OnlyTheLastSends, ticks_of}
+use Rattle.controller_core.specs.Machine.{Stepped, Turn, brought, exchange_later, flowed, gone_on, is_again, later, requests_of, step_of, ticked, where_due}
+use Rattle.controller_core.specs.State.{Controlling, Live}
+use Rattle.controller_abi.specs.State.{State, has_frames, is_over, is_stopped}
+use Rattle.controller_abi.specs.Steps.{Ticks}
+
+-- ---- a unit that sends nothing keeps the phase
+
+map_none : {A B : Type 0} (f : A → B) (items : List A) → map f items ≡ [] → items ≡ []
+map_none f [] none = refl
+map_none f (item ∷ items) none = cc none
+
+abbrev TypeOf : {A : Type 0} → A → Type 0
+TypeOf {A = A} value = A
+
+by_ending : (live : Live) (is_request : Bool) (tick : Brought) (ending : TypeOf tick.ending) → (flowed live is_request tick ending).sent ≡ [] → (flowed live is_request tick ending).live.phase ≡ live.phase
+by_ending live is_request tick None none = refl
+by_ending live is_request tick (Some reason) none = cc none
+
+abbrev gone_by : Live → Bool → Bool → Turn
+gone_by live is_request stands =
+    if stands then flowed (exchange_later live) is_request (brought live) (brought live).ending
+    else record { live = live; sent = where_due is_request (requests_of live.device live.asked) }
+
+by_relation : (live : Live) (is_request stands : Bool) → (gone_by live is_request stands).sent ≡ [] → (gone_by live is_request stands).live.phase ≡ live.phase
+by_relation live is_request false none = refl
+by_relation live is_request true none = by_ending (exchange_later live) is_request (brought live) (brought live).ending none
+
+gone_phase : (live : Live) (is_request : Bool) → (gone_on live is_request).sent ≡ [] → (gone_on live is_request).live.phase ≡ live.phase
+gone_phase live is_request none = by_relation live is_request live.stands none
+
+step_phase : (controller : Controlling) → (step_of controller Tick).frames ≡ [] → (step_of controller Tick).controller.live.phase ≡ controller.live.phase
+unfolding step_of
+step_phase controller none =
+    gone_phase (later controller.live) (is_again controller.live) (map_none _ (ticked controller.live).sent none)
+
+-- If none of some units sends anything, the phase stays.
+phase_kept : (controller : Controlling) (units : ℕ) → ((before : ℕ) → before ≤ units → (ticks_of before controller).frames ≡ []) → (ticks_of units controller).controller.live.phase ≡ controller.live.phase
+phase_kept controller zero none = refl
+phase_kept controller (suc units) none =
+    let first = ticks_of units controller in
+    let step = step_of first.controller Tick in
+    let before : first.frames ≡ [] = none units (omega arith) in
+    let quiet : step.frames ≡ [] = sym (ap (λ (f : List (List ℕ)). f ++ step.frames) before) ∙ none (suc units) (omega arith) in
+    step_phase first.controller quiet ∙ phase_kept controller units (λ earlier sooner. none earlier (omega (arith, sooner)))
+
+-- ---- units at once
+
+none_of : (frames : List (List ℕ)) → has_frames frames ≡ false → frames ≡ []
+none_of [] none = refl
+none_of (frame ∷ frames) none = cc none
+
+first_false : (a b : Bool) → (a || b) ≡ false → a ≡ false
+first_false true b none = cc none
+first_false false b none = refl
+
+pub idle_of : (port : State) (was_over : Bool) → is_stopped was_over port ≡ false → has_frames port.frames ≡ false
+idle_of port was_over free = first_false (has_frames port.frames) (not was_over && is_over port.controller.live.phase) free
+
+abbrev at : Stepped → State
+at stepped = record { controller = stepped.controller; frames = stepped.frames }
+
+abbrev with_frames : Controlling → List (List ℕ) → State
+with_frames controller frames = record { controller = controller; frames = frames }
+
+abbrev stopped_by : Bool → List (List ℕ) → phase.State → Bool
+stopped_by was_over frames phase = has_frames frames || (not was_over && is_over phase)
+
+pub ticks_all : (was_over : Bool) (units : ℕ) (old : State) → has_frames old.frames ≡ false → is_stopped was_over old ≡ false → OnlyTheLastSends units old.controller
+    → Ticks was_over units old (at (ticks_of units old.controller))
+ticks_all was_over zero old idle free last = ap (with_frames old.controller) (sym (none_of old.frames idle))
+ticks_all was_over (suc units) old idle free last =
+    let first = ticks_of units old.controller in
+    let step = step_of first.controller Tick in
+    let quiet : first.frames ≡ [] = last units (omega arith) in
+    let phase = phase_kept old.controller units (λ before earlier. last before (omega (arith, earlier))) in (
+      at first,
+      ticks_all was_over units old idle free (λ before earlier. last before (omega (arith, earlier))),
+      ap (λ (f : List (List ℕ)). stopped_by was_over f first.controller.live.phase) (quiet ∙ sym (none_of old.frames idle)) ∙ ap (stopped_by was_over old.frames) phase ∙ free,
+      ap (λ (f : List (List ℕ)). with_frames step.controller (f ++ step.frames)) quiet,
+    )
+
+-- Units that passed after others.
+pub ticks_on : (was_over : Bool) (units more : ℕ) (old between new : State) → Ticks was_over units old between → Ticks was_over more between new → Ticks was_over (more + units) old new
+ticks_on was_over units zero old between new ticks same =
+    let none : units ≡ zero + units = omega arith in
+    subst (λ (s : State). Ticks was_over (zero + units) old s) (sym same) (subst (λ (n : ℕ). Ticks was_over n old between) none ticks)
+ticks_on was_over units (suc more) old between new ticks last =
+    let one : suc (more + units) ≡ suc more + units = omega arith in
+    subst (λ (n : ℕ). Ticks was_over n old new) one (last.0, ticks_on was_over units more old between last.0 ticks last.1, last.2, last.3)

@@ -1,0 +1,243 @@
+-- Several units of time at once, and as many Tick events.
+use Rattle.std.proofs.Common.{◌≡◌, ◌+◌, ◌-◌, ◌%◌, ◌<◌, ◌==◌, ◌++◌, ℕ, zero, suc, Bool, true, false, List, [], ◌∷◌, map, sum, refl, sym, ap, ◌∙◌, arith, append_assoc, Option, Some, None, if◌then◌else◌}
+use Rattle.std.specs.Prelude.{min, is_some}
+use Rattle.std.proofs.lemmas.Bool.{ne_eqb}
+use Rattle.std.proofs.lemmas.Bool.Decides.{nat_tests}
+use Rattle.std.proofs.lemmas.List.{append-nil}
+use Rattle.std.proofs.lemmas.List.Sums.{sum_by-cons}
+use Rattle.std.proofs.Math.Nat.{mod-add-mod, mod-eq_of_lt}
+use Rattle.pn_values.specs.declared.mac.Mac.{Mac}
+use Rattle.cyclic_data.specs.Timing.{is_due}
+use Rattle.pn_alarms.specs.declared.repeats.Due.{Due}
+use Rattle.pn_alarms.specs.declared.repeats.Due.TheVariants.{Nothing}
+use Rattle.pn_alarms.specs.declared.abort.Abort.TheVariants.{DataHold}
+use Rattle.pn_alarms.specs.Controller.{controller_later}
+use Rattle.pn_alarms.specs.Ends.{ControllerEnd}
+use Rattle.pn_alarms.specs.Leaps.{NothingDue, ack_due, after, never}
+use Rattle.pn_alarms.specs.Sending.{due}
+use Rattle.cyclic_exchange.specs.Cyclic.{Cyclic}
+use Rattle.cyclic_exchange.specs.Leaps.{IsQuietFor}
+use Rattle.cyclic_exchange.specs.Units.{Brought, cyclic_later, ending_by, is_silent, tick_by, tick_of}
+use Rattle.controller_frames.specs.declared.request.Request.{Request}
+use Rattle.controller_frames.specs.Sent.{Sent, bytes_of}
+use Rattle.controller_core.specs.declared.event.Event.TheVariants.{Tick}
+use Rattle.controller_core.specs.Leaps.{LeapsAreTicks, NoneSends, OnlyTheLastSends, and_then, request_due_in, ticks_of}
+use Rattle.controller_core.specs.Machine.{Stepped, Turn, exchange_later, flowed, gone_on, is_again, later, requests_of, step_of, stepped, ticked, where_due}
+use Rattle.controller_core.specs.State.{Controlling, Live, with_live}
+
+pub below_left : (number one other : ℕ) → number < min one other → number < one
+below_left number one other below = omega (arith, below)
+
+pub below_right : (number one other : ℕ) → number < min one other → number < other
+below_right number one other below = omega (arith, below)
+
+-- ---- one Tick event
+
+tick_is : (controlling : Controlling) → step_of controlling Tick ≡ stepped controlling (ticked controlling.live)
+unfolding step_of
+tick_is controlling = refl
+
+-- ---- what the relation brings
+
+abbrev only_cyclic : Bool → Brought
+only_cyclic is_cyclic = record { ending = None; is_alarm = false; is_cyclic = is_cyclic }
+
+tick_nothing : (cyclic : Cyclic) (alarm : Due) → is_silent cyclic ≡ false → is_due cyclic.sending ≡ false → alarm ≡ Nothing → tick_of cyclic alarm ≡ only_cyclic false
+tick_nothing cyclic alarm heard frame none =
+    ap (tick_of cyclic) none
+    ∙ (ap (λ (b : Bool). tick_by cyclic Nothing (if b then Some DataHold else ending_by Nothing)) heard ∙ ap only_cyclic frame)
+
+-- Each of the next units brings nothing of a relation that is established.
+unfoldable pub BringNothing : ℕ → Cyclic → ControllerEnd → Type 0
+BringNothing units cyclic alarms = (before : ℕ) → before < units → tick_of (after cyclic_later before cyclic) (due (after controller_later before alarms).sending) ≡ only_cyclic false
+
+pub brings_nothing : (cyclic : Cyclic) (alarms : ControllerEnd) (units : ℕ) → IsQuietFor units cyclic → NothingDue ack_due controller_later units alarms
+    → BringNothing units cyclic alarms
+unfolding BringNothing
+brings_nothing cyclic alarms units quiet none before earlier =
+    let heard = quiet before earlier in
+    tick_nothing (after cyclic_later before cyclic) (due (after controller_later before alarms).sending) heard.0 heard.1 (none before earlier)
+
+-- ---- the request
+
+idle : (is_due : Bool) → where_due is_due [] ≡ []
+idle true = refl
+idle false = refl
+
+no_request : (device : Mac) (asked : Option Request) (waited units : ℕ) → suc units < (if is_some asked then 32000 - waited else never)
+    → where_due ((waited + units) % 32000 + 1 == 32000) (requests_of device asked) ≡ []
+no_request device None waited units before = idle ((waited + units) % 32000 + 1 == 32000)
+no_request device (Some request) waited units before =
+    let small : waited + units < 32000 = omega (arith, before) in
+    let same : (waited + units) % 32000 ≡ waited + units = mod-eq_of_lt small in
+    ap (λ (b : Bool). where_due b (requests_of device (Some request))) (ne_eqb ((waited + units) % 32000 + 1) 32000 (λ e. omega (arith, e, same, before)))
+
+wraps : (waited units : ℕ) → waited ≡ units % 32000 → (if (waited + 1 == 32000) then 0 else waited + 1) ≡ (units + 1) % 32000
+wraps waited units h = grind (arith, nat_tests)
+
+waited_next : (waited units : ℕ) → (if ((waited + units) % 32000 + 1 == 32000) then 0 else (waited + units) % 32000 + 1) ≡ (waited + suc units) % 32000
+waited_next waited units =
+    let one : waited + units + 1 ≡ waited + suc units = omega arith in
+    wraps ((waited + units) % 32000) (waited + units) refl ∙ ap (λ (n : ℕ). n % 32000) one
+
+counter_next : (counter units : ℕ) → ((counter + units) % 65536 + 1) % 65536 ≡ (counter + suc units) % 65536
+counter_next counter units =
+    let one : counter + units + 1 ≡ counter + suc units = omega arith in
+    mod-add-mod (counter + units) 65536 1 ∙ ap (λ (n : ℕ). n % 65536) one
+
+none_later : (number limit : ℕ) → number < limit → number ≡ (number + 0) % limit
+none_later number limit below =
+    let same : number + 0 ≡ number = omega arith in
+    sym (ap (λ (n : ℕ). n % limit) same ∙ mod-eq_of_lt below)
+
+-- ---- units with which nothing is due, if the relation is not established
+
+abbrev with_counts : Live → ℕ → ℕ → Live
+with_counts live waited units = record live { waited = waited; units = units }
+
+abbrev off_later : ℕ → Live → Live
+off_later units live = with_counts live ((live.waited + units) % 32000) ((live.units + units) % 65536)
+
+abbrev turn_with : Live → List Sent → Turn
+turn_with live sent = record { live = live; sent = sent }
+
+gone_off : (live : Live) (is_request : Bool) → live.stands ≡ false → gone_on live is_request ≡ turn_with live (where_due is_request (requests_of live.device live.asked))
+gone_off live is_request stands = rw stands refl
+
+off_next : (live : Live) (units : ℕ) → later (off_later units live) ≡ off_later (suc units) live
+off_next live units =
+    ap (λ (w : ℕ). with_counts live w (((live.units + units) % 65536 + 1) % 65536)) (waited_next live.waited units)
+    ∙ ap (with_counts live ((live.waited + suc units) % 32000)) (counter_next live.units units)
+
+off_turn : (live : Live) (units : ℕ) → live.stands ≡ false → suc units < request_due_in live → ticked (off_later units live) ≡ turn_with (off_later (suc units) live) []
+off_turn live units stands before =
+    gone_off (later (off_later units live)) (is_again (off_later units live)) stands
+    ∙ (ap (turn_with (later (off_later units live))) (no_request live.device live.asked live.waited units before)
+    ∙ ap (λ (l : Live). turn_with l []) (off_next live units))
+
+-- ---- the same if it is established
+
+abbrev with_exchange : Live → ℕ → ℕ → Cyclic → ControllerEnd → Live
+with_exchange live waited units cyclic alarms = record live { waited = waited; units = units; cyclic = cyclic; alarms = alarms }
+
+abbrev on_later : ℕ → Live → Live
+on_later units live =
+    with_exchange live ((live.waited + units) % 32000) ((live.units + units) % 65536) (after cyclic_later units live.cyclic) (after controller_later units live.alarms)
+
+gone_there : (live : Live) (is_request : Bool) → live.stands ≡ true → tick_of live.cyclic (due live.alarms.sending) ≡ only_cyclic false
+    → gone_on live is_request ≡ turn_with (exchange_later live) (where_due is_request (requests_of live.device live.asked) ++ [])
+gone_there live is_request stands none =
+    let moved : gone_on live is_request ≡ flowed (exchange_later live) is_request (tick_of live.cyclic (due live.alarms.sending)) (tick_of live.cyclic (due live.alarms.sending)).ending = rw stands refl in
+    moved ∙ ap (λ (b : Brought). flowed (exchange_later live) is_request b b.ending) none
+
+on_next : (live : Live) (units : ℕ) → exchange_later (later (on_later units live)) ≡ on_later (suc units) live
+on_next live units =
+    let cyclic = after cyclic_later (suc units) live.cyclic in
+    let alarms = after controller_later (suc units) live.alarms in
+    ap (λ (w : ℕ). with_exchange live w (((live.units + units) % 65536 + 1) % 65536) cyclic alarms) (waited_next live.waited units)
+    ∙ ap (λ (u : ℕ). with_exchange live ((live.waited + suc units) % 32000) u cyclic alarms) (counter_next live.units units)
+
+on_turn : (live : Live) (units : ℕ) → live.stands ≡ true → suc units < request_due_in live
+    → tick_of (after cyclic_later units live.cyclic) (due (after controller_later units live.alarms).sending) ≡ only_cyclic false
+    → ticked (on_later units live) ≡ turn_with (on_later (suc units) live) []
+on_turn live units stands before none =
+    gone_there (later (on_later units live)) (is_again (on_later units live)) stands none
+    ∙ (ap (λ (s : List Sent). turn_with (exchange_later (later (on_later units live))) (s ++ [])) (no_request live.device live.asked live.waited units before)
+    ∙ ap (λ (l : Live). turn_with l []) (on_next live units))
+
+-- ---- many units
+
+abbrev sent_with : Controlling → List (List ℕ) → Stepped
+sent_with controlling frames = record { controller = controlling; frames = frames }
+
+abbrev and_tick : Stepped → Stepped
+and_tick before = and_then before (step_of before.controller Tick)
+
+-- One more unit that sends nothing.
+one_more : (controlling : Controlling) (live next : Live) → ticked live ≡ turn_with next [] → and_tick (sent_with (with_live controlling live) []) ≡ sent_with (with_live controlling next) []
+one_more controlling live next turn =
+    ap (and_then (sent_with (with_live controlling live) [])) (tick_is (with_live controlling live))
+    ∙ ap (λ (t : Turn). and_then (sent_with (with_live controlling live) []) (stepped (with_live controlling live) t)) turn
+
+off_ticks : (controlling : Controlling) (units : ℕ) → controlling.live.stands ≡ false → controlling.live.waited < 32000 → controlling.live.units < 65536
+    → units < request_due_in controlling.live → ticks_of units controlling ≡ sent_with (with_live controlling (off_later units controlling.live)) []
+off_ticks controlling zero stands few fits below =
+    ap (λ (w : ℕ). sent_with (with_live controlling (with_counts controlling.live w controlling.live.units)) []) (none_later controlling.live.waited 32000 few)
+    ∙ ap (λ (u : ℕ). sent_with (with_live controlling (with_counts controlling.live ((controlling.live.waited + 0) % 32000) u)) []) (none_later controlling.live.units 65536 fits)
+off_ticks controlling (suc units) stands few fits below =
+    ap and_tick (off_ticks controlling units stands few fits (omega (arith, below)))
+    ∙ one_more controlling (off_later units controlling.live) (off_later (suc units) controlling.live) (off_turn controlling.live units stands below)
+
+on_ticks : (controlling : Controlling) (units : ℕ) → controlling.live.stands ≡ true → controlling.live.waited < 32000 → controlling.live.units < 65536
+    → units < request_due_in controlling.live → BringNothing units controlling.live.cyclic controlling.live.alarms
+    → ticks_of units controlling ≡ sent_with (with_live controlling (on_later units controlling.live)) []
+unfolding BringNothing
+on_ticks controlling zero stands few fits below none =
+    let live = controlling.live in
+    ap (λ (w : ℕ). sent_with (with_live controlling (with_exchange live w live.units live.cyclic live.alarms)) []) (none_later live.waited 32000 few)
+    ∙ ap (λ (u : ℕ). sent_with (with_live controlling (with_exchange live ((live.waited + 0) % 32000) u live.cyclic live.alarms)) []) (none_later live.units 65536 fits)
+on_ticks controlling (suc units) stands few fits below none =
+    ap and_tick (on_ticks controlling units stands few fits (omega (arith, below)) (λ before earlier. none before (omega (arith, earlier))))
+    ∙ one_more controlling (on_later units controlling.live) (on_later (suc units) controlling.live) (on_turn controlling.live units stands below (none units (omega arith)))
+
+pub off_state : (controlling : Controlling) (units : ℕ) → controlling.live.stands ≡ false → controlling.live.waited < 32000 → controlling.live.units < 65536
+    → units < request_due_in controlling.live → (ticks_of units controlling).controller ≡ with_live controlling (off_later units controlling.live)
+off_state controlling units stands few fits below = ap (λ (s : Stepped). s.controller) (off_ticks controlling units stands few fits below)
+
+pub off_sends : (controlling : Controlling) (units : ℕ) → controlling.live.stands ≡ false → controlling.live.waited < 32000 → controlling.live.units < 65536
+    → units < request_due_in controlling.live → NoneSends units controlling
+off_sends controlling units stands few fits below before earlier =
+    ap (λ (s : Stepped). s.frames) (off_ticks controlling before stands few fits (omega (arith, below, earlier)))
+
+pub on_state : (controlling : Controlling) (units : ℕ) → controlling.live.stands ≡ true → controlling.live.waited < 32000 → controlling.live.units < 65536
+    → units < request_due_in controlling.live → BringNothing units controlling.live.cyclic controlling.live.alarms
+    → (ticks_of units controlling).controller ≡ with_live controlling (on_later units controlling.live)
+on_state controlling units stands few fits below none = ap (λ (s : Stepped). s.controller) (on_ticks controlling units stands few fits below none)
+
+pub on_sends : (controlling : Controlling) (units : ℕ) → controlling.live.stands ≡ true → controlling.live.waited < 32000 → controlling.live.units < 65536
+    → units < request_due_in controlling.live → BringNothing units controlling.live.cyclic controlling.live.alarms → NoneSends units controlling
+unfolding BringNothing
+on_sends controlling units stands few fits below none before earlier =
+    ap (λ (s : Stepped). s.frames) (on_ticks controlling before stands few fits (omega (arith, below, earlier)) (λ first sooner. none first (omega (arith, earlier, sooner))))
+
+-- ---- a leap: units with which nothing is due, and then one Tick event
+
+pub leap_state : (old mid new : Controlling) (units before : ℕ) → units ≡ suc before → mid ≡ (ticks_of before old).controller → new ≡ with_live mid (ticked mid.live).live
+    → new ≡ (ticks_of units old).controller
+leap_state old mid new units before count is ticks =
+    let first = ticks_of before old in
+    ticks ∙ (ap (λ (m : Controlling). with_live m (ticked m.live).live) is
+    ∙ (sym (ap (λ (s : Stepped). s.controller) (tick_is first.controller)) ∙ ap (λ (n : ℕ). (ticks_of n old).controller) (sym count)))
+
+pub leap_frames : (old mid : Controlling) (frames : List (List ℕ)) (units before : ℕ) → units ≡ suc before → mid ≡ (ticks_of before old).controller → NoneSends before old
+    → frames ≡ map (bytes_of mid.setup) (ticked mid.live).sent → frames ≡ (ticks_of units old).frames
+leap_frames old mid frames units before count is none ticks =
+    let first = ticks_of before old in
+    let last : frames ≡ (step_of first.controller Tick).frames =
+    ticks ∙ (ap (λ (m : Controlling). map (bytes_of m.setup) (ticked m.live).sent) is ∙ sym (ap (λ (s : Stepped). s.frames) (tick_is first.controller))) in
+    last ∙ (ap (λ (f : List (List ℕ)). f ++ (step_of first.controller Tick).frames) (sym (none before (omega arith)))
+    ∙ ap (λ (n : ℕ). (ticks_of n old).frames) (sym count))
+
+pub leap_last : (controlling : Controlling) (units before : ℕ) → units ≡ suc before → NoneSends before controlling → OnlyTheLastSends units controlling
+leap_last controlling units before count none first earlier = none first (omega (arith, count, earlier))
+
+-- ---- leaps one after another
+
+ticks_more : (controlling : Controlling) (units more : ℕ) → ticks_of (units + more) controlling ≡ and_then (ticks_of units controlling) (ticks_of more (ticks_of units controlling).controller)
+ticks_more controlling units zero =
+    let first = ticks_of units controlling in
+    let none : units + 0 ≡ units = omega arith in
+    ap (λ (n : ℕ). ticks_of n controlling) none ∙ ap (sent_with first.controller) (sym (append-nil first.frames))
+ticks_more controlling units (suc more) =
+    let first = ticks_of units controlling in
+    let next = ticks_of more first.controller in
+    let one : units + suc more ≡ suc (units + more) = omega arith in
+    ap (λ (n : ℕ). ticks_of n controlling) one
+    ∙ (ap and_tick (ticks_more controlling units more)
+    ∙ ap (sent_with (step_of next.controller Tick).controller) (append_assoc first.frames next.frames (step_of next.controller Tick).frames))
+
+pub leaps_are_ticks : LeapsAreTicks
+leaps_are_ticks controlling [] = refl
+leaps_are_ticks controlling (units ∷ leaps) =
+    ap (and_then (ticks_of units controlling)) (leaps_are_ticks (ticks_of units controlling).controller leaps)
+    ∙ (sym (ticks_more controlling units (sum leaps)) ∙ ap (λ (n : ℕ). ticks_of n controlling) (sym (sum_by-cons (λ (x : ℕ). x) units leaps)))

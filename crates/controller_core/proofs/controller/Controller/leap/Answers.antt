@@ -1,0 +1,58 @@
+-- Units with which nothing is due: the counters pass them, and those of the relation if it is established.
+use Rattle.std.proofs.Common.{◌≡◌, ◌<◌, true, false, refl}
+use Rattle.pn_alarms.specs.Controller.{controller_later}
+use Rattle.pn_alarms.specs.Leaps.{NothingDue, ack_due}
+use Rattle.cyclic_exchange.specs.Leaps.{IsQuietFor}
+use Rattle.controller_core.specs.Leaps.{exchange_due_in}
+use Rattle.controller_core.proofs.Leaping.{below_left, below_right, brings_nothing, off_sends, off_state, on_sends, on_state}
+use Rattle.controller_core.proofs.controller.Controller.leap.Goals as goal
+
+pub returns-then-not-self-clause-state : goal.returns-then-not-self-clause-state
+returns-then-not-self-clause-state c =
+    let old = c.args.self.now in
+    let stands : old.live.stands ≡ false = rw (← c.self.view_is) c.if-not-self.true in
+    let few : old.live.waited < 32000 = rw (← c.self.view_is) c.self.invariant in
+    let fits : old.live.units < 65536 = rw (← c.self.view_is) c.counter_later-self-inside.ensures.fits in
+    rw (off_state old c.args.units stands few fits (below_left c.args.units _ _ c.requires))
+    (rw (← c.self.view_is) (rw (c.counter_later-self-inside.ensures.value, c.waited_later-self-inside.ensures.value) refl))
+
+pub returns-then-not-self-clause-none : goal.returns-then-not-self-clause-none
+returns-then-not-self-clause-none c =
+    let old = c.args.self.now in
+    let stands : old.live.stands ≡ false = rw (← c.self.view_is) c.if-not-self.true in
+    let few : old.live.waited < 32000 = rw (← c.self.view_is) c.self.invariant in
+    let fits : old.live.units < 65536 = rw (← c.self.view_is) c.counter_later-self-inside.ensures.fits in
+    off_sends old c.args.units stands few fits (below_left c.args.units _ _ c.requires)
+
+pub pass-requires : goal.pass-requires
+pass-requires c =
+    let below : c.args.units < exchange_due_in c.args.self.now.live = below_right c.args.units _ _ c.requires in
+    let there = rw (← c.self.view_is, c.if-not-self.false) at below in
+    below_left c.args.units _ _ there
+
+pub pass-requires-2 : goal.pass-requires-2
+pass-requires-2 c =
+    let below : c.args.units < exchange_due_in c.args.self.now.live = below_right c.args.units _ _ c.requires in
+    let there = rw (← c.self.view_is, c.if-not-self.false) at below in
+    below_right c.args.units _ _ there
+
+pub returns-clause-state : goal.returns-clause-state
+returns-clause-state c =
+    let old = c.args.self.now in
+    let stands : old.live.stands ≡ true = rw (← c.self.view_is) c.if-not-self.false in
+    let few : old.live.waited < 32000 = rw (← c.self.view_is) c.self.invariant in
+    let fits : old.live.units < 65536 = rw (← c.self.view_is) c.counter_later-self-inside.ensures.fits in
+    let quiet : IsQuietFor c.args.units old.live.cyclic = rw (← c.self.view_is) c.pass.ensures.quiet in
+    let nothing : NothingDue ack_due controller_later c.args.units old.live.alarms = rw (← c.self.view_is) c.pass-2.ensures.nothing in
+    rw (on_state old c.args.units stands few fits (below_left c.args.units _ _ c.requires) (brings_nothing old.live.cyclic old.live.alarms c.args.units quiet nothing))
+    (rw (← c.self.view_is) (rw (c.counter_later-self-inside.ensures.value, c.waited_later-self-inside.ensures.value, c.pass.ensures.state, c.pass-2.ensures.state) refl))
+
+pub returns-clause-none : goal.returns-clause-none
+returns-clause-none c =
+    let old = c.args.self.now in
+    let stands : old.live.stands ≡ true = rw (← c.self.view_is) c.if-not-self.false in
+    let few : old.live.waited < 32000 = rw (← c.self.view_is) c.self.invariant in
+    let fits : old.live.units < 65536 = rw (← c.self.view_is) c.counter_later-self-inside.ensures.fits in
+    let quiet : IsQuietFor c.args.units old.live.cyclic = rw (← c.self.view_is) c.pass.ensures.quiet in
+    let nothing : NothingDue ack_due controller_later c.args.units old.live.alarms = rw (← c.self.view_is) c.pass-2.ensures.nothing in
+    on_sends old c.args.units stands few fits (below_left c.args.units _ _ c.requires) (brings_nothing old.live.cyclic old.live.alarms c.args.units quiet nothing)

@@ -1,0 +1,44 @@
+-- Several units of time at once, which do what as many Tick events do, one by one.
+use Rattle.std.specs.Prelude.{◌≡◌, ◌<◌, ◌≤◌, ◌-◌, ◌++◌, ℕ, zero, suc, min, List, [], ◌∷◌, sum, is_some, if◌then◌else◌}
+use Rattle.pn_alarms.specs.Leaps.{data_due_in, never}
+use Rattle.cyclic_exchange.specs.Leaps.{cyclic_due_in}
+use Rattle.controller_core.specs.declared.event.Event.TheVariants.{Tick}
+use Rattle.controller_core.specs.State.{Controlling, Live}
+use Rattle.controller_core.specs.Machine.{Stepped, step_of}
+
+-- The number of units up to and with the next one with which the request is sent again.
+abbrev pub request_due_in : Live → ℕ
+request_due_in live = if is_some live.asked then 32000 - live.waited else never
+
+-- The number of units up to and with the next one with which the relation sends a frame or ends.
+abbrev pub exchange_due_in : Live → ℕ
+exchange_due_in live = if live.stands then min (cyclic_due_in live.cyclic) (data_due_in live.alarms.sending) else never
+
+-- The number of units up to and with the next one with which something is sent, or the controller ends.
+abbrev pub live_due_in : Live → ℕ
+live_due_in live = min (request_due_in live) (exchange_due_in live)
+
+-- The controller after this many Tick events, one by one, and the frames that they send, in order.
+abbrev pub and_then : Stepped → Stepped → Stepped
+and_then before step = record { controller = step.controller; frames = before.frames ++ step.frames }
+
+abbrev pub ticks_of : ℕ → Controlling → Stepped
+ticks_of zero controlling = record { controller = controlling; frames = [] }
+ticks_of (suc units) controlling = and_then (ticks_of units controlling) (step_of (ticks_of units controlling).controller Tick)
+
+-- None of these units sends anything, and none but the last.
+abbrev pub NoneSends : ℕ → Controlling → Type 0
+NoneSends units controlling = (before : ℕ) → before ≤ units → (ticks_of before controlling).frames ≡ []
+
+abbrev pub OnlyTheLastSends : ℕ → Controlling → Type 0
+OnlyTheLastSends units controlling = (before : ℕ) → before < units → (ticks_of before controlling).frames ≡ []
+
+-- Leaps one after another, each as its own number of Tick events.
+abbrev pub leaps_of : List ℕ → Controlling → Stepped
+leaps_of [] controlling = record { controller = controlling; frames = [] }
+leaps_of (units ∷ leaps) controlling = and_then (ticks_of units controlling) (leaps_of leaps (ticks_of units controlling).controller)
+
+-- However a number of units is divided into leaps, the controller and the frames, in order, are those of that many Tick
+-- events.
+abbrev pub LeapsAreTicks : Type 0
+LeapsAreTicks = (controlling : Controlling) (leaps : List ℕ) → leaps_of leaps controlling ≡ ticks_of (sum leaps) controlling

@@ -1,0 +1,99 @@
+//! Several units of time at once.
+ghost use Rattle.std.specs.Prelude.{◌≡◌, ◌<◌, ◌≤◌, ◌+◌, ◌%◌};
+ghost use Rattle.frame_codec.specs.Outbox.{boxed};
+ghost use Rattle.controller_core.specs.Leaps.{LeapsAreTicks, NoneSends, OnlyTheLastSends, exchange_due_in, live_due_in, request_due_in, ticks_of};
+
+use crate::Controller;
+use crate::step::SECOND;
+use frame_codec::Outbox;
+use pn_alarms::NEVER;
+
+impl Controller {
+    /// The number of units up to and with the next one with which something is sent, or the controller ends.
+    /// 4,294,967,295 if no unit ever does any of these.
+    pub fn due(&self) -> u32
+        ensures value { result ≡ live_due_in self.now.live }
+        ensures some { 0 < result }
+    {
+        self.request_due_in().min(self.exchange_due_in())
+    }
+
+    // The number of units up to and with the next one with which the request is sent again.
+    fn request_due_in(&self) -> u32
+        ensures value { result ≡ request_due_in self.now.live }
+        ensures some { 0 < result }
+    {
+        if self.asked.is_some() {
+            SECOND - self.waited
+        } else {
+            NEVER
+        }
+    }
+
+    // The number of units up to and with the next one with which the relation sends a frame or ends.
+    fn exchange_due_in(&self) -> u32
+        ensures value { result ≡ exchange_due_in self.now.live }
+        ensures some { 0 < result }
+    {
+        if self.stands {
+            self.exchange.due_in().min(self.alarms.due_in())
+        } else {
+            NEVER
+        }
+    }
+
+    /// Lets `units` units of 31.25 microseconds pass at once, at most as many as `due` returns: clears the outbox, and
+    /// appends the frames to be sent. It does what as many Tick events do, one by one.
+    pub fn elapse(&mut self, units: u32, outbox: &mut Outbox)
+        requires { units ≤ live_due_in self.old.live }
+        // The controller and the frames are those after that many Tick events. Only the last of them may send.
+        ensures state { self.new ≡ (ticks_of units self.old).controller }
+        ensures frames { boxed outbox.new ≡ (ticks_of units self.old).frames }
+        ensures last { OnlyTheLastSends units self.old }
+    {
+        outbox.clear();
+        if units == 0 {
+            return;
+        }
+        self.leap(units - 1);
+        self.tick(outbox)
+    }
+
+    // Units with which nothing is sent, and nothing ends.
+    fn leap(&mut self, units: u32)
+        requires { units < live_due_in self.old.live }
+        ensures state { self.new ≡ (ticks_of units self.old).controller }
+        ensures none { NoneSends units self.old }
+    {
+        self.units = counter_later(self.units, units);
+        self.waited = waited_later(self.waited, units);
+        if !self.stands {
+            return;
+        }
+        self.exchange.pass(units);
+        self.alarms.pass(units);
+    }
+}
+
+// CycleCounter some units later: it counts modulo 65,536.
+fn counter_later(counter: u16, units: u32) -> u16
+    ensures value { result ≡ (counter + units) % 65536 }
+    ensures fits { counter < 65536 }
+{
+    counter.wrapping_add((units % 65_536) as u16)
+}
+
+// The units since the request was sent, some units later. They are counted also while no request is active.
+fn waited_later(waited: u32, units: u32) -> u32
+    requires { waited < 32000 }
+    ensures value { result ≡ (waited + units) % 32000 }
+    ensures few { result < 32000 }
+{
+    (waited + units % SECOND) % SECOND
+}
+
+/// However a number of units is divided into leaps, the controller and the frames, in order, are those of that many Tick
+/// events. This is a law of the definitions that specify `Controller::elapse`; the function has no code.
+pub fn leaps_are_ticks()
+    ensures { LeapsAreTicks }
+{}

@@ -1,0 +1,59 @@
+-- A port while units of time pass at once.
+use Rattle.std.proofs.Common.{◌≡◌, ◌+◌, ℕ, Bool, true, false, zero, suc, List, [], ◌∷◌, None, refl, sym, ap, subst, ◌∙◌, arith}
+use Rattle.flash_model.specs.Calls.{Call}
+use Rattle.device_frames.specs.declared.note.Note.TheVariants.{Done}
+use Rattle.device_core.specs.State as device
+use Rattle.device_abi.specs.declared.recorded.flash.RecordedFlash.{RecordedFlash}
+use Rattle.device_abi.specs.declared.port.stage.Stage.{Stage}
+use Rattle.device_abi.specs.declared.port.stage.Stage.TheVariants.{Made, Booted, Lost}
+use Rattle.device_abi.specs.port.State.{State, barred_by, has_work}
+use Rattle.device_abi.specs.port.Steps.{Ticks}
+use Rattle.device_abi.specs.recording.Leaps.{PassesAll}
+
+-- A port that accepts an event has no work.
+pub idle_of : (stage : Stage) (is_left : Bool) → barred_by stage is_left ≡ None → is_left ≡ false
+idle_of Made is_left free = cc free
+idle_of Booted true free = cc free
+idle_of Booted false free = refl
+idle_of Lost is_left free = cc free
+
+pub none_left : (calls : List Call) (frames : List (List ℕ)) → has_work calls frames ≡ false → (calls ≡ []) × (frames ≡ [])
+none_left [] [] none = (refl, refl)
+none_left [] (frame ∷ frames) none = cc none
+none_left (call ∷ calls) frames none = cc none
+
+abbrev at : device.State (RecordedFlash 4096) → Stage → List Call → List (List ℕ) → State
+at now stage calls frames = record { device = now; stage = stage; calls = calls; frames = frames }
+
+-- The port after these units, if it had no work before.
+pub passed : (units : ℕ) (old : State) (now : device.State (RecordedFlash 4096)) (frames : List (List ℕ)) → old.stage ≡ Booted → old.calls ≡ [] → old.frames ≡ []
+    → PassesAll units old.device frames now → Ticks units old (at now Booted [] frames)
+passed zero old now frames booted no_calls no_frames passes =
+    ap (λ (d : device.State (RecordedFlash 4096)). at d Booted [] frames) passes.0
+    ∙ (ap (at old.device Booted []) (passes.1 ∙ sym no_frames)
+    ∙ (ap (λ (s : Stage). at old.device s [] old.frames) (sym booted) ∙ ap (λ (c : List Call). at old.device old.stage c old.frames) (sym no_calls)))
+passed (suc units) old now frames booted no_calls no_frames passes = (
+  at passes.0 Booted [] [],
+  Done,
+  passed units old passes.0 [] booted no_calls no_frames passes.1,
+  refl,
+  record { exact = passes.2.exact; records = passes.2.records; calls = sym passes.2.none; stage = refl },
+)
+
+-- The same of a port whose stage and work are known.
+pub passed_at : (units : ℕ) (old : State) (now : device.State (RecordedFlash 4096)) (stage : Stage) (calls : List Call) (shown frames : List (List ℕ))
+    → old.stage ≡ Booted → old.calls ≡ [] → old.frames ≡ [] → stage ≡ Booted → calls ≡ [] → shown ≡ frames
+    → PassesAll units old.device frames now → Ticks units old (at now stage calls shown)
+passed_at units old now stage calls shown frames booted no_calls no_frames is_booted none same passes =
+    subst (λ (s : Stage). Ticks units old (at now s calls shown)) (sym is_booted)
+    (subst (λ (c : List Call). Ticks units old (at now Booted c shown)) (sym none)
+    (subst (λ (f : List (List ℕ)). Ticks units old (at now Booted [] f)) (sym same) (passed units old now frames booted no_calls no_frames passes)))
+
+-- Units that passed after others.
+pub ticks_on : (units more : ℕ) (old between new : State) → Ticks units old between → Ticks more between new → Ticks (more + units) old new
+ticks_on units zero old between new ticks same =
+    let none : units ≡ zero + units = omega arith in
+    subst (λ (s : State). Ticks (zero + units) old s) (sym same) (subst (λ (n : ℕ). Ticks n old between) none ticks)
+ticks_on units (suc more) old between new ticks last =
+    let one : suc (more + units) ≡ suc more + units = omega arith in
+    subst (λ (n : ℕ). Ticks n old new) one (last.0, last.1, ticks_on units more old between last.0 ticks last.2, last.3, last.4)

@@ -1,0 +1,11 @@
+-- The number of units until something is due, or why it is not reported.
+use Rattle.std.proofs.Common.{ℕ, ap, refl}
+use Rattle.device_abi.proofs.operations.serving.due.Goals as goal
+
+pub returns-in-Ok : goal.returns-in-Ok
+returns-in-Ok c =
+    let op = c.args.op.now in
+    rw c.in-Ok.ensures.0 (refl, ap (λ (n : ℕ). record op { units = n }) c.in-Ok.ensures.1)
+
+pub returns-in-Err : goal.returns-in-Err
+returns-in-Err c = rw c.in-Err.ensures (c.number.ensures, refl)
