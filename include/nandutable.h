@@ -42,8 +42,9 @@ extern "C" {
 #define PN_SECTOR_SIZE 4096u
 /* The longest sent frame, without its check sequence. A received frame may be longer; it is refused. */
 #define PN_FRAME_SIZE 1518u
-/* The maximum number of octets of one operation. */
+/* The maximum number of octets of one operation, and the octets of an operation up to `data`. */
 #define PN_OP_SIZE 1520u
+#define PN_OP_LENGTH 1568u
 /* A unit of time, in nanoseconds: 32 of them are a millisecond. */
 #define PN_UNIT_NS 31250u
 /* How many units a host may be late and still catch up. After a longer stall, drop the units beyond this; otherwise repeats and error
@@ -72,9 +73,9 @@ enum { PN_NONE = 0, PN_STARTED = 1, PN_AWAITING = 2, PN_EXCHANGING = 3 };
 /* A piece of work (pn_op.work and pn_op.more). */
 enum {
     PN_NOTHING = 0, /* no work of the step remains */
-    PN_PROGRAM = 1, /* program `length` octets of `octets` into `sector`, from `place` on */
+    PN_PROGRAM = 1, /* program the `length` octets at `data` into `sector`, from `place` on */
     PN_ERASE = 2,   /* erase `sector` */
-    PN_SEND = 3     /* send `length` octets of `octets` */
+    PN_SEND = 3     /* send the `length` octets at `data` */
 };
 
 /* What pn_step is asked to do (pn_op.what). The functions below set it. */
@@ -85,7 +86,6 @@ enum {
     PN_OP_TICK = 4,
     PN_OP_INPUT = 5,
     PN_OP_ALARM = 6,
-    PN_OP_NEXT = 7,
     PN_OP_OUTPUT = 8,
     PN_OP_STATE = 9,
     PN_OP_RUNNING = 10,
@@ -161,8 +161,10 @@ typedef struct pn_op {
     uint32_t more;    /* PN_NOTHING ..: after pn_next the piece of work after the one that it handed out */
     uint32_t sector;  /* 0 or 1 */
     uint32_t place;   /* the first octet of a program call in its sector; pn_taken: a number, then the record's index; pn_left; pn_status: 0 is bad */
-    uint32_t length;  /* how many of `octets` are valid */
+    uint32_t length;  /* how many of `octets` are valid; pn_next: how many octets lie at `data` */
+    uint32_t due;     /* pn_tick: units until something is due, as pn_due says; 0 after a single unit, of which it is not computed */
     uint8_t octets[PN_OP_SIZE];
+    const uint8_t *data; /* pn_next: the octets of the piece of work, in the memory of the device */
 } pn_op;
 
 /* `made` of a pn_device or a pn_controller that was made. */
@@ -180,9 +182,9 @@ typedef struct pn_device {
 
 /* The sizes that the library was built with. */
 #if defined(__cplusplus)
-static_assert(sizeof(pn_op) == 1564 && sizeof(pn_station) == 1508, "another layout than the library's");
+static_assert(offsetof(pn_op, data) == PN_OP_LENGTH && sizeof(pn_station) == 1508, "another layout than the library's");
 #else
-_Static_assert(sizeof(pn_op) == 1564 && sizeof(pn_station) == 1508, "another layout than the library's");
+_Static_assert(offsetof(pn_op, data) == PN_OP_LENGTH && sizeof(pn_station) == 1508, "another layout than the library's");
 #endif
 
 /* The settings that survive a power failure. */
@@ -198,17 +200,20 @@ typedef struct pn_settings {
     uint32_t name_length; /* 0: no name */
 } pn_settings;
 
-/* --- The three calls of the library. Use the functions below them. ---
+/* --- The four calls of the library. Use the functions below them. ---
  *
  * pn_judge returns why no device can be made from a station in a room of `size` octets, or PN_OK if one can be made.
  * pn_put puts a device that is not booted into the room and overwrites its contents. Call it only with a station for which pn_judge
  * returned PN_OK, and a room of PN_DEVICE_SIZE octets whose address is a multiple of 16.
  * pn_step executes one operation on a room into which pn_put put a device and that only these calls changed since. `given` are the
  * octets of a frame, an input, an alarm or a sector.
+ * pn_fetch hands out the next piece of work of such a room. `*answer` is PN_OK, or why nothing was handed out; `*octets` is the place in
+ * the room where the octets of the piece lie, which C may read and not write until the next of these calls with this room.
  * Pointers must not be NULL, even if the length is 0. The operation, `given`, the station and the room must not overlap. */
 uint32_t pn_judge(size_t size, uint32_t abi, size_t op_size, const pn_station *station);
 void pn_put(void *room, const pn_station *station);
 uint32_t pn_step(void *room, pn_op *op, const uint8_t *given, size_t length);
+void pn_fetch(void *room, pn_op *op, uint32_t *answer, const uint8_t **octets);
 
 /* --- A start --- */
 
@@ -236,7 +241,7 @@ static inline uint32_t pn_make(pn_device *device, const pn_station *station)
     uint32_t answer;
     if (device == NULL)
         return PN_NULL;
-    answer = pn_device_make(device->room, sizeof device->room, PN_ABI, sizeof(pn_op), station);
+    answer = pn_device_make(device->room, sizeof device->room, PN_ABI, PN_OP_LENGTH, station);
     if (answer == PN_OK)
         device->made = PN_MADE;
     return answer;
@@ -294,7 +299,8 @@ static inline uint32_t pn_frame(pn_device *device, pn_op *op, const uint8_t *oct
 
 /* `units` units of time have passed (PN_UNIT_NS each; 0 is allowed). It stops after a unit that sends something: then `units` of the
  * operation is the remaining number, and `note` is PN_DONE. Take the work, and hand in the rest again. Units with which nothing is due
- * pass at once, however many they are (pn_due). */
+ * pass at once, however many they are (pn_due). Sets `due` to what pn_due returns, valid until the next event, so that a host can arm its
+ * timer by it. After a call with `units` = 1 `due` is 0: then ask pn_due. A call with 0 units sets it too. */
 static inline uint32_t pn_tick(pn_device *device, pn_op *op, uint32_t units)
 {
     if (op == NULL)
@@ -348,20 +354,33 @@ static inline uint32_t pn_ready(pn_device *device, pn_op *op)
 /* --- Work --- */
 
 /* Hands out the next piece of work of the last event, each once: the flash calls in their order, then the frames. Sets `work`, and what
- * belongs to it: `sector`, `place`, `length` and `octets` of PN_PROGRAM, `sector` of PN_ERASE, `length` and `octets` of PN_SEND; `length`
- * is 0 with PN_ERASE and PN_NOTHING. Sets `more` to the kind of the piece after it; with PN_NOTHING no work remains.
+ * belongs to it: `sector`, `place`, `length` and `data` of PN_PROGRAM, `sector` of PN_ERASE, `length` and `data` of PN_SEND; `length`
+ * is 0 with PN_ERASE and PN_NOTHING. Sets `more` to the kind of the piece after it; if `more` is PN_NOTHING no work
+ * remains, and the next event is accepted without another pn_next. After an event and before pn_next use `work`: `more` is old.
+ * The octets at `data` lie in the memory of the device and are not copied. Read them, do not write them, and copy what is needed longer:
+ * they are valid until the next call of any function with this device. Do not use `data` if `length` is 0.
  * May return PN_NULL, PN_NOT_MADE, PN_NOT_BOOTED, PN_LOST. */
 static inline uint32_t pn_next(pn_device *device, pn_op *op)
 {
-    return pn_ask(device, op, PN_OP_NEXT, NULL, 0);
+    uint32_t answer;
+    const uint8_t *octets;
+    if (device == NULL || op == NULL)
+        return PN_NULL;
+    if (device->made != PN_MADE)
+        return PN_NOT_MADE;
+    pn_fetch(device->room, op, &answer, &octets);
+    if (answer == PN_OK)
+        op->data = octets;
+    return answer;
 }
 
 /* What a host does for a device. Each function returns 0 on success. `program` and `erase` return when the chip holds the requested
  * contents durably, so that they survive a power failure; `program` only turns ones to zeros, and stays within one sector.
  *
- * pn_carry_out calls them in the middle of a step. They may not hand an event to this device, and they may not use the operation: its
- * `octets` are those that they were given. The functions that read the device may be called with another operation, and all functions of
- * another device. A frame that comes meanwhile waits until pn_carry_out returns. */
+ * pn_carry_out calls them in the middle of a step. They may not hand an event to this device, and they may not use the operation. The octets
+ * that they are given lie in the memory of the device: when they are no longer needed, the functions that read the device may be called,
+ * with another operation. All functions of another device and of a controller may be called. A card that reads a frame after
+ * `send` has returned (DMA) needs a copy of it. A frame that comes meanwhile waits until pn_carry_out returns. */
 typedef struct pn_host {
     void *context;
     int (*program)(void *context, uint32_t sector, uint32_t place, const uint8_t *octets, uint32_t length);
@@ -398,7 +417,7 @@ static inline uint32_t pn_carry_out(pn_device *device, pn_op *op, const pn_host 
             return answer;
         switch (op->work) {
         case PN_PROGRAM:
-            if (host->program(host->context, op->sector, op->place, op->octets, op->length) != 0)
+            if (host->program(host->context, op->sector, op->place, op->data, op->length) != 0)
                 return pn_failed(device, op);
             break;
         case PN_ERASE:
@@ -406,7 +425,7 @@ static inline uint32_t pn_carry_out(pn_device *device, pn_op *op, const pn_host 
                 return pn_failed(device, op);
             break;
         case PN_SEND:
-            if (host->send(host->context, op->octets, op->length) != 0)
+            if (host->send(host->context, op->data, op->length) != 0)
                 sent = PN_NOT_SENT;
             break;
         default:
@@ -451,7 +470,7 @@ static inline uint32_t pn_provider(const pn_device *device, pn_op *op, uint16_t 
 }
 
 /* How many units may pass until something is due: with the last of them, and with none before it, the device sends a frame, gives up an
- * alarm, ends the relation, or turns the lamp off. It is also in `units` of the operation. 4,294,967,295 if no unit ever does any of these.
+ * alarm, ends the relation, or turns the lamp off. It is at least 1, and also in `units` of the operation. 4,294,967,295 if no unit ever does any of these.
  * An event may change it. So a host sleeps until that unit is over, or until the next event. */
 static inline uint32_t pn_due(const pn_device *device, pn_op *op, uint32_t *due)
 {

@@ -12,7 +12,7 @@ extern "C" {
 
 /* The version of the product, and that of its headers. Each of the three libraries compares PN_ABI with its own. */
 #define PN_VERSION "0.1.0"
-#define PN_ABI 2u
+#define PN_ABI 3u
 /* A number from PN_PLAN_JSON on, minus this, is the number of the fault in the documents and in messages of the programs: 1 to 11. */
 #define PN_PLAN_FAULT 32u
 
@@ -48,7 +48,8 @@ enum {
     PN_BAD_OPTION = 23,    /* the smallest interval of the station is more than 65,536 units */
 
     /* Of a controller. */
-    PN_BAD_PLAN = 16, /* the plan is not valid (pn_plan_fault returns why), or the ARUUID is zero */
+    PN_BAD_PLAN = 16,   /* the plan is not valid (pn_plan_fault returns why), or the ARUUID is zero */
+    PN_NO_REFUSAL = 25, /* the device refused no call or no record yet */
 
     /* Of a catalogue that gives no plan (pn_plan_read), or of a plan that a host wrote and that is not valid (pn_plan_fault): its first
      * fault. Only a catalogue has the first three and the last. */
@@ -94,6 +95,7 @@ static inline const char *pn_strerror(uint32_t number)
     case PN_BAD_PARAMETER: return "a parameter record has a wrong index or length, or two have one index";
     case PN_BAD_OPTION: return "the smallest interval of the station is more than 65,536 units";
     case PN_NO_FRAME: return "no cyclic frame with data of this submodule was accepted";
+    case PN_NO_REFUSAL: return "the device refused nothing yet";
     case PN_PLAN_JSON: return "the text is not JSON";
     case PN_PLAN_MISSING_KEY: return "a key is missing";
     case PN_PLAN_WRONG_KIND: return "a value is of another kind than its key requires";

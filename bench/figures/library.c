@@ -1,7 +1,7 @@
 /* Figures of the library through its header, for bench/figures/library.py: how deep each call goes into a stack that was painted
  * (`stack`), after a script on standard input; and what is to be counted by callgrind in an exchange that the lines on standard input set
  * up: N times a unit of time (`unit`), 32 units (`leap`), a unit with the frame that it sends (`sent`), a cyclic frame (`cyclic`), or the
- * millisecond of an exchange (`cycle`). Callgrind counts what is executed within pn_step, and not what this program does. */
+ * millisecond of an exchange (`cycle`). Callgrind counts what is executed within pn_step and pn_fetch, and not what this program does. */
 #define _GNU_SOURCE
 #include "nandutable.h"
 #include <pthread.h>

@@ -22,7 +22,7 @@ from program import TOP, answer_help, need, refuse
 EDITION = os.path.join(TOP, "out", "plain-rust")
 ARCHIVE = os.path.join(EDITION, "target", "release", "libnandutable.a")
 CONTROLLER = os.path.join(EDITION, "target", "release", "libnandutable_controller.a")
-CALLS = ("pn_judge", "pn_put", "pn_step")
+CALLS = ("pn_judge", "pn_put", "pn_step", "pn_fetch")
 DEEPEST = 24_576
 TURNS = 1_000
 OCTETS = 40
@@ -51,11 +51,11 @@ def script(name):
 
 
 def instructions(program, folder, kind, turns):
-    """The instructions within pn_step, and nothing of the program that calls it; and how many frames were sent."""
+    """The instructions within pn_step and pn_fetch, and nothing of the program that calls it; and how many frames were sent."""
     kept = os.path.join(folder, "callgrind")
     (clock, ratio) = KINDS[kind][1]
     lines = exchange.front(OCTETS, (clock, ratio, 7680)) + exchange.cyclic(OCTETS)(0)
-    said = run(["valgrind", "--tool=callgrind", "--quiet", "--collect-atstart=no", "--toggle-collect=pn_step", f"--callgrind-out-file={kept}", program,
+    said = run(["valgrind", "--tool=callgrind", "--quiet", "--collect-atstart=no", "--toggle-collect=pn_step", "--toggle-collect=pn_fetch", f"--callgrind-out-file={kept}", program,
                 kind, str(turns), str(clock * ratio), str(OCTETS)], lines.encode())
     with open(kept) as file:
         return int(re.search(r"^(?:summary|totals): (\d+)", file.read(), re.MULTILINE).group(1)), int(said)

@@ -1,4 +1,4 @@
-/* The exchange of a device in plain C with the same three calls as the library, for bench/figures/library.py: what the counts of the
+/* The exchange of a device in plain C with the same four calls as the library, for bench/figures/library.py: what the counts of the
  * library are compared with. It does what the library does of an exchange, unit by unit: it judges a cyclic frame, keeps its data, counts
  * the timers of the relation and of an alarm, and writes the frame that is due. It has a relation from the start, with the octets of data
  * of its station, and no flash, no DCP and no calls; of other frames it says that they are not its own. */
@@ -47,7 +47,7 @@ static void put_word(uint8_t *octets, uint32_t value)
 uint32_t pn_judge(size_t size, uint32_t abi, size_t op_size, const pn_station *station)
 {
     (void)station;
-    if (abi != PN_ABI || op_size != sizeof(pn_op))
+    if (abi != PN_ABI || op_size != PN_OP_LENGTH)
         return PN_BAD_ABI;
     return size < PN_DEVICE_SIZE ? PN_SMALL_ROOM : PN_OK;
 }
@@ -159,17 +159,20 @@ static uint32_t waiting(const struct device *device)
     return device->frames_past < device->frames_used ? (uint32_t)PN_SEND : (uint32_t)PN_NOTHING;
 }
 
-/* The next frame. */
-static void next(struct device *device, pn_op *op)
+/* The next frame, which is not copied. */
+void pn_fetch(void *room, pn_op *op, uint32_t *answer, const uint8_t **octets)
 {
+    struct device *device = room;
     op->work = waiting(device);
     op->length = 0;
+    *octets = NULL;
     if (op->work == PN_SEND) {
         const struct frame *frame = &device->frames[device->frames_past++];
         op->length = frame->length;
-        memcpy(op->octets, frame->octets, frame->length);
+        *octets = frame->octets;
     }
     op->more = waiting(device);
+    *answer = PN_OK;
 }
 
 static uint32_t input(struct device *device, const uint8_t *given, size_t length)
@@ -180,23 +183,25 @@ static uint32_t input(struct device *device, const uint8_t *given, size_t length
     return PN_DONE;
 }
 
+static uint32_t due(const struct device *device)
+{
+    return device->until_sent < device->until_held ? device->until_sent : device->until_held;
+}
+
 uint32_t pn_step(void *room, pn_op *op, const uint8_t *given, size_t length)
 {
     struct device *device = room;
-    if (op->what != PN_OP_NEXT) {
-        if (device->frames_past < device->frames_used)
-            return PN_HAS_WORK;
-        device->frames_used = device->frames_past = 0;
-    }
+    if (device->frames_past < device->frames_used)
+        return PN_HAS_WORK;
+    device->frames_used = device->frames_past = 0;
     switch (op->what) {
     case PN_OP_SECTOR: return PN_OK;
     case PN_OP_BOOT: device->phase = PN_EXCHANGING; return PN_OK;
     case PN_OP_FRAME: op->note = hear(device, given, length); break;
-    case PN_OP_TICK: op->units = pass(device, op->units); op->note = PN_DONE; break;
+    case PN_OP_TICK: op->units = pass(device, op->units); op->due = due(device); op->note = PN_DONE; break;
     case PN_OP_INPUT: op->note = input(device, given, length); break;
-    case PN_OP_NEXT: next(device, op); return PN_OK;
     case PN_OP_STATE: op->phase = device->phase, op->units = device->lamp; return PN_OK;
-    case PN_OP_DUE: op->units = device->until_sent < device->until_held ? device->until_sent : device->until_held; return PN_OK;
+    case PN_OP_DUE: op->units = due(device); return PN_OK;
     default: return PN_UNKNOWN;
     }
     op->work = waiting(device);

@@ -7,11 +7,13 @@ here by the fields of IEC 61158-6-10.
     bench/interoperation/scapy_makers.py --check    status 1 where that file differs
 
 A line `scenario NAME` begins with a new controller. `in HEX` is a frame that it receives, `tick N` that many units; each `out HEX` below
-is a frame that it has to send for that, and it sends no other. `state`, `deviates` and `alarm` are what it then tells.
+is a frame that it has to send for that, and it sends no other. `state`, `deviates`, `refusal`, `refused` (number and status of a record)
+and `alarm` are what it then tells. `catalogue JSON` begins the scenario anew with another plan than that of the demo station.
 
 Needs Scapy (Debian: apt-get install python3-scapy; 2.5.0 was used).
 """
 
+import json
 import os
 import struct
 import sys
@@ -33,6 +35,7 @@ from scapy.compat import raw
 from scapy.contrib.pnio import ProfinetIO
 from scapy.contrib.pnio_rpc import (
     Alarm_High, AlarmCRBlockRes, ARBlockRes, IOCRBlockRes, IODControlRes, PNIOServiceReqPDU)
+from scapy.layers.dcerpc import DceRpc4
 from scapy.layers.inet import IP, UDP
 from scapy.layers.l2 import Ether
 from scapy.packet import Raw
@@ -228,11 +231,158 @@ def differences(say):
     say.state("ended", "3")
 
 
+REJECT, FAULT, WORKING, NOCALL = 6, 3, 4, 5
+# Statuses of DCE RPC: operation out of range, unknown interface, and one of PROFINET.
+NO_OPERATION, NO_INTERFACE, BUSY = 0x1C010002, 0x1C010003, 0xDB814004
+
+
+def packet(asked, kind, body=b"", endian=BIG, sequence=None, activity=None, flags=0x08, **bent):
+    """A packet of another type in answer to a call."""
+    call = Ether(raw(asked))[DceRpc4]
+    return Ether(dst=TOOL, src=DEVICE) / IP(src=station.DEVICE_IP, dst=station.TOOL_IP, id=0, flags="DF") / UDP(sport=34964, dport=34964) / DceRpc4(
+        ptype=kind, flags1=flags, endian=endian, object=call.object, if_id=relation.DEVICE_INTERFACE, act_id=activity or call.act_id,
+        seqnum=call.seqnum if sequence is None else sequence, opnum=call.opnum, **bent) / Raw(body)
+
+
+def word(status, endian):
+    return status.to_bytes(4, "big" if endian == BIG else "little")
+
+
+def refusals(say):
+    """Rejects and faults, and packets that refuse nothing."""
+    for name, kind, endian, status in (("a-fault-to-connect", FAULT, LITTLE, NO_OPERATION), ("a-reject-to-connect", REJECT, BIG, NO_INTERFACE)):
+        say.begin(name, "What is not one does not count: another number or activity, a short body, a fragment, no known representation,",
+                  "working and nocall.")
+        say.tells("refusal -")
+        body = word(status, endian)
+        for other in (packet(CONNECT, kind, body, endian, sequence=1), packet(CONNECT, kind, body, endian, activity=relation.OTHER_ACTIVITY),
+                      packet(CONNECT, kind, body[:3], endian), packet(CONNECT, kind, b"", endian), packet(CONNECT, kind, body, endian, flags=0x0C),
+                      packet(CONNECT, WORKING, b"", endian), packet(CONNECT, NOCALL, b"", endian), packet(CONNECT, 1, body, endian),
+                      packet(CONNECT, 0x16, body, endian), packet(CONNECT, kind, body, endian, fragnum=1),
+                      packet(CONNECT, kind, body, endian, auth_proto=1)):
+            say.hear(other)
+            say.state("connecting")
+        say.tells("refusal -")
+        say.hear(packet(CONNECT, kind, body + bytes(8), endian))
+        say.state("ended", "2")
+        say.tells(f"refusal {status:08x}")
+        say.hear(packet(CONNECT, kind, word(BUSY, endian), endian))
+        say.tells(f"refusal {status:08x}")
+
+    say.begin("a-fault-to-prm-end", "A fault to the request before it does not count.")
+    say.connected()
+    say.hear(packet(CONNECT, FAULT, word(BUSY, BIG)))
+    say.state("ending")
+    say.hear(packet(END, FAULT, word(BUSY, LITTLE), LITTLE))
+    say.state("ended", "2")
+    say.tells(f"refusal {BUSY:08x}")
+
+    say.begin("a-status-to-connect", "The PNIOStatus of a response is told too.")
+    say.hear(response(CONNECT, [], status=BUSY, endian=LITTLE))
+    say.state("ended", "2")
+    say.tells(f"refusal {BUSY:08x}")
+
+    say.begin("a-reject-to-release", "A reject is an answer to a Release, which is then not sent again.")
+    wrong = diff((1, 17, 1, ()))
+    say.hear(response(CONNECT, blocks(behind=(wrong,)), endian=LITTLE), release(1))
+    say.state("ended", "3")
+    say.lines.append("tick 32000")
+    say.lines.append(f"out {padded(release(1)).hex()}")
+    say.hear(packet(release(1), WORKING))
+    say.hear(packet(release(1), REJECT, word(NO_INTERFACE, BIG)))
+    say.lines.append("tick 64000")
+    say.state("ended", "3")
+    say.tells("refusal -")
+
+    say.begin("a-fault-while-exchanging", "No request waits: it changes nothing.")
+    say.connected()
+    say.started()
+    for sequence in range(4):
+        say.hear(packet(END, FAULT, word(BUSY, BIG), sequence=sequence))
+    say.state("exchanging")
+    say.tells("refusal -")
+
+
+# The status of a Write that is refused (ErrorDecode PNIORW, access, of a conflict), and another one.
+CONFLICT, NO_STATION = 0xDF80B200, 0xDF80B000
+WRITES = Plan(32, 1, 3, ((1, 0x20, bytes.fromhex("0102030405")), (1, 0x20, bytes.fromhex("0607080900")), (2, 0x21, b"\xaa")))
+
+
+def refused_records(say):
+    """Records that the device refuses, with each value of the key."""
+    connect, *writes, end = station.requests(WRITES)
+
+    def begin(name, goes_on, *comment):
+        whole = json.loads(station.catalogue(WRITES))
+        if goes_on is not None:
+            whole["Project"]["ContinueOnRefusedRecord"] = goes_on
+        say.lines += ["", *(f"# {line}" for line in comment), f"scenario {name}", f"catalogue {json.dumps(whole, separators=(',', ':'))}"]
+        say.hear(station.identified(suite=SUITE), connect)
+        say.hear(response(connect, blocks(), endian=LITTLE), writes[0])
+        say.state("writing")
+        say.tells("refused -")
+
+    def accepts(place, following):
+        say.hear(station.answered(writes[place], LITTLE), following)
+
+    def refuses(place, status, *following, endian=LITTLE):
+        say.hear(response(writes[place], [], status=status, endian=endian), *following)
+        say.tells(f"refused {place} {status:08x}")
+        say.tells(f"refusal {status:08x}")
+
+    begin("goes-on-behind-a-record", True, "The first and the last of three records are refused: the next request goes out for each, and each is told.")
+    refuses(0, CONFLICT, writes[1])
+    say.state("writing")
+    # A response that comes again, and one to the record behind, are none to the second record.
+    say.hear(response(writes[0], [], status=NO_STATION, endian=LITTLE))
+    say.hear(response(writes[2], [], status=NO_STATION, endian=LITTLE))
+    say.tells(f"refused 0 {CONFLICT:08x}")
+    accepts(1, writes[2])
+    say.tells(f"refused 0 {CONFLICT:08x}")
+    refuses(2, NO_STATION, end, endian=BIG)
+    say.state("ending")
+    say.hear(ended(end))
+    say.state("waiting")
+    call = ready(49153)
+    say.hear(call, ready_answer(call))
+    say.state("exchanging")
+    say.tells(f"refused 2 {NO_STATION:08x}")
+
+    begin("goes-on-behind-all-records", True, "All records are refused.")
+    for place, following in enumerate((writes[1], writes[2], end)):
+        refuses(place, CONFLICT + place, following)
+    say.state("ending")
+
+    for name, goes_on in (("ends-without-the-key", None), ("ends-where-the-key-is-false", False)):
+        begin(name, goes_on, "A refused record ends the controller, and is told.")
+        accepts(0, writes[1])
+        say.tells("refused -")
+        refuses(1, CONFLICT)
+        say.state("ended", "2")
+
+    begin("only-a-status-of-a-record", True, "A fault is no status of a record: it ends the controller.")
+    say.hear(packet(writes[0], FAULT, word(BUSY, LITTLE), LITTLE))
+    say.state("ended", "2")
+    say.tells("refused -")
+    say.tells(f"refusal {BUSY:08x}")
+
+    begin("only-records-may-be-refused", True, "A PrmEnd that is refused ends the controller.")
+    accepts(0, writes[1])
+    accepts(1, writes[2])
+    refuses(2, CONFLICT, end)
+    say.hear(response(end, [], status=BUSY, endian=LITTLE))
+    say.state("ended", "2")
+    say.tells(f"refused 2 {CONFLICT:08x}")
+    say.tells(f"refusal {BUSY:08x}")
+
+
 def scenarios():
     say = Scenarios()
     answers(say)
     alarms(say)
     differences(say)
+    refusals(say)
+    refused_records(say)
     first = ["# Stations of other makers: what each sends, and what the controller has to do.",
              "# `bench/interoperation/scapy_makers.py` printed this: all frames are those that Scapy builds."]
     return "\n".join(first + say.lines) + "\n"

@@ -9,10 +9,12 @@ void initialise_monitor_handles(void);
 int player_main(void);
 void __real_pn_put(void *room, const pn_station *station);
 uint32_t __real_pn_step(void *room, pn_op *op, const uint8_t *given, size_t length);
+void __real_pn_fetch(void *room, pn_op *op, uint32_t *answer, const uint8_t **octets);
 void __wrap_pn_put(void *room, const pn_station *station);
+void __wrap_pn_fetch(void *room, pn_op *op, uint32_t *answer, const uint8_t **octets);
 uint32_t __wrap_pn_step(void *room, pn_op *op, const uint8_t *given, size_t length);
 
-/* The kinds of call by the number of the operation; 0 is pn_make. */
+/* The kinds of call by the number of the operation; 0 is pn_make, and 7, which is no operation, pn_next. */
 static const char *const names[] = {"pn_make",  "pn_boot", "pn_boot",    "pn_frame",  "pn_tick", "pn_input", "pn_alarm", "pn_next",
                                     "pn_output", "pn_state", "pn_running", "pn_stored", "pn_lose", "pn_taken", "pn_left"};
 #define KINDS (sizeof names / sizeof names[0])
@@ -38,6 +40,13 @@ uint32_t __wrap_pn_step(void *room, pn_op *op, const uint8_t *given, size_t leng
     answer = __real_pn_step(room, op, given, length);
     keep(kind, board_depth());
     return answer;
+}
+
+void __wrap_pn_fetch(void *room, pn_op *op, uint32_t *answer, const uint8_t **octets)
+{
+    board_paint();
+    __real_pn_fetch(room, op, answer, octets);
+    keep(7, board_depth());
 }
 
 int main(void)

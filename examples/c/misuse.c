@@ -159,9 +159,9 @@ int main(void)
     station.mac[5] = 1;
     wants("no device", pn_make(NULL, &station), PN_NULL);
     wants("no station", pn_make(&device, NULL), PN_NULL);
-    wants("another version", pn_device_make(device.room, sizeof device.room, PN_ABI + 1, sizeof(pn_op), &station), PN_BAD_ABI);
-    wants("another operation", pn_device_make(device.room, sizeof device.room, PN_ABI, sizeof(pn_op) - 4, &station), PN_BAD_ABI);
-    wants("a small room", pn_device_make(device.room, PN_DEVICE_SIZE - 1, PN_ABI, sizeof(pn_op), &station), PN_SMALL_ROOM);
+    wants("another version", pn_device_make(device.room, sizeof device.room, PN_ABI + 1, PN_OP_LENGTH, &station), PN_BAD_ABI);
+    wants("another operation", pn_device_make(device.room, sizeof device.room, PN_ABI, PN_OP_LENGTH - 4, &station), PN_BAD_ABI);
+    wants("a small room", pn_device_make(device.room, PN_DEVICE_SIZE - 1, PN_ABI, PN_OP_LENGTH, &station), PN_SMALL_ROOM);
     bent.module_count = 17;
     wants("17 modules", pn_make(&device, &bent), PN_BAD_STATION);
     bent.module_count = 1;
@@ -265,8 +265,14 @@ int main(void)
     wants("time in front of the work", pn_tick(&device, &op, 1), PN_HAS_WORK);
     wants("an input in front of the work", pn_input(&device, &op, 0, 1, octets, 1), PN_HAS_WORK);
     wants("an alarm in front of the work", pn_alarm(&device, &op, 0, 1, octets, 1), PN_HAS_WORK);
-    for (op.work = PN_ERASE; op.work != PN_NOTHING;)
+    /* The octets of each piece lie in the room, and the answer of the Set is for its sender. */
+    for (op.work = PN_ERASE; op.work != PN_NOTHING;) {
         keep(pn_next(&device, &op));
+        if (op.length != 0 && (op.data < device.room || op.data + op.length > device.room + sizeof device.room))
+            return 1;
+        if (op.work == PN_SEND && (op.length != 60 || memcmp(op.data, set + 6, 6) != 0 || memcmp(op.data + 6, station.mac, 6) != 0))
+            return 1;
+    }
     keep(pn_news(&device, &op, &watch, &left));
     if (left != PN_NEW_NAME || watch.settings.name_length == 0)
         return 1;
@@ -274,6 +280,8 @@ int main(void)
     if (left != 65535u * 15u - 1u)
         return 1;
     keep(pn_tick(&device, &op, 1000));
+    if (op.due != 0xFFFFFFFFu)
+        return 1;
 
     /* A step whose first flash call fails: nothing more of it is handed out. */
     keep(pn_frame(&device, &op, reset, sizeof reset));

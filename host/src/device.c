@@ -55,6 +55,7 @@ struct device {
     uint32_t phase;
     int is_lamp_on;
     int is_stopped; /* the controller; -1: it is not known */
+    uint32_t due;   /* units until something is due, as the last pn_tick said; 0: an event came since, or it did not say */
     /* Statistics. */
     uint64_t notes[8];
     struct histogram intervals;
@@ -108,8 +109,10 @@ static int rate(struct device *device, const struct status *status);
 
 /* Takes the work of a step and does it. A flash call that fails counts as lost power: nothing more is sent, and the device starts again
  * from the file. */
+/* After each event, which may change what is due. */
 static void carry_out(struct device *device)
 {
+    device->due = 0;
     if (pn_carry_out(&device->room, &device->op, &device->host) != PN_FLASH_FAULT)
         return;
     lines_tell(&device->loop.lines, "power lost: a call of the flash failed: %s", device->chip.why);
@@ -267,19 +270,21 @@ static void look(struct device *device, int is_first)
 static uint32_t tick(void *context, uint32_t units)
 {
     struct device *device = context;
-    uint32_t left;
+    uint32_t left, due;
     loop_must(pn_tick(&device->room, &device->op, units), "pn_tick");
     left = device->op.units;
+    due = device->op.due;
     carry_out(device);
+    device->due = due;
     return left;
 }
 
 static uint32_t due(void *context)
 {
     struct device *device = context;
-    uint32_t units = 0;
-    loop_must(pn_due(&device->room, &device->op, &units), "pn_due");
-    return units;
+    if (device->due == 0)
+        loop_must(pn_due(&device->room, &device->op, &device->due), "pn_due");
+    return device->due;
 }
 
 static void take_frame(void *context, const uint8_t *octets, size_t length)

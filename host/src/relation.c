@@ -1,7 +1,9 @@
 #define _GNU_SOURCE
 #include "relation.h"
+#include "arp.h"
 #include "calls.h"
 #include "say.h"
+#include "statuses.h"
 #include "warnings.h"
 #include "words.h"
 #include <errno.h>
@@ -12,6 +14,8 @@
 
 /* The FrameID of the cyclic frames that the controller requests from a device. */
 #define FRAME_INPUT 0xC001u
+/* The shortest time between two reports of a station that uses the controller's address. */
+#define CONFLICT_PAUSE (10 * SECOND)
 /* How long to wait for the answer to a Release. */
 #define RELEASE_WAITS (SECOND / 5)
 
@@ -30,6 +34,8 @@ static const char *const causes[] = {
 static int transmit(void *context, const uint8_t *octets, uint32_t length)
 {
     struct relation *relation = context;
+    if (wire_is_service(octets, length))
+        return relation->serves ? wire_send(&relation->loop->wire, octets, length) : 0;
     if (wire_is_cyclic(octets, length)) {
         memcpy(relation->device, octets, sizeof relation->device);
         relation->has_device = 1;
@@ -126,7 +132,9 @@ void relation_make(struct relation *relation, struct loop *loop)
     relation->has_device = 0;
     relation->last_cyclic = 0;
     relation->ends_at = 0;
+    relation->conflicts = 0;
     memset(&relation->alarm, 0, sizeof relation->alarm);
+    relation->refused = 0;
     memset(&relation->reasons, 0, sizeof relation->reasons);
     memset(&relation->holders, 0, sizeof relation->holders);
     loop_must(pn_controller_start(&relation->room, &relation->plan, relation->ar, relation->activity), "pn_controller_start");
@@ -198,7 +206,7 @@ static void look_at_alarm(struct relation *relation)
 
 static void tell_end(struct relation *relation)
 {
-    char why[320];
+    char why[STATUSES_LONGEST + 192];
     reasons_words(&relation->reasons, &relation->plan, relation->cause, why, sizeof why);
     lines_tell(&relation->loop->lines, "ended %u: %s%s", (unsigned)relation->cause, causes[relation->cause < 8 ? relation->cause : 0], why);
 }
@@ -266,6 +274,30 @@ static void hear(struct relation *relation, const uint8_t *octets, size_t length
     look_at_names(relation, octets, length);
 }
 
+static void spell_status(uint8_t status[4], uint32_t value)
+{
+    for (int i = 0; i < 4; i++)
+        status[i] = (uint8_t)(value >> (24 - 8 * i));
+}
+
+/* Reports a record that the device refused without an end, once. */
+static void look_at_refused(struct relation *relation)
+{
+    uint8_t status[4];
+    char call[96], words[STATUSES_LONGEST + 32];
+    const pn_record *record;
+    uint32_t place = 0, value = 0;
+    if (pn_controller_refused_record(&relation->room, &relation->op, &place, &value) != PN_OK || place + 1 == relation->refused ||
+        place >= relation->plan.record_count)
+        return;
+    relation->refused = place + 1;
+    record = &relation->plan.records[place];
+    spell_status(status, value);
+    reasons_call(&relation->plan, place + 1, call, sizeof call);
+    reasons_status(status, words, sizeof words);
+    lines_tell(&relation->loop->lines, "refused record %u %u %u: %s, %s", record->slot, record->subslot, record->index, call, words);
+}
+
 /* --- Events --- */
 
 void relation_tick(struct relation *relation)
@@ -286,11 +318,50 @@ void relation_take(struct relation *relation, const uint8_t *octets, size_t leng
         hear(relation, octets, length);
 }
 
+/* Reports another station that uses the controller's address, which an ARP packet has shown. */
+static void look_at_conflicts(struct relation *relation, const uint8_t *octets, size_t length)
+{
+    const uint8_t *address = relation->plan.controller_address;
+    struct arp_packet packet;
+    char mac[WORDS_MAC];
+    uint32_t conflicts = 0;
+    loop_must(pn_controller_conflicts(&relation->room, &relation->op, &conflicts), "pn_controller_conflicts");
+    if (conflicts == relation->conflicts || !arp_read(octets, length, &packet))
+        return;
+    relation->conflicts = conflicts;
+    if (relation->conflict_told != 0 && ticker_now() < relation->conflict_told + CONFLICT_PAUSE)
+        return;
+    relation->conflict_told = ticker_now();
+    lines_tell(&relation->loop->lines, "warning: another station, %s, uses the controller's address %u.%u.%u.%u (Project.Controller.IPAddress)",
+               words_show_mac(mac, packet.sender), address[0], address[1], address[2], address[3]);
+}
+
+void relation_serve(struct relation *relation, const uint8_t *octets, size_t length)
+{
+    catch_up(relation);
+    loop_must(pn_controller_frame(&relation->room, &relation->op, octets, length), "pn_controller_frame");
+    send_all(relation);
+    look_ahead(relation);
+    look_at_conflicts(relation, octets, length);
+}
+
+void relation_hear_arp(struct relation *relation, const uint8_t *octets, size_t length)
+{
+    waiting_hear(&relation->waiting, octets, length);
+}
+
+int relation_needs_time(const struct relation *relation)
+{
+    return relation->serves || !relation_is_over(relation);
+}
+
 void relation_look_at_data(struct relation *relation, const uint8_t *octets, size_t length, uint32_t before)
 {
     if (wire_is_cyclic(octets, length)) {
         look_at_inputs(relation);
         look_at_providers(relation);
+    } else if (before == PN_WRITING && relation->state == PN_WRITING) {
+        look_at_refused(relation);
     } else if (before == PN_DATA_EXCHANGE) {
         look_at_alarm(relation);
     }
@@ -317,10 +388,25 @@ int relation_is_changed(struct relation *relation)
     return 1;
 }
 
+/* Reports what the device says of modules that are not as the plan expects them, and that it accepts all the same. */
+static void tell_differences(struct relation *relation)
+{
+    struct differences *differences = &relation->reasons.differences;
+    char words[DIFFERENCES_LONGEST];
+    for (unsigned i = 0; i < differences->count; i++) {
+        differences_words(&differences->list[i], &relation->plan, words, sizeof words);
+        lines_tell(&relation->loop->lines, "warning %s", words);
+    }
+    differences->count = 0;
+}
+
 void relation_tell_state(struct relation *relation)
 {
     if (relation->state != PN_ENDED) {
+        look_at_refused(relation);
         lines_tell(&relation->loop->lines, "state %s", states[relation->state]);
+        if (relation->state > PN_CONNECTING)
+            tell_differences(relation);
         return;
     }
     tell_end(relation);

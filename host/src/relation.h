@@ -28,6 +28,9 @@ struct relation {
     uint8_t ar[16];       /* ARUUID */
     uint8_t activity[16]; /* of the calls of the controller */
     struct loop *loop;
+    int serves; /* its services answer for the address that all controllers have */
+    uint32_t conflicts;     /* that were seen */
+    uint64_t conflict_told; /* when the last one was reported; 0: none yet */
     struct places inputs;
     struct places outputs;
     int providers[STATION_PLACES]; /* of each input, what was reported last: its IOPS, and 256 if the device runs; -1: nothing yet */
@@ -37,6 +40,7 @@ struct relation {
     int has_device;
     uint64_t interval; /* of cyclic frames, in nanoseconds */
     pn_op alarm;       /* the last that was reported */
+    uint32_t refused;  /* the number of the last refused record that was reported, from 1 on */
     /* Statistics. */
     struct histogram intervals; /* between received frames */
     struct histogram jitter;    /* how far these differ from the plan's */
@@ -63,6 +67,15 @@ void relation_tick(struct relation *relation);
 
 /* Hands in a received frame, and sends the answer. */
 void relation_take(struct relation *relation, const uint8_t *octets, size_t length);
+
+/* Hands in a frame of ARP or ICMP, and sends the answer, at the relation that answers for the address. */
+void relation_serve(struct relation *relation, const uint8_t *octets, size_t length);
+
+/* Reads a packet of ARP from the station of the plan, for the lines `waiting`. */
+void relation_hear_arp(struct relation *relation, const uint8_t *octets, size_t length);
+
+/* Whether it gets time: its controller is not over, or it answers for the address. */
+int relation_needs_time(const struct relation *relation);
 
 /* Reports the inputs and the alarm of such a frame. `before` is the state before it. */
 void relation_look_at_data(struct relation *relation, const uint8_t *octets, size_t length, uint32_t before);

@@ -174,7 +174,7 @@ static void bend_plans(void)
 static void ask_all(const char *when)
 {
     static pn_op asked, told;
-    for (uint32_t what = 0; what < 24; what++) {
+    for (uint32_t what = 0; what < 40; what++) {
         memset(&asked, 0xA5, sizeof asked);
         asked.what = what, asked.units = 5;
         told = asked;
@@ -187,16 +187,27 @@ static void ask_all(const char *when)
     memcpy(&controller, &before, sizeof controller);
 }
 
+/* After a tick: how many units remain, and the destination of its one frame. */
+static void sends(const char *what, uint32_t units, const char *destination)
+{
+    if (op.units != units || pn_controller_next(&controller, &op) != PN_OK || op.work != PN_SEND || memcmp(op.octets, destination, 6) != 0 ||
+        pn_controller_next(&controller, &op) != PN_OK || op.work != PN_NOTHING) {
+        printf("%s does not come, with %u units left\n", what, (unsigned)units);
+        exit(1);
+    }
+}
+
 static void misuse(void)
 {
+    uint32_t number = 0;
     wants("a frame before it was made", pn_controller_frame(&controller, &op, octets, 60), PN_NOT_MADE);
     wants("a state before it was made", pn_controller_state(&controller, &op), PN_NOT_MADE);
     wants("no room", pn_controller_start(NULL, &plan, ar, activity), PN_NULL);
     wants("no plan", pn_controller_start(&controller, NULL, ar, activity), PN_NULL);
     wants("no number", pn_controller_start(&controller, &plan, NULL, activity), PN_NULL);
-    wants("another version", pn_controller_make(controller.room, sizeof controller.room, PN_ABI + 1, sizeof(pn_op), &plan, ar, activity), PN_BAD_ABI);
-    wants("another operation", pn_controller_make(controller.room, sizeof controller.room, PN_ABI, sizeof(pn_op) - 4, &plan, ar, activity), PN_BAD_ABI);
-    wants("a small room", pn_controller_make(controller.room, PN_CONTROLLER_SIZE - 1, PN_ABI, sizeof(pn_op), &plan, ar, activity), PN_SMALL_ROOM);
+    wants("another version", pn_controller_make(controller.room, sizeof controller.room, PN_ABI + 1, PN_OP_LENGTH, &plan, ar, activity), PN_BAD_ABI);
+    wants("another operation", pn_controller_make(controller.room, sizeof controller.room, PN_ABI, PN_OP_LENGTH - 4, &plan, ar, activity), PN_BAD_ABI);
+    wants("a small room", pn_controller_make(controller.room, PN_CONTROLLER_SIZE - 1, PN_ABI, PN_OP_LENGTH, &plan, ar, activity), PN_SMALL_ROOM);
     bend_again();
     bend_plans();
     keep("a plan", pn_controller_start(&controller, &plan, ar, activity));
@@ -222,6 +233,8 @@ static void misuse(void)
     wants("no plan to fill it in from", pn_plan_station(NULL, &station), PN_NULL);
     wants("no such input", pn_controller_value(&controller, &op, 9, 9), PN_NO_SLOT);
     wants("no alarm", pn_controller_alarm(&controller, &op), PN_NO_SLOT);
+    wants("no refusal", pn_controller_refusal(&controller, &op, &number), PN_NO_REFUSAL);
+    wants("no refused record", pn_controller_refused_record(&controller, &op, &number, &number), PN_NO_REFUSAL);
     keep("a frame that is too long", pn_controller_frame(&controller, &op, octets, sizeof octets));
     keep("a frame of nothing", pn_controller_frame(&controller, &op, octets, 0));
     keep("an output", pn_controller_give(&controller, &op, 2, 1, octets, 2));
@@ -232,9 +245,11 @@ static void misuse(void)
     wants("an output of the access point", pn_controller_give(&controller, &op, 0, 1, octets, 0), PN_NO_SLOT);
     wants("an output of another slot", pn_controller_give(&controller, &op, 3, 1, octets, 2), PN_NO_SLOT);
     wants("an output of another subslot", pn_controller_give(&controller, &op, 2, 2, octets, 2), PN_NO_SLOT);
+    /* With the first unit the controller announces its address by ARP, and with the last one of a second it looks again. */
     keep("a second", pn_controller_tick(&controller, &op, 32000));
-    if (op.units != 0 || pn_controller_next(&controller, &op) != PN_OK || op.work != PN_SEND)
-        exit(1);
+    sends("an announcement", 31999, "\xFF\xFF\xFF\xFF\xFF\xFF");
+    keep("the rest of it", pn_controller_tick(&controller, &op, 31999));
+    sends("another Identify", 0, "\x01\x0E\xCF\x00\x00\x00");
 }
 
 static uint32_t drawn(void)

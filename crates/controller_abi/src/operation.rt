@@ -16,6 +16,9 @@ pub enum Operation {
     Due,
     Status,
     Provider,
+    Conflicts,
+    Refusal,
+    RefusedRecord,
 }
 
 // The operation of this number, if it exists.
@@ -34,6 +37,9 @@ pub(crate) fn operation_of(what: u32) -> Option<Operation>
         15 => Some(Operation::Due),
         16 => Some(Operation::Status),
         18 => Some(Operation::Provider),
+        19 => Some(Operation::Conflicts),
+        20 => Some(Operation::Refusal),
+        33 => Some(Operation::RefusedRecord),
         _ => None,
     }
 }

@@ -2,14 +2,13 @@
 ghost use Rattle.std.specs.Prelude.{◌≡◌, ◌==◌, length, not, take};
 ghost use Rattle.cyclic_exchange.specs.Process.{value_at};
 ghost use Rattle.controller_core.specs.declared.event.Event.TheVariants.{Frame as Framed, Give as Given, Status as Rated};
-ghost use Rattle.controller_core.specs.Leaps.{live_due_in};
 ghost use Rattle.controller_core.specs.Machine.{provider_of};
 ghost use Rattle.c_layout.specs.Places.{place_in};
 ghost use Rattle.controller_abi.specs.Outputs.{why_not_fit, why_not_rated, why_not_set};
-ghost use Rattle.controller_abi.specs.State.{has_frames};
-ghost use Rattle.controller_abi.specs.Serves.{IsAlarm, IsEvent, IsGift, IsHandOut, IsInput, IsProvider, IsProviderAt, IsSet, IsStatus, IsTick, IsValue, Serves};
+ghost use Rattle.controller_abi.specs.State.{has_frames, port_due_in};
+ghost use Rattle.controller_abi.specs.Serves.{IsAlarm, IsEvent, IsGift, IsHandOut, IsInput, IsProvider, IsProviderAt, IsRefusal, IsRefusedRecord, IsSet, IsStatus, IsTick, IsValue, Serves};
 ghost use Rattle.controller_abi.specs.Serves.{cause_number, operation_of as operation_in, phase_number, planned_output, why_no_place};
-ghost use Rattle.controller_abi.specs.Serves.{with_alarm, with_next, with_state};
+ghost use Rattle.controller_abi.specs.Serves.{status_number as status_number_in, with_alarm, with_conflicts, with_next, with_state};
 
 use crate::operation::{Operation, operation_of};
 use crate::port::Port;
@@ -17,7 +16,11 @@ use block_codec::AlarmNotification;
 use c_layout::{BAD_LENGTH, HAS_WORK, NO_FRAME, NO_SLOT, Op, UNKNOWN, place_of, put};
 use controller_core::{Event, ProviderStatus, State};
 use frame_codec::Bytes;
+use rpc_core::Status;
 use wire::at_most;
+
+/// The device refused nothing yet.
+const NO_REFUSAL: u32 = 25;
 
 /// Carries out one operation, with the given octets. Returns 0, or why nothing changed.
 pub fn serve(port: &mut Port, op: &mut Op, given: &[u8]) -> u32
@@ -45,6 +48,9 @@ fn perform(operation: Operation, port: &mut Port, op: &mut Op, given: &[u8]) -> 
         Operation::Due => due(port, op),
         Operation::Status => status(port, op),
         Operation::Provider => provider(port, op),
+        Operation::Conflicts => conflicts(port, op),
+        Operation::Refusal => refusal(port, op),
+        Operation::RefusedRecord => refused_record(port, op),
     }
 }
 
@@ -268,9 +274,18 @@ fn number_of_cause(reached: State) -> u32
 // The number of units up to and with the next one with which anything is due.
 fn due(port: &Port, op: &mut Op) -> u32
     ensures answer { result ≡ 0 }
-    ensures reported { op.new ≡ record op.old { units = live_due_in port.now.controller.live } }
+    ensures reported { op.new ≡ record op.old { units = port_due_in port.now } }
 {
-    op.units = port.controller().due();
+    op.units = port.due();
+    0
+}
+
+// How many conflicts of the controller's address were heard.
+fn conflicts(port: &Port, op: &mut Op) -> u32
+    ensures answer { result ≡ 0 }
+    ensures reported { op.new ≡ with_conflicts port.now.services.conflicts op.old }
+{
+    op.units = port.conflicts().min(0xFFFF_FFFF) as u32;
     0
 }
 
@@ -322,4 +337,41 @@ fn tell_alarm(alarm: &AlarmNotification<'_>, op: &mut Op)
     op.subslot = u32::from(alarm.subslot_number);
     op.units = u32::from(alarm.alarm_specifier);
     put(op, at_most(alarm.alarm_data.octets(), 1520));
+}
+
+// ---- what was refused
+
+// A status as a number.
+fn status_number(status: Status) -> u32
+    ensures { result ≡ status_number_in status }
+{
+    let kind = u32::from(status.code) * 256 + u32::from(status.decode);
+    (kind * 256 + u32::from(status.code1)) * 256 + u32::from(status.code2)
+}
+
+// The last status with which the device refused a call.
+fn refusal(port: &Port, op: &mut Op) -> u32
+    ensures { IsRefusal port.now.controller.live.refusal op.old result op.new }
+{
+    match port.controller().refusal() {
+        Some(status) => {
+            op.units = status_number(status);
+            0
+        }
+        None => NO_REFUSAL,
+    }
+}
+
+// The last record of the plan that the device refused.
+fn refused_record(port: &Port, op: &mut Op) -> u32
+    ensures { IsRefusedRecord port.now.controller.live.refused_record op.old result op.new }
+{
+    match port.controller().refused_record() {
+        Some(refused) => {
+            op.place = u32::from(refused.number);
+            op.units = status_number(refused.status);
+            0
+        }
+        None => NO_REFUSAL,
+    }
 }

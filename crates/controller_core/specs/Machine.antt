@@ -4,6 +4,7 @@ use Rattle.pn_values.specs.declared.mac.Mac.{Mac}
 use Rattle.frame_codec.specs.declared.udp.Caller.{Caller}
 use Rattle.dcp_core.specs.Response.{Answered}
 use Rattle.dcp_core.specs.Answered.{is_agreed}
+use Rattle.rpc_core.specs.declared.response.Status.{Status}
 use Rattle.rpc_core.specs.Call.{Asked as Call}
 use Rattle.rpc_core.specs.Response.{Answered as Response, is_done}
 use Rattle.connect_blocks.specs.declared.control.ControlBlock.{ControlBlock}
@@ -41,10 +42,11 @@ use Rattle.plans.specs.declared.parts.Times.{Times}
 use Rattle.plans.specs.Numbers.{alarm_factor, alarm_retries, high_tag, input_frame_id}
 use Rattle.plans.specs.Packed.{layout_in}
 use Rattle.plans.specs.Parts.{data_of}
+use Rattle.controller_frames.specs.declared.refusal.Refusal.{Refusal}
 use Rattle.controller_frames.specs.declared.setup.Setup.{Setup}
 use Rattle.controller_frames.specs.declared.request.Request.{Request}
 use Rattle.controller_frames.specs.declared.request.Request.TheVariants as asks
-use Rattle.controller_frames.specs.Heard.{Heard, Nothing, Answers, Responds, Calls, Alarms, heard_of}
+use Rattle.controller_frames.specs.Heard.{Heard, Nothing, Answers, Responds, Refuses, Calls, Alarms, heard_of}
 use Rattle.controller_frames.specs.Heard.{Cyclic as Comes}
 use Rattle.controller_frames.specs.Requests.{writing_from}
 use Rattle.controller_frames.specs.Sent.{Sent, Requests, Agrees, Cycles, Confirms, Replies, Ends, bytes_of, ready_answer}
@@ -55,10 +57,10 @@ use Rattle.controller_core.specs.declared.state.Cause.TheVariants as cause
 use Rattle.controller_core.specs.declared.state.State.{State}
 use Rattle.controller_core.specs.declared.state.State.TheVariants.{Looking, Addressing, Connecting, Writing, Ending, Waiting, Exchanging, Ended}
 use Rattle.controller_core.specs.declared.event.Event.{Event}
-use Rattle.controller_core.specs.declared.event.Event.TheVariants.{Frame, Tick as Ticks, Give, Status, Stop}
+use Rattle.controller_core.specs.declared.event.Event.TheVariants.{Frame, Tick as Ticks, Give, Status as Rate, Stop}
 use Rattle.controller_core.specs.Outputs.{awaits, change_by, first_mark, iops_of, mark_at, marked}
 use Rattle.controller_core.specs.State.{Controlling, Live, with_live}
-use Rattle.controller_core.specs.Answers.{is_addressed, is_answer, is_found, is_ready, is_right, is_set_answer}
+use Rattle.controller_core.specs.Answers.{is_addressed, is_answer, is_found, is_ready, is_refused, is_right, is_set_answer}
 use Rattle.controller_core.specs.Connect.{Chosen, chosen_of, found_in, is_whole, nothing}
 use Rattle.controller_core.specs.Alarms.{ack_of, header_of, is_alarm, kept_alarm}
 
@@ -83,6 +85,10 @@ asking phase request live = record {
 -- The controller has ended, and so has its relation.
 abbrev pub over : Cause → Live → Live
 over cause live = record live { phase = Ended cause; asked = None; waited = 0; stands = false; cyclic = ended_of live.cyclic }
+
+-- The device refuses a call with this status: the controller has ended.
+abbrev pub denied : Status → Live → Live
+denied status live = over cause.Refused (record live { refusal = Some status })
 
 -- The number of the call after the last one.
 abbrev pub next_sequence : Parts → Option Request → ℕ
@@ -181,10 +187,23 @@ done setup live blocks (asks.Write number) = writing (writing_from setup.plan (n
 done setup live blocks asks.PrmEnd = stays (record live { phase = Waiting; asked = None })
 done setup live blocks (asks.Release sequence) = stays (record live { asked = None })
 
+-- The device refused a record: the controller ends, or goes on with the next record if the plan says so.
+abbrev pub noted : Status → ℕ → Live → Live
+noted status number live = record live { refusal = Some status; refused_record = Some (record { number = number; status = status }) }
+
+abbrev pub past_record : Setup → ℕ → Live → Turn
+past_record setup number live =
+    if setup.plan.continue_on_refused_record then writing (writing_from setup.plan (number + 1)) live else stays (over cause.Refused live)
+
+-- After a negative response.
+abbrev pub undone : Setup → Live → Status → Request → Turn
+undone setup live status (asks.Write number) = past_record setup number (noted status number live)
+undone setup live status request = stays (denied status live)
+
 -- After any response: the status decides, but the response to a Release counts with any status.
 abbrev pub handled : Setup → Live → Response → Request → Turn
 handled setup live response request =
-    if is_done response.status then done setup live response.blocks request else stays (over cause.Refused live)
+    if is_done response.status then done setup live response.blocks request else undone setup live response.status request
 
 abbrev pub decided : Setup → Live → Response → Request → Turn
 decided setup live response (asks.Release sequence) = stays (record live { asked = None })
@@ -194,6 +213,17 @@ abbrev pub responded : Setup → Live → Response → Option Request → Turn
 responded setup live response (Some request) =
     if is_answer setup request response.header then decided setup live response request else stays live
 responded setup live response None = stays live
+
+-- ---- rejects and faults
+
+-- A refusal of a request that waits ends the controller. To a Release it is an answer like any other.
+abbrev pub refused_by : Live → Refusal → Request → Turn
+refused_by live refusal (asks.Release sequence) = stays (record live { asked = None })
+refused_by live refusal request = stays (denied refusal.status live)
+
+abbrev pub refused : Setup → Live → Refusal → Option Request → Turn
+refused setup live refusal (Some request) = if is_refused setup request refusal then refused_by live refusal request else stays live
+refused setup live refusal None = stays live
 
 -- ---- ApplicationReady
 
@@ -265,6 +295,7 @@ abbrev pub turned : Setup → Live → Heard → Turn
 turned setup live Nothing = stays live
 turned setup live (Answers source answer) = answered setup live source answer live.phase
 turned setup live (Responds response) = responded setup live response live.asked
+turned setup live (Refuses refusal) = refused setup live refusal live.asked
 turned setup live (Calls caller call) = called setup live caller call (ready_in call)
 turned setup live (Comes source frame_id body) = stays (come live source frame_id body)
 turned setup live (Alarms source header notice) = alarmed live source header notice
@@ -390,7 +421,7 @@ abbrev pub turn_of : Setup → Live → Event → Turn
 turn_of setup live (Frame bytes) = turned setup live (heard_of setup.plan.controller bytes.items)
 turn_of setup live Ticks = ticked live
 turn_of setup live (Give slot subslot value) = stays (given live slot subslot value.items)
-turn_of setup live (Status slot subslot is_good) = stays (rated live slot subslot is_good)
+turn_of setup live (Rate slot subslot is_good) = stays (rated live slot subslot is_good)
 turn_of setup live Stop = stopped setup live live.phase
 
 -- ---- the beginning
@@ -427,6 +458,8 @@ first plan = record {
   units = 0;
   stands = false;
   deviates = false;
+  refusal = None;
+  refused_record = None;
   cyclic = first_cyclic plan;
   alarms = unheard alarm_factor alarm_retries;
   outputs = first_outputs plan;

@@ -4,9 +4,9 @@ ghost use Rattle.cyclic_exchange.specs.Process.{value_at};
 ghost use Rattle.frame_codec.specs.Outbox.{boxed};
 ghost use Rattle.controller_core.specs.Machine.{first_cyclic, first_outputs, fresh, interval_of, opening_of, provider_of, route_of};
 
-use crate::State;
 use crate::kept::KeptAlarm;
 use crate::outputs::{OutputMark, begin};
+use crate::{RefusedRecord, State};
 use arrayvec::ArrayVec;
 use block_codec::{AlarmNotification, IocrType};
 use controller_frames::{Request, Setup, send_request};
@@ -16,7 +16,7 @@ use frame_codec::{Frame, Outbox};
 use plans::{INPUT_FRAME_ID, Plan, RTA_RETRIES, RTA_TIMEOUT_FACTOR, TAG_HIGH, Times};
 use pn_alarms::ControllerAlarms;
 use pn_values::Mac;
-use rpc_core::Uuid;
+use rpc_core::{Status, Uuid};
 use std::marker::Model;
 
 /// The status of good data (IEC 61158-6-10, 4.7.2.1.1).
@@ -44,6 +44,10 @@ pub struct Controller {
     pub(crate) stands: bool,
     /// Whether the device reported usable modules that deviate from the plan's.
     pub(crate) deviates: bool,
+    /// The last status with which a call was refused.
+    pub(crate) refusal: Option<Status>,
+    /// The last record that was refused.
+    pub(crate) refused_record: Option<RefusedRecord>,
     pub(crate) exchange: CyclicExchange,
     pub(crate) alarms: ControllerAlarms,
     /// Why the IOPS of outputs are not good, for each place.
@@ -68,6 +72,8 @@ impl Model for Controller {
         units = controller.units;
         stands = controller.stands;
         deviates = controller.deviates;
+        refusal = controller.refusal;
+        refused_record = controller.refused_record;
         cyclic = controller.exchange;
         alarms = controller.alarms;
         outputs = controller.outputs.items;
@@ -168,6 +174,8 @@ impl Controller {
             units: 0,
             stands: false,
             deviates: false,
+            refusal: None,
+            refused_record: None,
             alarms,
             outputs: ArrayVec::new(),
             alarm: None,
@@ -187,6 +195,8 @@ impl Controller {
         self.units = 0;
         self.stands = false;
         self.deviates = false;
+        self.refusal = None;
+        self.refused_record = None;
         self.alarms = ControllerAlarms::new(RTA_TIMEOUT_FACTOR, RTA_RETRIES);
         self.alarm = None;
         open(&mut self.exchange, &mut self.outputs, &self.setup.plan);
@@ -207,6 +217,8 @@ impl Controller {
             units: 0,
             stands: false,
             deviates: false,
+            refusal: None,
+            refused_record: None,
             exchange: CyclicExchange::new(),
             alarms: ControllerAlarms::new(RTA_TIMEOUT_FACTOR, RTA_RETRIES),
             outputs: ArrayVec::new(),
@@ -270,6 +282,23 @@ impl Controller {
         ensures { result ≡ self.now.live.deviates }
     {
         self.deviates
+    }
+
+    /// The status with which the device refused a call last, if it did: the PNIOStatus of a response, or the status of a
+    /// reject or a fault.
+    pub fn refusal(&self) -> Option<Status>
+        ensures { result ≡ self.now.live.refusal }
+    {
+        self.refusal
+    }
+
+    /// The last record that the device refused, if it refused one. A plan may say that the start-up goes on after it
+    /// (`Plan::continues_on_refused_record`); then an application that looks after each step sees each of them, since a later
+    /// record has a greater number.
+    pub fn refused_record(&self) -> Option<RefusedRecord>
+        ensures { result ≡ self.now.live.refused_record }
+    {
+        self.refused_record
     }
 
     /// The input of a submodule, if it has a place: its data in the last accepted frame. All zeros if no frame was

@@ -26,4 +26,4 @@ pub use cyclic_exchange::ProviderStatus;
 pub use event::Event;
 pub use law::blocks_are_found;
 pub use leaps::leaps_are_ticks;
-pub use state::{Cause, State};
+pub use state::{Cause, RefusedRecord, State};

@@ -7,14 +7,14 @@ ghost use Rattle.rpc_core.specs.Response.{answered as responded_as};
 ghost use Rattle.controller_frames.specs.Heard.{heard_of, heard_real_time as heard_as};
 ghost use Rattle.controller_frames.specs.Sent.{bytes_of};
 ghost use Rattle.controller_frames.specs.Reported.{reported};
-ghost use Rattle.controller_core.specs.Answers.{is_answer, is_ready};
+ghost use Rattle.controller_core.specs.Answers.{is_answer, is_ready, is_refused};
 ghost use Rattle.controller_core.specs.Connect.{chosen_by, nothing, found_in as all_found};
 ghost use Rattle.controller_core.specs.State.{with_live};
 ghost use Rattle.controller_core.specs.Machine.{acks_of, addressed, alarmed, answered, asking, called, come, connected, connected_by};
-ghost use Rattle.controller_core.specs.Machine.{brought, decided, done, due_frames, ended_by, exchange_later, flowed, found, given};
-ghost use Rattle.controller_core.specs.Machine.{gone_on, is_again, handled, later, outputs_of};
-ghost use Rattle.controller_core.specs.Machine.{rated, readied, ready_in as block_of_ready, related_by, released, remarked, requests_of, responded, step_of};
-ghost use Rattle.controller_core.specs.Machine.{stopped, ticked, turned, where_due, writing};
+ghost use Rattle.controller_core.specs.Machine.{brought, decided, denied, done, due_frames, ended_by, exchange_later, flowed, found, given};
+ghost use Rattle.controller_core.specs.Machine.{gone_on, is_again, handled, later, outputs_of, past_record};
+ghost use Rattle.controller_core.specs.Machine.{rated, readied, ready_in as block_of_ready, refused, refused_by, related_by, released, remarked, requests_of, responded, step_of};
+ghost use Rattle.controller_core.specs.Machine.{stopped, ticked, turned, undone, where_due, writing};
 ghost use Rattle.frame_codec.specs.Outbox.{boxed};
 
 use crate::alarms::{header_of, is_alarm};
@@ -25,11 +25,11 @@ use crate::answers::{
 use crate::connect::{Found, found_in};
 use crate::controller::route_of;
 use crate::outputs::{awaits, change, iops_in};
-use crate::{Cause, Controller, Event, State};
+use crate::{Cause, Controller, Event, RefusedRecord, State};
 use block_codec::{AlarmNotification, ControlBlock};
 use controller_frames::{
-    Hearing, Request, heard, heard_real_time, real_time_in, send_alarm_ack, send_alarm_end,
-    send_outputs, send_ready_answer, send_request,
+    Hearing, Refusal, Request, heard, heard_real_time, real_time_in, send_alarm_ack,
+    send_alarm_end, send_outputs, send_ready_answer, send_request,
 };
 use cyclic_data::Provider;
 use cyclic_exchange::Tick;
@@ -37,7 +37,7 @@ use frame_codec::{Bytes, Caller, Outbox, is_cyclic};
 use plans::SESSION_KEY;
 use pn_alarms::{Abort, Header, Notice, PduType};
 use pn_values::Mac;
-use rpc_core::{Call, Response};
+use rpc_core::{Call, Response, Status};
 
 /// The maximum number of blocks in the answer to a Connect: more than a frame holds.
 const MOST_BLOCKS: usize = 400;
@@ -196,6 +196,7 @@ impl Controller {
             Hearing::Nothing => {}
             Hearing::Answers(source, answer) => self.hear_answer(*source, answer, outbox),
             Hearing::Responds(response) => self.hear_response(response, outbox),
+            Hearing::Refuses(refusal) => self.hear_refusal(refusal),
             Hearing::Calls(caller, call) => self.hear_call(caller, call, outbox),
             // Not reached: `hear` handles a cyclic frame before a `Hearing` is made of it. It is here because the
             // contract covers any `Hearing`.
@@ -326,7 +327,89 @@ impl Controller {
         if response.status.is_done() {
             self.go_on(request, response.blocks, outbox);
         } else {
+            self.undo(request, response.status, outbox);
+        }
+    }
+
+    // A negative response.
+    fn undo(&mut self, request: Request, status: Status, outbox: &mut Outbox)
+        requires empty { outbox.old.items ≡ [] }
+        ensures state { self.new ≡ with_live self.old (undone self.old.setup self.old.live status request).live }
+        ensures frames { boxed outbox.new ≡ map (bytes_of self.old.setup) (undone self.old.setup self.old.live status request).sent }
+    {
+        match request {
+            Request::Write(number) => {
+                let record = RefusedRecord { number, status };
+                self.refusal = Some(record.status);
+                self.refused_record = Some(record);
+                self.pass_record(number, outbox);
+            }
+            Request::Identify
+            | Request::Address
+            | Request::Connect
+            | Request::PrmEnd
+            | Request::Release(_) => self.deny(status),
+        }
+    }
+
+    // After a record that was refused: ends, or goes on with the next record if the plan says so.
+    fn pass_record(&mut self, number: u16, outbox: &mut Outbox)
+        requires empty { outbox.old.items ≡ [] }
+        ensures state { self.new ≡ with_live self.old (past_record self.old.setup number self.old.live).live }
+        ensures frames { boxed outbox.new ≡ map (bytes_of self.old.setup) (past_record self.old.setup number self.old.live).sent }
+    {
+        if self.setup.plan.continues_on_refused_record() {
+            let next = request_behind(&self.setup.plan, number);
+            self.write(next, outbox);
+        } else {
             self.end(Cause::Refused);
+        }
+    }
+
+    // The device refuses a call with this status.
+    fn deny(&mut self, status: Status)
+        ensures { self.new ≡ with_live self.old (denied status self.old.live) }
+    {
+        self.refusal = Some(status);
+        self.end(Cause::Refused);
+    }
+
+    // A reject or a fault.
+    fn hear_refusal(&mut self, refusal: &Refusal)
+        ensures { self.new ≡ with_live self.old (refused self.old.setup self.old.live refusal.now self.old.live.asked).live }
+    {
+        let Some(request) = self.asked else {
+            return;
+        };
+        if self.is_refused(request, refusal) {
+            self.refuse(request, refusal);
+        }
+    }
+
+    // Whether a refusal is the one of the call for this request.
+    fn is_refused(&self, request: Request, refusal: &Refusal) -> bool
+        ensures { result ≡ is_refused self.now.setup request refusal.now }
+    {
+        match request {
+            Request::Identify | Request::Address => false,
+            Request::Connect | Request::Write(_) | Request::PrmEnd | Request::Release(_) => {
+                refusal.activity == self.setup.activity
+                    && refusal.sequence == request.sequence(&self.setup.plan)
+            }
+        }
+    }
+
+    // The active request is refused. To a Release a refusal is an answer like any other.
+    fn refuse(&mut self, request: Request, refusal: &Refusal)
+        ensures { self.new ≡ with_live self.old (refused_by self.old.live refusal.now request).live }
+    {
+        match request {
+            Request::Release(_) => self.asked = None,
+            Request::Identify
+            | Request::Address
+            | Request::Connect
+            | Request::Write(_)
+            | Request::PrmEnd => self.deny(refusal.status),
         }
     }
 

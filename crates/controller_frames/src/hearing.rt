@@ -8,6 +8,7 @@ ghost use Rattle.dcp_core.specs.Answer.{answer_of};
 ghost use Rattle.frame_codec.specs.Frame.{datagram, frame_of};
 ghost use Rattle.pn_alarms.specs.Message.{alarm_of};
 
+use crate::refusal::{Refusal, read_refusal};
 use block_codec::AlarmNotification;
 use frame_codec::{
     Bytes, Caller, ContentKind, DCP_GET_SET, DCP_IDENTIFY_RESPONSE, Endpoint, RPC_PORT,
@@ -27,6 +28,8 @@ pub enum Hearing<'a> {
     Answers(Mac, dcp_core::Response<'a>),
     /// The response to a call.
     Responds(Response<'a>),
+    /// A call is refused.
+    Refuses(Refusal),
     /// This caller calls the controller.
     Calls(Caller, Call<'a>),
     /// A cyclic frame of this station: its FrameID, and the octets that follow it.
@@ -55,7 +58,7 @@ fn heard_alarm<'a>(source: Mac, body: &'a [u8]) -> Hearing<'a>
     }
 }
 
-/// What the body of a datagram says: a call to the controller, or else a response.
+/// What the body of a datagram says: a call to the controller, or else a response or a refusal.
 #[tactic(auto, unfolding(crate::specs::Heard::heard_body))]
 fn heard_body<'a>(caller: Caller, body: &'a [u8]) -> Hearing<'a>
     ensures { reported result ≡ heard_body caller body.now }
@@ -68,8 +71,11 @@ fn heard_body<'a>(caller: Caller, body: &'a [u8]) -> Hearing<'a>
             None => Hearing::Nothing,
         };
     }
-    match read_response(body) {
-        Ok(response) => Hearing::Responds(response),
+    if let Ok(response) = read_response(body) {
+        return Hearing::Responds(response);
+    }
+    match read_refusal(body) {
+        Ok(refusal) => Hearing::Refuses(refusal),
         Err(_) => Hearing::Nothing,
     }
 }

@@ -1,21 +1,27 @@
 -- What is reported of a port.
 use Rattle.std.proofs.Common.{◌≡◌, ℕ, true, false, refl, List, [], ◌∷◌, Option, Some, None, sym, ap, subst, ◌∙◌}
-use Rattle.flash_model.specs.Calls.{Call, Programs, Erases, Arms}
-use Rattle.device_abi.specs.port.State.{State, IsNext, IsUnreported, has_some, waiting}
+use Rattle.flash_model.specs.Calls.{Call}
+use Rattle.device_abi.specs.port.State.{State, IsIdle, IsNext, IsUnreported, has_some, waiting, work_kind}
 use Rattle.device_abi.specs.port.Refusals.{refusal_number}
 use Rattle.device_abi.specs.declared.port.device.Work.{Work}
 use Rattle.device_abi.specs.declared.port.device.Work.TheVariants.{Nothing, Carry, Send}
 use Rattle.device_abi.specs.declared.port.refusal.Refusal.{Refusal}
 use Rattle.c_layout.specs.declared.op.Op.{Op}
-use Rattle.device_abi.specs.operations.Serves.{IsCall, IsHanded, IsPiece, IsValue, IsValueOf, work_kind}
+use Rattle.device_abi.specs.operations.Serves.{IsCall, IsHanded, IsValue, IsValueOf, with_frame, with_nothing}
 
 -- The next piece of work, as it is reported, is what is handed out.
-pub handed : (port : State) (work : Work) (asked reported : Op) → IsNext port work → IsPiece work asked reported → IsHanded port.calls port.frames asked reported
-handed port Nothing asked reported idle piece =
-    subst (λ calls. IsHanded calls port.frames asked reported) (sym idle.0) (subst (λ frames. IsHanded [] frames asked reported) (sym idle.1) piece)
-handed port (Carry call) asked reported next piece = subst (λ calls. IsHanded calls port.frames asked reported) (sym next.1) piece
-handed port (Send frame) asked reported next piece =
-    subst (λ calls. IsHanded calls port.frames asked reported) (sym next.0) (subst (λ frames. IsHanded [] frames asked reported) (sym next.1.1) piece)
+pub handed_nothing : (port : State) (asked : Op) (octets : List ℕ) (reported : Op) → IsIdle port → octets ≡ [] → reported ≡ with_nothing asked → IsHanded port.calls port.frames asked octets reported
+handed_nothing port asked octets reported idle none is =
+    subst (λ calls. IsHanded calls port.frames asked octets reported) (sym idle.0) (subst (λ frames. IsHanded [] frames asked octets reported) (sym idle.1) (none, is))
+
+pub handed_call : (port : State) (call : Call) (rest : List Call) (asked : Op) (octets : List ℕ) (reported : Op) → port.calls ≡ call ∷ rest → IsCall call asked octets reported
+    → IsHanded port.calls port.frames asked octets reported
+handed_call port call rest asked octets reported next is = subst (λ calls. IsHanded calls port.frames asked octets reported) (sym next) is
+
+pub handed_frame : (port : State) (frame : List ℕ) (rest : List (List ℕ)) (asked : Op) (octets : List ℕ) (reported : Op) → port.calls ≡ [] → port.frames ≡ frame ∷ rest
+    → octets ≡ frame → reported ≡ with_frame frame asked → IsHanded port.calls port.frames asked octets reported
+handed_frame port frame rest asked octets reported none next same is =
+    subst (λ calls. IsHanded calls port.frames asked octets reported) (sym none) (subst (λ frames. IsHanded [] frames asked octets reported) (sym next) (same, is))
 
 -- The kind of the next piece of work.
 pub kind_next : (port : State) (work : Work) → IsNext port work → work_kind work ≡ waiting port.calls port.frames
@@ -36,18 +42,6 @@ kind_none (call ∷ calls) frames none no_frame = cc none
 
 pub no_call : (calls : List Call) → calls ≡ [] → has_some calls ≡ false
 no_call calls none = ap has_some none
-
--- The piece of work after it is reported too.
-handed_call : (call : Call) (asked reported : Op) (more : ℕ) → IsCall call asked reported → IsCall call (record asked { more = more }) (record reported { more = more })
-handed_call (Programs sector place bytes) asked reported more is = ap (λ (op : Op). record op { more = more }) is
-handed_call (Erases sector) asked reported more is = ap (λ (op : Op). record op { more = more }) is
-handed_call (Arms order) asked reported more is = is
-
-pub handed_more : (calls : List Call) (frames : List (List ℕ)) (asked reported : Op) (more : ℕ)
-    → IsHanded calls frames asked reported → IsHanded calls frames (record asked { more = more }) (record reported { more = more })
-handed_more [] [] asked reported more is = ap (λ (op : Op). record op { more = more }) is
-handed_more [] (frame ∷ frames) asked reported more is = ap (λ (op : Op). record op { more = more }) is
-handed_more (call ∷ calls) frames asked reported more is = handed_call call asked reported more is
 
 -- An output that is not reported.
 pub unreported : (why : Option Refusal) (value : Option (List ℕ)) (refusal : Refusal) (asked : Op) (answer : ℕ) (reported : Op)

@@ -9,7 +9,7 @@ mod port;
 mod recorded;
 mod recording;
 
-pub use operations::{Station, judge, port_of, serve};
+pub use operations::{Station, hand_out, judge, port_of, serve};
 pub use port::{Operation, Port, Refusal, SECTOR_SIZE, Stage, Work, play};
 pub use recorded::{MOST_BYTES, MOST_CALLS, Recorded, RecordedFlash};
 pub use recording::{leap, skip, step, step_frame, unit};

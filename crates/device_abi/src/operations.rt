@@ -5,5 +5,5 @@ mod plugged;
 mod serving;
 mod station;
 
-pub use serving::serve;
+pub use serving::{hand_out, serve};
 pub use station::{Station, judge, port_of};

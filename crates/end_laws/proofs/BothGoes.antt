@@ -1,6 +1,6 @@
 -- The facts about a frame persist: records that were accepted stay accepted, and what was true of an earlier point
 -- stays true.
-use Rattle.std.proofs.Common.{◌≡◌, inl, inr, ℕ, zero, suc, true, false, List, Option, Some, None, sym, subst}
+use Rattle.std.proofs.Common.{◌≡◌, inl, inr, ℕ, zero, suc, Bool, true, false, List, Option, Some, None, sym, subst}
 use Rattle.end_laws.specs.both.Small.{Ask, ToDevice, Call, Confirms, Idle, ToController, Answers, Readies, Nothing, Rules, RelationState, Kept, Controller, Asking}
 use Rattle.end_laws.specs.both.Steps.{SaysAtMost}
 use Rattle.end_laws.proofs.BothEach.{each_so}
@@ -12,17 +12,17 @@ module _ {T Q : Type 0} where
   Grows kept link kept_now link_now = (count : ℕ) → Took count kept link → Took count kept_now link_now
 
   module _ (kept kept_now : Option Kept) (link link_now : Option (RelationState T Q)) (grows : Grows kept link kept_now link_now) where
-    behind_on : (sequence : ℕ) → Behind sequence kept link → Behind sequence kept_now link_now
-    behind_on zero behind = tt
-    behind_on (suc count) behind = grows count behind
+    behind_on : (skips : Bool) (sequence : ℕ) → Behind skips sequence kept link → Behind skips sequence kept_now link_now
+    behind_on skips zero behind = tt
+    behind_on skips (suc count) behind = λ strict. grows count (behind strict)
 
     call_on : (rules : Rules T Q) (sequence : ℕ) (ask : Ask) → IsCall rules sequence ask kept link → IsCall rules sequence ask kept_now link_now
     call_on rules sequence ask (inl releases) = inl releases
-    call_on rules sequence ask (inr asked) = inr (asked.0, behind_on sequence asked.1)
+    call_on rules sequence ask (inr asked) = inr (asked.0, behind_on rules.skips sequence asked.1)
 
-    pub asks_on : (state : Controller) → AsksBehind kept link state → AsksBehind kept_now link_now state
-    asks_on (Asking sequence) behind = behind_on sequence behind
-    asks_on other behind = tt
+    pub asks_on : (skips : Bool) (state : Controller) → AsksBehind skips kept link state → AsksBehind skips kept_now link_now state
+    asks_on skips (Asking sequence) behind = behind_on skips sequence behind
+    asks_on skips other behind = tt
 
     module _ (rules : Rules T Q) (Was WasNow : Type 0) (Good GoodNow : List ℕ → Type 0) (was_on : Was → WasNow) (good_on : (frame : List ℕ) → Good frame → GoodNow frame) where
       device_on : (heard : ToDevice) → TellsDevice rules Was kept link heard → TellsDevice rules WasNow kept_now link_now heard
@@ -31,7 +31,7 @@ module _ {T Q : Type 0} where
       device_on Idle tells = tt
 
       controller_on : (frame : List ℕ) (heard : ToController) → TellsController rules Good kept link frame heard → TellsController rules GoodNow kept_now link_now frame heard
-      controller_on frame (Answers sequence true) tells = λ few. grows sequence (tells few)
+      controller_on frame (Answers sequence true) tells = λ few strict. grows sequence (tells few strict)
       controller_on frame (Answers sequence false) tells = tt
       controller_on frame Readies tells = good_on frame tells
       controller_on frame Nothing tells = tt

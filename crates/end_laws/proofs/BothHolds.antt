@@ -1,7 +1,7 @@
 -- The invariant of both ends at each point of a start-up. Facts about earlier points are parameters: `Was`: the
 -- controller exchanged data. `Past`: a frame was delivered to the device since. `Good`: the device sent this
 -- ApplicationReady. `Handed`: the controller received one.
-use Rattle.std.proofs.Common.{◌≡◌, ◌⊎◌, ◌<◌, ◌≤◌, ℕ, zero, suc, true, false, List, ◌++◌, length, Option, Some, None}
+use Rattle.std.proofs.Common.{◌≡◌, ◌⊎◌, ◌<◌, ◌≤◌, ℕ, zero, suc, Bool, true, false, List, ◌++◌, length, Option, Some, None}
 use Rattle.std.specs.List.{AllByRecursion}
 use Rattle.end_laws.specs.both.Small.{Ask, Releases, ToDevice, Call, Confirms, Idle, ToController, Answers, Readies, Nothing, Rules, Started, Exchanging, RelationState, Kept, Controller, Asking, Exchanges, World}
 use Rattle.end_laws.specs.both.Steps.{IsAsked}
@@ -22,14 +22,16 @@ module _ {T Q : Type 0} where
     pub called : IsSomeKept kept
     pub taken : TookIn count link
 
-  -- the relation, after the response that is stored
+  -- after PrmEnd no Write is new, and all records were accepted before, unless records may be skipped
+  abbrev pub IsPast : Rules T Q → ℕ → RelationState T Q → Type 0
+  IsPast rules sequence link = (link.phase ≡ Started) ⊎ ((length rules.records < sequence) × (rules.skips ≡ false → link.taken ≡ rules.records))
+
+  -- the relation, after the response that is stored: unless records may be skipped, it accepted the first ones
   pub record IsHeld (rules : Rules T Q) (sequence : ℕ) (link : RelationState T Q) : Type 0 where
     pub few : length link.taken ≤ sequence
     pub made : link.request ≡ rules.request
-    pub rest : List T
-    pub begins : link.taken ++ rest ≡ rules.records
-    -- after PrmEnd, all records were accepted before, and no Write is new
-    pub past : (link.phase ≡ Started) ⊎ ((length rules.records < sequence) × (link.taken ≡ rules.records))
+    pub begins : rules.skips ≡ false → (rest : List T) × (link.taken ++ rest ≡ rules.records)
+    pub past : IsPast rules sequence link
 
   abbrev pub IsHeldIn : Rules T Q → ℕ → Option (RelationState T Q) → Type 0
   IsHeldIn rules sequence None = Unit {0}
@@ -40,15 +42,15 @@ module _ {T Q : Type 0} where
   HoldsAt rules None link = link ≡ None
   HoldsAt rules (Some kept) link = IsHeldIn rules kept.sequence link
 
-  -- what was accepted before the call with a sequence number is made
-  abbrev pub Behind : ℕ → Option Kept → Option (RelationState T Q) → Type 0
-  Behind zero kept link = Unit {0}
-  Behind (suc count) kept link = Took count kept link
+  -- what was accepted before the call with a sequence number is made, unless records may be skipped
+  abbrev pub Behind : Bool → ℕ → Option Kept → Option (RelationState T Q) → Type 0
+  Behind skips zero kept link = Unit {0}
+  Behind skips (suc count) kept link = skips ≡ false → Took count kept link
 
   -- a call that was sent at some time
   abbrev pub IsCall : Rules T Q → ℕ → Ask → Option Kept → Option (RelationState T Q) → Type 0
   IsCall rules sequence ask kept link =
-      (ask ≡ Releases) ⊎ (IsAsked (length rules.records) sequence ask × Behind sequence kept link)
+      (ask ≡ Releases) ⊎ (IsAsked (length rules.records) sequence ask × Behind rules.skips sequence kept link)
 
   -- what the device may hear in a frame
   abbrev pub TellsDevice : Rules T Q → Type 0 → Option Kept → Option (RelationState T Q) → ToDevice → Type 0
@@ -58,7 +60,7 @@ module _ {T Q : Type 0} where
 
   -- what the controller may hear in a frame
   abbrev pub TellsController : Rules T Q → (List ℕ → Type 0) → Option Kept → Option (RelationState T Q) → List ℕ → ToController → Type 0
-  TellsController rules Good kept link frame (Answers sequence true) = sequence ≤ length rules.records → Took sequence kept link
+  TellsController rules Good kept link frame (Answers sequence true) = sequence ≤ length rules.records → rules.skips ≡ false → Took sequence kept link
   TellsController rules Good kept link frame (Answers sequence false) = Unit {0}
   TellsController rules Good kept link frame Readies = Good frame
   TellsController rules Good kept link frame Nothing = Unit {0}
@@ -76,10 +78,10 @@ module _ {T Q : Type 0} where
   KeepsFine rules Was Good kept link None = Unit {0}
   KeepsFine rules Was Good kept link (Some answer) = IsFine rules Was Good kept link answer.frame
 
-  -- what was accepted before the controller makes a call
-  abbrev pub AsksBehind : Option Kept → Option (RelationState T Q) → Controller → Type 0
-  AsksBehind kept link (Asking sequence) = Behind sequence kept link
-  AsksBehind kept link other = Unit {0}
+  -- what was accepted before the controller makes a call, unless records may be skipped
+  abbrev pub AsksBehind : Bool → Option Kept → Option (RelationState T Q) → Controller → Type 0
+  AsksBehind skips kept link (Asking sequence) = Behind skips sequence kept link
+  AsksBehind skips kept link other = Unit {0}
 
   abbrev pub ConfirmedIn : Type 0 → Option (RelationState T Q) → Type 0
   ConfirmedIn Past None = Unit {0}
@@ -89,6 +91,6 @@ module _ {T Q : Type 0} where
     pub held : HoldsAt rules w.device.kept w.device.link
     pub kept : KeepsFine rules Was Good w.device.kept w.device.link w.device.kept
     pub sent : AreFine rules Was Good w.device.kept w.device.link w.sent
-    pub asked : AsksBehind w.device.kept w.device.link w.controller
+    pub asked : AsksBehind rules.skips w.device.kept w.device.link w.controller
     pub readied : w.controller ≡ Exchanges → Handed
     pub confirmed : ConfirmedIn Past w.device.link

@@ -5,7 +5,7 @@ use Rattle.std.specs.List.{AllByRecursion}
 use Rattle.std.specs.Prelude.{slice_get}
 use Rattle.end_laws.specs.both.Small.{Ask, Connects, Writes, Parameterized, Releases, ToDevice, Call, Confirms, Idle, Answers, Readies, Nothing, Rules, Started, Awaiting, Exchanging, RelationState, Kept, Device}
 use Rattle.end_laws.specs.both.Steps.{IsNew, made, TakesRecord, IsParameterized, Comes, IsReady, IsDull, IsAnswered, IsAgain, Rests, IsConfirmed, GoesBy, DeviceSteps}
-use Rattle.end_laws.proofs.BothHolds.{IsSomeKept, TookIn, Took, IsHeld, IsHeldIn, HoldsAt, Behind, IsCall, TellsDevice, TellsController, IsFine, AreFine, KeepsFine, ConfirmedIn}
+use Rattle.end_laws.proofs.BothHolds.{IsSomeKept, TookIn, Took, IsPast, IsHeld, IsHeldIn, HoldsAt, Behind, IsCall, TellsDevice, TellsController, IsFine, AreFine, KeepsFine, ConfirmedIn}
 use Rattle.end_laws.proofs.BothGoes.{Grows, are_fine_on, keeps_on, same_grows, fine_as, fine_at_most}
 
 -- ---- lists
@@ -69,8 +69,7 @@ module _ {T Q : Type 0} (rules : Rules T Q) where
   took_by sequence Releases true kept link after count new call comes took = subst (λ (l : Option (RelationState T Q)). TookIn count l) (sym comes) tt
 
   -- the relation is held after a later response too
-  past_later : (sequence later : ℕ) (link : RelationState T Q) → sequence < later → (link.phase ≡ Started) ⊎ ((length rules.records < sequence) × (link.taken ≡ rules.records))
-      → (link.phase ≡ Started) ⊎ ((length rules.records < later) × (link.taken ≡ rules.records))
+  past_later : (sequence later : ℕ) (link : RelationState T Q) → sequence < later → IsPast rules sequence link → IsPast rules later link
   past_later sequence later link before (inl started) = inl started
   past_later sequence later link before (inr past) = inr (omega (arith, before, past.0), past.1)
 
@@ -80,7 +79,6 @@ module _ {T Q : Type 0} (rules : Rules T Q) where
   held_later sequence (Some kept) (Some link) new held = record {
     few = omega (arith, new, held.few);
     made = held.made;
-    rest = held.rest;
     begins = held.begins;
     past = past_later kept.sequence sequence link new held.past;
   }
@@ -90,48 +88,53 @@ module _ {T Q : Type 0} (rules : Rules T Q) where
   is_held None link there is none = absurd cc
   is_held (Some kept) link there is held = (kept, refl, subst (λ (l : Option (RelationState T Q)). IsHeldIn rules kept.sequence l) is held)
 
-  past_write : (number : ℕ) (sequence : ℕ) (link : RelationState T Q) → number < length rules.records → sequence ≤ number → (link.phase ≡ Started) ⊎ ((length rules.records < sequence) × (link.taken ≡ rules.records))
+  past_write : (number : ℕ) (sequence : ℕ) (link : RelationState T Q) → number < length rules.records → sequence ≤ number → IsPast rules sequence link
       → link.phase ≡ Started
   past_write number sequence link inside few (inl started) = started
   past_write number sequence link inside few (inr past) = absurd (omega (arith, inside, few, past.0))
 
   -- the next record is accepted
   write_held : (sequence number : ℕ) (kept : Option Kept) (link after : Option (RelationState T Q)) → IsNew sequence kept → number < length rules.records → sequence ≡ suc number
-      → Took number kept link → TakesRecord rules number link after → HoldsAt rules kept link → IsHeldIn rules sequence after
+      → (rules.skips ≡ false → Took number kept link) → TakesRecord rules number link after → HoldsAt rules kept link → IsHeldIn rules sequence after
   write_held sequence number kept link after new inside is took takes holds =
       let held = is_held kept link takes.link takes.was holds in
       let fresh : IsNew sequence (Some held.0) = subst (λ (k : Option Kept). IsNew sequence k) held.1 new in
-      let there : TookIn number (Some takes.link) = subst (λ (l : Option (RelationState T Q)). TookIn number l) takes.was took.taken in
-      let long : length takes.link.taken ≡ number = omega (arith, there, held.2.few, fresh, is) in
-      let next = next_of takes.link.taken held.2.rest rules.records takes.value number held.2.begins long takes.is in
       subst (λ (l : Option (RelationState T Q)). IsHeldIn rules sequence l) (sym takes.becomes) (record {
-        few = omega (arith, long, is, length-append takes.link.taken (takes.value ∷ []));
+        few = omega (arith, held.2.few, fresh, length-append takes.link.taken (takes.value ∷ []));
         made = held.2.made;
-        rest = next.0;
-        begins = append_assoc takes.link.taken (takes.value ∷ []) next.0 ∙ (ap (λ (xs : List T). takes.link.taken ++ xs) (sym next.1) ∙ held.2.begins);
+        begins = λ strict.
+            let there : TookIn number (Some takes.link) = subst (λ (l : Option (RelationState T Q)). TookIn number l) takes.was (took strict).taken in
+            let begun = held.2.begins strict in
+            let long : length takes.link.taken ≡ number = omega (arith, there, held.2.few, fresh, is) in
+            let next = next_of takes.link.taken begun.0 rules.records takes.value number begun.1 long takes.is in
+            (next.0, append_assoc takes.link.taken (takes.value ∷ []) next.0 ∙ (ap (λ (xs : List T). takes.link.taken ++ xs) (sym next.1) ∙ begun.1));
         past = inl (past_write number held.0.sequence takes.link inside (omega (arith, fresh, is)) held.2.past);
       })
 
-  -- all records are accepted
-  end_held : (sequence : ℕ) (kept : Option Kept) (link after : Option (RelationState T Q)) → sequence ≡ suc (length rules.records)
-      → Took (length rules.records) kept link → IsParameterized link after → HoldsAt rules kept link → IsHeldIn rules sequence after
-  end_held sequence kept link after is took ends holds =
+  -- all records are accepted, or were skipped
+  end_held : (sequence : ℕ) (kept : Option Kept) (link after : Option (RelationState T Q)) → IsNew sequence kept → sequence ≡ suc (length rules.records)
+      → (rules.skips ≡ false → Took (length rules.records) kept link) → IsParameterized link after → HoldsAt rules kept link → IsHeldIn rules sequence after
+  end_held sequence kept link after new is took ends holds =
       let held = is_held kept link ends.link ends.was holds in
-      let there : TookIn (length rules.records) (Some ends.link) = subst (λ (l : Option (RelationState T Q)). TookIn (length rules.records) l) ends.was took.taken in
-      let whole : ends.link.taken ≡ rules.records = all_taken ends.link.taken held.2.rest rules.records held.2.begins there in
+      let fresh : IsNew sequence (Some held.0) = subst (λ (k : Option Kept). IsNew sequence k) held.1 new in
       subst (λ (l : Option (RelationState T Q)). IsHeldIn rules sequence l) (sym ends.becomes) (record {
-        few = omega (arith, is, ap length whole);
+        few = omega (arith, held.2.few, fresh);
         made = held.2.made;
-        rest = held.2.rest;
         begins = held.2.begins;
-        past = inr (omega (arith, is), whole);
+        past = inr (
+          omega (arith, is),
+          λ strict.
+              let there : TookIn (length rules.records) (Some ends.link) = subst (λ (l : Option (RelationState T Q)). TookIn (length rules.records) l) ends.was (took strict).taken in
+              let begun = held.2.begins strict in
+              all_taken ends.link.taken begun.0 rules.records begun.1 there,
+        );
       })
 
   new_held : (sequence : ℕ) → IsHeld rules sequence (made rules)
-  new_held sequence = record { few = omega arith; made = refl; rest = rules.records; begins = refl; past = inl refl }
+  new_held sequence = record { few = omega arith; made = refl; begins = λ strict. (rules.records, refl); past = inl refl }
 
-  behind_suc : (sequence count : ℕ) (kept : Option Kept) (link : Option (RelationState T Q)) → sequence ≡ suc count → Behind sequence kept link → Took count kept link
-  behind_suc sequence count kept link is behind = subst (λ (s : ℕ). Behind s kept link) is behind
+  behind_suc : (sequence count : ℕ) (kept : Option Kept) (link : Option (RelationState T Q)) → sequence ≡ suc count → Behind rules.skips sequence kept link → rules.skips ≡ false → Took count kept link
+  behind_suc sequence count kept link is behind = subst (λ (s : ℕ). Behind rules.skips s kept link) is behind
 
   held_by : (sequence : ℕ) (ask : Ask) (positive : Bool) (kept : Option Kept) (link after : Option (RelationState T Q))
       → IsNew sequence kept → IsCall rules sequence ask kept link → Does positive ask link after → HoldsAt rules kept link → IsHeldIn rules sequence after
@@ -145,30 +148,30 @@ module _ {T Q : Type 0} (rules : Rules T Q) where
   held_by sequence Parameterized true kept link after new (inl releases) comes holds = absurd cc
   held_by sequence Parameterized true kept link after new (inr asked) comes holds =
       let is : sequence ≡ suc (length rules.records) = omega (arith, asked.0) in
-      end_held sequence kept link after is (behind_suc sequence (length rules.records) kept link is asked.1) comes holds
+      end_held sequence kept link after new is (behind_suc sequence (length rules.records) kept link is asked.1) comes holds
   held_by sequence Releases true kept link after new call comes holds = subst (λ (l : Option (RelationState T Q)). IsHeldIn rules sequence l) (sym comes) tt
 
-  -- a positive response says what was accepted
+  -- a positive response says what was accepted, unless records may be skipped
   reported_by : (sequence : ℕ) (ask : Ask) (kept : Option Kept) (link after : Option (RelationState T Q))
-      → IsCall rules sequence ask kept link → Does true ask link after → sequence ≤ length rules.records → TookIn sequence after
-  reported_by sequence Connects kept link after (inr asked) comes few =
+      → IsCall rules sequence ask kept link → Does true ask link after → sequence ≤ length rules.records → rules.skips ≡ false → TookIn sequence after
+  reported_by sequence Connects kept link after (inr asked) comes few strict =
       subst (λ (l : Option (RelationState T Q)). TookIn sequence l) (sym comes) (omega (arith, asked.0))
-  reported_by sequence (Writes number) kept link after (inr asked) comes few =
+  reported_by sequence (Writes number) kept link after (inr asked) comes few strict =
       let is : sequence ≡ suc number = omega (arith, asked.0.1) in
-      let took = behind_suc sequence number kept link is asked.1 in
+      let took = behind_suc sequence number kept link is asked.1 strict in
       let there : TookIn number (Some comes.link) = subst (λ (l : Option (RelationState T Q)). TookIn number l) comes.was took.taken in
       subst (λ (l : Option (RelationState T Q)). TookIn sequence l) (sym comes.becomes) (omega (arith, is, there, length-append comes.link.taken (comes.value ∷ [])))
-  reported_by sequence Parameterized kept link after (inr asked) comes few = absurd (omega (arith, asked.0, few))
-  reported_by sequence Releases kept link after call comes few = subst (λ (l : Option (RelationState T Q)). TookIn sequence l) (sym comes) tt
-  reported_by sequence other kept link after (inl releases) comes few = absurd cc
+  reported_by sequence Parameterized kept link after (inr asked) comes few strict = absurd (omega (arith, asked.0, few))
+  reported_by sequence Releases kept link after call comes few strict = subst (λ (l : Option (RelationState T Q)). TookIn sequence l) (sym comes) tt
+  reported_by sequence other kept link after (inl releases) comes few strict = absurd cc
 
-  -- while ApplicationReady waits for its response, all records were accepted
-  past_ready : (sequence : ℕ) (link : RelationState T Q) → link.phase ≡ Awaiting → (link.phase ≡ Started) ⊎ ((length rules.records < sequence) × (link.taken ≡ rules.records)) → link.taken ≡ rules.records
-  past_ready sequence link awaits (inl started) = absurd cc
-  past_ready sequence link awaits (inr past) = past.1
+  -- while ApplicationReady waits for its response, all records were accepted, unless records may be skipped
+  past_ready : (sequence : ℕ) (link : RelationState T Q) → link.phase ≡ Awaiting → IsPast rules sequence link → rules.skips ≡ false → link.taken ≡ rules.records
+  past_ready sequence link awaits (inl started) strict = absurd cc
+  past_ready sequence link awaits (inr past) strict = past.1 strict
 
   pub ready_is : (kept : Option Kept) (link : Option (RelationState T Q)) (there : RelationState T Q) → link ≡ Some there → there.phase ≡ Awaiting → HoldsAt rules kept link
-      → (there.request ≡ rules.request) × (there.taken ≡ rules.records)
+      → (there.request ≡ rules.request) × (rules.skips ≡ false → there.taken ≡ rules.records)
   ready_is kept link there is awaits holds =
       let held = is_held kept link there is holds in
       (held.2.made, past_ready held.0.sequence there awaits held.2.past)
@@ -245,7 +248,7 @@ module _ {T Q : Type 0} (rules : Rules T Q) where
     answer_tells : (sequence : ℕ) (ask : Ask) (positive : Bool) (kept : Option Kept) (link : Option (RelationState T Q)) (answer : Kept) (after : Option (RelationState T Q)) (frame : List ℕ)
         → IsCall rules sequence ask kept link → Does positive ask link after
         → TellsController rules GoodNow (Some answer) after frame (Answers sequence positive)
-    answer_tells sequence ask true kept link answer after frame call comes = λ few. record { called = tt; taken = reported_by sequence ask kept link after call comes few }
+    answer_tells sequence ask true kept link answer after frame call comes = λ few strict. record { called = tt; taken = reported_by sequence ask kept link after call comes few strict }
     answer_tells sequence ask false kept link answer after frame call comes = tt
 
     module _ (before after : Device T Q) (frames : List (List ℕ)) (held : HoldsAt rules before.kept before.link)
@@ -328,13 +331,12 @@ module _ {T Q : Type 0} (rules : Rules T Q) where
       past_exchanging sequence link there awaits = record {
         few = there.few;
         made = there.made;
-        rest = there.rest;
         begins = there.begins;
         past = inr (is_past sequence link awaits there.past);
       }
         where
-          is_past : (sequence : ℕ) (link : RelationState T Q) → link.phase ≡ Awaiting → (link.phase ≡ Started) ⊎ ((length rules.records < sequence) × (link.taken ≡ rules.records))
-              → (length rules.records < sequence) × (link.taken ≡ rules.records)
+          is_past : (sequence : ℕ) (link : RelationState T Q) → link.phase ≡ Awaiting → IsPast rules sequence link
+              → (length rules.records < sequence) × (rules.skips ≡ false → link.taken ≡ rules.records)
           is_past sequence link awaits (inl started) = absurd cc
           is_past sequence link awaits (inr past) = past
 

@@ -1,11 +1,11 @@
 -- The law of a start-up.
-use Rattle.std.proofs.Common.{◌≡◌, ◌⊎◌, inl, inr, ◌+◌, ◌≤◌, ℕ, true, List, [], ◌∷◌, ◌++◌, length, Option, Some, None, refl, sym, ap, subst, ◌∙◌, add-one, append_assoc}
+use Rattle.std.proofs.Common.{◌≡◌, ◌⊎◌, inl, inr, ◌+◌, ◌≤◌, ℕ, Bool, true, false, List, [], ◌∷◌, ◌++◌, length, Option, Some, None, refl, sym, ap, subst, ◌∙◌, add-one, append_assoc}
 use Rattle.std.specs.List.{AllByRecursion}
 use Rattle.std.specs.Prelude.{slice_get}
 use Rattle.end_laws.specs.both.Small.{Ask, ToDevice, Call, Confirms, Idle, ToController, Answers, Readies, Nothing, Rules, Awaiting, Exchanging, RelationState, Kept, Device, Controller, Seeking, Asking, Waiting, Exchanges, Ended, World, Move, ComesToDevice, ComesToController, AtDevice, AtController, IsByController, IsByDevice}
 use Rattle.end_laws.specs.both.Steps.{IsDull, CallsWhile, SaysToDevice, IsSaid, IsNext, Moves, StepsAtDevice, StepsAtController, ComesToDeviceAs, ComesToControllerAs, Steps}
 use Rattle.end_laws.specs.both.StartUp.{IsRun, last_of, Begins, WasSent, WasHanded, WasExchanging}
-use Rattle.end_laws.proofs.BothHolds.{HoldsAt, Behind, IsCall, TellsDevice, TellsController, IsFine, AreFine, KeepsFine, AsksBehind, ConfirmedIn, Holds}
+use Rattle.end_laws.proofs.BothHolds.{HoldsAt, Took, Behind, IsCall, TellsDevice, TellsController, IsFine, AreFine, KeepsFine, AsksBehind, ConfirmedIn, Holds}
 use Rattle.end_laws.proofs.BothRuns.{holds_behind_run, later_on}
 use Rattle.end_laws.proofs.BothEach.{each_at, each_behind, each_so}
 use Rattle.end_laws.proofs.BothGoes.{asks_on, are_fine_on, keeps_on, same_grows, fine_as}
@@ -15,37 +15,48 @@ module _ {T Q : Type 0} (rules : Rules T Q) where
   -- ---- the controller
 
   module _ (Was : Type 0) (Good : List ℕ → Type 0) (kept : Option Kept) (link : Option (RelationState T Q)) where
-    next_asks : (heard : ToController) (frame : List ℕ) (before after : Controller) (next : IsNext (length rules.records) heard before after)
+    no_skip : true ≡ false → ⊥
+    no_skip e = cc
+
+    -- what the response to the last call says was accepted, unless records may be skipped
+    granted_took : (heard : ToController) (frame : List ℕ) (sequence : ℕ) (positive : Bool) → heard ≡ Answers sequence positive → (positive ≡ true) ⊎ (rules.skips ≡ true)
+        → TellsController rules Good kept link frame heard → sequence ≤ length rules.records → rules.skips ≡ false → Took sequence kept link
+    granted_took heard frame sequence positive e (inl granted) tells few strict =
+        let reported : TellsController rules Good kept link frame (Answers sequence true) =
+        subst (λ (h : ToController). TellsController rules Good kept link frame h) (e ∙ ap (λ (b : Bool). Answers sequence b) granted) tells in
+        reported few strict
+    granted_took heard frame sequence positive e (inr skips) tells few strict = absurd (no_skip (sym skips ∙ strict))
+
+    next_asks : (heard : ToController) (frame : List ℕ) (before after : Controller) (next : IsNext rules.skips (length rules.records) heard before after)
         → TellsController rules Good kept link frame heard
-        → ((next.sequence ≤ length rules.records) × (after ≡ Asking (next.sequence + 1))) ⊎ (after ≡ Waiting) → AsksBehind kept link after
+        → ((next.sequence ≤ length rules.records) × (after ≡ Asking (next.sequence + 1))) ⊎ (after ≡ Waiting) → AsksBehind rules.skips kept link after
     next_asks heard frame before after next tells (inl more) =
-        let reported : TellsController rules Good kept link frame (Answers next.sequence true) =
-        subst (λ (h : ToController). TellsController rules Good kept link frame h) next.answered tells in
-        subst (λ (c : Controller). AsksBehind kept link c) (sym more.1)
-        (subst (λ (s : ℕ). Behind s kept link) (sym (add-one next.sequence)) (reported more.0))
-    next_asks heard frame before after next tells (inr waits) = subst (λ (c : Controller). AsksBehind kept link c) (sym waits) tt
+        subst (λ (c : Controller). AsksBehind rules.skips kept link c) (sym more.1)
+        (subst (λ (s : ℕ). Behind rules.skips s kept link) (sym (add-one next.sequence))
+        (λ strict. granted_took heard frame next.sequence next.positive next.answered next.granted tells more.0 strict))
+    next_asks heard frame before after next tells (inr waits) = subst (λ (c : Controller). AsksBehind rules.skips kept link c) (sym waits) tt
 
     still_asks : (heard : ToController) (frame : List ℕ) (before after : Controller) → TellsController rules Good kept link frame heard
-        → AsksBehind kept link before → Moves (length rules.records) heard before after → AsksBehind kept link after
-    still_asks heard frame before after tells asks (inl same) = subst (λ (c : Controller). AsksBehind kept link c) (sym same) asks
-    still_asks heard frame before after tells asks (inr (inl ended)) = subst (λ (c : Controller). AsksBehind kept link c) (sym ended) tt
-    still_asks heard frame before after tells asks (inr (inr (inl first))) = subst (λ (c : Controller). AsksBehind kept link c) (sym first) tt
+        → AsksBehind rules.skips kept link before → Moves rules.skips (length rules.records) heard before after → AsksBehind rules.skips kept link after
+    still_asks heard frame before after tells asks (inl same) = subst (λ (c : Controller). AsksBehind rules.skips kept link c) (sym same) asks
+    still_asks heard frame before after tells asks (inr (inl ended)) = subst (λ (c : Controller). AsksBehind rules.skips kept link c) (sym ended) tt
+    still_asks heard frame before after tells asks (inr (inr (inl first))) = subst (λ (c : Controller). AsksBehind rules.skips kept link c) (sym first) tt
     still_asks heard frame before after tells asks (inr (inr (inr (inl next)))) = next_asks heard frame before after next tells next.becomes
-    still_asks heard frame before after tells asks (inr (inr (inr (inr readied)))) = subst (λ (c : Controller). AsksBehind kept link c) (sym readied.1) tt
+    still_asks heard frame before after tells asks (inr (inr (inr (inr readied)))) = subst (λ (c : Controller). AsksBehind rules.skips kept link c) (sym readied.1) tt
 
-    calls_tell : (now : Controller) (sequence : ℕ) (ask : Ask) → AsksBehind kept link now → CallsWhile (length rules.records) now sequence ask → IsCall rules sequence ask kept link
+    calls_tell : (now : Controller) (sequence : ℕ) (ask : Ask) → AsksBehind rules.skips kept link now → CallsWhile (length rules.records) now sequence ask → IsCall rules sequence ask kept link
     calls_tell now sequence ask asks (inl releases) = inl releases
-    calls_tell now sequence ask asks (inr asked) = inr (asked.1, subst (λ (c : Controller). AsksBehind kept link c) asked.0 asks)
+    calls_tell now sequence ask asks (inr asked) = inr (asked.1, subst (λ (c : Controller). AsksBehind rules.skips kept link c) asked.0 asks)
 
-    says_tell : (now : Controller) (heard : ToDevice) → (now ≡ Exchanges → Was) → AsksBehind kept link now → SaysToDevice (length rules.records) now heard → TellsDevice rules Was kept link heard
+    says_tell : (now : Controller) (heard : ToDevice) → (now ≡ Exchanges → Was) → AsksBehind rules.skips kept link now → SaysToDevice (length rules.records) now heard → TellsDevice rules Was kept link heard
     says_tell now (Call sequence ask) was asks says = calls_tell now sequence ask asks says
     says_tell now Confirms was asks says = was says
     says_tell now Idle was asks says = tt
 
-    said_fine : (now : Controller) (frame : List ℕ) → (now ≡ Exchanges → Was) → AsksBehind kept link now → IsSaid rules now frame → IsFine rules Was Good kept link frame
+    said_fine : (now : Controller) (frame : List ℕ) → (now ≡ Exchanges → Was) → AsksBehind rules.skips kept link now → IsSaid rules now frame → IsFine rules Was Good kept link frame
     said_fine now frame was asks said = fine_as rules Was Good kept link frame (rules.to_device frame) Nothing refl said.0 (says_tell now (rules.to_device frame) was asks said.1) tt
 
-    all_said_fine : (now : Controller) (frames : List (List ℕ)) → (now ≡ Exchanges → Was) → AsksBehind kept link now → AllByRecursion (IsSaid rules now) frames
+    all_said_fine : (now : Controller) (frames : List (List ℕ)) → (now ≡ Exchanges → Was) → AsksBehind rules.skips kept link now → AllByRecursion (IsSaid rules now) frames
         → AreFine rules Was Good kept link frames
     all_said_fine now [] was asks all = tt
     all_said_fine now (frame ∷ frames) was asks all = (said_fine now frame was asks all.0, all_said_fine now frames was asks all.1)
@@ -62,7 +73,7 @@ module _ {T Q : Type 0} (rules : Rules T Q) where
     pub past_now : (number : ℕ) → move ≡ ComesToDevice number → Was → PastNow
     pub good_now : IsByDevice move → (frames : List (List ℕ)) → v.sent ≡ w.sent ++ frames → v.controller ≡ w.controller
         → (number : ℕ) (frame : List ℕ) → slice_get frames number ≡ Some frame
-        → (link : RelationState T Q) → v.device.link ≡ Some link → link.phase ≡ Awaiting → link.request ≡ rules.request → link.taken ≡ rules.records → GoodNow frame
+        → (link : RelationState T Q) → v.device.link ≡ Some link → link.phase ≡ Awaiting → link.request ≡ rules.request → (rules.skips ≡ false → link.taken ≡ rules.records) → GoodNow frame
     pub handed_now : (number : ℕ) → move ≡ ComesToController number → (frame : List ℕ) → slice_get w.sent number ≡ Some frame
         → rules.to_controller frame ≡ Readies → Good frame → v.controller ≡ Exchanges → HandedNow
 
@@ -93,8 +104,8 @@ module _ {T Q : Type 0} (rules : Rules T Q) where
           sent = subst (λ (fs : List (List ℕ)). AreFine rules WasNow GoodNow after.kept after.link fs) (sym steps.behind)
               (each_behind (IsFine rules WasNow GoodNow after.kept after.link) w.sent steps.frames
               (are_fine_on before.kept after.kept before.link after.link leaves.grows rules Was WasNow Good GoodNow passes.was_on passes.good_on w.sent holds.sent) leaves.new);
-          asked = subst (λ (c : Controller). AsksBehind after.kept after.link c) (sym steps.controller)
-              (asks_on before.kept after.kept before.link after.link leaves.grows w.controller holds.asked);
+          asked = subst (λ (c : Controller). AsksBehind rules.skips after.kept after.link c) (sym steps.controller)
+              (asks_on before.kept after.kept before.link after.link leaves.grows rules.skips w.controller holds.asked);
           readied = λ exchanges. passes.handed_on (holds.readied (sym steps.controller ∙ exchanges));
           confirmed = leaves.confirmed;
         }
@@ -105,7 +116,7 @@ module _ {T Q : Type 0} (rules : Rules T Q) where
 
     -- the ApplicationReady with which the controller began to exchange data
     readied_by : (heard : ToController) (frame : List ℕ) → (heard ≡ Readies → v.controller ≡ Exchanges → HandedNow)
-        → Moves (length rules.records) heard w.controller v.controller → v.controller ≡ Exchanges → HandedNow
+        → Moves rules.skips (length rules.records) heard w.controller v.controller → v.controller ≡ Exchanges → HandedNow
     readied_by heard frame handed (inl same) exchanges = passes.handed_on (holds.readied (sym same ∙ exchanges))
     readied_by heard frame handed (inr (inl ended)) exchanges = absurd (not_ended (sym ended ∙ exchanges))
       where
@@ -147,7 +158,7 @@ module _ {T Q : Type 0} (rules : Rules T Q) where
           kept = subst (λ (d : Device T Q). KeepsFine rules WasNow GoodNow d.kept d.link d.kept) (sym same)
               (keeps_on kept kept link link grows rules Was WasNow Good GoodNow passes.was_on passes.good_on kept holds.kept);
           sent = subst (λ (d : Device T Q). AreFine rules WasNow GoodNow d.kept d.link v.sent) (sym same) sent;
-          asked = subst (λ (d : Device T Q). AsksBehind d.kept d.link v.controller) (sym same) asks;
+          asked = subst (λ (d : Device T Q). AsksBehind rules.skips d.kept d.link v.controller) (sym same) asks;
           readied = readied_by heard frame handed steps.steps.moves;
           confirmed = subst (λ (d : Device T Q). ConfirmedIn PastNow d.link) (sym same) (confirmed_on link holds.confirmed);
         }
@@ -344,7 +355,7 @@ module _ {T Q : Type 0} (rules : Rules T Q) where
       held = subst (λ (k : Option Kept). HoldsAt rules k first.device.link) (sym begins.uncalled) begins.unrelated;
       kept = subst (λ (k : Option Kept). KeepsFine rules (WasAtExchange []) (WasSent rules first []) first.device.kept first.device.link k) (sym begins.uncalled) tt;
       sent = dull_fine (WasAtExchange []) (WasSent rules first []) first.device.kept first.device.link first.sent begins.dull;
-      asked = subst (λ (c : Controller). AsksBehind first.device.kept first.device.link c) (sym begins.seeking) tt;
+      asked = subst (λ (c : Controller). AsksBehind rules.skips first.device.kept first.device.link c) (sym begins.seeking) tt;
       readied = λ exchanges. absurd (not_seeking (sym begins.seeking ∙ exchanges));
       confirmed = subst (λ (l : Option (RelationState T Q)). ConfirmedIn (WasExchanging {T = T} {Q = Q} []) l) (sym begins.unrelated) tt;
     }

@@ -18,7 +18,7 @@ use Rattle.plans.specs.declared.parts.Parts.{Parts}
 use Rattle.controller_frames.specs.declared.setup.Setup.{Setup}
 use Rattle.controller_frames.specs.declared.request.Request.{Request}
 use Rattle.controller_frames.specs.declared.request.Request.TheVariants as asks
-use Rattle.controller_frames.specs.Heard.{Responds, heard_of}
+use Rattle.controller_frames.specs.Heard.{Heard, Responds, heard_of}
 use Rattle.controller_frames.specs.Requests.{sequence_of, writing_from}
 use Rattle.controller_frames.specs.Sent.{Sent}
 use Rattle.controller_core.specs.declared.state.Cause.{Cause}
@@ -28,8 +28,9 @@ use Rattle.controller_core.specs.declared.event.Event.{Event}
 use Rattle.controller_core.specs.declared.event.Event.TheVariants.{Frame}
 use Rattle.controller_core.specs.State.{Live}
 use Rattle.controller_core.specs.Answers.{is_answer, is_call}
-use Rattle.controller_core.specs.Machine.{Turn, stays, over, next_sequence, released, writing, standing, behind_data, confirming, taken, is_again, where_due, requests_of, acks_in, acks_of, outputs_of, flow_later, due_frames, brought, turn_of}
-use Rattle.end_laws.specs.turns.Turns.{Came, Hears, IsGranted, IsKind, IsReadied, IsTurn, Kind, Rests, Connects, Addresses, Ends, Releases, Relates, Writes, Waits, Forgets, Begins, Repeats, Takes, Flows, Breaks, Idles, came_by, turn_by}
+use Rattle.controller_core.specs.Machine.{Turn, stays, over, next_sequence, noted, released, writing, standing, behind_data, confirming, taken, is_again, where_due, requests_of, acks_in, acks_of, outputs_of, flow_later, due_frames, brought, turn_of}
+use Rattle.end_laws.specs.turns.Ended.{IsReleased}
+use Rattle.end_laws.specs.turns.Turns.{Came, Hears, IsGranted, IsKind, IsReadied, IsSkipped, IsTurn, Kind, Rests, Connects, Addresses, Ends, Releases, Relates, Writes, Skips, Waits, Forgets, Begins, Repeats, Takes, Flows, Breaks, Idles, came_by, turn_by}
 use Rattle.end_laws.specs.both.Small as small
 use Rattle.end_laws.specs.both.Small.{Controller, ToController, ToDevice}
 use Rattle.end_laws.specs.both.Steps.{SaysToDevice}
@@ -53,7 +54,7 @@ module _ (plan : Parts) where
   all_inactive now [] all = tt
   all_inactive now (message ∷ sent) all = (inactive_says now message all.0, all_inactive now sent all.1)
 
-  -- ---- the cases in which nothing moves, and in which the relation has ended
+  -- ---- the cases in which nothing moves
 
   same_goes : (heard : ToController) (live after : Live) (sent : List Sent) → IsInStep plan live.phase live.asked → after.phase ≡ live.phase → after.asked ≡ live.asked
       → AllByRecursion IsInactive sent → GoesOn plan heard live (record { live = after; sent = sent })
@@ -65,9 +66,6 @@ module _ (plan : Parts) where
 
   stays_goes : (heard : ToController) (live : Live) → IsInStep plan live.phase live.asked → GoesOn plan heard live (stays live)
   stays_goes heard live in_step = same_goes heard live live [] in_step refl refl tt
-
-  over_goes : (heard : ToController) (reason : Cause) (live : Live) (sent : List Sent) → AllByRecursion IsInactive sent → GoesOn plan heard live (record { live = over reason live; sent = sent })
-  over_goes heard reason live sent inactive = record { in_step = inl refl; moves = inr (inl refl); says = all_inactive small.Ended sent inactive }
 
 module _ (setup : Setup) where
   released_goes : (heard : ToController) (reason : Cause) (live : Live) → GoesOn setup.plan heard live (released setup reason live)
@@ -104,20 +102,21 @@ module _ (setup : Setup) where
   tells phase asked in_step request stands = absurd (none_stands request (sym in_step ∙ stands))
 
   -- the next request is made by the next call
-  module _ (live after : Live) (number : ℕ) (heard : ToController) (before : small_of setup.plan live ≡ small.Asking number) (answers : heard ≡ small.Answers number true)
+  module _ (live after : Live) (number : ℕ) (heard : ToController) (positive : Bool) (before : small_of setup.plan live ≡ small.Asking number)
+      (answers : heard ≡ small.Answers number positive) (granted : (positive ≡ true) ⊎ (setup.plan.continue_on_refused_record ≡ true))
       (few : number ≤ length setup.plan.records.items) where
     writing_by : (b : Bool) → nat_lt number (length setup.plan.records.items) ≡ b
         → GoesOn setup.plan heard live (writing (cond b (asks.Write number) asks.PrmEnd) after)
     writing_by true below = record {
       in_step = (number, ltb-true number (length setup.plan.records.items) below, refl);
-      moves = inr (inr (inr (inl (record { sequence = number; asked = before; answered = answers; becomes = inl (few, refl) }))));
+      moves = inr (inr (inr (inl (record { sequence = number; positive = positive; asked = before; answered = answers; granted = granted; becomes = inl (few, refl) }))));
       says = (inr (refl, (ltb-true number (length setup.plan.records.items) below, refl)), tt);
     }
     writing_by false above =
         let last : length setup.plan.records.items ≡ number = omega (arith, few, ltb-false number (length setup.plan.records.items) above) in
         record {
           in_step = refl;
-          moves = inr (inr (inr (inl (record { sequence = number; asked = before; answered = answers; becomes = inl (few, ap (λ (n : ℕ). small.Asking (n + 1)) last) }))));
+          moves = inr (inr (inr (inl (record { sequence = number; positive = positive; asked = before; answered = answers; granted = granted; becomes = inl (few, ap (λ (n : ℕ). small.Asking (n + 1)) last) }))));
           says = (inr (refl, refl), tt);
         }
 
@@ -203,34 +202,49 @@ module _ (setup : Setup) where
     granted_said request g =
         ap said_of g.comes ∙ is_heard request g.response g.right ∙ ap (λ (d : Bool). small.Answers (sequence_of setup.plan request) d) g.granted
 
+    skipped_said : (number : ℕ) → (s : IsSkipped setup live came number) → heard ≡ small.Answers (sequence_of setup.plan (asks.Write number)) false
+    skipped_said number s =
+        ap said_of s.comes ∙ is_heard (asks.Write number) s.response s.right ∙ ap (λ (d : Bool). small.Answers (sequence_of setup.plan (asks.Write number)) d) s.refused
+
     readied_said : (caller : Caller) (call : Call) (block : ControlBlock) → IsReadied setup came caller call block → heard ≡ small.Readies
     readied_said caller call block ready =
         ap said_of ready.comes ∙ ap (λ (o : Option ControlBlock). readied_by setup o) ready.is ∙ ap (λ (b : Bool). cond b small.Readies small.Nothing) ready.right
+
+    -- the active Release, which is answered or refused
+    release_in : (came_so : Heard) → IsReleased setup live came_so → (sequence : ℕ) × (live.asked ≡ Some (asks.Release sequence))
+    release_in came_so (inl answered) = (answered.sequence, answered.stood)
+    release_in came_so (inr refused) = (refused.sequence, refused.stood)
 
     kind_goes : (kind : Kind) → IsKind setup live came kind → GoesOn setup.plan heard live (turn_by setup live kind)
     kind_goes Rests holds = stays_goes setup.plan heard live in_step
     kind_goes (Connects source) holds = record { in_step = refl; moves = inr (inr (inl refl)); says = (inr (refl, refl), tt) }
     kind_goes (Addresses source) holds = record { in_step = refl; moves = inl (sym (seeking holds.seeking)); says = (tt, tt) }
-    kind_goes (Ends reason) holds = over_goes setup.plan heard reason live [] tt
+    kind_goes (Ends reason refusal refused) holds = record { in_step = inl refl; moves = inr (inl refl); says = tt }
     kind_goes (Releases reason) holds = released_goes heard reason live
     kind_goes (Relates chosen) holds =
         let granted = holds.0 in
-        writing_goes live (standing setup live chosen) 0 heard (tells live.phase live.asked in_step asks.Connect granted.stood) (granted_said asks.Connect granted) (omega arith)
+        writing_goes live (standing setup live chosen) 0 heard true (tells live.phase live.asked in_step asks.Connect granted.stood) (granted_said asks.Connect granted) (inl refl) (omega arith)
     kind_goes (Writes number) holds =
         let there = tells live.phase live.asked in_step (asks.Write number) holds.stood in
-        writing_goes live live (number + 1) heard there.1 (granted_said (asks.Write number) holds) (omega (arith, there.0))
+        writing_goes live live (number + 1) heard true there.1 (granted_said (asks.Write number) holds) (inl refl) (omega (arith, there.0))
+    kind_goes (Skips number status) holds =
+        let there = tells live.phase live.asked in_step (asks.Write number) holds.stood in
+        writing_goes live (noted status number live) (number + 1) heard false there.1 (skipped_said number holds) (inr holds.goes_on) (omega (arith, there.0))
     kind_goes Waits holds = record {
       in_step = refl;
       moves = inr (inr (inr (inl (record {
         sequence = length setup.plan.records.items + 1;
+        positive = true;
         asked = tells live.phase live.asked in_step asks.PrmEnd holds.stood;
         answered = granted_said asks.PrmEnd holds;
+        granted = inl refl;
         becomes = inr refl;
       }))));
       says = tt;
     }
     kind_goes Forgets holds =
-        let ends = tells live.phase live.asked in_step (asks.Release holds.2.sequence) holds.2.stood in
+        let there = release_in holds.0 holds.2 in
+        let ends = tells live.phase live.asked in_step (asks.Release there.0) there.1 in
         record { in_step = ends.0; moves = inr (inl ends.1); says = tt }
     kind_goes (Begins caller call block) holds =
         record { in_step = refl; moves = inr (inr (inr (inr (readied_said caller call block holds.1, refl)))); says = (refl, tt) }

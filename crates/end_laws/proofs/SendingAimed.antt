@@ -26,10 +26,10 @@ use Rattle.controller_core.specs.declared.state.Cause.{Cause}
 use Rattle.controller_core.specs.declared.state.State.{State}
 use Rattle.controller_core.specs.declared.state.State.TheVariants.{Addressing, Connecting, Ended, Exchanging, Waiting}
 use Rattle.controller_core.specs.State.{Live}
-use Rattle.end_laws.specs.turns.Turns.{Came, Hears, IsKind, IsReadied, IsTurn, Kind, Rests, Connects, Addresses, Ends, Releases, Relates, Writes, Waits, Forgets, Begins, Repeats, Follows, Takes, IsAcked, Gives, GivesStatus, Flows, Breaks, Idles, came_by, turn_by}
+use Rattle.end_laws.specs.turns.Turns.{Came, Hears, IsKind, IsReadied, IsTurn, Kind, Rests, Connects, Addresses, Ends, Releases, Relates, Writes, Skips, Waits, Forgets, Begins, Repeats, Follows, Takes, IsAcked, Gives, GivesStatus, Flows, Breaks, Idles, came_by, turn_by}
 use Rattle.codec_laws.specs.frames.Sendable.{IsMac}
 use Rattle.controller_core.specs.Connect.{Chosen}
-use Rattle.controller_core.specs.Machine.{Turn, acks_in, asking, behind_data, brought, first, flow_later, is_again, next_sequence, over, phase_for, released, requests_of, standing, stays, taken, turn_of, where_due, writing}
+use Rattle.controller_core.specs.Machine.{Turn, acks_in, asking, behind_data, brought, first, flow_later, is_again, next_sequence, noted, over, phase_for, released, requests_of, standing, stays, taken, turn_of, where_due, writing}
 use Rattle.end_laws.specs.hearing.Stations.{IsSetup}
 use Rattle.end_laws.specs.sending.Addressed.{IsAimed, IsAimedAt, IsDirection, IsEventFrom, IsHeardFrom}
 use Rattle.end_laws.specs.sending.Sized.{AreFew, IsFew}
@@ -109,10 +109,14 @@ module _ (mac : Mac) where
     kind_sent Rests holds = record { live = is; sent = tt }
     kind_sent (Connects source) holds = asking_sent Connecting asks.Connect _ (at_station source holds.known) tt
     kind_sent (Addresses source) holds = asking_sent Addressing asks.Address _ (at_station source holds.known) tt
-    kind_sent (Ends why) holds = record { live = over_aimed why live is; sent = tt }
+    kind_sent (Ends why refusal refused) holds = record {
+      live = record { device = is.device; asked = tt; way = record { partner = is.way.partner; sent_tag = is.way.sent_tag; alarm_tag = is.way.alarm_tag } };
+      sent = tt;
+    }
     kind_sent (Releases why) holds = released_sent setup why live good is
     kind_sent (Relates chosen) holds = writing_sent setup 0 (standing setup live chosen) good (stands_aimed setup live chosen is)
     kind_sent (Writes number) holds = writing_sent setup (number + 1) live good is
+    kind_sent (Skips number status) holds = writing_sent setup (number + 1) (noted status number live) good (record { device = is.device; asked = is.asked; way = is.way })
     kind_sent Waits holds = record { live = unasked live Waiting is; sent = tt }
     kind_sent Forgets holds = record { live = unasked live live.phase is; sent = tt }
     kind_sent (Begins caller call block) holds = record { live = begun_aimed live is; sent = (agrees caller call block holds.1, tt) }

@@ -33,11 +33,11 @@ use Rattle.controller_core.specs.declared.state.Cause.{Cause}
 use Rattle.controller_core.specs.declared.state.State.{State}
 use Rattle.controller_core.specs.declared.state.State.TheVariants.{Addressing, Connecting, Ended, Exchanging, Waiting}
 use Rattle.controller_core.specs.State.{Live}
-use Rattle.end_laws.specs.turns.Turns.{Came, Hears, IsKind, IsReadied, IsTurn, Kind, Rests, Connects, Addresses, Ends, Releases, Relates, Writes, Waits, Forgets, Begins, Repeats, Follows, Takes, IsAcked, Gives, GivesStatus, Flows, Breaks, Idles, came_by, turn_by}
+use Rattle.end_laws.specs.turns.Turns.{Came, Hears, IsKind, IsReadied, IsTurn, Kind, Rests, Connects, Addresses, Ends, Releases, Relates, Writes, Skips, Waits, Forgets, Begins, Repeats, Follows, Takes, IsAcked, Gives, GivesStatus, Flows, Breaks, Idles, came_by, turn_by}
 use Rattle.codec_laws.specs.frames.Sendable.{IsMac}
 use Rattle.controller_core.specs.Alarms.{ack_of, header_of}
 use Rattle.controller_core.specs.Connect.{Chosen}
-use Rattle.controller_core.specs.Machine.{Turn, acks_in, asking, behind_data, brought, confirming, first, flow_later, given, is_again, later, next_sequence, over, phase_for, rated, released, requests_of, standing, stays, taken, turn_of, where_due, writing}
+use Rattle.controller_core.specs.Machine.{Turn, acks_in, asking, behind_data, brought, confirming, first, flow_later, given, is_again, later, next_sequence, noted, over, phase_for, rated, released, requests_of, standing, stays, taken, turn_of, where_due, writing}
 use Rattle.codec_laws.specs.alarms.Sendable.{IsHeader}
 use Rattle.codec_laws.specs.blocks.Writable.{IsAck}
 use Rattle.end_laws.specs.hearing.Stations.{IsSetup}
@@ -219,12 +219,15 @@ module _ (long : BlocksAreLong) (setup : Setup) (live : Live) (came : Came) (goo
   kind_right Rests holds = record { live = is; sent = tt }
   kind_right (Connects source) holds = asking_right setup Connecting asks.Connect _ (at_station source holds.known) tt
   kind_right (Addresses source) holds = asking_right setup Addressing asks.Address _ (at_station source holds.known) tt
-  kind_right (Ends why) holds = record { live = over_live why live is; sent = tt }
+  kind_right (Ends why refusal refused) holds =
+      record { live = record { device = is.device; asked = tt; way = is.way; few = is.few; last = is.last; seen = is.seen; confirming = is.confirming }; sent = tt }
   kind_right (Releases why) holds = released_right setup why live good is
   kind_right (Relates chosen) holds =
       let sized_so : IsSized (Responds holds.0.response) = reported (Hears (Responds holds.0.response)) holds.0.comes in
       writing_right setup 0 (standing setup live chosen) good (stands_live setup live chosen is (sized_so chosen holds.1))
   kind_right (Writes number) holds = writing_right setup (number + 1) live good is
+  kind_right (Skips number status) holds = writing_right setup (number + 1) (noted status number live) good
+      (record { device = is.device; asked = is.asked; way = is.way; few = is.few; last = is.last; seen = is.seen; confirming = is.confirming })
   kind_right Waits holds = record { live = unasked live Waiting is; sent = tt }
   kind_right Forgets holds = record { live = unasked live live.phase is; sent = tt }
   kind_right (Begins caller call block) holds = record { live = begun_live live is; sent = (agrees caller call block holds.1, tt) }

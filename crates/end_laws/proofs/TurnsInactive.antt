@@ -14,7 +14,7 @@ use Rattle.controller_frames.specs.Heard.{Alarms}
 use Rattle.controller_frames.specs.Sent.{Sent, Confirms, Replies}
 use Rattle.controller_core.specs.State.{Live}
 use Rattle.controller_core.specs.Machine.{Turn, requests_of, stays, where_due}
-use Rattle.end_laws.specs.turns.Turns.{Came, Hears, Passes, IsKind, Kind, Rests, Connects, Addresses, Ends, Releases, Relates, Writes, Waits, Forgets, Begins, Repeats, Follows, Takes, IsAcked, Gives, GivesStatus, Flows, Breaks, Idles, turn_by, turn_for}
+use Rattle.end_laws.specs.turns.Turns.{Came, Hears, Passes, IsKind, Kind, Rests, Connects, Addresses, Ends, Releases, Relates, Writes, Skips, Waits, Forgets, Begins, Repeats, Follows, Takes, IsAcked, Gives, GivesStatus, Flows, Breaks, Idles, turn_by, turn_for}
 use Rattle.end_laws.proofs.TurnsOneTurn.{turn_is}
 
 -- ---- whether a message is of what either end of an exchange sent
@@ -56,10 +56,11 @@ module _ (setup : Setup) (live : Live) (came : Came) (plain : IsPlain came) wher
   inactive_by Rests holds = inactive_stays live
   inactive_by (Connects source) holds = record { alarms = refl; alarm = refl; sent = λ pdus acks nacks. (tt, tt) }
   inactive_by (Addresses source) holds = record { alarms = refl; alarm = refl; sent = λ pdus acks nacks. (tt, tt) }
-  inactive_by (Ends cause) holds = record { alarms = refl; alarm = refl; sent = λ pdus acks nacks. tt }
+  inactive_by (Ends cause refusal refused) holds = record { alarms = refl; alarm = refl; sent = λ pdus acks nacks. tt }
   inactive_by (Releases cause) holds = record { alarms = refl; alarm = refl; sent = λ pdus acks nacks. (tt, tt) }
   inactive_by (Relates chosen) holds = record { alarms = refl; alarm = refl; sent = λ pdus acks nacks. (tt, tt) }
   inactive_by (Writes number) holds = record { alarms = refl; alarm = refl; sent = λ pdus acks nacks. (tt, tt) }
+  inactive_by (Skips number status) holds = record { alarms = refl; alarm = refl; sent = λ pdus acks nacks. (tt, tt) }
   inactive_by Waits holds = record { alarms = refl; alarm = refl; sent = λ pdus acks nacks. tt }
   inactive_by Forgets holds = record { alarms = refl; alarm = refl; sent = λ pdus acks nacks. tt }
   inactive_by (Begins caller call block) holds = record { alarms = refl; alarm = refl; sent = λ pdus acks nacks. (tt, tt) }

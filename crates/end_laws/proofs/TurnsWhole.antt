@@ -15,10 +15,10 @@ use Rattle.controller_core.specs.declared.event.Event.{Event}
 use Rattle.controller_core.specs.declared.state.Cause.{Cause}
 use Rattle.controller_core.specs.declared.state.State.TheVariants.{Ended}
 use Rattle.controller_core.specs.State.{Controlling, Live}
-use Rattle.controller_core.specs.Machine.{Turn, behind_data, cause_of, confirming, first, flow_later, fresh, over, phase_for, released, standing, stays, step_of, taken, turn_of, writing}
+use Rattle.controller_core.specs.Machine.{Turn, behind_data, cause_of, confirming, first, flow_later, fresh, noted, over, phase_for, released, standing, stays, step_of, taken, turn_of, writing}
 use Rattle.end_laws.specs.turns.Ended.{HasEnded, may_release}
 use Rattle.end_laws.specs.turns.Runs.{IsReached, behind_all}
-use Rattle.end_laws.specs.turns.Turns.{Came, IsEnd, IsKind, IsReported, Kind, Rests, Connects, Addresses, Ends, Releases, Relates, Writes, Waits, Forgets, Begins, Repeats, Follows, Takes, IsAcked, Gives, GivesStatus, Flows, Breaks, Idles, came_by, turn_by}
+use Rattle.end_laws.specs.turns.Turns.{Came, IsEnd, IsKind, IsReported, Kind, Rests, Connects, Addresses, Ends, Releases, Relates, Writes, Skips, Waits, Forgets, Begins, Repeats, Follows, Takes, IsAcked, Gives, GivesStatus, Flows, Breaks, Idles, came_by, turn_by}
 use Rattle.end_laws.proofs.TurnsOneTurn.{event_is, is_over, not_over}
 
 -- After a turn the controller has not ended, or its end is complete.
@@ -71,10 +71,11 @@ kept_by : (setup : Setup) (live : Live) (came : Came) (kind : Kind) → IsKind s
 kept_by setup live came Rests holds k = k
 kept_by setup live came (Connects source) holds k = goes_on _ _ refl
 kept_by setup live came (Addresses source) holds k = goes_on _ _ refl
-kept_by setup live came (Ends cause) holds k = ends cause live []
+kept_by setup live came (Ends cause refusal refused) holds k = ends cause (record live { refusal = refusal; refused_record = refused }) []
 kept_by setup live came (Releases cause) holds k = releases setup cause live holds.1
 kept_by setup live came (Relates chosen) holds k = writing_kept (writing_from setup.plan 0) (standing setup live chosen)
 kept_by setup live came (Writes number) holds k = writing_kept (writing_from setup.plan (number + 1)) live
+kept_by setup live came (Skips number status) holds k = writing_kept (writing_from setup.plan (number + 1)) (noted status number live)
 kept_by setup live came Waits holds k = goes_on _ _ refl
 kept_by setup live came Forgets holds k = unasked live k
 kept_by setup live came (Begins caller call block) holds k = goes_on _ _ refl

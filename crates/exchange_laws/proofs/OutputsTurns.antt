@@ -30,7 +30,7 @@ use Rattle.cyclic_exchange.specs.Received.{behind_frame, behind_read, is_new, is
 use Rattle.controller_frames.specs.declared.request.Request.{Request}
 use Rattle.controller_frames.specs.declared.request.Request.TheVariants as asks
 use Rattle.controller_frames.specs.declared.setup.Setup.{Setup}
-use Rattle.controller_frames.specs.Heard.{Alarms, Answers, Calls, Heard, Nothing, Responds, heard_of}
+use Rattle.controller_frames.specs.Heard.{Alarms, Answers, Calls, Heard, Nothing, Refuses, Responds, heard_of}
 use Rattle.controller_frames.specs.Heard.{Cyclic as Comes}
 use Rattle.controller_frames.specs.Sent.{Sent}
 use Rattle.controller_core.specs.declared.event.Event.{Event}
@@ -44,9 +44,9 @@ use Rattle.controller_core.specs.Alarms.{is_alarm}
 use Rattle.controller_core.specs.Answers.{is_addressed, is_answer, is_found, is_ready, is_right, is_set_answer}
 use Rattle.controller_core.specs.Connect.{Chosen, found_in, is_whole, nothing}
 use Rattle.controller_frames.specs.Requests.{writing_from}
-use Rattle.controller_core.specs.Machine.{Turn, acks_in, addressed, answered, asking, behind_data, brought, called, come, connected, decided, done, flow_later, flowed, found, given, is_again, handled, next_sequence, noticed, over, phase_for, rated, readied, ready_in, standing, writing, related_by, released, requests_of, responded, stays, stopped, taken, ticked, turn_of, turned, where_due}
+use Rattle.controller_core.specs.Machine.{Turn, acks_in, addressed, answered, asking, behind_data, brought, called, come, connected, decided, done, flow_later, flowed, found, given, is_again, handled, next_sequence, noted, noticed, over, phase_for, rated, readied, ready_in, standing, writing, related_by, released, requests_of, responded, stays, stopped, taken, ticked, turn_of, turned, where_due}
 use Rattle.controller_core.specs.State.{Live}
-use Rattle.end_laws.specs.turns.Turns.{Came, Hears, Passes, Gets, GetsStatus, Halts, IsKind, IsReadied, IsSought, IsTurn, Kind, Rests, Connects, Addresses, Releases, Relates, Writes, Waits, Forgets, Begins, Repeats, Follows, Takes, IsAcked, Gives, GivesStatus, Flows, Breaks, Idles, came_by, turn_by}
+use Rattle.end_laws.specs.turns.Turns.{Came, Hears, Passes, Gets, GetsStatus, Halts, IsKind, IsReadied, IsSought, IsTurn, Kind, Rests, Connects, Addresses, Releases, Relates, Writes, Skips, Waits, Forgets, Begins, Repeats, Follows, Takes, IsAcked, Gives, GivesStatus, Flows, Breaks, Idles, came_by, turn_by}
 use Rattle.end_laws.specs.turns.Turns as sort
 use Rattle.exchange_laws.proofs.OutputsBrings.{IsAddressed, IsNow, IsWay}
 use Rattle.exchange_laws.proofs.OutputsMoves.{Sets, sets_of}
@@ -205,10 +205,14 @@ module _ (size : ℕ) where
     kind_tells Rests holds = stays_tells live k
     kind_tells (Connects source) holds = met_tells Connecting asks.Connect source holds
     kind_tells (Addresses source) holds = met_tells Addressing asks.Address source holds
-    kind_tells (sort.Ends why) holds = over_tells why live k
+    kind_tells (sort.Ends why refusal refused) holds =
+        over_tells why (record live { refusal = refusal; refused_record = refused }) (record { device = k.device; way = k.way; size = k.size })
     kind_tells (Releases why) holds = released_tells setup why live k
     kind_tells (Relates chosen) holds = related_tells setup live chosen k
     kind_tells (Writes number) holds = let next = writing_from setup.plan (number + 1) in asking_tells (phase_for next) next live k
+    kind_tells (Skips number status) holds =
+        let next = writing_from setup.plan (number + 1) in
+        asking_tells (phase_for next) next (noted status number live) (record { device = k.device; way = k.way; size = k.size })
     kind_tells (Begins caller call block) holds = record { reported = ((tt, readied_tells caller call block holds.1), tt); kept = k; same = refl }
     kind_tells (Repeats caller call block) holds = record { reported = ((tt, readied_tells caller call block holds.1), tt); kept = k; same = refl }
     kind_tells (Follows source frame_id body) holds =

@@ -3,6 +3,7 @@ use Rattle.std.proofs.Common.{◌≡◌, ◌<◌, ◌+◌, ℕ, Bool, true, fals
 use Rattle.std.specs.Prelude.{nat_lt}
 use Rattle.std.specs.List.{AllByRecursion}
 use Rattle.std.proofs.lemmas.Bool.{ltb-true}
+use Rattle.rpc_core.specs.declared.response.Status.{Status}
 use Rattle.rpc_core.specs.Response.{Answered as Response, is_done}
 use Rattle.plans.specs.Plan.{IsPlan}
 use Rattle.plans.specs.declared.parts.Parts.{Parts}
@@ -17,7 +18,7 @@ use Rattle.controller_core.specs.declared.state.State.{State}
 use Rattle.controller_core.specs.declared.state.State.TheVariants.{Ended, Waiting}
 use Rattle.controller_core.specs.Answers.{is_answer}
 use Rattle.controller_core.specs.Connect.{Chosen, chosen_of, found_in, is_whole, nothing}
-use Rattle.controller_core.specs.Machine.{Turn, asking, connected, decided, done, handled, next_sequence, over, phase_for, related_by, released, responded, standing, stays, writing}
+use Rattle.controller_core.specs.Machine.{Turn, asking, connected, decided, denied, done, handled, next_sequence, noted, over, phase_for, related_by, released, responded, standing, stays, undone, writing}
 use Rattle.controller_core.specs.State.{Live}
 use Rattle.end_laws.specs.hearing.Stations.{IsNumbered, IsSetup}
 use Rattle.end_laws.specs.sending.Messages.{CanBeSent}
@@ -107,10 +108,23 @@ module _ (setup : Setup) (good : IsSetup setup) where
   done_right live blocks asks.PrmEnd is well = stays_right _ (unasked live Waiting is)
   done_right live blocks (asks.Release sequence) is well = stays_right _ (unasked live live.phase is)
 
+  noted_live : (status : Status) (number : ℕ) (live : Live) → IsLive live → IsLive (noted status number live)
+  noted_live status number live is =
+      record { device = is.device; asked = is.asked; way = is.way; few = is.few; last = is.last; seen = is.seen; confirming = is.confirming }
+
+  undone_right : (live : Live) (status : Status) (request : Request) → IsLive live → IsRight setup (undone setup live status request)
+  undone_right live status (asks.Write number) is =
+      either setup.plan.continue_on_refused_record _ _
+      (λ goes. writing_right (number + 1) (noted status number live) (noted_live status number live is))
+      (λ ends. stays_right (over cause.Refused (noted status number live)) (over_live cause.Refused (noted status number live) (noted_live status number live is)))
+  undone_right live status request is =
+      stays_right (denied status live) (record { device = is.device; asked = tt; way = is.way; few = is.few; last = is.last; seen = is.seen; confirming = is.confirming })
+
   handled_right : (live : Live) (response : Response) (request : Request) → IsLive live → (request ≡ asks.Connect → is_done response.status ≡ true → IsChosenWell response.blocks)
       → IsRight setup (handled setup live response request)
   handled_right live response request is well =
-      either (is_done response.status) _ _ (λ positive. done_right live response.blocks request is (λ connects. well connects positive)) (λ negative. stays_right (over cause.Refused live) (over_live cause.Refused live is))
+      either (is_done response.status) _ _ (λ positive. done_right live response.blocks request is (λ connects. well connects positive))
+      (λ negative. undone_right live response.status request is)
 
   decided_right : (live : Live) (response : Response) (request : Request) → IsLive live → (request ≡ asks.Connect → is_done response.status ≡ true → IsChosenWell response.blocks)
       → IsRight setup (decided setup live response request)

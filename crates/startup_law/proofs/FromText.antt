@@ -14,7 +14,7 @@ use Rattle.catalogue.specs.declared.fault.PlacedFault.{PlacedFault}
 use Rattle.catalogue.specs.declared.fault.Step.{Step}
 use Rattle.catalogue.specs.declared.fault.Step.TheVariants.{At, Entry}
 use Rattle.catalogue.specs.Placed.{at_key, behind, placed}
-use Rattle.catalogue.specs.Reader.{◌>>=◌, Reader, each, items_of, list_at, member, number, number_at, text_at, whole, whole_at, within}
+use Rattle.catalogue.specs.Reader.{◌>>=◌, Reader, each, flag_at, items_of, list_at, member, number, number_at, text_at, whole, whole_at, within}
 use Rattle.catalogue.specs.Modules.{Module, module_item, submodules_of}
 use Rattle.catalogue.specs.Submodules.{Submodule}
 use Rattle.catalogue.specs.Slots.{Record, Slot, length_of, octets_at, of_length, parameters_of, record_item, records_of, slot_item}
@@ -101,7 +101,8 @@ project_below least modules tree found e =
     let d = bind_ok (reduction c.0 least tree) _ found c.2 in
     let f = bind_ok (number_at key.DataHoldFactor 1 7680 tree) _ found d.2 in
     let g = bind_ok (list_at key.Slots (λ _ entry. slot_item modules entry) tree) _ found f.2 in
-    subst (λ (p : Project). AllByRecursion AreBelow p.slots) (ok_is {F = PlacedFault} _ found g.2)
+    let h = bind_ok (flag_at key.ContinueOnRefusedRecord tree) _ found g.2 in
+    subst (λ (p : Project). AllByRecursion AreBelow p.slots) (ok_is {F = PlacedFault} _ found h.2)
     (list_is (λ _ entry. slot_item modules entry) AreBelow (slot_below modules) key.Slots tree g.0 g.1)
 
 catalogue_below : (tree : Data) (found : Catalogue) → catalogue tree ≡ Ok found → AllByRecursion AreBelow found.project.slots

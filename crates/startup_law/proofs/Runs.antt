@@ -126,7 +126,7 @@ module _ {F : Type 0} where
         let turn = turn_of w.controller.setup w.controller.live event in
         let on = goes w.controller.setup w.controller.live event in_step in
         record {
-          moves = subst (λ (count : ℕ). Moves count (said_in w.controller.setup (heard_by w.controller.setup.plan.controller) event) (small_of w.controller.setup.plan w.controller.live) (small_of w.controller.setup.plan turn.live))
+          moves = subst (λ (count : ℕ). Moves w.controller.setup.plan.continue_on_refused_record count (said_in w.controller.setup (heard_by w.controller.setup.plan.controller) event) (small_of w.controller.setup.plan w.controller.live) (small_of w.controller.setup.plan turn.live))
               (sym (count_is w)) on.moves;
           sent = all_said w (small_of w.controller.setup.plan turn.live) turn.sent meant on.says;
         }

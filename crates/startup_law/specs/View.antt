@@ -33,11 +33,13 @@ use Rattle.end_laws.specs.device.Small as device
 abbrev pub taken_for : PlanRecord → TakenRecord
 taken_for entry = record { slot = entry.slot; subslot = entry.subslot; index = entry.index; value = record { items = entry.data.items } }
 
--- the request of the plan's Connect, the plan's records, and what each end hears in octets
+-- the request of the plan's Connect, the plan's records, whether the plan goes on after a record that was refused, and
+-- what each end hears in octets
 abbrev pub rules_of : Setup → Station → Rules TakenRecord Request
 rules_of setup station = record {
   request = request_for setup.plan setup.ar;
   records = map taken_for setup.plan.records.items;
+  skips = setup.plan.continue_on_refused_record;
   to_device = λ octets. heard_as (heard_of station.identity (Frame (record { items = octets })));
   to_controller = λ octets. said_to setup (heard_by setup.plan.controller octets);
 }

@@ -62,8 +62,8 @@ pub fn worlds_start_up<F: Flash<S>, const S: usize>(setup: &Setup, identity: &Id
         (first : World F) (run : List (Move × World F)) → Begins setup.now identity.now first
         → AreMade F.Flash first run → AreMeant first run }
     // If the controller exchanges data, it received an ApplicationReady that the device had sent at an earlier point.
-    // At that point the device had accepted the plan's Connect, and had accepted the plan's records in order, each
-    // once.
+    // At that point the device had accepted the plan's Connect; and had accepted the plan's records in order, each
+    // once, if the plan does not say that the start-up goes on after a refused record.
     ensures controller { CanMeet setup.now identity.now →
         (first : World F) (run : List (Move × World F)) → Begins setup.now identity.now first
         → AreMade F.Flash first run → (last_world first run).controller.live.phase ≡ Exchanging

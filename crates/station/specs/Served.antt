@@ -1,5 +1,5 @@
 -- A controller and the services of its address.
-use Rattle.std.specs.Prelude.{◌&&◌, ◌||◌, not, ℕ, Bool, List, [], ◌∷◌, Option, nat_eq}
+use Rattle.std.specs.Prelude.{◌≡◌, ◌++◌, ◌&&◌, ◌||◌, not, ℕ, Bool, List, [], ◌∷◌, drop, Option, Some, None, nat_eq}
 use Rattle.std.specs.Cmp.Lexicographic.{pointwise}
 use Rattle.pn_values.specs.declared.mac.Mac.{Mac}
 use Rattle.pn_values.specs.IpSuite.{is_zero}
@@ -23,6 +23,15 @@ pub record Served : Type 0 where
 pub record Frames : Type 0 where
   pub controller : List (List ℕ)
   pub services : List (List ℕ)
+
+-- All frames, in the order in which they are sent.
+abbrev pub in_order : Frames → List (List ℕ)
+in_order frames = frames.controller ++ frames.services
+
+-- The frame at a place of these, if there is one.
+abbrev pub IsFrameAt : List (List ℕ) → ℕ → Option (List ℕ) → Type 0
+IsFrameAt frames place (Some frame) = (rest : List (List ℕ)) × (drop place frames ≡ frame ∷ rest)
+IsFrameAt frames place None = drop place frames ≡ []
 
 -- Nothing is sent.
 abbrev pub no_frames : Frames

@@ -1,10 +1,14 @@
 //! A controller among stations of other makers. The frames that come and those that are wanted were built by Scapy's own layers
-//! (`bench/interoperation/scapy_makers.py`, whose output is `makers.txt`): no encoder of this repository takes part.
+//! (`bench/interoperation/scapy_makers.py`, whose output is `makers.txt`): no encoder of this repository takes part. Beside it
+//! the library for C plays the same scenario.
 
 use super::PUMP;
+use super::operations::{asked, taken};
 use configurator::plan_from_json;
+use controller_abi::{Port, serve};
 use controller_core::{Controller, Event, State};
 use frame_codec::Outbox;
+use rpc_core::Status;
 use rattle_std::alloc::Global;
 use test_stations::octets;
 use uuid::Uuid;
@@ -13,7 +17,7 @@ use uuid::Uuid;
 const SCENARIOS: &str = include_str!("makers.txt");
 
 /// How many scenarios there are, so that a file that was cut off is found.
-const COUNT: usize = 20;
+const COUNT: usize = 32;
 
 /// The ARUUID and the activity of the controller, as Scapy's station expects them.
 const AR: &str = "11111111-2222-3333-4444-555555555555";
@@ -32,25 +36,37 @@ fn hex_of(octets: &[u8]) -> std::string::String {
     octets.iter().map(|octet| format!("{octet:02x}")).collect()
 }
 
+/// A status in hex.
+fn status_of(status: Status) -> std::string::String {
+    hex_of(&[status.code, status.decode, status.code1, status.code2])
+}
+
 /// A controller in a scenario, and what it has sent since the last line that something came by.
 struct Scene {
     name: std::string::String,
     controller: Controller,
+    /// The same controller, as a host in C drives it.
+    port: Port,
     sent: std::collections::VecDeque<std::string::String>,
 }
 
 impl Scene {
-    fn new(name: &str) -> Scene {
-        let plan = plan_from_json(Global, PUMP.as_bytes())
+    fn new(name: &str, catalogue: &str) -> Scene {
+        let plan = plan_from_json(Global, catalogue.as_bytes())
             .ok()
             .expect("there is a plan");
+        let again = plan_from_json(Global, catalogue.as_bytes())
+            .ok()
+            .expect("there is a plan");
+        let ar = Uuid::parse_str(AR).expect("a UUID");
+        let activity = Uuid::parse_str(ACTIVITY).expect("a UUID");
+        let mut port = Port::unstarted(again, ar, activity);
+        port.start();
+        assert_eq!(taken(&mut port).len(), 1, "{name}");
         Scene {
             name: name.into(),
-            controller: Controller::new(
-                plan,
-                Uuid::parse_str(AR).expect("a UUID"),
-                Uuid::parse_str(ACTIVITY).expect("a UUID"),
-            ),
+            controller: Controller::new(plan, ar, activity),
+            port,
             sent: std::collections::VecDeque::new(),
         }
     }
@@ -59,8 +75,38 @@ impl Scene {
     fn step(&mut self, event: &Event) {
         let mut outbox = Outbox::new();
         self.controller.step(event, &mut outbox);
-        for frame in outbox.as_slice() {
-            self.sent.push_back(hex_of(frame.as_slice()));
+        let sent: std::vec::Vec<_> = outbox
+            .as_slice()
+            .iter()
+            .map(|frame| frame.as_slice().to_vec())
+            .collect();
+        // Only the announcements of the address come after them.
+        let played = self.play(event);
+        assert!(played.starts_with(&sent), "{}", self.name);
+        assert!(played.iter().skip(sent.len()).all(|frame| frame[12..14] == [0x08, 0x06]), "{}", self.name);
+        for frame in sent {
+            self.sent.push_back(hex_of(&frame));
+        }
+    }
+
+    /// What the library for C sends for the event.
+    fn play(&mut self, event: &Event) -> std::vec::Vec<std::vec::Vec<u8>> {
+        let (mut op, given) = match event {
+            Event::Frame(bytes) => (asked(3), bytes.as_slice()),
+            _ => (asked(4), &[][..]),
+        };
+        op.units = 1;
+        assert_eq!(serve(&mut self.port, &mut op, given), 0, "{}", self.name);
+        taken(&mut self.port)
+    }
+
+    /// What the library for C reports by this operation; `None` if nothing was refused.
+    fn told(&mut self, what: u32) -> Option<(u32, std::string::String)> {
+        let mut op = asked(what);
+        match serve(&mut self.port, &mut op, &[]) {
+            0 => Some((op.place, format!("{:08x}", op.units))),
+            25 => None,
+            other => panic!("{}: {other}", self.name),
         }
     }
 
@@ -80,6 +126,22 @@ impl Scene {
             State::Waiting => "waiting".into(),
             State::Exchanging => "exchanging".into(),
             State::Ended(cause) => format!("ended {}", cause.number()),
+        }
+    }
+
+    /// The status with which a call was refused last, in hex.
+    fn refusal(&self) -> std::string::String {
+        match self.controller.refusal() {
+            Some(status) => status_of(status),
+            None => "-".into(),
+        }
+    }
+
+    /// The last record that was refused: its number and the status, in hex.
+    fn refused_record(&self) -> std::string::String {
+        match self.controller.refused_record() {
+            Some(record) => format!("{} {}", record.number, status_of(record.status)),
+            None => "-".into(),
         }
     }
 
@@ -115,6 +177,16 @@ impl Scene {
             "out" => assert_eq!(self.sent.pop_front().as_deref(), Some(rest), "{name}"),
             "state" => assert_eq!(self.state(), rest, "{name}"),
             "deviates" => assert_eq!(self.controller.deviates(), rest == "yes", "{name}"),
+            "refusal" => {
+                assert_eq!(self.refusal(), rest, "{name}");
+                let told = self.told(20).map_or("-".into(), |told| told.1);
+                assert_eq!(told, rest, "{name}");
+            }
+            "refused" => {
+                assert_eq!(self.refused_record(), rest, "{name}");
+                let told = self.told(33).map_or("-".into(), |told| format!("{} {}", told.0, told.1));
+                assert_eq!(told, rest, "{name}");
+            }
             "alarm" => assert_eq!(self.alarm(), rest, "{name}"),
             _ => panic!("{name}: {word}"),
         }
@@ -134,8 +206,11 @@ fn the_controller_takes_stations_of_other_makers() {
             if let Some(scene) = &scene {
                 scene.is_done();
             }
-            scene = Some(Scene::new(rest));
+            scene = Some(Scene::new(rest, PUMP));
             scenes += 1;
+        } else if word == "catalogue" {
+            let name = scene.as_ref().expect("a scenario").name.clone();
+            scene = Some(Scene::new(&name, rest));
         } else {
             scene.as_mut().expect("a scenario").line(word, rest);
         }

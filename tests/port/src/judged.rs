@@ -49,7 +49,7 @@ fn station() -> Station {
 fn fault(change: fn(&mut Station)) -> u32 {
     let mut station = station();
     change(&mut station);
-    judge(81920, 2, 1564, &station)
+    judge(81920, 3, 1568, &station)
 }
 
 #[test]
@@ -100,7 +100,7 @@ fn each_fault_has_its_number() {
 #[test]
 fn another_header_or_a_small_room() {
     let station = station();
-    for (size, abi, op_size, wanted) in [(81920, 1, 1564, 2), (81920, 3, 1564, 2), (81920, 2, 1560, 2), (81919, 2, 1564, 3)] {
+    for (size, abi, op_size, wanted) in [(81920, 2, 1568, 2), (81920, 4, 1568, 2), (81920, 3, 1564, 2), (81919, 3, 1568, 3)] {
         assert_eq!(judge(size, abi, op_size, &station), wanted);
     }
 }

@@ -1,6 +1,6 @@
 //! Operations as a host in C calls them: numbers, answers, and where the reported values are.
 use crate::stations::{booted, busy, lost, made};
-use device_abi::{Port, serve};
+use device_abi::{Port, hand_out, serve};
 use c_layout::Op;
 use test_stations::SET;
 
@@ -18,6 +18,7 @@ fn asked(what: u32) -> Op {
         sector: 0,
         place: 0,
         length: 0,
+        due: 0,
         octets: [0; 1520],
     }
 }
@@ -32,16 +33,23 @@ fn answer(port: &mut Port, what: u32) -> u32 {
 fn before_a_start_and_behind_a_loss() {
     let mut early = made();
     let mut late = lost();
-    for what in 3..19 {
+    for what in (3..19).filter(|what| *what != 7) {
         assert_eq!(answer(&mut early, what), 5);
         assert_eq!(answer(&mut late, what), 14);
+    }
+    // Nothing is handed out, and the operation stays as it was.
+    for (port, wanted) in [(&mut early, 5), (&mut late, 14)] {
+        let (mut op, mut answer) = (asked(0), 0);
+        (op.work, op.more, op.length) = (9, 8, 7);
+        assert!(hand_out(port, &mut op, &mut answer).is_empty());
+        assert_eq!((answer, op.work, op.more, op.length), (wanted, 9, 8, 7));
     }
 }
 
 #[test]
 fn no_such_operation_sector_or_slot() {
     let mut port = made();
-    for what in [0, 19, u32::MAX] {
+    for what in [0, 7, 19, u32::MAX] {
         assert_eq!(answer(&mut port, what), 10);
     }
     let mut op = asked(1);
@@ -66,10 +74,28 @@ fn work_is_told() {
     assert_eq!((op.note, op.work, op.more), (0, 2, 0));
     // The first base: its sector is erased, its 437 octets are programmed after its gate's, and the gate is closed.
     for (work, more, length) in [(2, 1, 0), (1, 1, 437), (1, 3, 1), (3, 0, 60), (0, 0, 0)] {
-        let mut op = asked(7);
-        assert_eq!(serve(&mut port, &mut op, &[]), 0);
-        assert_eq!((op.work, op.more, op.length), (work, more, length));
+        let (mut op, mut answer) = (asked(0), 9);
+        let octets = hand_out(&mut port, &mut op, &mut answer).len();
+        assert_eq!((answer, op.work, op.more, op.length, octets), (0, work, more, length, length as usize));
     }
+}
+
+// What is handed out is the frame where it lies: its octets are those of the step, and not a copy in the operation.
+#[test]
+fn a_frame_is_handed_out_where_it_lies() {
+    let mut port = booted();
+    let mut op = asked(3);
+    assert_eq!(serve(&mut port, &mut op, &SET), 0);
+    let begin = (&raw const port).addr();
+    for _ in 0..3 {
+        let _ = hand_out(&mut port, &mut op, &mut 0);
+    }
+    let octets = hand_out(&mut port, &mut op, &mut 0);
+    // The answer to the Set goes to its sender, from the device, and is padded to the shortest frame.
+    assert_eq!((octets.len(), &octets[..6], &octets[12..18]), (60, &SET[6..12], &[0x88, 0x92, 0xFE, 0xFD, 0x04, 0x01][..]));
+    let place = octets.as_ptr().addr();
+    assert!(begin < place && place + 60 <= begin + size_of::<Port>());
+    assert_eq!(op.octets, [0; 1520]);
 }
 
 #[test]
@@ -93,9 +119,31 @@ fn what_is_due_is_told() {
     assert_eq!(serve(&mut booted(), &mut op, &[]), 0);
     assert_eq!((op.units, op.work), (u32::MAX, 0));
     let mut op = asked(4);
-    op.units = 9;
+    (op.units, op.due) = (9, 8);
     assert_eq!(serve(&mut busy(), &mut op, &[]), 7);
-    assert_eq!((op.units, op.work), (9, 0));
+    assert_eq!((op.units, op.due, op.work), (9, 8, 0));
+}
+
+// A DCP Set of Signal lets the lamp flash for three seconds, 96,000 units. A tick says what is due after its units; after a
+// single one it says 0.
+#[test]
+fn a_tick_tells_what_is_due() {
+    let signal: Vec<u8> = [&SET[..6], &SET[6..12], b"\x88\x92\xfe\xfd\x04\x00\0\0\0\x09\0\0\0\x08\x05\x03\0\x04\0\0\x01\0"].concat();
+    let mut port = booted();
+    let mut op = asked(4);
+    for (units, due) in [(0, u32::MAX), (9, u32::MAX), (1, 0)] {
+        op.units = units;
+        assert_eq!(serve(&mut port, &mut op, &[]), 0);
+        assert_eq!((op.units, op.due, op.work), (0, due, 0), "{units}");
+    }
+    op.what = 3;
+    assert_eq!((serve(&mut port, &mut op, &signal), op.note), (0, 0));
+    while !hand_out(&mut port, &mut op, &mut 0).is_empty() {}
+    for (units, due) in [(0, 96_000), (1_000, 95_000), (1, 0), (2, 94_997), (94_997, u32::MAX)] {
+        (op.what, op.units) = (4, units);
+        assert_eq!(serve(&mut port, &mut op, &[]), 0);
+        assert_eq!((op.units, op.due, op.work), (0, due, 0), "{units}");
+    }
 }
 
 /// An operation of a submodule.

@@ -2,7 +2,7 @@
 -- afterwards: an equation of the whole operation says which fields are written, and with what. All other fields are
 -- unchanged, and so are the octets after those that are written. A refused operation changes nothing, neither in the
 -- port nor in the operation.
-use Rattle.std.specs.Prelude.{◌≡◌, ◌==◌, ◌++◌, ℕ, not, if◌then◌else◌, List, [], ◌∷◌, take, slice_get, Option, Some, None, Result, Ok, Err, MatchResult}
+use Rattle.std.specs.Prelude.{◌≡◌, ◌==◌, ◌++◌, ℕ, not, if◌then◌else◌, List, [], ◌∷◌, length, take, slice_get, Option, Some, None, Result, Ok, Err, MatchResult}
 use Rattle.flash_model.specs.Calls.{Call, Programs, Erases, Arms}
 use Rattle.flash_model.specs.declared.flash.Sector.{Sector}
 use Rattle.flash_model.specs.declared.flash.Sector.TheVariants.{First, Second}
@@ -19,15 +19,12 @@ use Rattle.device_frames.specs.declared.event.Event.TheVariants.{Frame, Input, A
 use Rattle.device_frames.specs.declared.note.Note.{Note}
 use Rattle.device_frames.specs.Notes.{note_number}
 use Rattle.device_core.specs.Leaps.{live_due_in}
-use Rattle.device_abi.specs.recorded.Entry.{call_of}
 use Rattle.c_layout.specs.Places.{place_in}
 use Rattle.c_layout.specs.Reported.{with_octets}
 use Rattle.c_layout.specs.declared.op.Op.{Op}
-use Rattle.device_abi.specs.declared.port.device.Work.{Work}
-use Rattle.device_abi.specs.declared.port.device.Work.TheVariants.{Nothing, Carry, Send}
 use Rattle.device_abi.specs.declared.port.refusal.Refusal.{Refusal}
 use Rattle.device_abi.specs.port.Refusals.{refusal_number}
-use Rattle.device_abi.specs.port.State.{State, advanced, closed, kind_of, lost, waiting}
+use Rattle.device_abi.specs.port.State.{State, advanced, closed, lost, waiting}
 use Rattle.device_abi.specs.port.Steps.{Answers, KnowsOrNot, PassesOrNot, StartsOrNot}
 use Rattle.device_abi.specs.declared.operations.operation.Operation.{Operation}
 use Rattle.device_abi.specs.declared.operations.operation.Operation.TheVariants as operation
@@ -41,7 +38,6 @@ operation_of what =
     if what == 4 then Some operation.Tick else
     if what == 5 then Some operation.Input else
     if what == 6 then Some operation.Alarm else
-    if what == 7 then Some operation.Next else
     if what == 8 then Some operation.Output else
     if what == 9 then Some operation.State else
     if what == 10 then Some operation.Running else
@@ -87,9 +83,14 @@ abbrev pub IsStatus : Option (ℕ × ℕ) → State → Op → ℕ → State →
 IsStatus (Some place) old asked answer new reported = IsEvent old (Status place.0 place.1 (not (asked.place == 0))) asked answer new reported
 IsStatus None old asked answer new reported = (answer ≡ 9) × (new ≡ old) × (reported ≡ asked)
 
--- The number of units that remain, and the kind of the first piece of work. The note is 0, done.
+-- What a tick reports as due: the number of units up to and with the next one with which anything is due. For a single
+-- unit it is not computed, and 0.
+abbrev pub told_due : ℕ → State → ℕ
+told_due units new = if units == 1 then 0 else live_due_in new.device.live
+
+-- The number of units that remain, what is due, and the kind of the first piece of work. The note is 0, done.
 abbrev pub passed : Result ℕ Refusal → State → Op → Op
-passed (Ok left) new asked = record asked { units = left; note = 0; work = waiting new.calls new.frames }
+passed (Ok left) new asked = record asked { units = left; due = told_due asked.units new; note = 0; work = waiting new.calls new.frames }
 passed (Err refusal) new asked = asked
 
 -- The units of time that are asked for passed, and the number that remains is reported, or none passed and nothing
@@ -117,44 +118,35 @@ IsBoot old answer new = (result : Result (Unit {0}) Refusal) × StartsOrNot old 
 
 -- ---- work
 
--- A flash call as it is reported: 1 is a program call, 2 an erase.
-abbrev pub IsCall : Call → Op → Op → Type 0
-IsCall (Programs sector place bytes) asked reported =
-    reported ≡ with_octets bytes (record asked { work = 1; sector = sector_number sector; place = place })
-IsCall (Erases sector) asked reported = reported ≡ record asked { work = 2; sector = sector_number sector; length = 0 }
-IsCall (Arms order) asked reported = ⊥
+-- A flash call as it is reported, with the octets that it programs: 1 is a program call, 2 an erase.
+abbrev pub IsCall : Call → Op → List ℕ → Op → Type 0
+IsCall (Programs sector place bytes) asked octets reported =
+    (octets ≡ bytes) × (reported ≡ record asked { work = 1; sector = sector_number sector; place = place; length = length bytes })
+IsCall (Erases sector) asked octets reported = (octets ≡ []) × (reported ≡ record asked { work = 2; sector = sector_number sector; length = 0 })
+IsCall (Arms order) asked octets reported = ⊥
 
 -- A frame, 3.
 abbrev pub with_frame : List ℕ → Op → Op
-with_frame frame asked = with_octets frame (record asked { work = 3 })
+with_frame frame asked = record asked { work = 3; length = length frame }
 
 -- No more work, 0.
 abbrev pub with_nothing : Op → Op
 with_nothing asked = record asked { work = 0; length = 0 }
 
--- What is handed out next: a call if one remains, a frame only if no call does, and 0 if no work remains.
-abbrev pub IsHanded : List Call → List (List ℕ) → Op → Op → Type 0
-IsHanded [] [] asked reported = reported ≡ with_nothing asked
-IsHanded [] (frame ∷ frames) asked reported = reported ≡ with_frame frame asked
-IsHanded (call ∷ calls) frames asked reported = IsCall call asked reported
+-- What is handed out next, and which octets: a call if one remains, a frame only if no call does, and 0 if no work
+-- remains.
+abbrev pub IsHanded : List Call → List (List ℕ) → Op → List ℕ → Op → Type 0
+IsHanded [] [] asked octets reported = (octets ≡ []) × (reported ≡ with_nothing asked)
+IsHanded [] (frame ∷ frames) asked octets reported = (octets ≡ frame) × (reported ≡ with_frame frame asked)
+IsHanded (call ∷ calls) frames asked octets reported = IsCall call asked octets reported
 
--- The kind of a piece of work: 0 if it is none, 1 for a program call, 2 for an erase, 3 for a frame.
-abbrev pub work_kind : Work → ℕ
-work_kind Nothing = 0
-work_kind (Carry call) = kind_of (call_of call.now)
-work_kind (Send frame) = 3
-
--- A piece of work as it is reported.
-abbrev pub IsPiece : Work → Op → Op → Type 0
-IsPiece Nothing asked reported = reported ≡ with_nothing asked
-IsPiece (Carry call) asked reported = IsCall (call_of call.now) asked reported
-IsPiece (Send frame) asked reported = reported ≡ with_frame frame.now.items asked
-
--- The next piece of work is reported, and the kind of the one after it, and it is marked as fetched, if the port is open.
-abbrev pub IsNextOf : Option Refusal → State → Op → ℕ → State → Op → Type 0
-IsNextOf (Some refusal) old asked answer new reported = (answer ≡ refusal_number refusal) × (new ≡ old) × (reported ≡ asked)
-IsNextOf None old asked answer new reported =
-    (answer ≡ 0) × IsHanded old.calls old.frames (record asked { more = waiting new.calls new.frames }) reported × (new ≡ advanced old)
+-- The next piece of work is handed out and reported, with the kind of the one after it, and it is then fetched, if the
+-- port is open.
+abbrev pub HandsOut : Option Refusal → State → Op → ℕ → List ℕ → State → Op → Type 0
+HandsOut (Some refusal) old asked answer octets new reported =
+    (answer ≡ refusal_number refusal) × (octets ≡ []) × (new ≡ old) × (reported ≡ asked)
+HandsOut None old asked answer octets new reported =
+    (answer ≡ 0) × IsHanded old.calls old.frames (record asked { more = waiting new.calls new.frames }) octets reported × (new ≡ advanced old)
 
 -- Power is lost.
 abbrev pub IsLoss : State → ℕ → State → Type 0
@@ -254,7 +246,6 @@ Serves (Some operation.Frame) old asked given answer new reported =
 Serves (Some operation.Tick) old asked given answer new reported = IsTick old asked answer new reported
 Serves (Some operation.Input) old asked given answer new reported = IsInput (place_in asked.slot asked.subslot) old given asked answer new reported
 Serves (Some operation.Alarm) old asked given answer new reported = IsAlarm (place_in asked.slot asked.subslot) old given asked answer new reported
-Serves (Some operation.Next) old asked given answer new reported = IsNextOf (closed old.stage) old asked answer new reported
 Serves (Some operation.Output) old asked given answer new reported =
     (new ≡ old) × IsOutput (place_in asked.slot asked.subslot) old asked answer reported
 Serves (Some operation.State) old asked given answer new reported = (new ≡ old) × IsState (closed old.stage) old asked answer reported

@@ -87,6 +87,16 @@ advanced_by port (call ∷ calls) = record port { calls = calls }
 abbrev pub advanced : State → State
 advanced port = advanced_by port port.calls
 
+-- The kind of a piece of work.
+abbrev pub work_kind : Work → ℕ
+work_kind Nothing = 0
+work_kind (Carry call) = kind_of (call_of call.now)
+work_kind (Send frame) = 3
+
+-- The next piece of work is fetched, and the kind of the one after it is known.
+abbrev pub IsFetched : State → Work → ℕ → State → Type 0
+IsFetched old work more new = IsNext old work × (new ≡ advanced old) × (more ≡ waiting new.calls new.frames)
+
 -- Power is lost, and the remaining work with it.
 abbrev pub lost : State → State
 lost port = record port { stage = Lost; calls = []; frames = [] }

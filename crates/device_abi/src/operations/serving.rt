@@ -5,19 +5,25 @@ ghost use Rattle.device_abi.specs.recorded.Entry.{call_of};
 ghost use Rattle.relations.specs.Exchanged.{provider_in};
 ghost use Rattle.relations.specs.RelationState.{phase_of, taken_of};
 ghost use Rattle.device_core.specs.Leaps.{live_due_in};
-ghost use Rattle.device_abi.specs.port.State.{advanced, closed, kind_of, waiting as kind_in};
+ghost use Rattle.std.specs.Prelude.{⊤};
+ghost use mathlib.Core.Option.{none};
+ghost use types.Logic.{sem};
+ghost use denote.Follow.{follows_so};
+ghost use Rattle.device_abi.specs.contracts.port.device.Port.{the_row as Row};
+ghost use Rattle.device_abi.specs.port.State.{closed};
 ghost use Rattle.c_layout.specs.Places.{place_in};
 ghost use Rattle.c_layout.specs.Reported.{with_octets};
-ghost use Rattle.device_abi.specs.operations.Serves.{IsAlarm, IsBoot, IsCall, IsDue, IsEvent, IsInput, IsLeft, IsLoss, IsNextOf, IsOutput, IsPiece};
+ghost use Rattle.device_abi.specs.operations.Serves.{IsAlarm, IsBoot, IsCall, IsDue, IsEvent, IsInput, IsLeft, IsLoss, HandsOut, IsOutput, with_frame};
 ghost use Rattle.device_abi.specs.operations.Serves.{IsRecordAt, IsRecordOf, IsProvider, IsProviderAt, IsProviderOf, IsSector, IsSettings, IsState, IsStatus, IsTick, IsValueOf, Serves, answer_of};
-ghost use Rattle.device_abi.specs.operations.Serves.{noted as is_noted, operation_of as operation_in, passed as is_passed, phase_number};
-ghost use Rattle.device_abi.specs.operations.Serves.{sector_number as number_of, sector_of, settings_octets, value_of, work_kind};
+ghost use Rattle.device_abi.specs.operations.Serves.{noted as is_noted, operation_of as operation_in, passed as is_passed, phase_number, told_due as due_told};
+ghost use Rattle.device_abi.specs.operations.Serves.{sector_number as number_of, sector_of, settings_octets, value_of};
 
 use crate::operations::operation::{Operation, operation_of};
 use crate::{Port, Recorded, Refusal, Work};
 use c_layout::{BAD_LENGTH, NO_FRAME, NO_RECORD, NO_SLOT, Op, UNKNOWN, place_of, put, put_more};
 use device_core::Note;
 use flash_model::Sector;
+use frame_codec::Frame;
 use pn_values::Settings;
 use records::TakenRecord;
 use relations::{Phase, ProviderStatus};
@@ -26,6 +32,10 @@ use relations::{Phase, ProviderStatus};
 pub fn serve(port: &mut Port, op: &mut Op, given: &[u8]) -> u32
     ensures { Serves (operation_in op.old.what) port.old op.old given.now result port.new op.new }
 {
+    // A unit of time is the most frequent operation.
+    if op.what == 4 {
+        return tick(port, op);
+    }
     match operation_of(op.what) {
         Some(operation) => perform(operation, port, op, given),
         None => UNKNOWN,
@@ -44,7 +54,6 @@ fn perform(operation: Operation, port: &mut Port, op: &mut Op, given: &[u8]) -> 
         Operation::Tick => tick(port, op),
         Operation::Input => input(port, op, given),
         Operation::Alarm => alarm(port, op, given),
-        Operation::Next => next(port, op),
         Operation::Output => output(port, op),
         Operation::State => state(port, op),
         Operation::Running => running(port, op),
@@ -169,7 +178,7 @@ fn noted(outcome: Result<Note, Refusal>, port: &Port, op: &mut Op) -> u32
     match outcome {
         Ok(note) => {
             op.note = u32::from(note.number());
-            op.work = waiting(port);
+            op.work = port.waiting();
             0
         }
         Err(refusal) => refusal.number(),
@@ -193,6 +202,7 @@ fn passed(outcome: Result<u32, Refusal>, port: &Port, op: &mut Op) -> u32
 {
     match outcome {
         Ok(left) => {
+            op.due = told_due(op.units, port);
             op.units = left;
             op.note = 0;
             op.work = if port.has_frames() { 3 } else { 0 };
@@ -200,6 +210,14 @@ fn passed(outcome: Result<u32, Refusal>, port: &Port, op: &mut Op) -> u32
         }
         Err(refusal) => refusal.number(),
     }
+}
+
+// What is due after this many units. For a single one it is not computed, since most hosts hand in one at a time.
+#[inline(always)]
+fn told_due(units: u32, port: &Port) -> u32
+    ensures { result ≡ due_told units port.now }
+{
+    if units == 1 { 0 } else { port.next_due() }
 }
 
 // Power is lost on the host's side.
@@ -212,100 +230,44 @@ fn lose(port: &mut Port) -> u32
 
 // ---- work
 
-// The kind of the next piece of work.
-fn waiting(port: &Port) -> u32
-    ensures { result ≡ kind_in port.now.calls port.now.frames }
+/// Hands out the next piece of work, which is then fetched: its octets, and in the operation what belongs to it and the
+/// kind of the piece after it. `answer` is 0, or says why nothing was handed out.
+pub fn hand_out<'a>(port: &'a mut Port, op: &mut Op, answer: &mut u32) -> &'a [u8]
+    ensures* { sem 𝓛 (follows_so Row Row port.entry.ghost_name none (λ _ _. ⊤)
+        (λ new. HandsOut (closed port.old.stage) port.old op.old answer.new result.now new op.new)) }
 {
-    if port.has_calls() {
-        return kind(&port.next());
+    if let Some(refusal) = port.closed() {
+        *answer = refusal.number();
+        return &[];
     }
-    if port.has_frames() { 3 } else { 0 }
-}
-
-// The kind of a piece of work.
-fn kind(work: &Work<'_>) -> u32
-    ensures { result ≡ work_kind work.now }
-{
-    match work {
-        Work::Nothing => 0,
-        Work::Carry(call) => call_kind(call),
-        Work::Send(_) => 3,
-    }
-}
-
-// The kind of a flash call.
-#[inline(never)]
-fn call_kind(call: &Recorded) -> u32
-    ensures { result ≡ kind_of (call_of call.now) }
-{
-    match call {
-        Recorded::Program { .. } => 1,
-        Recorded::Erase { .. } => 2,
-    }
-}
-
-// The next piece of work, which is marked as fetched, and the kind of the one after it. A frame has its own path.
-#[inline(never)]
-fn next(port: &mut Port, op: &mut Op) -> u32
-    ensures { IsNextOf (closed port.old.stage) port.old op.old result port.new op.new }
-{
-    match port.work() {
-        Ok(Work::Send(frame)) => {
-            op.work = 3;
-            put(op, frame.as_slice());
-            go_on(port, op);
-            0
-        }
-        Ok(work) => {
-            tell(work, op);
-            past(port, op);
-            0
-        }
-        Err(refusal) => refusal.number(),
-    }
-}
-
-// Marks the next piece of work as fetched, and reports the kind of the one after it.
-#[inline(always)]
-fn go_on(port: &mut Port, op: &mut Op)
-    ensures port { port.new ≡ advanced port.old }
-    ensures more { op.new ≡ record op.old { more = kind_in port.new.calls port.new.frames } }
-{
-    port.advance();
-    op.more = waiting(port);
-}
-
-// The same, after a piece of work that is rare.
-#[inline(never)]
-fn past(port: &mut Port, op: &mut Op)
-    ensures port { port.new ≡ advanced port.old }
-    ensures more { op.new ≡ record op.old { more = kind_in port.new.calls port.new.frames } }
-{
-    go_on(port, op);
-}
-
-// Reports a piece of work.
-#[inline(never)]
-fn tell(work: Work<'_>, op: &mut Op)
-    ensures { IsPiece work.entry op.old op.new }
-{
-    match work {
+    *answer = 0;
+    match port.fetch(&mut op.more) {
+        Work::Send(frame) => tell_frame(frame, op),
         Work::Carry(call) => tell_call(call, op),
-        Work::Send(frame) => {
-            op.work = 3;
-            put(op, frame.as_slice());
-        }
         Work::Nothing => {
             op.work = 0;
             op.length = 0;
+            &[]
         }
     }
 }
 
-// Reports a flash call.
+// Reports a frame, and returns its octets.
+#[inline(always)]
+fn tell_frame<'a>(frame: &'a Frame, op: &mut Op) -> &'a [u8]
+    ensures octets { result.now ≡ frame.now.items }
+    ensures reported { op.new ≡ with_frame frame.now.items op.old }
+{
+    let octets = frame.as_slice();
+    op.work = 3;
+    op.length = octets.len() as u32;
+    octets
+}
+
+// Reports a flash call, and returns the octets that it programs.
 #[inline(never)]
-fn tell_call(call: &Recorded, op: &mut Op)
-    ensures { IsCall (call_of call.now) op.old op.new }
+fn tell_call<'a>(call: &'a Recorded, op: &mut Op) -> &'a [u8]
+    ensures { IsCall (call_of call.now) op.old result.now op.new }
 {
     match call {
         Recorded::Program {
@@ -316,12 +278,14 @@ fn tell_call(call: &Recorded, op: &mut Op)
             op.work = 1;
             op.sector = sector_number(*sector);
             op.place = *place;
-            put(op, bytes.as_slice());
+            op.length = bytes.len() as u32;
+            bytes.as_slice()
         }
         Recorded::Erase { sector } => {
             op.work = 2;
             op.sector = sector_number(*sector);
             op.length = 0;
+            &[]
         }
     }
 }

@@ -1,12 +1,17 @@
 //! A device, and the work of its last step that the host has not fetched yet.
 ghost use Rattle.std.specs.Prelude.{◌≡◌, ◌≢◌, ◌+◌, ◌-◌, ◌<◌, ◌≤◌, ◌%◌, ◌^◌, [], None, Some, IfOk, MatchResult, ℕ, length, take};
+ghost use Rattle.std.specs.Prelude.{⊤};
+ghost use mathlib.Core.Option.{none};
+ghost use types.Logic.{sem};
+ghost use denote.Follow.{follows_so};
 ghost use Rattle.flash_model.specs.Image.{erased};
+ghost use Rattle.device_abi.specs.recorded.Entry.{call_of};
 ghost use Rattle.device_abi.specs.recorded.Record.{image_of, record_of};
 ghost use Rattle.device_frames.specs.declared.event.Event.TheVariants.{Alarm, Frame as Framed, Input, Ready, Status};
 ghost use Rattle.relations.specs.Exchanged.{output_in, provider_in};
 ghost use Rattle.relations.specs.RelationState.{phase_of, taken_of};
 ghost use Rattle.relations.specs.Outputs.{output_of};
-ghost use Rattle.device_abi.specs.port.State.{IsIdle, IsNext, IsUnreported, advanced, barred, closed, has_some, has_work as is_left, lost};
+ghost use Rattle.device_abi.specs.port.State.{IsIdle, IsNext, IsUnreported, advanced, barred, closed, has_some, has_work as is_left, kind_of, lost, waiting as kind_in, work_kind};
 ghost use Rattle.device_abi.specs.port.State.{past_start as too_late};
 ghost use Rattle.device_abi.specs.port.Steps.{Answers, KnowsOrNot, Passes, PassesOrNot, StartsOrNot, Takes, Ticks};
 ghost use Rattle.device_core.specs.Leaps.{live_due_in};
@@ -95,6 +100,9 @@ impl Fill<RecordedFlash<4096>> for Chip<'_> {
 }
 
 impl Port {
+    ghost use Rattle.device_abi.specs.contracts.port.device.Port.{the_row};
+    ghost use Rattle.device_abi.specs.port.State.{IsFetched};
+
     /// A device that did not start, over a chip whose content is not known yet.
     #[inline(always)]
     pub fn new(identity: Identity, real: Real, options: DeviceOptions) -> Port
@@ -117,6 +125,13 @@ impl Port {
         ensures { result ≡ self.now.stage }
     {
         self.stage
+    }
+
+    /// Why the port reports nothing, if it does not.
+    pub fn closed(&self) -> Option<Refusal>
+        ensures { result ≡ closed self.now.stage }
+    {
+        why_closed(self.stage)
     }
 
     /// Whether work of the last step remains.
@@ -293,6 +308,36 @@ impl Port {
         }
     }
 
+    /// Takes the next piece of work, which is then fetched, and says the kind of the piece after it.
+    pub fn fetch(&mut self, more: &mut u32) -> Work<'_>
+        ensures* { sem 𝓛 (follows_so the_row the_row self.entry.ghost_name none (λ _ _. ⊤) (λ new. IsFetched self.old result more.new new)) }
+    {
+        if self.calls_past < self.device.flash().recent().len() {
+            let past = self.calls_past;
+            self.calls_past = past + 1;
+            *more = self.waiting();
+            return Work::Carry(&self.device.flash().recent()[past]);
+        }
+        if self.frames_past < self.outbox.len() {
+            let past = self.frames_past;
+            self.frames_past = past + 1;
+            *more = self.waiting();
+            return Work::Send(&self.outbox.as_slice()[past]);
+        }
+        *more = 0;
+        Work::Nothing
+    }
+
+    /// The kind of the next piece of work.
+    pub fn waiting(&self) -> u32
+        ensures { result ≡ kind_in self.now.calls self.now.frames }
+    {
+        if self.has_calls() {
+            return kind(&self.next());
+        }
+        if self.has_frames() { 3 } else { 0 }
+    }
+
     // ---- what it reports
 
     /// The running settings.
@@ -350,6 +395,13 @@ impl Port {
             Some(refusal) => Err(refusal),
             None => Ok(self.device.due()),
         }
+    }
+
+    /// The same of a port that may be closed.
+    pub(crate) fn next_due(&self) -> u32
+        ensures { result ≡ live_due_in self.now.device.live }
+    {
+        self.device.due()
     }
 
     /// The number of units for which the lamp still flashes.
@@ -460,6 +512,11 @@ impl Port {
     {
         if units == 1 {
             self.pass_unit();
+            return 0;
+        }
+        let due = self.device.due();
+        if units < due {
+            self.skip(units);
             return 0;
         }
         self.pass_all(units)
@@ -581,4 +638,26 @@ fn older(before: u32, flash: &RecordedFlash<4096>) -> usize
 {
     let newer = flash.count().wrapping_sub(before) as usize;
     flash.recent().len().saturating_sub(newer)
+}
+
+// The kind of a piece of work.
+fn kind(work: &Work<'_>) -> u32
+    ensures { result ≡ work_kind work.now }
+{
+    match work {
+        Work::Nothing => 0,
+        Work::Carry(call) => call_kind(call),
+        Work::Send(_) => 3,
+    }
+}
+
+// The kind of a flash call.
+#[inline(never)]
+fn call_kind(call: &Recorded) -> u32
+    ensures { result ≡ kind_of (call_of call.now) }
+{
+    match call {
+        Recorded::Program { .. } => 1,
+        Recorded::Erase { .. } => 2,
+    }
 }

@@ -24,10 +24,12 @@ pub data ToController : Type 0 where
   Readies : ToController
   Nothing : ToController
 
--- A start-up: the request of its Connect, the records that it writes, in order, and what each end hears in octets.
+-- A start-up: the request of its Connect, the records that it writes, in order, whether it goes on after a record that
+-- was refused, and what each end hears in octets.
 pub record Rules (T Q : Type 0) : Type 0 where
   pub request : Q
   pub records : List T
+  pub skips : Bool
   pub to_device : List ℕ → ToDevice
   pub to_controller : List ℕ → ToController
 

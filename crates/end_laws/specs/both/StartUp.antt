@@ -1,5 +1,5 @@
 -- The law of a start-up, over any list of moves.
-use Rattle.std.specs.Prelude.{◌≡◌, ℕ, List, ◌∷◌, ◌++◌, slice_get, Some, None}
+use Rattle.std.specs.Prelude.{◌≡◌, ℕ, false, List, ◌∷◌, ◌++◌, slice_get, Some, None}
 use Rattle.std.specs.List.{AllByRecursion}
 use Rattle.end_laws.specs.both.Small.{Readies, Rules, Awaiting, RelationState, Seeking, Exchanges, World, Move, ComesToController, ComesToDevice, IsByController, IsByDevice}
 use Rattle.end_laws.specs.both.Runs.{AreSteps, end_of}
@@ -23,7 +23,8 @@ module _ {T Q : Type 0} where
     pub dull : AllByRecursion (IsDull rules) first.sent
 
   -- The device sent this ApplicationReady with one of its moves. At that point it had accepted the request of the
-  -- Connect, and had accepted the records in order, each once.
+  -- Connect. If the controller does not go on after a record that was refused, the device had accepted the records in
+  -- order, each once.
   pub record WasSent (rules : Rules T Q) (first : World T Q) (run : List (Move × World T Q)) (frame : List ℕ) : Type 0 where
     pub before : List (Move × World T Q)
     pub move : Move
@@ -42,7 +43,7 @@ module _ {T Q : Type 0} where
     pub has : point.device.link ≡ Some link
     pub awaits : link.phase ≡ Awaiting
     pub accepted : link.request ≡ rules.request
-    pub taken : link.taken ≡ rules.records
+    pub taken : rules.skips ≡ false → link.taken ≡ rules.records
 
   -- The controller received an ApplicationReady, after which it exchanges data. It received it at an earlier point, and
   -- the device had sent it before that.

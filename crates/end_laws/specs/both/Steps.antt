@@ -31,18 +31,21 @@ SaysToDevice count now (Call sequence ask) = CallsWhile count now sequence ask
 SaysToDevice count now Confirms = now ≡ Exchanges
 SaysToDevice count now Idle = Unit {0}
 
--- a response to the current call: the controller makes the next call, or after the last one waits for ApplicationReady
-pub record IsNext (count : ℕ) (heard : ToController) (before after : Controller) : Type 0 where
+-- a response to the current call, which is positive unless records may be skipped: the controller makes the next call,
+-- or after the last one waits for ApplicationReady
+pub record IsNext (skips : Bool) (count : ℕ) (heard : ToController) (before after : Controller) : Type 0 where
   pub sequence : ℕ
+  pub positive : Bool
   pub asked : before ≡ Asking sequence
-  pub answered : heard ≡ Answers sequence true
+  pub answered : heard ≡ Answers sequence positive
+  pub granted : (positive ≡ true) ⊎ (skips ≡ true)
   pub becomes : ((sequence ≤ count) × (after ≡ Asking (sequence + 1))) ⊎ (after ≡ Waiting)
 
 -- how the state moves: not at all, to the end, to the first call, from call to call, or to the exchange of data with
 -- ApplicationReady
-abbrev pub Moves : ℕ → ToController → Controller → Controller → Type 0
-Moves count heard before after =
-    (after ≡ before) ⊎ ((after ≡ Ended) ⊎ ((after ≡ Asking 0) ⊎ (IsNext count heard before after ⊎ ((heard ≡ Readies) × (after ≡ Exchanges)))))
+abbrev pub Moves : Bool → ℕ → ToController → Controller → Controller → Type 0
+Moves skips count heard before after =
+    (after ≡ before) ⊎ ((after ≡ Ended) ⊎ ((after ≡ Asking 0) ⊎ (IsNext skips count heard before after ⊎ ((heard ≡ Readies) × (after ≡ Exchanges)))))
 
 module _ {T Q : Type 0} where
   -- a new relation
@@ -148,7 +151,7 @@ module _ {T Q : Type 0} where
 
   -- a step of the controller that hears this
   pub record ControllerSteps (rules : Rules T Q) (heard : ToController) (before after : Controller) (frames : List (List ℕ)) : Type 0 where
-    pub moves : Moves (length rules.records) heard before after
+    pub moves : Moves rules.skips (length rules.records) heard before after
     pub sent : AllByRecursion (IsSaid rules after) frames
 
   -- ---- both

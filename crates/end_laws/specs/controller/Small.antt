@@ -8,7 +8,7 @@ use Rattle.plans.specs.declared.parts.Parts.{Parts}
 use Rattle.controller_frames.specs.declared.setup.Setup.{Setup}
 use Rattle.controller_frames.specs.declared.request.Request.{Request}
 use Rattle.controller_frames.specs.declared.request.Request.TheVariants as asks
-use Rattle.controller_frames.specs.Heard.{Heard, Nothing, Answers, Responds, Calls, Cyclic, Alarms}
+use Rattle.controller_frames.specs.Heard.{Heard, Nothing, Answers, Responds, Refuses, Calls, Cyclic, Alarms}
 use Rattle.controller_frames.specs.Requests.{sequence_of}
 use Rattle.controller_frames.specs.Sent.{Sent, Requests, Agrees, Cycles, Confirms, Replies, Ends}
 use Rattle.controller_core.specs.declared.state.State.{State}
@@ -66,6 +66,7 @@ readied_by setup None = small.Nothing
 abbrev pub said_to : Setup → Heard → ToController
 said_to setup (Responds response) =
     if pointwise nat_eq response.header.activity setup.activity then small.Answers response.header.sequence (is_done response.status) else small.Nothing
+said_to setup (Refuses refusal) = small.Nothing
 said_to setup (Calls caller call) = readied_by setup (ready_in call)
 said_to setup Nothing = small.Nothing
 said_to setup (Answers source answer) = small.Nothing
@@ -97,7 +98,7 @@ said_by plan (Ends route header reason) = small.Idle
 -- The small step of a turn that hears this: the state moves, and each message says to the device what it may say then.
 pub record GoesOn (plan : Parts) (heard : ToController) (live : Live) (turn : Turn) : Type 0 where
   pub in_step : IsInStep plan turn.live.phase turn.live.asked
-  pub moves : Moves (length plan.records.items) heard (small_of plan live) (small_of plan turn.live)
+  pub moves : Moves plan.continue_on_refused_record (length plan.records.items) heard (small_of plan live) (small_of plan turn.live)
   pub says : AllByRecursion (λ message. SaysToDevice (length plan.records.items) (small_of plan turn.live) (said_by plan message)) turn.sent
 
 -- what an event says, given what is heard of a frame

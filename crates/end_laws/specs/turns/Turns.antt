@@ -3,6 +3,7 @@ use Rattle.std.specs.Prelude.{◌≡◌, ◌⊎◌, ◌+◌, ◌∷◌, [], ℕ,
 use Rattle.pn_values.specs.declared.mac.Mac.{Mac}
 use Rattle.frame_codec.specs.declared.udp.Caller.{Caller}
 use Rattle.dcp_core.specs.Response.{Answered}
+use Rattle.rpc_core.specs.declared.response.Status.{Status}
 use Rattle.rpc_core.specs.Call.{Asked as Call}
 use Rattle.rpc_core.specs.Response.{Answered as Response, is_done}
 use Rattle.connect_blocks.specs.declared.control.ControlBlock.{ControlBlock}
@@ -21,14 +22,15 @@ use Rattle.controller_frames.specs.Heard.{Heard, Answers, Responds, Calls, Alarm
 use Rattle.controller_frames.specs.Requests.{writing_from}
 use Rattle.controller_frames.specs.Sent.{Agrees, ready_answer}
 use Rattle.controller_core.specs.declared.event.Event.{Event}
-use Rattle.controller_core.specs.declared.event.Event.TheVariants.{Frame, Tick, Give, Status, Stop}
+use Rattle.controller_core.specs.declared.event.Event.TheVariants.{Frame, Tick, Give, Status as Rate, Stop}
 use Rattle.controller_core.specs.declared.state.Cause.{Cause}
 use Rattle.controller_core.specs.declared.state.State.TheVariants.{Looking, Addressing, Connecting, Ending, Waiting, Exchanging, Ended}
+use Rattle.controller_core.specs.declared.state.RefusedRecord.{RefusedRecord}
 use Rattle.controller_core.specs.State.{Live}
 use Rattle.controller_core.specs.Answers.{is_answer, is_ready}
 use Rattle.controller_core.specs.Connect.{Chosen, chosen_of, found_in, nothing}
-use Rattle.controller_core.specs.Machine.{Turn, asking, behind_data, brought, due_frames, ended_by, flow_later, given, is_again, later, over, rated, ready_in, released, requests_of, standing, stays, stopped, taken, ticked, turned, where_due, writing}
-use Rattle.end_laws.specs.turns.Ended.{IsAnswered, may_release}
+use Rattle.controller_core.specs.Machine.{Turn, asking, behind_data, brought, due_frames, ended_by, flow_later, given, is_again, later, noted, over, rated, ready_in, released, requests_of, standing, stays, stopped, taken, ticked, turned, where_due, writing}
+use Rattle.end_laws.specs.turns.Ended.{IsReleased, may_release}
 
 -- ---- what comes
 
@@ -45,7 +47,7 @@ abbrev pub came_by : Setup → Event → Came
 came_by setup (Frame bytes) = Hears (heard_of setup.plan.controller bytes.items)
 came_by setup Tick = Passes
 came_by setup (Give slot subslot value) = Gets slot subslot value.items
-came_by setup (Status slot subslot is_good) = GetsStatus slot subslot is_good
+came_by setup (Rate slot subslot is_good) = GetsStatus slot subslot is_good
 came_by setup Stop = Halts
 
 abbrev pub turn_for : Setup → Live → Came → Turn
@@ -76,19 +78,21 @@ IsGoing live = (cause : Cause) → IsEnd cause live → ⊥
 -- ---- the kinds
 
 -- Nothing changes, and nothing is sent; a station is asked for the relation, or its address is set; the controller
--- ends, or ends and informs the device; the relation is established with what the device chose, and the first record is
--- written; the record after this one is written; the controller waits for ApplicationReady; a Release
--- is no longer active; ApplicationReady is answered, and data is exchanged from then on, or was before; a cyclic frame
--- is received; an alarm is received, or the ACK of an AlarmAck; an output is set, or its status; a unit of the relation
+-- ends, and these are the last status of a refusal and the last refused record then, or ends and informs the device; the
+-- relation is established with what the device chose, and the first record is written; the record after this one is
+-- written, because this one was accepted, or although it was refused; the controller waits for ApplicationReady; a Release
+-- is no longer active; ApplicationReady is answered, and data is exchanged from then on, or was before; a cyclic frame is
+-- received; an alarm is received, or the ACK of an AlarmAck; an output is set, or its status; a unit of the relation
 -- passes, or ends it, or a unit passes without a relation.
 pub data Kind : Type 0 where
   Rests : Kind
   Connects : (source : Mac) → Kind
   Addresses : (source : Mac) → Kind
-  Ends : (cause : Cause) → Kind
+  Ends : (cause : Cause) → (refusal : Option Status) → (refused : Option RefusedRecord) → Kind
   Releases : (cause : Cause) → Kind
   Relates : (chosen : Chosen) → Kind
   Writes : (number : ℕ) → Kind
+  Skips : (number : ℕ) → (status : Status) → Kind
   Waits : Kind
   Forgets : Kind
   Begins : (caller : Caller) → (call : Call) → (block : ControlBlock) → Kind
@@ -107,10 +111,11 @@ abbrev pub turn_by : Setup → Live → Kind → Turn
 turn_by setup live Rests = stays live
 turn_by setup live (Connects source) = asking Connecting asks.Connect (record live { device = source })
 turn_by setup live (Addresses source) = asking Addressing asks.Address (record live { device = source })
-turn_by setup live (Ends cause) = stays (over cause live)
+turn_by setup live (Ends cause refusal refused) = stays (over cause (record live { refusal = refusal; refused_record = refused }))
 turn_by setup live (Releases cause) = released setup cause live
 turn_by setup live (Relates chosen) = writing (writing_from setup.plan 0) (standing setup live chosen)
 turn_by setup live (Writes number) = writing (writing_from setup.plan (number + 1)) live
+turn_by setup live (Skips number status) = writing (writing_from setup.plan (number + 1)) (noted status number live)
 turn_by setup live Waits = stays (record live { phase = Waiting; asked = None })
 turn_by setup live Forgets = stays (record live { asked = None })
 turn_by setup live (Begins caller call block) = record {
@@ -142,6 +147,15 @@ pub record IsGranted (setup : Setup) (live : Live) (came : Came) (request : Requ
   pub right : is_answer setup request response.header ≡ true
   pub granted : is_done response.status ≡ true
 
+-- The record that is written is refused, and the plan says that the start-up goes on.
+pub record IsSkipped (setup : Setup) (live : Live) (came : Came) (number : ℕ) : Type 0 where
+  pub stood : live.asked ≡ Some (asks.Write number)
+  pub response : Response
+  pub comes : came ≡ Hears (Responds response)
+  pub right : is_answer setup (asks.Write number) response.header ≡ true
+  pub refused : is_done response.status ≡ false
+  pub goes_on : setup.plan.continue_on_refused_record ≡ true
+
 -- What a controller finds in the answer to a Connect.
 abbrev TypeOf : {A : Type 0} → A → Type 0
 TypeOf {A = A} value = A
@@ -164,12 +178,13 @@ abbrev pub IsKind : Setup → Live → Came → Kind → Type 0
 IsKind setup live came Rests = Unit {0}
 IsKind setup live came (Connects source) = IsSought live came source
 IsKind setup live came (Addresses source) = IsSought live came source
-IsKind setup live came (Ends cause) = IsGoing live
+IsKind setup live came (Ends cause refusal refused) = IsGoing live
 IsKind setup live came (Releases cause) = IsGoing live × (may_release cause ≡ true)
 IsKind setup live came (Relates chosen) = (granted : IsGranted setup live came asks.Connect) × (chosen_in granted.response.blocks ≡ Some chosen)
 IsKind setup live came (Writes number) = IsGranted setup live came (asks.Write number)
+IsKind setup live came (Skips number status) = IsSkipped setup live came number
 IsKind setup live came Waits = IsGranted setup live came asks.PrmEnd
-IsKind setup live came Forgets = (heard : Heard) × (came ≡ Hears heard) × IsAnswered setup live heard
+IsKind setup live came Forgets = (heard : Heard) × (came ≡ Hears heard) × IsReleased setup live heard
 IsKind setup live came (Begins caller call block) = ((live.phase ≡ Ending) ⊎ (live.phase ≡ Waiting)) × IsReadied setup came caller call block
 IsKind setup live came (Repeats caller call block) = (live.phase ≡ Exchanging) × IsReadied setup came caller call block
 IsKind setup live came (Follows source frame_id body) = live.stands ≡ true

@@ -6,8 +6,8 @@ ghost use Rattle.end_laws.specs.both.StartUp.{Begins, IsRun, last_of, WasExchang
 /// The law of a start-up over any list of moves, for any type of records and of Connect requests.
 pub fn start_up_is_kept<T, Q>()
     // If the controller exchanges data, it received an ApplicationReady that the device had sent before, with one of
-    // its own moves. When the device sent it, it had accepted the request of the Connect, and had accepted the records
-    // in order, each once.
+    // its own moves. When the device sent it, it had accepted the request of the Connect; and had accepted the records
+    // in order, each once, if the controller does not go on after a record that was refused.
     ensures controller { (rules : Rules T Q) (first : World T Q) (run : List (Move × World T Q)) → Begins rules first →
         IsRun rules first run
         → (last_of first run).controller ≡ Exchanges → WasHanded rules first run }

@@ -1,7 +1,7 @@
 -- More units pass, or the rest of them remains.
 use Rattle.std.proofs.Common.{◌≡◌, ◌+◌, ◌-◌, ℕ, Bool, true, refl, sym, ap, subst, ◌∙◌, arith}
-use Rattle.controller_core.specs.Leaps.{live_due_in}
-use Rattle.controller_abi.specs.State.{is_over, is_stopped}
+use Rattle.controller_core.specs.State.{Controlling}
+use Rattle.controller_abi.specs.State.{is_over, is_stopped, port_due_in}
 use Rattle.controller_abi.specs.Steps.{Ticks}
 use Rattle.controller_abi.proofs.Leaps.{idle_of, ticks_on}
 use Rattle.controller_abi.proofs.port.Port.pass.Goals as goal
@@ -13,7 +13,7 @@ loop-left-init c =
 
 pub leap-requires : goal.leap-requires
 leap-requires c =
-    let due : c.due.result ≡ live_due_in c.loop-left.self.controller.live = c.due.ensures.value ∙ ap (λ port. live_due_in port.controller.live) c.self-in-loop-left.view_is in
+    let due : c.due.result ≡ port_due_in c.loop-left.self = c.due.ensures.value in
     record { idle = idle_of c.loop-left.self _ (sym c.if-is_stopped.ensures); few = omega (arith, due) }
 
 pub loop-left-preserved : goal.loop-left-preserved
@@ -29,7 +29,7 @@ loop-left-preserved c =
 -- All units passed except those that remain.
 pub returns-then-is_stopped : goal.returns-then-is_stopped
 returns-then-is_stopped c =
-    let was = c.is_over-was_over.ensures ∙ ap is_over c.state.ensures ∙ ap (λ port. is_over port.controller.live.phase) c.self.view_is in
+    let was = c.is_over-was_over.ensures ∙ ap is_over c.state.ensures ∙ ap (λ (controller : Controlling). is_over controller.live.phase) c.controller.ensures in
     record {
       few = c.loop-left.invariant.few;
       ticks = subst (λ (over : Bool). Ticks over (c.args.units - c.loop-left.left) c.args.self.now c.loop-left.self) was c.loop-left.invariant.ticks;
@@ -38,7 +38,7 @@ returns-then-is_stopped c =
 
 pub returns : goal.returns
 returns c =
-    let was = c.is_over-was_over.ensures ∙ ap is_over c.state.ensures ∙ ap (λ port. is_over port.controller.live.phase) c.self.view_is in
+    let was = c.is_over-was_over.ensures ∙ ap is_over c.state.ensures ∙ ap (λ (controller : Controlling). is_over controller.live.phase) c.controller.ensures in
     let none : c.loop-left.left ≡ 0 = omega arith in
     let over : Bool = is_over c.args.self.now.controller.live.phase in
     let ticks = subst (λ (o : Bool). Ticks o (c.args.units - c.loop-left.left) c.args.self.now c.loop-left.self) was c.loop-left.invariant.ticks in

@@ -11,3 +11,16 @@ returns-then-units-eq1-clause-passes c =
       ticks = subst (λ n. Ticks n c.args.self.now c.pass_unit.new.self) one c.pass_unit.ensures.ticks;
       stops = λ left. absurd (left refl);
     }
+
+pub skip-requires-clause-few : goal.skip-requires-clause-few
+skip-requires-clause-few c = rw (← c.self.view_is) (omega (arith, c.due-due.ensures.value))
+
+-- With none of the units anything is due.
+pub returns-then-units-due-clause-passes : goal.returns-then-units-due-clause-passes
+returns-then-units-due-clause-passes c =
+    let all : c.args.units ≡ c.args.units - 0 = omega arith in
+    record {
+      few = omega arith;
+      ticks = subst (λ n. Ticks n c.args.self.now c.skip.new.self) all c.skip.ensures.ticks;
+      stops = λ left. absurd (left refl);
+    }
