@@ -6,7 +6,7 @@ use super::PUMP;
 use super::operations::{asked, taken};
 use configurator::plan_from_json;
 use controller_abi::{Port, serve};
-use controller_core::{Controller, Event, State};
+use controller_core::{Answer, Controller, Event, Priority, RecordService, State};
 use frame_codec::Outbox;
 use rpc_core::Status;
 use rattle_std::alloc::Global;
@@ -17,7 +17,7 @@ use uuid::Uuid;
 const SCENARIOS: &str = include_str!("makers.txt");
 
 /// How many scenarios there are, so that a file that was cut off is found.
-const COUNT: usize = 32;
+const COUNT: usize = 39;
 
 /// The ARUUID and the activity of the controller, as Scapy's station expects them.
 const AR: &str = "11111111-2222-3333-4444-555555555555";
@@ -48,6 +48,17 @@ struct Scene {
     /// The same controller, as a host in C drives it.
     port: Port,
     sent: std::collections::VecDeque<std::string::String>,
+    /// CycleCounter of the last input.
+    counter: u16,
+}
+
+/// An operation at a slot, a subslot and an index.
+fn placed(what: u32, slot: u16, subslot: u16, index: u16) -> c_layout::Op {
+    let mut op = asked(what);
+    op.slot = u32::from(slot);
+    op.subslot = u32::from(subslot);
+    op.place = u32::from(index);
+    op
 }
 
 impl Scene {
@@ -68,6 +79,7 @@ impl Scene {
             controller: Controller::new(plan, ar, activity),
             port,
             sent: std::collections::VecDeque::new(),
+            counter: 0,
         }
     }
 
@@ -93,10 +105,15 @@ impl Scene {
     fn play(&mut self, event: &Event) -> std::vec::Vec<std::vec::Vec<u8>> {
         let (mut op, given) = match event {
             Event::Frame(bytes) => (asked(3), bytes.as_slice()),
+            Event::Read(slot, subslot, index) => (placed(30, *slot, *subslot, *index), &[][..]),
+            Event::Write(slot, subslot, index, bytes) => (placed(31, *slot, *subslot, *index), bytes.as_slice()),
+            Event::Stop => (asked(13), &[][..]),
             _ => (asked(4), &[][..]),
         };
         op.units = 1;
-        assert_eq!(serve(&mut self.port, &mut op, given), 0, "{}", self.name);
+        // A request that cannot be made now is refused by its number, and ignored by the controller.
+        let answer = serve(&mut self.port, &mut op, given);
+        assert!(answer == 0 || matches!(event, Event::Read(..) | Event::Write(..)), "{}: {answer}", self.name);
         taken(&mut self.port)
     }
 
@@ -145,6 +162,63 @@ impl Scene {
         }
     }
 
+    /// What the last request of the application was answered with, in words.
+    fn answer(&self) -> std::string::String {
+        let Some(Answer { request, status }) = self.controller.answer() else {
+            return "-".into();
+        };
+        let service = match request.service {
+            RecordService::Read => "read",
+            RecordService::Write => "write",
+        };
+        let record = match self.controller.record() {
+            [] => "-".into(),
+            octets => hex_of(octets),
+        };
+        format!(
+            "{service} {} {} {} {} {} {record}",
+            request.slot,
+            request.subslot,
+            request.index,
+            request.sequence,
+            hex_of(&[status.code, status.decode, status.code1, status.code2])
+        )
+    }
+
+    /// Intervals pass, and after each this cyclic frame comes, with the next CycleCounter.
+    fn run(&mut self, intervals: u32, input: &str) {
+        let mut frame = octets_of(input);
+        let place = frame.len() - 4;
+        for _ in 0..intervals {
+            for _ in 0..32 {
+                self.step(&Event::Tick);
+            }
+            self.counter = self.counter.wrapping_add(32);
+            frame[place..place + 2].copy_from_slice(&self.counter.to_be_bytes());
+            self.step(&Event::Frame(octets(&frame)));
+        }
+        self.forget_outputs();
+    }
+
+    /// Frames of outputs are not compared: those with the FrameID that these stations choose, behind a VLAN tag.
+    fn forget_outputs(&mut self) {
+        self.sent
+            .retain(|frame| frame.get(24..28) != Some("8100") || frame.get(32..40) != Some("88928123"));
+    }
+
+    /// A request of the application: slot, subslot and index, and the octets of a Write.
+    fn ask(&mut self, rest: &str) {
+        let words: std::vec::Vec<&str> = rest.split(' ').collect();
+        let number = |place: usize| words[place].parse::<u16>().expect("a number");
+        let (slot, subslot, index) = (number(0), number(1), number(2));
+        self.is_done();
+        match words.get(3) {
+            None => self.step(&Event::Read(slot, subslot, index)),
+            Some(&"-") => self.step(&Event::Write(slot, subslot, index, octets(&[]))),
+            Some(hex) => self.step(&Event::Write(slot, subslot, index, octets(&octets_of(hex)))),
+        }
+    }
+
     /// The last alarm, in words.
     fn alarm(&self) -> std::string::String {
         match self.controller.alarm() {
@@ -158,6 +232,44 @@ impl Scene {
             ),
             None => "-".into(),
         }
+    }
+
+    /// The last alarm of a priority, in words.
+    fn report(&self, priority: Priority) -> std::string::String {
+        let Some(report) = self.controller.report(priority) else {
+            assert!(self.controller.accepted(priority).is_none(), "{}", self.name);
+            return "-".into();
+        };
+        assert!(report.priority == priority, "{}", self.name);
+        let number = self.controller.accepted(priority).expect("a number");
+        let user_structure = match report.user_structure {
+            Some(number) => number.to_string(),
+            None => "-".into(),
+        };
+        let alarm = report.notification;
+        let data = match alarm.alarm_data.octets() {
+            [] => "-".into(),
+            octets => hex_of(octets),
+        };
+        format!(
+            "{number} {} {} {} {} {} {} {} {user_structure} {data}",
+            alarm.alarm_type,
+            alarm.api,
+            alarm.slot_number,
+            alarm.subslot_number,
+            alarm.module_ident_number,
+            alarm.submodule_ident_number,
+            alarm.alarm_specifier,
+        )
+    }
+
+    /// So many units, of which cyclic frames are not looked at.
+    fn pass(&mut self, units: u32) {
+        for _ in 0..units {
+            self.step(&Event::Tick);
+        }
+        self.sent
+            .retain(|frame| !frame.starts_with("0200000000010200000000028100c00088928123"));
     }
 
     /// A line of the scenario.
@@ -174,6 +286,18 @@ impl Scene {
                     self.step(&Event::Tick);
                 }
             }
+            "pass" => {
+                self.is_done();
+                self.pass(rest.parse().expect("a number"));
+            }
+            "report" => {
+                let (priority, wanted) = rest.split_once(' ').expect("a priority");
+                let priority = match priority {
+                    "high" => Priority::High,
+                    _ => Priority::Low,
+                };
+                assert_eq!(self.report(priority), wanted, "{name}");
+            }
             "out" => assert_eq!(self.sent.pop_front().as_deref(), Some(rest), "{name}"),
             "state" => assert_eq!(self.state(), rest, "{name}"),
             "deviates" => assert_eq!(self.controller.deviates(), rest == "yes", "{name}"),
@@ -188,6 +312,19 @@ impl Scene {
                 assert_eq!(told, rest, "{name}");
             }
             "alarm" => assert_eq!(self.alarm(), rest, "{name}"),
+            "answer" => assert_eq!(self.answer(), rest, "{name}"),
+            "can" => assert_eq!(self.controller.can_request(), rest == "yes", "{name}"),
+            "read" | "write" => self.ask(rest),
+            "run" => {
+                self.is_done();
+                let (intervals, input) = rest.split_once(' ').expect("a number and a frame");
+                self.run(intervals.parse().expect("a number"), input);
+            }
+            "outputs" => self.forget_outputs(),
+            "stop" => {
+                self.is_done();
+                self.step(&Event::Stop);
+            }
             _ => panic!("{name}: {word}"),
         }
     }
