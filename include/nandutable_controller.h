@@ -1,8 +1,9 @@
 /* nandutable: the controller of a station, and the plan that it follows.
  *
  * The controller finds the station of its plan by its name, sets its address, makes the relation, writes the records of the plan, and
- * exchanges data. Like the device it uses only the memory of the room that it is given, allocates none, calls nothing back and keeps no
- * time of its own. Call it from one thread at a time.
+ * exchanges data. It answers ARP requests for its address and echo requests (ping) itself, announces the address, and counts who else uses
+ * it. Like the device it uses only the memory of the room that it is given, allocates none, calls nothing back and keeps no time of its
+ * own. Call it from one thread at a time.
  *
  *     static pn_plan plan;
  *     static pn_controller controller;
@@ -97,6 +98,7 @@ typedef struct pn_plan {
     uint32_t record_count;        /* at most PN_RECORDS, in the order in which they are written */
     pn_module modules[PN_MODULES];
     pn_record records[PN_RECORDS];
+    uint32_t continue_on_refused_record; /* not 0: the start-up goes on after a record that the device refused */
 } pn_plan;
 
 /* The memory of a controller. Only the library and the functions below use its contents. */
@@ -110,9 +112,9 @@ typedef struct pn_controller {
 } pn_controller;
 
 #if defined(__cplusplus)
-static_assert(sizeof(pn_plan) == 4272, "another layout than the library's");
+static_assert(sizeof(pn_plan) == 4276, "another layout than the library's");
 #else
-_Static_assert(sizeof(pn_plan) == 4272, "another layout than the library's");
+_Static_assert(sizeof(pn_plan) == 4276, "another layout than the library's");
 #endif
 
 /* --- The calls. Use the functions below them. ---
@@ -229,7 +231,8 @@ static inline uint32_t pn_controller_read(const pn_controller *controller, pn_op
 /* --- Events. Before each, all frames of the previous one must be taken, otherwise PN_HAS_WORK. They may also return PN_NULL, PN_NOT_MADE,
  * and what each names. What a function does not name as set keeps its value in the operation. --- */
 
-/* Hands in a received frame: its octets from the destination address on, without the check sequence. */
+/* Hands in a received frame: its octets from the destination address on, without the check sequence. The interface must accept the
+ * controller's address and the broadcast address. No other program of this machine should answer ARP for the controller's address. */
 static inline uint32_t pn_controller_frame(pn_controller *controller, pn_op *op, const uint8_t *octets, size_t length)
 {
     return pn_controller_ask(controller, op, 3, octets, length);
@@ -340,7 +343,7 @@ static inline uint32_t pn_controller_provider(const pn_controller *controller, p
 }
 
 /* How many units may pass until something is due: with the last of them, and with none before it, the controller sends a frame, sends a
- * request again, or ends. It is also in `units` of the operation. 4,294,967,295 if no unit ever does any of these. An event may change it.
+ * request again, announces its address, or ends. It is also in `units` of the operation. 4,294,967,295 if no unit ever does any of these. An event may change it.
  * So a host sleeps until that unit is over, or until the next event. */
 static inline uint32_t pn_controller_due(const pn_controller *controller, pn_op *op, uint32_t *due)
 {
@@ -350,6 +353,19 @@ static inline uint32_t pn_controller_due(const pn_controller *controller, pn_op 
     answer = pn_controller_read(controller, op, 15);
     if (answer == PN_OK)
         *due = op->units;
+    return answer;
+}
+
+/* How many ARP frames came from another station that uses the controller's address, at most 4,294,967,295: also in `units` of the operation.
+ * After each of them the controller announces its address once more, at most once in 10 seconds. */
+static inline uint32_t pn_controller_conflicts(const pn_controller *controller, pn_op *op, uint32_t *conflicts)
+{
+    uint32_t answer;
+    if (conflicts == NULL)
+        return PN_NULL;
+    answer = pn_controller_read(controller, op, 19);
+    if (answer == PN_OK)
+        *conflicts = op->units;
     return answer;
 }
 

@@ -126,6 +126,13 @@ def items_at(tree, key):
     return value
 
 
+def flag_at(tree, key):
+    value = tree.get(key, False)
+    if not isinstance(value, bool):
+        raise Fault(KIND, key)
+    return value
+
+
 def each(judge, trees):
     """The entries of a list, each judged after those before it."""
     found = []
@@ -223,7 +230,9 @@ def project(tree, least, modules):
     if clock * number_at(tree, "ReductionRatio", 1, 512) < least:
         raise Fault(NUMBER, "ReductionRatio")
     number_at(tree, "DataHoldFactor", 1, 7_680)
-    return texts, list_at(tree, "Slots", lambda _, entry: slot(modules, entry))
+    slots = list_at(tree, "Slots", lambda _, entry: slot(modules, entry))
+    flag_at(tree, "ContinueOnRefusedRecord")
+    return texts, slots
 
 
 def identity(tree):

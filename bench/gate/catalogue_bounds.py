@@ -190,6 +190,18 @@ def broken_macs():
         yield "02-00-00-00-00-02"[:place] + ":" + "02-00-00-00-00-02"[place + 1:]
 
 
+def flag_rows():
+    """Whether a refused record ends the start-up: a Boolean, read after all other keys of its object and before the whole is judged."""
+    project = lambda catalogue: catalogue["Project"]
+    where = "Project.ContinueOnRefusedRecord"
+    for value, fault in ((True, NONE), (False, NONE), (None, KIND), (0, KIND), (1, KIND), ("true", KIND), ([], KIND), ({}, KIND)):
+        yield changed(lambda catalogue: project(catalogue).update(ContinueOnRefusedRecord=value)), fault, where
+    yield changed(lambda catalogue: (project(catalogue).update(ContinueOnRefusedRecord=1), entry(catalogue).update(Slot="x"))), KIND, "Project.Slots[2].Slot"
+    yield changed(lambda catalogue: project(catalogue).update(ContinueOnRefusedRecord=1, NameOfStation="-")), KIND, where
+    # Only the project has this key; elsewhere it is one of the keys that are ignored.
+    yield changed(lambda catalogue: catalogue.update(ContinueOnRefusedRecord=1)), NONE, ""
+
+
 def key_rows():
     """Each key that must be there is missing, or of another kind; each list may be missing."""
     whole = base()
@@ -252,6 +264,6 @@ def paths_of(tree, path=()):
 def rows():
     """All of them, each once: the text of a catalogue, `-` or its fault, and the key of the fault, if it is that of one key."""
     found = {}
-    for catalogue, fault, where in (*number_rows(), *long_list_rows(), *submodule_rows(), *count_rows(), *address_rows(), *key_rows()):
+    for catalogue, fault, where in (*number_rows(), *long_list_rows(), *submodule_rows(), *count_rows(), *address_rows(), *flag_rows(), *key_rows()):
         found.setdefault(json.dumps(catalogue, separators=(",", ":")), (fault, where if fault in AT_A_KEY else ""))
     return [(text, *told) for text, told in found.items()]

@@ -26,8 +26,10 @@ pub struct Op {
     pub sector: u32,
     /// The first octet of a program call in its sector.
     pub place: u32,
-    /// The number of valid octets in `octets`.
+    /// The number of octets of what is handed out.
     pub length: u32,
+    /// Units of time up to and with the next one with which anything is due: a number that a tick reports.
+    pub due: u32,
     pub octets: [u8; 1520],
 }
 

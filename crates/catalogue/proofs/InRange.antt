@@ -12,7 +12,7 @@ use Rattle.catalogue.specs.declared.fault.PlacedFault.{PlacedFault}
 use Rattle.catalogue.specs.declared.fault.Step.TheVariants.{At}
 use Rattle.catalogue.specs.Placed.{at_key, behind}
 use Rattle.catalogue.specs.declared.submodule.ParameterItem.{ParameterItem}
-use Rattle.catalogue.specs.Reader.{◌>>=◌, Reads, member, number_at, text_at, list_at, whole_at}
+use Rattle.catalogue.specs.Reader.{◌>>=◌, Reads, member, number_at, text_at, flag_at, list_at, whole_at}
 use Rattle.catalogue.specs.Submodules.{Submodule, has_index, has_subslot, io_of, parameter, submodule}
 use Rattle.catalogue.specs.Modules.{Module, has_id, module_item, submodules_of}
 use Rattle.catalogue.specs.Slots.{Record, Slot, length_of, octets_at, of_length, parameters_of, record_item, records_of, slot_item}
@@ -165,10 +165,11 @@ project_kept least modules tree found all e =
     let d = bind_ok (reduction c.0 least tree) _ found c.2 in
     let f = bind_ok (number_at key.DataHoldFactor 1 7680 tree) _ found d.2 in
     let g = bind_ok (list_at key.Slots (λ _ entry. slot_item modules entry) tree) _ found f.2 in
+    let h = bind_ok (flag_at key.ContinueOnRefusedRecord tree) _ found g.2 in
     let clock = number_within key.SendClockFactor 1 128 tree c.0 c.1 in
     let ratio = reduction_within c.0 least tree d.0 d.1 in
     let hold = number_within key.DataHoldFactor 1 7680 tree f.0 f.1 in
-    subst IsKept (ok_is {F = PlacedFault} _ found g.2) (record {
+    subst IsKept (ok_is {F = PlacedFault} _ found h.2) (record {
       clock_least = clock.0;
       clock_greatest = clock.1;
       ratio_least = ratio.0;

@@ -1,11 +1,11 @@
 -- The project: what a controller wants of a station.
-use Rattle.std.specs.Prelude.{◌*◌, ℕ, List, Result, Ok, Err, nat_lt, if◌then◌else◌}
+use Rattle.std.specs.Prelude.{◌*◌, ℕ, Bool, List, Result, Ok, Err, nat_lt, if◌then◌else◌}
 use Rattle.catalogue.specs.declared.fault.PlacedFault.{PlacedFault}
 use Rattle.catalogue.specs.declared.fault.CatalogueFault.TheVariants.{Number}
 use Rattle.catalogue.specs.declared.fault.Step.TheVariants.{At}
 use Rattle.catalogue.specs.declared.key.Key.TheVariants as key
 use Rattle.catalogue.specs.Placed.{at_key, behind}
-use Rattle.catalogue.specs.Reader.{◌>>=◌, Reader, member, number_at, text_at, list_at}
+use Rattle.catalogue.specs.Reader.{◌>>=◌, Reader, member, flag_at, number_at, text_at, list_at}
 use Rattle.catalogue.specs.Modules.{Module}
 use Rattle.catalogue.specs.Slots.{Slot, slot_item}
 
@@ -30,6 +30,7 @@ pub record Project : Type 0 where
   pub reduction_ratio : ℕ
   pub data_hold_factor : ℕ
   pub slots : List Slot
+  pub continue_on_refused_record : Bool
 
 -- the station's name and IP suite
 unfoldable pub station : Reader Station
@@ -69,4 +70,13 @@ project least_interval modules tree =
     reduction send_clock_factor least_interval tree >>= λ reduction_ratio.
     number_at key.DataHoldFactor 1 7680 tree >>= λ data_hold_factor.
     list_at key.Slots (λ _ entry. slot_item modules entry) tree >>= λ slots.
-    Ok (record { station = station; controller = controller; send_clock_factor = send_clock_factor; reduction_ratio = reduction_ratio; data_hold_factor = data_hold_factor; slots = slots })
+    flag_at key.ContinueOnRefusedRecord tree >>= λ continue_on_refused_record.
+    Ok (record {
+      station = station;
+      controller = controller;
+      send_clock_factor = send_clock_factor;
+      reduction_ratio = reduction_ratio;
+      data_hold_factor = data_hold_factor;
+      slots = slots;
+      continue_on_refused_record = continue_on_refused_record;
+    })

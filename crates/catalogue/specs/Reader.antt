@@ -1,8 +1,8 @@
 -- Reading a value of JSON: a function of the value, so that of several faults the first is defined, and its place.
-use Rattle.std.specs.Prelude.{◌≡◌, ◌⊎◌, ◌&&◌, ◌++◌, ℕ, List, [], ◌∷◌, length, Option, Some, None, is_some, option_and_then, ok_or, Result, Ok, Err, nat_le, if◌then◌else◌}
+use Rattle.std.specs.Prelude.{◌≡◌, ◌⊎◌, ◌&&◌, ◌++◌, ℕ, Bool, false, List, [], ◌∷◌, length, Option, Some, None, is_some, option_and_then, ok_or, Result, Ok, Err, nat_le, if◌then◌else◌}
 pub use Rattle.wire.specs.Codec.{◌>>=◌, Gives}
 use Rattle.serde_json.specs.Data.{Data, Items, no_items, item}
-use Rattle.serde_json.specs.Find.{get, as_object, as_array, as_str, as_number, as_u64}
+use Rattle.serde_json.specs.Find.{get, as_object, as_array, as_bool, as_str, as_number, as_u64}
 use Rattle.catalogue.specs.declared.key.Key.{Key}
 use Rattle.catalogue.specs.declared.fault.CatalogueFault.{CatalogueFault}
 use Rattle.catalogue.specs.declared.fault.CatalogueFault.TheVariants.{MissingKey, WrongKind, Number, OutOfMemory}
@@ -60,6 +60,15 @@ number_at key least greatest tree = member key tree >>= λ value. placed key (nu
 -- the text at a key
 unfoldable pub text_at : Key → Reader (List ℕ)
 text_at key tree = member key tree >>= λ value. ok_or (as_str value) (at_key key WrongKind)
+
+-- the Boolean that is at a key: false if nothing is
+abbrev pub flag_within : Key → Option Data → Result Bool PlacedFault
+flag_within key None = Ok false
+flag_within key (Some tree) = ok_or (as_bool tree) (at_key key WrongKind)
+
+-- the Boolean at a key of an object: false if the key is absent
+unfoldable pub flag_at : Key → Reader Bool
+flag_at key tree = if is_some (as_object tree) then flag_within key (get (name_of key) tree) else Err (here WrongKind)
 
 -- one entry after another, each given those before it
 abbrev pub each : {A : Type 0} → (List A → Reader A) → List A → Items → Result (List A) PlacedFault

@@ -43,6 +43,7 @@ pub enum Key {
     Slot,
     Records,
     Data,
+    ContinueOnRefusedRecord,
 }
 
 impl Key {
@@ -90,6 +91,7 @@ impl Key {
             Key::Slot => "Slot",
             Key::Records => "Records",
             Key::Data => "Data",
+            Key::ContinueOnRefusedRecord => "ContinueOnRefusedRecord",
         }
     }
 }

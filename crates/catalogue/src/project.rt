@@ -8,7 +8,7 @@ ghost use Rattle.catalogue.specs.Projects.{Station, Controller, Project, station
 
 use crate::entry::list;
 use crate::module::ModuleTable;
-use crate::tree::{member_at, string, word_at};
+use crate::tree::{flag_at, member_at, string, word_at};
 use crate::{CatalogueFault, Key, PlacedFault, SlotItem, Step};
 use serde_json::Value;
 use std::alloc::Global;
@@ -57,6 +57,8 @@ pub struct Project {
     pub reduction_ratio: u16,
     pub data_hold_factor: u16,
     pub slots: Vec<SlotItem>,
+    /// Whether the start-up goes on after a record that the device refused.
+    pub continue_on_refused_record: bool,
 }
 
 impl Model for Project {
@@ -69,6 +71,7 @@ impl Model for Project {
       reduction_ratio = item.reduction_ratio;
       data_hold_factor = item.data_hold_factor;
       slots = item.slots.items;
+      continue_on_refused_record = item.continue_on_refused_record;
     } };
 }
 
@@ -142,6 +145,7 @@ pub(crate) fn project_of(
     let reduction_ratio = reduction(tree, send_clock_factor, least_interval)?;
     let data_hold_factor = word_at(tree, Key::DataHoldFactor, 1, 7680)?;
     let slots = list(alloc, modules, tree, Key::Slots)?;
+    let continue_on_refused_record = flag_at(tree, Key::ContinueOnRefusedRecord)?;
     Ok(Project {
         station,
         controller,
@@ -149,5 +153,6 @@ pub(crate) fn project_of(
         reduction_ratio,
         data_hold_factor,
         slots,
+        continue_on_refused_record,
     })
 }

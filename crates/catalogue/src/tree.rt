@@ -2,7 +2,7 @@
 ghost use Rattle.std.specs.Prelude.{◌≡◌, ◌≤◌, ◌^◌, ◌<◌, ◌+◌, IfOk, string_bytes};
 ghost use Rattle.wire.specs.Codec.{Gives};
 ghost use Rattle.serde_json.specs.View.{view, items_view};
-ghost use Rattle.catalogue.specs.Reader.{Reads, member, items_of, whole, whole_at, number, number_at, text_at};
+ghost use Rattle.catalogue.specs.Reader.{Reads, member, items_of, flag_at, whole, whole_at, number, number_at, text_at};
 
 use crate::{CatalogueFault, Key, PlacedFault};
 use serde_json::Value;
@@ -34,6 +34,23 @@ pub(crate) fn items_at<'a>(tree: &'a Value, key: Key) -> Result<&'a [Value], Pla
         None => Ok(&[]),
         Some(value) => match value.as_array() {
             Some(values) => Ok(values.as_slice()),
+            None => Err(PlacedFault::at(key, CatalogueFault::WrongKind)),
+        },
+    }
+}
+
+/// The Boolean at a key. `false` if the key is absent. The fault is `WrongKind` if `tree` is not an object or the value is not a Boolean.
+#[tactic(auto, unfolding(crate::specs::Reader::flag_at))]
+pub(crate) fn flag_at(tree: &Value, key: Key) -> Result<bool, PlacedFault>
+    ensures { Gives (λ flag. flag) result (flag_at key (view tree.now)) }
+{
+    if !tree.is_object() {
+        return Err(PlacedFault::here(CatalogueFault::WrongKind));
+    }
+    match tree.get(key.name()) {
+        None => Ok(false),
+        Some(value) => match value.as_bool() {
+            Some(flag) => Ok(flag),
             None => Err(PlacedFault::at(key, CatalogueFault::WrongKind)),
         },
     }

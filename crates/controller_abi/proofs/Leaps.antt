@@ -4,9 +4,14 @@ use Rattle.std.specs.Prelude.{◌||◌, ◌&&◌, not}
 use Rattle.cyclic_exchange.specs.Units.{Brought}
 use Rattle.controller_core.specs.declared.event.Event.TheVariants.{Tick}
 use Rattle.controller_core.specs.declared.state.State as phase
-use Rattle.controller_core.specs.Leaps.{OnlyTheLastSends, ticks_of}
-use Rattle.controller_core.specs.Machine.{Stepped, Turn, brought, exchange_later, flowed, gone_on, is_again, later, requests_of, step_of, ticked, where_due}
+use Rattle.controller_core.specs.Leaps.{ticks_of}
+use Rattle.controller_core.specs.Machine.{Turn, brought, exchange_later, flowed, gone_on, is_again, later, requests_of, step_of, where_due}
+use Rattle.controller_core.specs.Machine as machine
 use Rattle.controller_core.specs.State.{Controlling, Live}
+use Rattle.services.specs.State.{State as Services, frames_in, sent_by_tick, ticked}
+use Rattle.services.specs.Leaps as services
+use Rattle.station.specs.Served.{Frames, Served}
+use Rattle.station.specs.ServedLeaps.{OnlyTheLastSends, sent_beside}
 use Rattle.controller_abi.specs.State.{State, has_frames, is_over, is_stopped}
 use Rattle.controller_abi.specs.Steps.{Ticks}
 
@@ -38,7 +43,7 @@ gone_phase live is_request none = by_relation live is_request live.stands none
 step_phase : (controller : Controlling) → (step_of controller Tick).frames ≡ [] → (step_of controller Tick).controller.live.phase ≡ controller.live.phase
 unfolding step_of
 step_phase controller none =
-    gone_phase (later controller.live) (is_again controller.live) (map_none _ (ticked controller.live).sent none)
+    gone_phase (later controller.live) (is_again controller.live) (map_none _ (machine.ticked controller.live).sent none)
 
 -- If none of some units sends anything, the phase stays.
 phase_kept : (controller : Controlling) (units : ℕ) → ((before : ℕ) → before ≤ units → (ticks_of before controller).frames ≡ []) → (ticks_of units controller).controller.live.phase ≡ controller.live.phase
@@ -63,27 +68,41 @@ first_false false b none = refl
 pub idle_of : (port : State) (was_over : Bool) → is_stopped was_over port ≡ false → has_frames port.frames ≡ false
 idle_of port was_over free = first_false (has_frames port.frames) (not was_over && is_over port.controller.live.phase) free
 
-abbrev at : Stepped → State
-at stepped = record { controller = stepped.controller; frames = stepped.frames }
+-- The port after this many units, one by one, with all that they sent.
+abbrev at : ℕ → State → State
+at units port = record {
+  controller = (ticks_of units port.controller).controller;
+  services = services.ticks_of units port.services;
+  frames = (ticks_of units port.controller).frames ++ sent_beside units port.services;
+}
 
-abbrev with_frames : Controlling → List (List ℕ) → State
-with_frames controller frames = record { controller = controller; frames = frames }
+abbrev both : State → Served
+both port = record { controller = port.controller; services = port.services }
+
+abbrev with_frames : Controlling → Services → List (List ℕ) → State
+with_frames controller services frames = record { controller = controller; services = services; frames = frames }
 
 abbrev stopped_by : Bool → List (List ℕ) → phase.State → Bool
 stopped_by was_over frames phase = has_frames frames || (not was_over && is_over phase)
 
-pub ticks_all : (was_over : Bool) (units : ℕ) (old : State) → has_frames old.frames ≡ false → is_stopped was_over old ≡ false → OnlyTheLastSends units old.controller
-    → Ticks was_over units old (at (ticks_of units old.controller))
-ticks_all was_over zero old idle free last = ap (with_frames old.controller) (sym (none_of old.frames idle))
+pub ticks_all : (was_over : Bool) (units : ℕ) (old : State) → has_frames old.frames ≡ false → is_stopped was_over old ≡ false → OnlyTheLastSends units (both old)
+    → Ticks was_over units old (at units old)
+ticks_all was_over zero old idle free last = ap (with_frames old.controller old.services) (sym (none_of old.frames idle))
 ticks_all was_over (suc units) old idle free last =
     let first = ticks_of units old.controller in
     let step = step_of first.controller Tick in
-    let quiet : first.frames ≡ [] = last units (omega arith) in
-    let phase = phase_kept old.controller units (λ before earlier. last before (omega (arith, earlier))) in (
-      at first,
+    let beside = frames_in (sent_by_tick (services.ticks_of units old.services)) in
+    let by_controller : (before : ℕ) → before ≤ units → (ticks_of before old.controller).frames ≡ [] =
+    λ before earlier. ap (λ (frames : Frames). frames.controller) (last before (omega (arith, earlier))) in
+    let by_services : sent_beside units old.services ≡ [] = ap (λ (frames : Frames). frames.services) (last units (omega arith)) in
+    let quiet : first.frames ≡ [] = by_controller units (omega arith) in
+    let none : (at units old).frames ≡ [] = ap (λ (f : List (List ℕ)). f ++ sent_beside units old.services) quiet ∙ by_services in
+    let phase = phase_kept old.controller units by_controller in (
+      at units old,
       ticks_all was_over units old idle free (λ before earlier. last before (omega (arith, earlier))),
-      ap (λ (f : List (List ℕ)). stopped_by was_over f first.controller.live.phase) (quiet ∙ sym (none_of old.frames idle)) ∙ ap (stopped_by was_over old.frames) phase ∙ free,
-      ap (λ (f : List (List ℕ)). with_frames step.controller (f ++ step.frames)) quiet,
+      ap (λ (f : List (List ℕ)). stopped_by was_over f first.controller.live.phase) (none ∙ sym (none_of old.frames idle)) ∙ ap (stopped_by was_over old.frames) phase ∙ free,
+      ap (λ (f : List (List ℕ)). with_frames step.controller (ticked (services.ticks_of units old.services)) ((f ++ step.frames) ++ (sent_beside units old.services ++ beside))) quiet
+      ∙ ap (λ (f : List (List ℕ)). with_frames step.controller (ticked (services.ticks_of units old.services)) (step.frames ++ (f ++ beside))) by_services,
     )
 
 -- Units that passed after others.

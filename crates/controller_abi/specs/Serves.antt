@@ -2,10 +2,9 @@
 -- afterwards: an equation of the whole operation says which fields are written, and with what. All other fields are
 -- unchanged, and so are the octets after those that are written. A refused operation changes nothing, neither in the
 -- controller nor in the operation.
-use Rattle.std.specs.Prelude.{◌≡◌, ◌==◌, ℕ, Bool, true, false, not, if◌then◌else◌, List, [], ◌∷◌, length, take, Option, Some, None}
+use Rattle.std.specs.Prelude.{◌≡◌, ◌==◌, ℕ, Bool, true, false, not, if◌then◌else◌, List, [], ◌∷◌, length, min, take, Option, Some, None}
 use Rattle.record_blocks.specs.declared.alarm_notification.AlarmNotification.{AlarmNotification}
 use Rattle.controller_core.specs.Cause.{number_of}
-use Rattle.controller_core.specs.Leaps.{live_due_in}
 use Rattle.cyclic_exchange.specs.Process.{value_at}
 use Rattle.cyclic_exchange.specs.declared.exchange.ProviderStatus.{ProviderStatus}
 use Rattle.controller_core.specs.Machine.{provider_of}
@@ -19,7 +18,7 @@ use Rattle.c_layout.specs.Reported.{with_octets}
 use Rattle.controller_abi.specs.declared.operation.Operation.{Operation}
 use Rattle.controller_abi.specs.declared.operation.Operation.TheVariants as operation
 use Rattle.controller_abi.specs.Outputs.{output_at, why_not_rated, why_not_set}
-use Rattle.controller_abi.specs.State.{State, advanced, after, has_frames}
+use Rattle.controller_abi.specs.State.{State, advanced, after, has_frames, port_due_in}
 use Rattle.controller_abi.specs.Steps.{Passes}
 
 -- The operation of a number.
@@ -35,7 +34,8 @@ operation_of what =
     if what == 13 then Some operation.Stop else
     if what == 15 then Some operation.Due else
     if what == 16 then Some operation.Status else
-    if what == 18 then Some operation.Provider else None
+    if what == 18 then Some operation.Provider else
+    if what == 19 then Some operation.Conflicts else None
 
 -- ---- events
 
@@ -155,6 +155,10 @@ abbrev pub IsAlarm : Option AlarmNotification → Op → ℕ → Op → Type 0
 IsAlarm (Some alarm) asked answer reported = (answer ≡ 0) × (reported ≡ with_alarm alarm asked)
 IsAlarm None asked answer reported = (answer ≡ 9) × (reported ≡ asked)
 
+-- How many conflicts of the controller's address were heard, at most the maximum of 32 bits.
+abbrev pub with_conflicts : ℕ → Op → Op
+with_conflicts conflicts asked = record asked { units = min conflicts 4294967295 }
+
 -- ---- all of them
 
 -- The result of an operation: 10 if there is no such operation.
@@ -173,9 +177,11 @@ Serves (Some operation.Alarm) old asked given answer new reported = (new ≡ old
 Serves (Some operation.Stop) old asked given answer new reported =
     (reported ≡ asked) × IsEvent (has_frames old.frames) old event.Stop answer new
 Serves (Some operation.Due) old asked given answer new reported =
-    (new ≡ old) × (answer ≡ 0) × (reported ≡ record asked { units = live_due_in old.controller.live })
+    (new ≡ old) × (answer ≡ 0) × (reported ≡ record asked { units = port_due_in old })
 Serves (Some operation.Status) old asked given answer new reported =
     (reported ≡ asked) × IsStatus (place_in asked.slot asked.subslot) old (not (asked.place == 0)) answer new
 Serves (Some operation.Provider) old asked given answer new reported =
     (new ≡ old) × IsProvider (place_in asked.slot asked.subslot) old asked answer reported
+Serves (Some operation.Conflicts) old asked given answer new reported =
+    (new ≡ old) × (answer ≡ 0) × (reported ≡ with_conflicts old.services.conflicts asked)
 Serves None old asked given answer new reported = (answer ≡ 10) × (new ≡ old) × (reported ≡ asked)

@@ -1,24 +1,36 @@
 -- What a host sees of a controller.
-use Rattle.std.specs.Prelude.{◌≡◌, ◌&&◌, ◌||◌, Bool, true, false, not, ℕ, List, [], ◌∷◌, drop, Option, Some, None}
+use Rattle.std.specs.Prelude.{◌≡◌, ◌++◌, ◌&&◌, ◌||◌, Bool, true, false, not, ℕ, List, [], ◌∷◌, drop, Option, Some, None}
 use Rattle.arrayvec.specs.ArrayVec.{ArrayVec as Items}
 use Rattle.controller_core.specs.declared.event.Event.{Event}
 use Rattle.controller_core.specs.declared.state.State as phase
 use Rattle.controller_core.specs.declared.state.State.TheVariants.{Looking, Addressing, Connecting, Writing, Ending, Waiting, Exchanging, Ended}
 use Rattle.controller_core.specs.Machine.{opening_of, step_of}
 use Rattle.controller_core.specs.State.{Controlling}
+use Rattle.services.specs.State.{State as Services}
+use Rattle.station.specs.Served.{Served, beside, services_after}
+use Rattle.station.specs.ServedLeaps.{served_due_in}
 
--- The controller, and the frames of its last step that the host has not fetched yet.
+-- The controller and the services of its address, and the frames of their last step that the host has not fetched yet.
 pub record State : Type 0 where
   pub controller : Controlling
+  pub services : Services
   pub frames : List (List ℕ)
 
--- A controller that begins: its opening frame waits to be fetched.
-abbrev pub opened : Controlling → State
-opened controller = record { controller = controller; frames = opening_of controller ∷ [] }
+-- A controller and its services that begin: its opening frame waits to be fetched.
+abbrev pub opened : Served → State
+opened served = record { controller = served.controller; services = served.services; frames = opening_of served.controller ∷ [] }
 
--- One step of the controller: its frames wait to be fetched.
+-- One step of the controller, and then of its services: the frames of both wait to be fetched, in this order.
 abbrev pub after : State → Event → State
-after old event = record { controller = (step_of old.controller event).controller; frames = (step_of old.controller event).frames }
+after old event = record {
+  controller = (step_of old.controller event).controller;
+  services = services_after old.services event (step_of old.controller event).frames;
+  frames = (step_of old.controller event).frames ++ beside old.services event (step_of old.controller event).frames;
+}
+
+-- The number of units up to and with the next one with which anything is sent, or the controller ends.
+abbrev pub port_due_in : State → ℕ
+port_due_in port = served_due_in (record { controller = port.controller; services = port.services })
 
 -- Whether frames remain.
 abbrev pub has_frames : List (List ℕ) → Bool

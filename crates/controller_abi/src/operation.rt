@@ -16,6 +16,7 @@ pub enum Operation {
     Due,
     Status,
     Provider,
+    Conflicts,
 }
 
 // The operation of this number, if it exists.
@@ -34,6 +35,7 @@ pub(crate) fn operation_of(what: u32) -> Option<Operation>
         15 => Some(Operation::Due),
         16 => Some(Operation::Status),
         18 => Some(Operation::Provider),
+        19 => Some(Operation::Conflicts),
         _ => None,
     }
 }

@@ -6,7 +6,7 @@ ghost use Rattle.pn_values.specs.StationName.{IsStationName};
 ghost use Rattle.station_names.specs.Valid.{is_station_name};
 ghost use Rattle.wire.specs.Codec.{Gives};
 ghost use Rattle.plans.specs.Plan.{plan_of};
-ghost use Rattle.controller_core.specs.Machine.{fresh};
+ghost use Rattle.station.specs.Served.{begun};
 ghost use Rattle.c_layout.specs.Modules.{is_module, is_submodule, module_of};
 ghost use Rattle.controller_abi.specs.State.{opened};
 ghost use Rattle.controller_abi.specs.Plans.{IsShort, IsWritten, are_addresses as is_addressed, are_low as is_low, are_named};
@@ -88,6 +88,8 @@ pub struct WrittenPlan {
     pub record_count: u32,
     pub modules: [Module; 16],
     pub records: [WrittenRecord; 32],
+    /// Whether the start-up goes on after a record that the device refused: 0 for no.
+    pub continue_on_refused_record: u32,
 }
 
 /// Why no controller is made from this plan, or 0: another version or size of an operation than the library's, too
@@ -123,7 +125,7 @@ pub fn unstarted(written: &WrittenPlan, ar: &[u8; 16], activity: &[u8; 16]) -> P
 /// Starts the controller in place. Its opening frame waits to be fetched, and nothing else remains.
 #[inline(never)]
 pub fn start(port: &mut Port)
-    ensures { port.new ≡ opened (fresh port.old.controller.setup.plan port.old.controller.setup.ar port.old.controller.setup.activity) }
+    ensures { port.new ≡ opened (begun port.old.controller.setup.plan port.old.controller.setup.ar port.old.controller.setup.activity) }
 {
     port.start();
 }
@@ -456,6 +458,7 @@ fn parts_in(written: &WrittenPlan) -> Parts
         times: times_of(written),
         real: real_in(written),
         records: records_of(written),
+        continue_on_refused_record: written.continue_on_refused_record != 0,
     }
 }
 

@@ -1,37 +1,37 @@
-//! A controller, and the frames of its last step that the host has not fetched yet.
-ghost use Rattle.std.specs.Prelude.{◌≡◌, ◌≤◌, Bool, false, option_map};
-ghost use Rattle.controller_core.specs.Leaps.{live_due_in};
-ghost use Rattle.controller_core.specs.Machine.{fresh};
+//! A controller and the services of its address, and the frames of their last step that the host has not fetched yet.
+ghost use Rattle.std.specs.Prelude.{◌≡◌, ◌<◌, ◌≤◌, Bool, false, option_map};
+ghost use Rattle.station.specs.Served.{begun};
 ghost use Rattle.controller_abi.specs.Outputs.{output_at as output_in, output_of as output_in_module};
-ghost use Rattle.controller_abi.specs.State.{IsNext, advanced, after, has_frames, is_over as over, is_stopped as stops, opened};
+ghost use Rattle.controller_abi.specs.State.{IsNext, advanced, after, has_frames, is_over as over, is_stopped as stops, opened, port_due_in};
 ghost use Rattle.controller_abi.specs.Steps.{Passes, Ticks};
 
 use controller_core::{Controller, Event, State};
-use frame_codec::{Frame, Outbox};
+use frame_codec::Frame;
 use plans::Plan;
 use pn_values::{RealModule, RealSubmodule};
+use station::{ServedController, ServedOutbox};
 use std::marker::Model;
 use uuid::Uuid;
 
-/// A controller, and the frames of its last step that the host has not fetched yet.
+/// A controller and the services of its address, and the frames of their last step that the host has not fetched yet.
 ///
 /// Events go in, one at a time, and after each the host fetches all frames.
 #[derive(Drop)]
 pub struct Port {
-    controller: Controller,
-    outbox: Outbox,
+    served: ServedController,
+    outbox: ServedOutbox,
     /// The number of frames in the outbox that the host has fetched.
     frames_past: usize,
 }
 
 impl Model for Port {
     ghost use Rattle.std.specs.Prelude.{drop};
-    ghost use Rattle.frame_codec.specs.Outbox.{boxed};
+    ghost use Rattle.station.specs.Served.{in_order};
     ghost use Rattle.controller_abi.specs.State.{State};
 
     ghost Value = { State };
 
-    ghost view = { λ port. record { controller = port.controller; frames = drop port.frames_past (boxed port.outbox) } };
+    ghost view = { λ port. record { controller = port.served.controller; services = port.served.services; frames = drop port.frames_past (in_order port.outbox) } };
 }
 
 impl Port {
@@ -41,19 +41,18 @@ impl Port {
         ensures { result.controller.setup ≡ record { plan = plan; ar = ar; activity = activity } }
     {
         Port {
-            controller: Controller::unstarted(plan, ar, activity),
-            outbox: Outbox::new(),
+            served: ServedController::unstarted(plan, ar, activity),
+            outbox: ServedOutbox::new(),
             frames_past: 0,
         }
     }
 
     /// Starts the controller in place. Its opening frame waits to be fetched, and nothing else remains.
     pub fn start(&mut self)
-        ensures { self.new ≡ opened (fresh self.old.controller.setup.plan self.old.controller.setup.ar self.old.controller.setup.activity) }
+        ensures { self.new ≡ opened (begun self.old.controller.setup.plan self.old.controller.setup.ar self.old.controller.setup.activity) }
     {
-        self.controller.start();
-        self.outbox.clear();
-        self.controller.send_opening(&mut self.outbox);
+        self.served.start();
+        self.served.send_opening(&mut self.outbox);
         self.frames_past = 0;
     }
 
@@ -61,7 +60,22 @@ impl Port {
     pub fn controller(&self) -> &Controller
         ensures { result.now ≡ self.now.controller }
     {
-        &self.controller
+        self.served.controller()
+    }
+
+    /// How many frames of ARP came from another station that uses the controller's address.
+    pub fn conflicts(&self) -> u64
+        ensures { result ≡ self.now.services.conflicts }
+    {
+        self.served.conflicts()
+    }
+
+    /// The number of units up to and with the next one with which anything is due.
+    pub fn due(&self) -> u32
+        ensures value { result ≡ port_due_in self.now }
+        ensures some { 0 < result }
+    {
+        self.served.due()
     }
 
     /// Whether frames of the last step remain.
@@ -77,10 +91,7 @@ impl Port {
     pub fn next(&self) -> Option<&Frame>
         ensures { IsNext self.now.frames (option_map (λ frame. frame.now) result) }
     {
-        if self.frames_past < self.outbox.len() {
-            return Some(&self.outbox.as_slice()[self.frames_past]);
-        }
-        None
+        self.outbox.get(self.frames_past)
     }
 
     /// Marks that frame as fetched.
@@ -97,7 +108,7 @@ impl Port {
         ensures { result ≡ output_in slot subslot self.now.controller.setup.plan.real.modules.items }
     {
         output_at(
-            self.controller.plan().real().modules.as_slice(),
+            self.controller().plan().real().modules.as_slice(),
             slot,
             subslot,
         )
@@ -110,7 +121,7 @@ impl Port {
     pub fn take(&mut self, event: &Event)
         ensures { self.new ≡ after self.old event.now }
     {
-        self.controller.step(event, &mut self.outbox);
+        self.served.step(event, &mut self.outbox);
         self.frames_past = 0;
     }
 
@@ -120,13 +131,13 @@ impl Port {
         requires { has_frames self.old.frames ≡ false }
         ensures { Passes self.old units result self.new }
     {
-        let was_over = is_over(self.controller.state());
+        let was_over = is_over(self.controller().state());
         let mut left = units;
         while left > 0 {
             if self.is_stopped(was_over) {
                 return left;
             }
-            let passing = left.min(self.controller.due());
+            let passing = left.min(self.due());
             self.leap(passing);
             left -= passing;
         }
@@ -136,10 +147,10 @@ impl Port {
     // Lets several units of time pass at once, at most as many as are due. All frames of the step before are fetched.
     fn leap(&mut self, units: u32)
         requires idle { has_frames self.old.frames ≡ false }
-        requires few { units ≤ live_due_in self.old.controller.live }
+        requires few { units ≤ port_due_in self.old }
         ensures { (was_over : Bool) → stops was_over self.old ≡ false → Ticks was_over units self.old self.new }
     {
-        self.controller.elapse(units, &mut self.outbox);
+        self.served.elapse(units, &mut self.outbox);
         self.frames_past = 0;
     }
 
@@ -147,7 +158,7 @@ impl Port {
     fn is_stopped(&self, was_over: bool) -> bool
         ensures { result ≡ stops was_over self.now }
     {
-        self.has_work() || (!was_over && is_over(self.controller.state()))
+        self.has_work() || (!was_over && is_over(self.controller().state()))
     }
 }
 

@@ -2,14 +2,13 @@
 ghost use Rattle.std.specs.Prelude.{◌≡◌, ◌==◌, length, not, take};
 ghost use Rattle.cyclic_exchange.specs.Process.{value_at};
 ghost use Rattle.controller_core.specs.declared.event.Event.TheVariants.{Frame as Framed, Give as Given, Status as Rated};
-ghost use Rattle.controller_core.specs.Leaps.{live_due_in};
 ghost use Rattle.controller_core.specs.Machine.{provider_of};
 ghost use Rattle.c_layout.specs.Places.{place_in};
 ghost use Rattle.controller_abi.specs.Outputs.{why_not_fit, why_not_rated, why_not_set};
-ghost use Rattle.controller_abi.specs.State.{has_frames};
+ghost use Rattle.controller_abi.specs.State.{has_frames, port_due_in};
 ghost use Rattle.controller_abi.specs.Serves.{IsAlarm, IsEvent, IsGift, IsHandOut, IsInput, IsProvider, IsProviderAt, IsSet, IsStatus, IsTick, IsValue, Serves};
 ghost use Rattle.controller_abi.specs.Serves.{cause_number, operation_of as operation_in, phase_number, planned_output, why_no_place};
-ghost use Rattle.controller_abi.specs.Serves.{with_alarm, with_next, with_state};
+ghost use Rattle.controller_abi.specs.Serves.{with_alarm, with_conflicts, with_next, with_state};
 
 use crate::operation::{Operation, operation_of};
 use crate::port::Port;
@@ -45,6 +44,7 @@ fn perform(operation: Operation, port: &mut Port, op: &mut Op, given: &[u8]) -> 
         Operation::Due => due(port, op),
         Operation::Status => status(port, op),
         Operation::Provider => provider(port, op),
+        Operation::Conflicts => conflicts(port, op),
     }
 }
 
@@ -268,9 +268,18 @@ fn number_of_cause(reached: State) -> u32
 // The number of units up to and with the next one with which anything is due.
 fn due(port: &Port, op: &mut Op) -> u32
     ensures answer { result ≡ 0 }
-    ensures reported { op.new ≡ record op.old { units = live_due_in port.now.controller.live } }
+    ensures reported { op.new ≡ record op.old { units = port_due_in port.now } }
 {
-    op.units = port.controller().due();
+    op.units = port.due();
+    0
+}
+
+// How many conflicts of the controller's address were heard.
+fn conflicts(port: &Port, op: &mut Op) -> u32
+    ensures answer { result ≡ 0 }
+    ensures reported { op.new ≡ with_conflicts port.now.services.conflicts op.old }
+{
+    op.units = port.conflicts().min(0xFFFF_FFFF) as u32;
     0
 }
 

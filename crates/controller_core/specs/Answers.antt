@@ -13,6 +13,7 @@ use Rattle.connect_blocks.specs.declared.control.ControlBlock.{ControlBlock}
 use Rattle.plans.specs.declared.parts.Parts.{Parts}
 use Rattle.plans.specs.declared.parts.Station.{Station}
 use Rattle.plans.specs.Numbers.{session_number}
+use Rattle.controller_frames.specs.declared.refusal.Refusal.{Refusal}
 use Rattle.controller_frames.specs.declared.setup.Setup.{Setup}
 use Rattle.controller_frames.specs.declared.request.Request.{Request}
 use Rattle.controller_frames.specs.declared.request.Request.TheVariants as asks
@@ -72,6 +73,11 @@ is_call (asks.Release sequence) = true
 abbrev pub is_answer : Setup → Request → CallHeader → Bool
 is_answer setup request header =
     is_call request && (pointwise nat_eq header.activity setup.activity && header.sequence == sequence_of setup.plan request)
+
+-- A refusal of the call for this request.
+abbrev pub is_refused : Setup → Request → Refusal → Bool
+is_refused setup request refusal =
+    is_call request && (pointwise nat_eq refusal.activity setup.activity && refusal.sequence == sequence_of setup.plan request)
 
 -- An ApplicationReady of the relation.
 abbrev pub is_ready : Setup → ControlBlock → Bool

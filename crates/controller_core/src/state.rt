@@ -2,6 +2,8 @@
 ghost use Rattle.std.specs.Prelude.{◌≡◌};
 ghost use Rattle.controller_core.specs.Cause.{number_of};
 
+use rpc_core::Status;
+
 /// Why a controller ended.
 #[derive(Clone, Copy, Debug, PartialEq, Eq)]
 pub enum Cause {
@@ -28,6 +30,15 @@ impl Cause {
     {
         self as u8
     }
+}
+
+/// A record of the plan that the device refused.
+#[derive(Clone, Copy, Debug, PartialEq, Eq)]
+pub struct RefusedRecord {
+    /// Its place among the plan's records, counted from 0.
+    pub number: u16,
+    /// The PNIOStatus of the response to its Write.
+    pub status: Status,
 }
 
 /// The state of a controller.

@@ -1,4 +1,6 @@
 pub mod Heard
+pub mod RecordRequests
+pub mod Refusal
 pub mod Reported
 pub mod Requests
 pub mod Sent

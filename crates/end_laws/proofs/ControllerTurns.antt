@@ -18,7 +18,7 @@ use Rattle.plans.specs.declared.parts.Parts.{Parts}
 use Rattle.controller_frames.specs.declared.setup.Setup.{Setup}
 use Rattle.controller_frames.specs.declared.request.Request.{Request}
 use Rattle.controller_frames.specs.declared.request.Request.TheVariants as asks
-use Rattle.controller_frames.specs.Heard.{Responds, heard_of}
+use Rattle.controller_frames.specs.Heard.{Heard, Responds, heard_of}
 use Rattle.controller_frames.specs.Requests.{sequence_of, writing_from}
 use Rattle.controller_frames.specs.Sent.{Sent}
 use Rattle.controller_core.specs.declared.state.Cause.{Cause}
@@ -29,6 +29,7 @@ use Rattle.controller_core.specs.declared.event.Event.TheVariants.{Frame}
 use Rattle.controller_core.specs.State.{Live}
 use Rattle.controller_core.specs.Answers.{is_answer, is_call}
 use Rattle.controller_core.specs.Machine.{Turn, stays, over, next_sequence, released, writing, standing, behind_data, confirming, taken, is_again, where_due, requests_of, acks_in, acks_of, outputs_of, flow_later, due_frames, brought, turn_of}
+use Rattle.end_laws.specs.turns.Ended.{IsReleased}
 use Rattle.end_laws.specs.turns.Turns.{Came, Hears, IsGranted, IsKind, IsReadied, IsTurn, Kind, Rests, Connects, Addresses, Ends, Releases, Relates, Writes, Waits, Forgets, Begins, Repeats, Takes, Flows, Breaks, Idles, came_by, turn_by}
 use Rattle.end_laws.specs.both.Small as small
 use Rattle.end_laws.specs.both.Small.{Controller, ToController, ToDevice}
@@ -207,11 +208,16 @@ module _ (setup : Setup) where
     readied_said caller call block ready =
         ap said_of ready.comes ∙ ap (λ (o : Option ControlBlock). readied_by setup o) ready.is ∙ ap (λ (b : Bool). cond b small.Readies small.Nothing) ready.right
 
+    -- the active Release, which is answered or refused
+    release_in : (came_so : Heard) → IsReleased setup live came_so → (sequence : ℕ) × (live.asked ≡ Some (asks.Release sequence))
+    release_in came_so (inl answered) = (answered.sequence, answered.stood)
+    release_in came_so (inr refused) = (refused.sequence, refused.stood)
+
     kind_goes : (kind : Kind) → IsKind setup live came kind → GoesOn setup.plan heard live (turn_by setup live kind)
     kind_goes Rests holds = stays_goes setup.plan heard live in_step
     kind_goes (Connects source) holds = record { in_step = refl; moves = inr (inr (inl refl)); says = (inr (refl, refl), tt) }
     kind_goes (Addresses source) holds = record { in_step = refl; moves = inl (sym (seeking holds.seeking)); says = (tt, tt) }
-    kind_goes (Ends reason) holds = over_goes setup.plan heard reason live [] tt
+    kind_goes (Ends reason refusal) holds = over_goes setup.plan heard reason (record live { refusal = refusal }) [] tt
     kind_goes (Releases reason) holds = released_goes heard reason live
     kind_goes (Relates chosen) holds =
         let granted = holds.0 in
@@ -230,7 +236,8 @@ module _ (setup : Setup) where
       says = tt;
     }
     kind_goes Forgets holds =
-        let ends = tells live.phase live.asked in_step (asks.Release holds.2.sequence) holds.2.stood in
+        let there = release_in holds.0 holds.2 in
+        let ends = tells live.phase live.asked in_step (asks.Release there.0) there.1 in
         record { in_step = ends.0; moves = inr (inl ends.1); says = tt }
     kind_goes (Begins caller call block) holds =
         record { in_step = refl; moves = inr (inr (inr (inr (readied_said caller call block holds.1, refl)))); says = (refl, tt) }

@@ -23,11 +23,12 @@ use Rattle.pn_alarms.specs.declared.pdu.PduType.TheVariants.{Data, Nack, Ack, Er
 use Rattle.pn_alarms.specs.Format.{frame_id_of}
 use Rattle.pn_alarms.specs.Message.{ToController, alarm_of}
 use Rattle.plans.specs.declared.parts.Controller.{Controller}
-use Rattle.controller_frames.specs.Heard.{Alarms, Answers, Calls, Cyclic, Heard, Nothing, Responds, heard_alarm, heard_answer, heard_body, heard_call, heard_content, heard_first, heard_of, heard_read, heard_real_time, heard_response, is_to}
+use Rattle.controller_frames.specs.Heard.{Alarms, Answers, Calls, Cyclic, Heard, Nothing, Responds, heard_alarm, heard_answer, heard_body, heard_call, heard_content, heard_first, heard_of, heard_read, heard_real_time, heard_refusal, heard_response, is_to}
+use Rattle.controller_frames.specs.Refusal.{refusal_of}
 use Rattle.codec_laws.specs.frames.Sendable.{CanBeSent, IsMac, IsRealTime, IsRealTimeOrNone, IsTag, carrying}
 use Rattle.rpc_core.specs.Sendable.{CanBeAnswered, CanBeCalled}
 use Rattle.end_laws.specs.hearing.Hearing.{IsUncalled, mine_hears, mine_reported, padded}
-use Rattle.end_laws.proofs.HearingGiven.{CallsAreNoResponses, CallsAreRead, DataIsAlone, DataIsRead, DatagramsAreRead, DeviceIsMeant, PacketsAreRead, ResponsesAreNoCalls, ResponsesAreRead}
+use Rattle.end_laws.proofs.HearingGiven.{CallsAreNoRefusals, CallsAreNoResponses, CallsAreRead, DataIsAlone, DataIsRead, DatagramsAreRead, DeviceIsMeant, PacketsAreRead, ResponsesAreNoCalls, ResponsesAreRead}
 use Rattle.end_laws.proofs.HearingChoices.{bare, faulty, holds_if, same_chosen}
 
 -- ---- real-time data
@@ -111,7 +112,9 @@ unfolding heard_body
 response_is reads differ caller answer is =
     let octets = response_bytes answer in
     let read = bare (λ xs. response_of xs) octets (Ok answer) (reads answer [] is) in
-    faulty (λ (first : Result Call RpcFault). heard_first caller first (response_of octets)) (heard_response (response_of octets)) (call_of controllers octets) (λ fault. refl) (differ controllers octets answer read) ∙ ap heard_response read
+    faulty (λ (first : Result Call RpcFault). heard_first caller first (response_of octets) (refusal_of octets)) (heard_response (response_of octets) (refusal_of octets)) (call_of controllers octets) (λ fault. refl)
+    (differ controllers octets answer read)
+    ∙ ap (λ (r : Result Answered RpcFault). heard_response r (refusal_of octets)) read
 
 whole : (caller : Caller) (call : Call) (blocks : Option (List ℕ)) (octets : List ℕ) → blocks ≡ Some octets → heard_call caller call blocks ≡ Calls caller call
 whole caller call (Some blocks) octets e = refl
@@ -121,17 +124,19 @@ pub call_is : CallsAreRead → (caller : Caller) (call : Call) → CanBeCalled c
 unfolding heard_body
 call_is reads caller call is =
     let octets = call_bytes controllers call in
-    ap (λ (r : Result Call RpcFault). heard_first caller r (response_of octets)) (bare (λ xs. call_of controllers xs) octets (Ok call) (reads controllers call [] is))
+    ap (λ (r : Result Call RpcFault). heard_first caller r (response_of octets) (refusal_of octets)) (bare (λ xs. call_of controllers xs) octets (Ok call) (reads controllers call [] is))
     ∙ whole caller call call.blocks is.blocks is.whole
 
 -- a call to a device is neither
-pub other_is : CallsAreRead → CallsAreNoResponses → DeviceIsMeant → (caller : Caller) (call : Call) → CanBeCalled devices call → heard_body caller (call_bytes devices call) ≡ Nothing
+pub other_is : CallsAreRead → CallsAreNoResponses → CallsAreNoRefusals → DeviceIsMeant → (caller : Caller) (call : Call) → CanBeCalled devices call → heard_body caller (call_bytes devices call) ≡ Nothing
 unfolding heard_body
-other_is reads differ meant caller call is =
+other_is reads differ unrefused meant caller call is =
     let octets = call_bytes devices call in
     let read = bare (λ xs. call_of devices xs) octets (Ok call) (reads devices call [] is) in
-    faulty (λ (first : Result Call RpcFault). heard_first caller first (response_of octets)) (heard_response (response_of octets)) (call_of controllers octets) (λ fault. refl) (meant octets call read)
-    ∙ faulty (λ (second : Result Answered RpcFault). heard_response second) Nothing (response_of octets) (λ fault. refl) (differ devices octets call read)
+    faulty (λ (first : Result Call RpcFault). heard_first caller first (response_of octets) (refusal_of octets)) (heard_response (response_of octets) (refusal_of octets)) (call_of controllers octets) (λ fault. refl)
+    (meant octets call read)
+    ∙ (faulty (λ (second : Result Answered RpcFault). heard_response second (refusal_of octets)) (heard_refusal (refusal_of octets)) (response_of octets) (λ fault. refl) (differ devices octets call read)
+    ∙ ap heard_refusal (unrefused devices call).1)
 
 -- ---- real-time data is not a call
 

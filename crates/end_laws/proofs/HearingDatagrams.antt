@@ -24,7 +24,7 @@ use Rattle.codec_laws.specs.frames.Sendable.{CanBeSent, IsEndpoint, IsMac, carry
 use Rattle.rpc_core.specs.Sendable.{CanBeAnswered, CanBeCalled, IsHeader}
 use Rattle.end_laws.specs.hearing.Hearing.{comes, mine_reported, own_reported}
 use Rattle.end_laws.specs.hearing.Stations.{IsAddress, IsCaller, IsDevice, IsSetup, ready_call}
-use Rattle.end_laws.proofs.HearingGiven.{CallsAreNoResponses, CallsAreRead, CallsAreShort, ControllerIsMeant, DatagramsAreRead, DeviceIsMeant, LongDatagramsAreLost, ResponsesAreLong, ResponsesAreNoCalls, ResponsesAreRead, ResponsesAreShort}
+use Rattle.end_laws.proofs.HearingGiven.{CallsAreNoRefusals, CallsAreNoResponses, CallsAreRead, CallsAreShort, ControllerIsMeant, DatagramsAreRead, DeviceIsMeant, LongDatagramsAreLost, ResponsesAreLong, ResponsesAreNoCalls, ResponsesAreRead, ResponsesAreShort}
 use Rattle.end_laws.proofs.HearingDevice.{call_said, ready_said, response_said, reported_heard}
 use Rattle.end_laws.proofs.HearingController.{body_heard, call_is, nothing_reported, other_is, response_is}
 
@@ -51,11 +51,11 @@ module _ (datagrams : DatagramsAreRead) (reads : CallsAreRead) (short : CallsAre
       reported_heard datagrams identity to setup.plan.controller.mac (calls_at setup.plan.controller.address) (calls_at setup.plan.station.suite.address) (call_bytes devices call) (Calls call)
       (call_sent setup to call is mac can) (call_said reads call can)
 
-  pub call_at_controller : CallsAreNoResponses → DeviceIsMeant → (mine : Controller) (setup : Setup) (to : Mac) (call : Call) → IsSetup setup → IsMac to → CanBeCalled devices call
+  pub call_at_controller : CallsAreNoResponses → CallsAreNoRefusals → DeviceIsMeant → (mine : Controller) (setup : Setup) (to : Mac) (call : Call) → IsSetup setup → IsMac to → CanBeCalled devices call
       → controller_hears mine (call_frame setup to call) ≡ Nothing
-  call_at_controller differ meant mine setup to call is mac can =
+  call_at_controller differ unrefused meant mine setup to call is mac can =
       body_heard datagrams mine to setup.plan.controller.mac (calls_at setup.plan.controller.address) (calls_at setup.plan.station.suite.address) (call_bytes devices call) Nothing
-      (call_sent setup to call is mac can) (other_is reads differ meant _ call can)
+      (call_sent setup to call is mac can) (other_is reads differ unrefused meant _ call can)
       ∙ nothing_reported mine to (calls_at setup.plan.station.suite.address)
 
   -- ---- ApplicationReady

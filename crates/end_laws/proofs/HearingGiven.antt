@@ -1,11 +1,12 @@
 -- The laws of the crates below.
-use Rattle.std.proofs.Common.{◌≡◌, ◌≤◌, ◌<◌, ◌+◌, ℕ, List, [], ◌++◌, length, Option, Ok}
+use Rattle.std.proofs.Common.{◌≡◌, ◌≤◌, ◌<◌, ◌+◌, ℕ, List, [], ◌++◌, length, Option, Ok, Err}
 use Rattle.std.specs.Prelude.{IsErr}
 use Rattle.pn_values.specs.declared.mac.Mac.{Mac}
 use Rattle.frame_codec.specs.declared.arp.Arp.{Arp}
 use Rattle.frame_codec.specs.declared.udp.Endpoint.{Endpoint}
 use Rattle.frame_codec.specs.Meaning.{ArpPacket, RealTime, UdpDatagram}
 use Rattle.frame_codec.specs.Frame.{frame_bytes, frame_of, padding_of}
+use Rattle.rpc_core.specs.declared.fault.RpcFault.{RpcFault}
 use Rattle.rpc_core.specs.declared.interface.Interface.{Interface}
 use Rattle.rpc_core.specs.declared.interface.Interface.TheVariants.{Controller, Device}
 use Rattle.rpc_core.specs.Call.{Asked, call_bytes, call_of}
@@ -13,6 +14,7 @@ use Rattle.rpc_core.specs.Response.{Answered, response_bytes, response_of}
 use Rattle.block_codec.specs.declared.block.Block.{Block}
 use Rattle.block_codec.specs.Block.{block_bytes, block_size}
 use Rattle.pn_alarms.specs.Format.{Said, pdu_bytes}
+use Rattle.controller_frames.specs.Refusal.{refusal_of}
 use Rattle.codec_laws.specs.frames.Sendable.{CanBeSent, IsMac, IsRealTimeOrNone, IsTag, carrying}
 use Rattle.rpc_core.specs.Sendable.{CanBeAnswered, CanBeCalled, IsHeader}
 
@@ -59,6 +61,9 @@ ResponsesAreShort = (response : Answered) → CanBeAnswered response → length 
 
 abbrev pub ResponsesAreLong : Type 0
 ResponsesAreLong = (response : Answered) → IsHeader response.header → length (response_bytes response) ≡ 100 + length response.blocks
+
+abbrev pub CallsAreNoRefusals : Type 0
+CallsAreNoRefusals = (interface : Interface) (call : Asked) → (fault : RpcFault) × (refusal_of (call_bytes interface call) ≡ Err fault)
 
 abbrev pub CallsAreNoResponses : Type 0
 CallsAreNoResponses = (interface : Interface) (bytes : List ℕ) (call : Asked) → call_of interface bytes ≡ Ok call → IsErr (response_of bytes)

@@ -109,7 +109,10 @@ module _ (mac : Mac) where
     kind_sent Rests holds = record { live = is; sent = tt }
     kind_sent (Connects source) holds = asking_sent Connecting asks.Connect _ (at_station source holds.known) tt
     kind_sent (Addresses source) holds = asking_sent Addressing asks.Address _ (at_station source holds.known) tt
-    kind_sent (Ends why) holds = record { live = over_aimed why live is; sent = tt }
+    kind_sent (Ends why refusal) holds = record {
+      live = record { device = is.device; asked = tt; way = record { partner = is.way.partner; sent_tag = is.way.sent_tag; alarm_tag = is.way.alarm_tag } };
+      sent = tt;
+    }
     kind_sent (Releases why) holds = released_sent setup why live good is
     kind_sent (Relates chosen) holds = writing_sent setup 0 (standing setup live chosen) good (stands_aimed setup live chosen is)
     kind_sent (Writes number) holds = writing_sent setup (number + 1) live good is

@@ -219,7 +219,8 @@ module _ (long : BlocksAreLong) (setup : Setup) (live : Live) (came : Came) (goo
   kind_right Rests holds = record { live = is; sent = tt }
   kind_right (Connects source) holds = asking_right setup Connecting asks.Connect _ (at_station source holds.known) tt
   kind_right (Addresses source) holds = asking_right setup Addressing asks.Address _ (at_station source holds.known) tt
-  kind_right (Ends why) holds = record { live = over_live why live is; sent = tt }
+  kind_right (Ends why refusal) holds =
+      record { live = record { device = is.device; asked = tt; way = is.way; few = is.few; last = is.last; seen = is.seen; confirming = is.confirming }; sent = tt }
   kind_right (Releases why) holds = released_right setup why live good is
   kind_right (Relates chosen) holds =
       let sized_so : IsSized (Responds holds.0.response) = reported (Hears (Responds holds.0.response)) holds.0.comes in

@@ -18,7 +18,7 @@ use Rattle.controller_core.specs.State.{Controlling, Live, with_live}
 use Rattle.controller_core.specs.Machine.{Turn, flow_later, flowed, brought, is_again, later, requests_of, stays, step_of, stopped, ticked, turned}
 use Rattle.controller_core.specs.Machine.{where_due as sent_where_due}
 use Rattle.end_laws.specs.turns.Runs.{frames_of}
-use Rattle.end_laws.specs.turns.Ended.{CountsUnits, DropsWhatComes, HasEnded, IsAnswered, IsDropped, IsOnlySet, IsSilent, KeepsItsCause, RepeatsItsRelease, is_unit, may_release, release_in, release_of, where_due}
+use Rattle.end_laws.specs.turns.Ended.{CountsUnits, DropsWhatComes, HasEnded, IsReleased, IsDropped, IsOnlySet, IsSilent, KeepsItsCause, RepeatsItsRelease, is_unit, may_release, release_in, release_of, where_due}
 use Rattle.end_laws.specs.turns.Turns.{Hears, Passes, Gets, GetsStatus, IsEnd, IsKind, IsReported, Kind, Rests, Connects, Addresses, Ends, Releases, Relates, Writes, Waits, Forgets, Begins, Repeats, Follows, Takes, IsAcked, Gives, GivesStatus, Flows, Breaks, Idles, turn_by}
 use Rattle.end_laws.proofs.TurnsOneTurn.{is_over, is_release, not_over, turn_is, unreported}
 use Rattle.end_laws.proofs.TurnsWhole.{reached_on, whole_end}
@@ -27,7 +27,7 @@ use Rattle.end_laws.proofs.TurnsWhole.{reached_on, whole_end}
 
 -- It is dropped, or is the response to the Release.
 abbrev IsUnmoved : Setup → Live → Heard → Turn → Type 0
-IsUnmoved setup live heard turn = (turn ≡ stays live) ⊎ (IsAnswered setup live heard × (turn ≡ stays (record live { asked = None })))
+IsUnmoved setup live heard turn = (turn ≡ stays live) ⊎ (IsReleased setup live heard × (turn ≡ stays (record live { asked = None })))
 
 module _ (setup : Setup) (live : Live) (heard : Heard) (cause : Cause) (h : IsEnd cause live) where
   -- No other request than the Release is active.
@@ -61,12 +61,12 @@ module _ (setup : Setup) (live : Live) (heard : Heard) (cause : Cause) (h : IsEn
   unmoved_by Rests holds = inl refl
   unmoved_by (Connects source) holds = absurd (either_phase Looking Addressing refl refl holds.seeking)
   unmoved_by (Addresses source) holds = absurd (either_phase Looking Addressing refl refl holds.seeking)
-  unmoved_by (Ends mine) holds = absurd (holds cause h)
+  unmoved_by (Ends mine refusal) holds = absurd (holds cause h)
   unmoved_by (Releases mine) holds = absurd (holds.0 cause h)
   unmoved_by (Relates chosen) holds = absurd (unasked asks.Connect refl holds.0.stood)
   unmoved_by (Writes number) holds = absurd (unasked (asks.Write number) refl holds.stood)
   unmoved_by Waits holds = absurd (unasked asks.PrmEnd refl holds.stood)
-  unmoved_by Forgets holds = inr (subst (λ (other : Heard). IsAnswered setup live other) (same_heard holds.0 holds.1) holds.2, refl)
+  unmoved_by Forgets holds = inr (subst (λ (other : Heard). IsReleased setup live other) (same_heard holds.0 holds.1) holds.2, refl)
   unmoved_by (Begins caller call block) holds = absurd (either_phase Ending Waiting refl refl holds.0)
   unmoved_by (Repeats caller call block) holds = absurd (other_phase Exchanging refl holds.0)
   unmoved_by (Follows source frame_id body) holds = absurd (up_not holds)
@@ -112,7 +112,7 @@ unit_frames_of setup live cause h =
 -- ---- one event
 
 frame_drops : (setup : Setup) (live : Live) (heard : Heard) (turn : Turn) → IsUnmoved setup live heard turn
-    → (map (bytes_of setup) turn.sent ≡ []) × ((turn.live ≡ live) ⊎ (IsAnswered setup live heard × (turn.live ≡ record live { asked = None })))
+    → (map (bytes_of setup) turn.sent ≡ []) × ((turn.live ≡ live) ⊎ (IsReleased setup live heard × (turn.live ≡ record live { asked = None })))
 frame_drops setup live heard turn (inl e) = (ap (λ (t : Turn). map (bytes_of setup) t.sent) e, inl (ap (λ (t : Turn). t.live) e))
 frame_drops setup live heard turn (inr x) = (ap (λ (t : Turn). map (bytes_of setup) t.sent) x.1, inr (x.0, ap (λ (t : Turn). t.live) x.1))
 
@@ -154,7 +154,7 @@ same_left : (setup : Setup) (before after : Live) → after ≡ before → IsLef
 same_left setup before after e =
     record { phase = ap (λ (live : Live). live.phase) e; release = inl (ap (λ (live : Live). release_in setup live.device live.asked) e) }
 
-frame_left : (setup : Setup) (heard : Heard) (before after : Live) → (after ≡ before) ⊎ (IsAnswered setup before heard × (after ≡ record before { asked = None }))
+frame_left : (setup : Setup) (heard : Heard) (before after : Live) → (after ≡ before) ⊎ (IsReleased setup before heard × (after ≡ record before { asked = None }))
     → IsLeft setup before after
 frame_left setup heard before after (inl e) = same_left setup before after e
 frame_left setup heard before after (inr x) =

@@ -56,7 +56,7 @@ module _ (setup : Setup) (live : Live) (came : Came) (plain : IsPlain came) wher
   inactive_by Rests holds = inactive_stays live
   inactive_by (Connects source) holds = record { alarms = refl; alarm = refl; sent = λ pdus acks nacks. (tt, tt) }
   inactive_by (Addresses source) holds = record { alarms = refl; alarm = refl; sent = λ pdus acks nacks. (tt, tt) }
-  inactive_by (Ends cause) holds = record { alarms = refl; alarm = refl; sent = λ pdus acks nacks. tt }
+  inactive_by (Ends cause refusal) holds = record { alarms = refl; alarm = refl; sent = λ pdus acks nacks. tt }
   inactive_by (Releases cause) holds = record { alarms = refl; alarm = refl; sent = λ pdus acks nacks. (tt, tt) }
   inactive_by (Relates chosen) holds = record { alarms = refl; alarm = refl; sent = λ pdus acks nacks. (tt, tt) }
   inactive_by (Writes number) holds = record { alarms = refl; alarm = refl; sent = λ pdus acks nacks. (tt, tt) }

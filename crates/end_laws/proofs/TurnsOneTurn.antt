@@ -14,10 +14,11 @@ use Rattle.pn_alarms.specs.declared.message.Notice.TheVariants as notice
 use Rattle.pn_alarms.specs.declared.pdu.Header.{Header}
 use Rattle.pn_alarms.specs.Message.{ToController}
 use Rattle.cyclic_exchange.specs.Received.{behind_frame}
+use Rattle.controller_frames.specs.declared.refusal.Refusal.{Refusal}
 use Rattle.controller_frames.specs.declared.setup.Setup.{Setup}
 use Rattle.controller_frames.specs.declared.request.Request.{Request}
 use Rattle.controller_frames.specs.declared.request.Request.TheVariants as asks
-use Rattle.controller_frames.specs.Heard.{Heard, Nothing, Answers, Responds, Calls, Alarms, heard_of}
+use Rattle.controller_frames.specs.Heard.{Heard, Nothing, Answers, Responds, Refuses, Calls, Alarms, heard_of}
 use Rattle.controller_frames.specs.Heard.{Cyclic as Comes}
 use Rattle.controller_core.specs.declared.event.Event.{Event}
 use Rattle.controller_core.specs.declared.event.Event.TheVariants.{Frame, Tick, Give, Status, Stop}
@@ -27,9 +28,9 @@ use Rattle.controller_core.specs.declared.state.State.{State}
 use Rattle.controller_core.specs.declared.state.State.TheVariants.{Looking, Addressing, Ending, Waiting, Exchanging, Ended}
 use Rattle.controller_core.specs.State.{Live}
 use Rattle.controller_core.specs.Alarms.{is_alarm}
-use Rattle.controller_core.specs.Answers.{is_addressed, is_answer, is_found, is_ready, is_right, is_set_answer}
+use Rattle.controller_core.specs.Answers.{is_addressed, is_answer, is_found, is_ready, is_refused, is_right, is_set_answer}
 use Rattle.controller_core.specs.Connect.{Chosen, chosen_of, found_in, is_whole, nothing}
-use Rattle.controller_core.specs.Machine.{Turn, answered, brought, called, connected, decided, done, flow_later, flowed, is_again, handled, later, noticed, readied, ready_in, related_by, requests_of, responded, stays, stopped, turn_of, turned, where_due}
+use Rattle.controller_core.specs.Machine.{Turn, answered, brought, called, connected, decided, done, flow_later, flowed, is_again, handled, later, noticed, readied, ready_in, refused, refused_by, related_by, requests_of, responded, stays, stopped, turn_of, turned, where_due}
 use Rattle.end_laws.specs.turns.Turns.{Came, Hears, Passes, Gets, GetsStatus, Halts, Found, IsGoing, IsGranted, IsKind, IsReadied, IsSought, IsReported, IsTurn, Kind, Rests, Connects, Addresses, Ends, Releases, Relates, Writes, Waits, Forgets, Begins, Repeats, Follows, Takes, IsAcked, Gives, GivesStatus, Flows, Breaks, Idles, came_by, chosen_in, turn_by, turn_for}
 
 -- No other phase is an end.
@@ -83,14 +84,14 @@ module _ (setup : Setup) (live : Live) where
       either (is_found setup.plan answer)
       (either (is_right setup.plan answer)
       (either (is_addressed setup.plan answer) (as_kind came (Connects source) sought) (as_kind came (Addresses source) sought))
-      (as_kind came (Ends why.WrongDevice) (going Looking is refl)))
+      (as_kind came (Ends why.WrongDevice live.refusal) (going Looking is refl)))
       (rests came)
   answered_is source answer Addressing is =
       let came = Hears (Answers source answer) in
       either (is_set_answer answer)
       (either (is_agreed answer)
       (as_kind came (Connects live.device) (record { seeking = inr is; known = inl refl }))
-      (as_kind came (Ends why.Refused) (going Addressing is refl)))
+      (as_kind came (Ends why.Refused live.refusal) (going Addressing is refl)))
       (rests came)
   answered_is source answer phase is = rests (Hears (Answers source answer))
 
@@ -103,7 +104,7 @@ module _ (setup : Setup) (live : Live) where
     forgets : (sequence : ℕ) → live.asked ≡ Some (asks.Release sequence) → is_answer setup (asks.Release sequence) response.header ≡ true
         → IsTurn setup live heard_now (stays (record live { asked = None }))
     forgets sequence stood right =
-        as_kind heard_now Forgets (Responds response, refl, record { response = response; sequence = sequence; stood = stood; comes = refl; right = right })
+        as_kind heard_now Forgets (Responds response, refl, inl (record { response = response; sequence = sequence; stood = stood; comes = refl; right = right }))
 
     abbrev granted_by : (request : Request) → live.asked ≡ Some request → is_answer setup request response.header ≡ true → is_done response.status ≡ true
         → IsGranted setup live heard_now request
@@ -135,7 +136,7 @@ module _ (setup : Setup) (live : Live) where
     handled_is : (request : Request) → live.asked ≡ Some request → is_answer setup request response.header ≡ true → is_release request ≡ false
         → IsTurn setup live heard_now (handled setup live response request)
     handled_is request stood right other =
-        if_so (is_done response.status) (λ granted. done_is request stood right granted) (as_kind heard_now (Ends why.Refused) (asked_going request stood other))
+        if_so (is_done response.status) (λ granted. done_is request stood right granted) (as_kind heard_now (Ends why.Refused (Some response.status)) (asked_going request stood other))
 
     decided_is : (request : Request) → live.asked ≡ Some request → is_answer setup request response.header ≡ true
         → IsTurn setup live heard_now (decided setup live response request)
@@ -145,6 +146,20 @@ module _ (setup : Setup) (live : Live) where
     responded_is : (asked : Option Request) → live.asked ≡ asked → IsTurn setup live heard_now (responded setup live response asked)
     responded_is (Some request) stood = if_so (is_answer setup request response.header) (λ right. decided_is request stood right) (rests heard_now)
     responded_is None stood = rests heard_now
+
+  -- ---- rejects and faults
+
+  refused_by_is : (refusal : Refusal) (request : Request) → live.asked ≡ Some request → is_refused setup request refusal ≡ true
+      → IsTurn setup live (Hears (Refuses refusal)) (refused_by live refusal request)
+  refused_by_is refusal (asks.Release sequence) stood right =
+      as_kind (Hears (Refuses refusal)) Forgets
+      (Refuses refusal, refl, inr (record { refusal = refusal; sequence = sequence; stood = stood; comes = refl; right = right }))
+  refused_by_is refusal request stood right = as_kind (Hears (Refuses refusal)) (Ends why.Refused (Some refusal.status)) (asked_going request stood refl)
+
+  refused_is : (refusal : Refusal) (asked : Option Request) → live.asked ≡ asked → IsTurn setup live (Hears (Refuses refusal)) (refused setup live refusal asked)
+  refused_is refusal (Some request) stood =
+      if_so (is_refused setup request refusal) (λ right. refused_by_is refusal request stood right) (rests (Hears (Refuses refusal)))
+  refused_is refusal None stood = rests (Hears (Refuses refusal))
 
   -- ---- ApplicationReady
 
@@ -167,7 +182,7 @@ module _ (setup : Setup) (live : Live) where
   noticed_is source header (notice.Data number alarm) up = as_kind _ (Takes number alarm) (up, source, header, refl)
   noticed_is source header (notice.Ack number) up = as_kind _ (IsAcked number) (up, source, header, refl)
   noticed_is source header notice.Nack up = rests _
-  noticed_is source header notice.Abort up = as_kind _ (Ends why.Aborted) (up_going up)
+  noticed_is source header notice.Abort up = as_kind _ (Ends why.Aborted live.refusal) (up_going up)
 
   come_is : (source : Mac) (frame_id : ℕ) (body : List ℕ) (is : Bool) → live.stands ≡ is
       → IsTurn setup live (Hears (Comes source frame_id body)) (stays (if is then record live { cyclic = behind_frame live.cyclic source frame_id body } else live))
@@ -178,6 +193,7 @@ module _ (setup : Setup) (live : Live) where
   turned_is Nothing = rests (Hears Nothing)
   turned_is (Answers source answer) = answered_is source answer live.phase refl
   turned_is (Responds response) = responded_is response live.asked refl
+  turned_is (Refuses refusal) = refused_is refusal live.asked refl
   turned_is (Calls caller call) = called_is caller call (ready_in call) refl
   turned_is (Comes source frame_id body) = come_is source frame_id body live.stands refl
   turned_is (Alarms source header reported) =
@@ -199,8 +215,8 @@ module _ (setup : Setup) (live : Live) where
   ticked_is false down = as_kind Passes Idles (refl, down)
 
   stopped_is : (phase : State) → live.phase ≡ phase → IsTurn setup live Halts (stopped setup live phase)
-  stopped_is Looking is = as_kind Halts (Ends why.Stopped) (going Looking is refl)
-  stopped_is Addressing is = as_kind Halts (Ends why.Stopped) (going Addressing is refl)
+  stopped_is Looking is = as_kind Halts (Ends why.Stopped live.refusal) (going Looking is refl)
+  stopped_is Addressing is = as_kind Halts (Ends why.Stopped live.refusal) (going Addressing is refl)
   stopped_is (Ended cause) is = rests Halts
   stopped_is phase is = as_kind Halts (Releases why.Stopped) (going phase is refl, refl)
 

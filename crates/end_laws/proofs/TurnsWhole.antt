@@ -71,7 +71,7 @@ kept_by : (setup : Setup) (live : Live) (came : Came) (kind : Kind) → IsKind s
 kept_by setup live came Rests holds k = k
 kept_by setup live came (Connects source) holds k = goes_on _ _ refl
 kept_by setup live came (Addresses source) holds k = goes_on _ _ refl
-kept_by setup live came (Ends cause) holds k = ends cause live []
+kept_by setup live came (Ends cause refusal) holds k = ends cause (record live { refusal = refusal }) []
 kept_by setup live came (Releases cause) holds k = releases setup cause live holds.1
 kept_by setup live came (Relates chosen) holds k = writing_kept (writing_from setup.plan 0) (standing setup live chosen)
 kept_by setup live came (Writes number) holds k = writing_kept (writing_from setup.plan (number + 1)) live

@@ -389,6 +389,7 @@ module _ (setup : Setup) (station : Station) (live : Live) (controlling : Contro
   heard_turned controller.Nothing is = turned_by (Hears controller.Nothing) _ refl
   heard_turned (controller.Answers source answer) is = turned_by (Hears (controller.Answers source answer)) _ refl
   heard_turned (controller.Responds response) is = turned_by (Hears (controller.Responds response)) _ refl
+  heard_turned (controller.Refuses refusal) is = turned_by (Hears (controller.Refuses refusal)) _ refl
   heard_turned (controller.Calls caller call) is = turned_by (Hears (controller.Calls caller call)) _ refl
   heard_turned (controller.Cyclic source frame_id body) is = turned_by (Hears (controller.Cyclic source frame_id body)) _ refl
 

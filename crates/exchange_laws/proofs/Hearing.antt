@@ -25,7 +25,9 @@ use Rattle.pn_alarms.specs.Message.{alarm_of, message_of}
 use Rattle.plans.specs.declared.parts.Controller.{Controller}
 use Rattle.device_frames.specs.Heard.{Heard, Elsewhere, Resolves, Reported, Cyclic, broadcast, heard_alarm, heard_content, heard_frame, heard_of, heard_request, is_own, is_taken, said_by}
 use Rattle.controller_frames.specs.Heard as controller
-use Rattle.controller_frames.specs.Heard.{heard_answer, heard_body, heard_call, heard_first, heard_read, heard_real_time, heard_response, is_to}
+use Rattle.controller_frames.specs.Heard.{heard_answer, heard_body, heard_call, heard_first, heard_read, heard_real_time, heard_refusal, heard_response, is_to}
+use Rattle.controller_frames.specs.declared.refusal.Refusal.{Refusal}
+use Rattle.controller_frames.specs.Refusal.{refusal_of}
 use Rattle.end_laws.specs.hearing.Hearing.{comes}
 use Rattle.exchange_laws.proofs.Reported.{IsGood, noted_at, reported_at}
 use Rattle.exchange_laws.proofs.Lists.{holds_if}
@@ -102,17 +104,22 @@ unnoted_call : (caller : Caller) (call : Call) (blocks : Option (List ℕ)) → 
 unnoted_call caller call (Some blocks) = refl
 unnoted_call caller call None = refl
 
-unnoted_response : (read : Result Response RpcFault) → IsUnnoted (heard_response read)
-unnoted_response (Ok response) = refl
-unnoted_response (Err fault) = refl
+unnoted_refusal : (read : Result Refusal RpcFault) → IsUnnoted (heard_refusal read)
+unnoted_refusal (Ok refusal) = refl
+unnoted_refusal (Err fault) = refl
 
-unnoted_first : (caller : Caller) (call : Result Call RpcFault) (response : Result Response RpcFault) → IsUnnoted (heard_first caller call response)
-unnoted_first caller (Ok call) response = unnoted_call caller call call.blocks
-unnoted_first caller (Err fault) response = unnoted_response response
+unnoted_response : (read : Result Response RpcFault) (refusal : Result Refusal RpcFault) → IsUnnoted (heard_response read refusal)
+unnoted_response (Ok response) refusal = refl
+unnoted_response (Err fault) refusal = unnoted_refusal refusal
+
+unnoted_first : (caller : Caller) (call : Result Call RpcFault) (response : Result Response RpcFault) (refusal : Result Refusal RpcFault)
+    → IsUnnoted (heard_first caller call response refusal)
+unnoted_first caller (Ok call) response refusal = unnoted_call caller call call.blocks
+unnoted_first caller (Err fault) response refusal = unnoted_response response refusal
 
 unnoted_body : (caller : Caller) (body : List ℕ) → IsUnnoted (heard_body caller body)
 unfolding heard_body
-unnoted_body caller body = unnoted_first caller (call_of controllers body) (response_of body)
+unnoted_body caller body = unnoted_first caller (call_of controllers body) (response_of body) (refusal_of body)
 
 abbrev pub IsNoData : Content → Type 0
 IsNoData (RealTime frame_id body) = ⊥
@@ -183,17 +190,22 @@ packet_good mine mac octets destination source tag packet reads =
     subst (λ (read : Result Meaning FrameFault). IsGood mac (heard_read mine read)) (sym reads)
     (holds_if (IsGood mac) (pointwise nat_eq destination.octets mine.mac.octets) controller.Nothing controller.Nothing tt tt)
 
-good_response : (mac : Mac) (read : Result Response RpcFault) → IsGood mac (heard_response read)
-good_response mac (Ok response) = tt
-good_response mac (Err fault) = tt
+good_refusal : (mac : Mac) (read : Result Refusal RpcFault) → IsGood mac (heard_refusal read)
+good_refusal mac (Ok refusal) = tt
+good_refusal mac (Err fault) = tt
 
-good_first : (mac : Mac) (caller : Caller) (call : Result Call RpcFault) (response : Result Response RpcFault) → IsErr call → IsGood mac (heard_first caller call response)
-good_first mac caller (Ok call) response none = absurd cc
-good_first mac caller (Err fault) response none = good_response mac response
+good_response : (mac : Mac) (read : Result Response RpcFault) (refusal : Result Refusal RpcFault) → IsGood mac (heard_response read refusal)
+good_response mac (Ok response) refusal = tt
+good_response mac (Err fault) refusal = good_refusal mac refusal
+
+good_first : (mac : Mac) (caller : Caller) (call : Result Call RpcFault) (response : Result Response RpcFault) (refusal : Result Refusal RpcFault) → IsErr call
+    → IsGood mac (heard_first caller call response refusal)
+good_first mac caller (Ok call) response refusal none = absurd cc
+good_first mac caller (Err fault) response refusal none = good_response mac response refusal
 
 good_body : (mac : Mac) (caller : Caller) (body : List ℕ) → IsErr (call_of controllers body) → IsGood mac (heard_body caller body)
 unfolding heard_body
-good_body mac caller body none = good_first mac caller (call_of controllers body) (response_of body) none
+good_body mac caller body none = good_first mac caller (call_of controllers body) (response_of body) (refusal_of body) none
 
 -- a datagram that is not a call
 pub datagram_good : (mine : Controller) (mac : Mac) (octets : List ℕ) (destination source : Mac) (tag : Option ℕ) (from to : Endpoint) (body : List ℕ)

@@ -75,6 +75,7 @@ use Rattle.exchange_laws.proofs.Follows.{Follows, IsEventIn, IsIn, controller_fo
 of_device : (setup : Setup) (mac : Mac) (heard : controller.Heard) → IsGood mac heard → IsWell setup heard → IsOf setup mac heard
 of_device setup mac (controller.Answers source answer) good fit = good.0
 of_device setup mac (controller.Responds response) good fit = fit
+of_device setup mac (controller.Refuses refusal) good fit = tt
 of_device setup mac (controller.Calls caller call) good fit = good.0
 of_device setup mac other good fit = tt
 
@@ -89,6 +90,7 @@ module _ (goes_sized : (setup : Setup) (live : ControllerLive) (one : Event) →
   heard_right : (octets : List ℕ) (heard : controller.Heard) → heard_by setup.plan.controller octets ≡ heard → IsGood mac heard → IsWell setup heard → IsRight setup (turned setup live heard)
   heard_right octets (controller.Answers source answer) e is fit = right_by octets (controller.Answers source answer) e is.1
   heard_right octets (controller.Responds response) e is fit = responded_right setup good live response live.asked lives fit
+  heard_right octets (controller.Refuses refusal) e is fit = right_by octets (controller.Refuses refusal) e tt
   heard_right octets (controller.Calls caller call) e is fit = right_by octets (controller.Calls caller call) e (is.1, is.2, is.3)
   heard_right octets (controller.Alarms source header reported) e is fit = right_by octets (controller.Alarms source header reported) e is
   heard_right octets controller.Nothing e is fit = right_by octets controller.Nothing e tt

@@ -22,7 +22,9 @@ use Rattle.pn_alarms.specs.declared.pdu.Header.{Header}
 use Rattle.pn_alarms.specs.Message.{ToController, alarm_of}
 use Rattle.plans.specs.declared.parts.Controller.{Controller}
 use Rattle.controller_frames.specs.declared.setup.Setup.{Setup}
-use Rattle.controller_frames.specs.Heard.{Nothing, Cyclic, heard_alarm, heard_answer, heard_body, heard_call, heard_content, heard_first, heard_of, heard_read, heard_real_time, heard_response, is_to}
+use Rattle.controller_frames.specs.Heard.{Nothing, Cyclic, heard_alarm, heard_answer, heard_body, heard_call, heard_content, heard_first, heard_of, heard_read, heard_real_time, heard_refusal, heard_response, is_to}
+use Rattle.controller_frames.specs.declared.refusal.Refusal.{Refusal}
+use Rattle.controller_frames.specs.Refusal.{refusal_of}
 use Rattle.controller_core.specs.declared.event.Event.{Event}
 use Rattle.controller_core.specs.declared.event.Event.TheVariants.{Frame, Give, Stop, Tick}
 use Rattle.exchange_laws.proofs.OutputsRead.{EthernetHeader}
@@ -87,17 +89,22 @@ six_call : (caller : Caller) (call : Call) (blocks : Option (List ℕ)) → IsMa
 six_call caller call (Some blocks) six = six
 six_call caller call None six = tt
 
-six_response : (read : Result Response RpcFault) → IsSix (heard_response read)
-six_response (Ok response) = tt
-six_response (Err fault) = tt
+six_refusal : (read : Result Refusal RpcFault) → IsSix (heard_refusal read)
+six_refusal (Ok refusal) = tt
+six_refusal (Err fault) = tt
 
-six_first : (caller : Caller) (call : Result Call RpcFault) (response : Result Response RpcFault) → IsMac caller.mac → IsSix (heard_first caller call response)
-six_first caller (Ok call) response six = six_call caller call call.blocks six
-six_first caller (Err fault) response six = six_response response
+six_response : (read : Result Response RpcFault) (refusal : Result Refusal RpcFault) → IsSix (heard_response read refusal)
+six_response (Ok response) refusal = tt
+six_response (Err fault) refusal = six_refusal refusal
+
+six_first : (caller : Caller) (call : Result Call RpcFault) (response : Result Response RpcFault) (refusal : Result Refusal RpcFault) → IsMac caller.mac
+    → IsSix (heard_first caller call response refusal)
+six_first caller (Ok call) response refusal six = six_call caller call call.blocks six
+six_first caller (Err fault) response refusal six = six_response response refusal
 
 six_body : (caller : Caller) (body : List ℕ) → IsMac caller.mac → IsSix (heard_body caller body)
 unfolding heard_body
-six_body caller body six = six_first caller (call_of controllers body) (response_of body) six
+six_body caller body six = six_first caller (call_of controllers body) (response_of body) (refusal_of body) six
 
 six_content : (address : List ℕ) (source : Mac) (content : Content) → IsMac source → IsSix (heard_content address source content)
 six_content address source (RealTime frame_id body) six = six_real_time source frame_id body six

@@ -30,7 +30,7 @@ use Rattle.cyclic_exchange.specs.Received.{behind_frame, behind_read, is_new, is
 use Rattle.controller_frames.specs.declared.request.Request.{Request}
 use Rattle.controller_frames.specs.declared.request.Request.TheVariants as asks
 use Rattle.controller_frames.specs.declared.setup.Setup.{Setup}
-use Rattle.controller_frames.specs.Heard.{Alarms, Answers, Calls, Heard, Nothing, Responds, heard_of}
+use Rattle.controller_frames.specs.Heard.{Alarms, Answers, Calls, Heard, Nothing, Refuses, Responds, heard_of}
 use Rattle.controller_frames.specs.Heard.{Cyclic as Comes}
 use Rattle.controller_frames.specs.Sent.{Sent}
 use Rattle.controller_core.specs.declared.event.Event.{Event}
@@ -205,7 +205,7 @@ module _ (size : ℕ) where
     kind_tells Rests holds = stays_tells live k
     kind_tells (Connects source) holds = met_tells Connecting asks.Connect source holds
     kind_tells (Addresses source) holds = met_tells Addressing asks.Address source holds
-    kind_tells (sort.Ends why) holds = over_tells why live k
+    kind_tells (sort.Ends why refusal) holds = over_tells why (record live { refusal = refusal }) k
     kind_tells (Releases why) holds = released_tells setup why live k
     kind_tells (Relates chosen) holds = related_tells setup live chosen k
     kind_tells (Writes number) holds = let next = writing_from setup.plan (number + 1) in asking_tells (phase_for next) next live k

@@ -7,6 +7,7 @@ use Rattle.frame_codec.specs.declared.udp.Caller.{Caller}
 use Rattle.frame_codec.specs.FrameId.{is_alarm}
 use Rattle.dcp_core.specs.Response.{Answered}
 use Rattle.dcp_core.specs.Answered.{is_agreed}
+use Rattle.rpc_core.specs.declared.response.Status.{Status}
 use Rattle.rpc_core.specs.Call.{Asked as Call}
 use Rattle.rpc_core.specs.Response.{Answered as Response, is_done}
 use Rattle.connect_blocks.specs.declared.control.ControlBlock.{ControlBlock}
@@ -24,10 +25,11 @@ use Rattle.pn_alarms.specs.declared.receiver.Taken.TheVariants.{New, Again, Refu
 use Rattle.pn_alarms.specs.Message.{ToController}
 use Rattle.pn_alarms.specs.Receiver.{taken_as}
 use Rattle.plans.specs.declared.parts.Parts.{Parts}
+use Rattle.controller_frames.specs.declared.refusal.Refusal.{Refusal}
 use Rattle.controller_frames.specs.declared.setup.Setup.{Setup}
 use Rattle.controller_frames.specs.declared.request.Request.{Request}
 use Rattle.controller_frames.specs.declared.request.Request.TheVariants as asks
-use Rattle.controller_frames.specs.Heard.{Heard, Nothing, Answers, Responds, Calls, Alarms, heard_of}
+use Rattle.controller_frames.specs.Heard.{Heard, Nothing, Answers, Responds, Refuses, Calls, Alarms, heard_of}
 use Rattle.controller_frames.specs.Heard.{Cyclic as Comes}
 use Rattle.controller_frames.specs.Sent.{Sent}
 use Rattle.controller_core.specs.declared.event.Event.{Event}
@@ -36,9 +38,9 @@ use Rattle.controller_core.specs.declared.state.Cause.{Cause}
 use Rattle.controller_core.specs.declared.state.State.{State}
 use Rattle.controller_core.specs.declared.state.State.TheVariants.{Looking, Addressing, Ending, Waiting, Exchanging, Ended}
 use Rattle.controller_core.specs.Alarms.{is_alarm as is_of_relation}
-use Rattle.controller_core.specs.Answers.{is_addressed, is_answer, is_found, is_ready, is_right, is_set_answer}
+use Rattle.controller_core.specs.Answers.{is_addressed, is_answer, is_found, is_ready, is_refused, is_right, is_set_answer}
 use Rattle.controller_core.specs.Connect.{Chosen, chosen_of, found_in, is_whole, nothing}
-use Rattle.controller_core.specs.Machine.{Turn, acks_in, addressed, answered, behind_data, brought, called, come, connected, decided, done, first, flow_later, flowed, found, given, is_again, handled, later, noticed, outputs_of, over, rated, readied, ready_in, related_by, released, requests_of, responded, standing, stays, stopped, taken, turn_of, turned, where_due, writing}
+use Rattle.controller_core.specs.Machine.{Turn, acks_in, addressed, answered, behind_data, brought, called, come, connected, decided, denied, done, first, flow_later, flowed, found, given, is_again, handled, later, noticed, outputs_of, over, rated, readied, ready_in, refused, refused_by, related_by, released, requests_of, responded, standing, stays, stopped, taken, turn_of, turned, where_due, writing}
 use Rattle.controller_core.specs.State.{Live}
 use Rattle.end_laws.specs.sending.Sized.{Found}
 use Rattle.exchange_laws.specs.Sized.{IsChosenWell}
@@ -80,6 +82,10 @@ module _ (setup : Setup) (mac : Mac) (apart : mac ≡ setup.plan.controller.mac 
 
   ends_placed : (cause : Cause) (live : Live) → IsPlaced mac live → PlacedTurn (stays (over cause live))
   ends_placed cause live p = stays_placed (over cause live) (over_placed cause live p)
+
+  denied_placed : (status : Status) (live : Live) → IsPlaced mac live → PlacedTurn (stays (denied status live))
+  denied_placed status live p =
+      stays_placed (denied status live) (record { plain = p.plain; partner = λ e. absurd cc; asking = λ e. absurd cc; giving = λ e. absurd cc; addressing = λ e. absurd cc })
 
   released_placed : (cause : Cause) (live : Live) → IsPlaced mac live → PlacedTurn (released setup cause live)
   released_placed cause live p =
@@ -146,7 +152,7 @@ module _ (setup : Setup) (mac : Mac) (apart : mac ≡ setup.plan.controller.mac 
   handled_placed : (live : Live) (response : Response) (request : Request) → live.asked ≡ Some request → (request ≡ asks.Connect → is_done response.status ≡ true → IsChosenWell response.blocks) → IsPlaced mac live
       → PlacedTurn (handled setup live response request)
   handled_placed live response request now well p =
-      if_so (is_done response.status) _ _ (λ positive. done_placed live response.blocks request now (λ connects. well connects positive) p) (λ negative. ends_placed _ live p)
+      if_so (is_done response.status) _ _ (λ positive. done_placed live response.blocks request now (λ connects. well connects positive) p) (λ negative. denied_placed response.status live p)
 
   decided_placed : (live : Live) (response : Response) (request : Request) → live.asked ≡ Some request → (request ≡ asks.Connect → is_done response.status ≡ true → IsChosenWell response.blocks) → IsPlaced mac live
       → PlacedTurn (decided setup live response request)
@@ -221,12 +227,24 @@ module _ (setup : Setup) (mac : Mac) (apart : mac ≡ setup.plan.controller.mac 
   alarmed_placed live source header reported true e p = noticed_placed live reported (and_first live.stands (is_of_relation live.cyclic.route source header) e) p
   alarmed_placed live source header reported false e p = stays_placed live p
 
+  -- ---- rejects and faults
+
+  refused_by_placed : (live : Live) (refusal : Refusal) (request : Request) → IsPlaced mac live → PlacedTurn (refused_by live refusal request)
+  refused_by_placed live refusal (asks.Release sequence) p =
+      stays_placed (record live { asked = None }) (record { plain = p.plain; partner = p.partner; asking = λ e. absurd cc; giving = p.giving; addressing = λ e. absurd cc })
+  refused_by_placed live refusal request p = denied_placed refusal.status live p
+
+  refused_placed : (live : Live) (refusal : Refusal) (asked : Option Request) → IsPlaced mac live → PlacedTurn (refused setup live refusal asked)
+  refused_placed live refusal (Some request) p = either (is_refused setup request refusal) _ _ (refused_by_placed live refusal request p) (stays_placed live p)
+  refused_placed live refusal None p = stays_placed live p
+
   -- ---- what is heard
 
   heard_placed : (live : Live) (heard : Heard) → IsOf setup mac heard → IsPlaced mac live → PlacedTurn (turned setup live heard)
   heard_placed live Nothing is p = stays_placed live p
   heard_placed live (Answers source answer) is p = answered_placed live source answer live.phase refl is p
   heard_placed live (Responds response) is p = responded_placed live response live.asked refl is p
+  heard_placed live (Refuses refusal) is p = refused_placed live refusal live.asked p
   heard_placed live (Calls caller call) is p = called_placed live caller call (ready_in call) is p
   heard_placed live (Comes source frame_id body) is p = stays_placed (come live source frame_id body) (come_placed live source frame_id body live.stands p)
   heard_placed live (Alarms source header reported) is p = alarmed_placed live source header reported (live.stands && is_of_relation live.cyclic.route source header) refl p

@@ -17,7 +17,7 @@ use Rattle.controller_core.specs.declared.state.State.{State}
 use Rattle.controller_core.specs.declared.state.State.TheVariants.{Ended, Waiting}
 use Rattle.controller_core.specs.Answers.{is_answer}
 use Rattle.controller_core.specs.Connect.{Chosen, chosen_of, found_in, is_whole, nothing}
-use Rattle.controller_core.specs.Machine.{Turn, asking, connected, decided, done, handled, next_sequence, over, phase_for, related_by, released, responded, standing, stays, writing}
+use Rattle.controller_core.specs.Machine.{Turn, asking, connected, decided, denied, done, handled, next_sequence, over, phase_for, related_by, released, responded, standing, stays, writing}
 use Rattle.controller_core.specs.State.{Live}
 use Rattle.end_laws.specs.hearing.Stations.{IsNumbered, IsSetup}
 use Rattle.end_laws.specs.sending.Messages.{CanBeSent}
@@ -110,7 +110,7 @@ module _ (setup : Setup) (good : IsSetup setup) where
   handled_right : (live : Live) (response : Response) (request : Request) → IsLive live → (request ≡ asks.Connect → is_done response.status ≡ true → IsChosenWell response.blocks)
       → IsRight setup (handled setup live response request)
   handled_right live response request is well =
-      either (is_done response.status) _ _ (λ positive. done_right live response.blocks request is (λ connects. well connects positive)) (λ negative. stays_right (over cause.Refused live) (over_live cause.Refused live is))
+      either (is_done response.status) _ _ (λ positive. done_right live response.blocks request is (λ connects. well connects positive)) (λ negative. stays_right (denied response.status live) (record { device = is.device; asked = tt; way = is.way; few = is.few; last = is.last; seen = is.seen; confirming = is.confirming }))
 
   decided_right : (live : Live) (response : Response) (request : Request) → IsLive live → (request ≡ asks.Connect → is_done response.status ≡ true → IsChosenWell response.blocks)
       → IsRight setup (decided setup live response request)

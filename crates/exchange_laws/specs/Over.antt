@@ -9,7 +9,7 @@ use Rattle.pn_alarms.specs.Receiver.{taken_as}
 use Rattle.relations.specs.exchange.Flow.{Flow}
 use Rattle.relations.specs.Exchanged.{raised_to}
 use Rattle.codec_laws.specs.alarms.Line.{more_taken}
-use Rattle.controller_frames.specs.Heard.{Heard, Nothing, Answers, Responds, Calls, Cyclic, Alarms, heard_of}
+use Rattle.controller_frames.specs.Heard.{Heard, Nothing, Answers, Responds, Refuses, Calls, Cyclic, Alarms, heard_of}
 use Rattle.controller_core.specs.Alarms.{is_alarm}
 use Rattle.controller_core.specs.State.{Controlling, Live}
 use Rattle.end_laws.specs.turns.Alarms.{last_of}
@@ -65,6 +65,7 @@ taken_by live (Alarms source header notice) = taken_of live source header notice
 taken_by live Nothing = []
 taken_by live (Answers source answer) = []
 taken_by live (Responds response) = []
+taken_by live (Refuses refusal) = []
 taken_by live (Calls caller call) = []
 taken_by live (Cyclic source frame_id body) = []
 

@@ -8,7 +8,7 @@ ghost use Rattle.std.specs.Borrow.{full_share};
 ghost use base.Logic.{ex};
 ghost use types.Logic.{sem};
 ghost use denote.RawPtr.{lies_at, room_at};
-ghost use Rattle.controller_core.specs.Machine.{fresh};
+ghost use Rattle.station.specs.Served.{begun};
 ghost use Rattle.controller_abi.specs.State.{State, opened};
 ghost use Rattle.controller_abi.specs.contracts.port.Port.{the_row as Row};
 ghost use Rattle.controller_abi.specs.Plans.{fault_of, is_plan, parts_of, why_not_made};
@@ -48,7 +48,7 @@ pub unsafe extern "C" fn pn_controller_put(
     activity: &[u8; 16],
 )
     requires* { sem 𝓛 (room_at Row room) ∗ ⌜ is_plan plan.now ≡ true ⌝ }
-    ensures* { ex 𝓤 (λ (port : State). sem 𝓛 (lies_at Row full_share room port) ∗ ⌜ port ≡ opened (fresh (parts_of plan.now) ar.now activity.now) ⌝) }
+    ensures* { ex 𝓤 (λ (port : State). sem 𝓛 (lies_at Row full_share room port) ∗ ⌜ port ≡ opened (begun (parts_of plan.now) ar.now activity.now) ⌝) }
 {
     unsafe { std::ptr::write(room as *mut Port, unstarted(plan, ar, activity)) };
     start(unsafe { &mut *(room as *mut Port) });

@@ -35,6 +35,7 @@ pub fn clear(written: &mut WrittenPlan)
     written.record_count = 0;
     clear_modules(&mut written.modules);
     clear_records(&mut written.records);
+    written.continue_on_refused_record = 0;
 }
 
 fn clear_modules(places: &mut [Module])
@@ -87,6 +88,7 @@ pub fn put(written: &mut WrittenPlan, plan: &Plan, station_type: &[u8])
     put_records(&mut written.records, records);
     written.station_type_length = length_of(station_type);
     put_octets(&mut written.station_type, type_of(station_type));
+    written.continue_on_refused_record = u32::from(plan.continues_on_refused_record());
 }
 
 // The octets of a type of station: none if it has more than 28.

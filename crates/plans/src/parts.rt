@@ -58,4 +58,6 @@ pub struct Parts {
     pub real: Real,
     /// The records, in the order in which they are written.
     pub records: ArrayVec<PlanRecord, 32>,
+    /// Whether the start-up goes on after a record that the device refused.
+    pub continue_on_refused_record: bool,
 }

@@ -156,6 +156,13 @@ impl Plan {
         self.parts.records.as_slice()
     }
 
+    /// Whether the start-up goes on after a record that the device refused. If not, the controller ends.
+    pub fn continues_on_refused_record(&self) -> bool
+        ensures { result ≡ self.now.continue_on_refused_record }
+    {
+        self.parts.continue_on_refused_record
+    }
+
     /// The places of the submodules in the frames of a direction.
     pub fn layout(&self, direction: IocrType) -> Layout
         ensures { result ≡ layout_in direction (data_of self.now.real.modules.items) }

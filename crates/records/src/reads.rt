@@ -3,6 +3,7 @@
 mod answering;
 mod implicit;
 mod judging;
+mod listing;
 mod naming;
 mod parameters;
 mod serving;

@@ -14,6 +14,7 @@ use Rattle.rpc_core.specs.Response.{Answered, response_bytes, response_of}
 use Rattle.plans.specs.declared.parts.Controller.{Controller}
 use Rattle.device_frames.specs.Sent.{response_frame}
 use Rattle.controller_frames.specs.Heard.{Nothing, Responds, heard_body, heard_content, heard_first, heard_of, heard_read, heard_response, is_to}
+use Rattle.controller_frames.specs.Refusal.{refusal_of}
 use Rattle.controller_frames.specs.Sent.{calls_at}
 use Rattle.startup_law.specs.answer.Answer.{caller_of}
 use Rattle.startup_law.proofs.AnswerResponses.{no_call}
@@ -43,7 +44,8 @@ body_is : (controller : Controller) (answer : Answered) (from : Caller) → resp
 unfolding heard_body
 body_is controller answer from read =
     let none = no_call controllers (response_bytes answer) answer read in
-    ap (λ (r : Result Call RpcFault). heard_first from r (response_of (response_bytes answer))) none.1 ∙ ap heard_response read
+    ap (λ (r : Result Call RpcFault). heard_first from r (response_of (response_bytes answer)) (refusal_of (response_bytes answer))) none.1
+    ∙ ap (λ (r : Result Answered RpcFault). heard_response r (refusal_of (response_bytes answer))) read
 
 to_it : (address : List ℕ) → is_to address (calls_at address) ≡ true
 to_it address = ap (λ (is : Bool). is && 34964 == 34964) (nat_list_eq_equiv.refl address)

@@ -48,7 +48,9 @@ use Rattle.controller_frames.specs.declared.request.Request.{Request}
 use Rattle.controller_frames.specs.declared.request.Request.TheVariants as asks
 use Rattle.controller_frames.specs.declared.setup.Setup.{Setup}
 use Rattle.controller_frames.specs.Heard as controller
-use Rattle.controller_frames.specs.Heard.{heard_alarm, heard_answer, heard_body, heard_call, heard_content, heard_first, heard_frame, heard_read, heard_real_time, heard_response, is_to}
+use Rattle.controller_frames.specs.Heard.{heard_alarm, heard_answer, heard_body, heard_call, heard_content, heard_first, heard_frame, heard_read, heard_real_time, heard_refusal, heard_response, is_to}
+use Rattle.controller_frames.specs.declared.refusal.Refusal.{Refusal}
+use Rattle.controller_frames.specs.Refusal.{refusal_of}
 use Rattle.controller_frames.specs.Requests.{call_for, sequence_of}
 use Rattle.controller_frames.specs.Sent as said
 use Rattle.controller_frames.specs.Sent.{answer_frame, call_frame, calls_at, identify_multicast}
@@ -137,17 +139,21 @@ six_call : (caller : Caller) (call : Call) (blocks : Option (List ℕ)) → IsSi
 six_call caller call (Some blocks) = tt
 six_call caller call None = tt
 
-six_response : (read : Result Response RpcFault) → IsSix (heard_response read)
-six_response (Ok response) = tt
-six_response (Err fault) = tt
+six_refusal : (read : Result Refusal RpcFault) → IsSix (heard_refusal read)
+six_refusal (Ok refusal) = tt
+six_refusal (Err fault) = tt
 
-six_first : (caller : Caller) (call : Result Call RpcFault) (response : Result Response RpcFault) → IsSix (heard_first caller call response)
-six_first caller (Ok call) response = six_call caller call call.blocks
-six_first caller (Err fault) response = six_response response
+six_response : (read : Result Response RpcFault) (refusal : Result Refusal RpcFault) → IsSix (heard_response read refusal)
+six_response (Ok response) refusal = tt
+six_response (Err fault) refusal = six_refusal refusal
+
+six_first : (caller : Caller) (call : Result Call RpcFault) (response : Result Response RpcFault) (refusal : Result Refusal RpcFault) → IsSix (heard_first caller call response refusal)
+six_first caller (Ok call) response refusal = six_call caller call call.blocks
+six_first caller (Err fault) response refusal = six_response response refusal
 
 six_body : (caller : Caller) (body : List ℕ) → IsSix (heard_body caller body)
 unfolding heard_body
-six_body caller body = six_first caller (call_of controllers body) (response_of body)
+six_body caller body = six_first caller (call_of controllers body) (response_of body) (refusal_of body)
 
 six_content : (address : List ℕ) (source : Mac) (content : Content) → IsMac source → IsSix (heard_content address source content)
 six_content address source (RealTime frame_id body) six = six_real_time source frame_id body six
@@ -209,6 +215,7 @@ uncalled_from own heard six un = tt
 
 uncalled_nothing : (setup : Setup) (heard : controller.Heard) → IsUncalled heard → said_to setup heard ≡ small.Nothing
 uncalled_nothing setup (controller.Responds response) un = absurd un
+uncalled_nothing setup (controller.Refuses refusal) un = absurd un
 uncalled_nothing setup (controller.Calls caller call) un = absurd un
 uncalled_nothing setup heard un = refl
 

@@ -2,4 +2,7 @@ pub mod State
 pub mod Beside
 pub mod Steps
 pub mod Served
+pub mod ServedLeaps
 pub mod ServedRun
+pub mod Runs
+pub mod Leaps

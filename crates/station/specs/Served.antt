@@ -1,5 +1,5 @@
 -- A controller and the services of its address.
-use Rattle.std.specs.Prelude.{◌&&◌, ◌||◌, not, ℕ, Bool, List, [], ◌∷◌, Option, nat_eq}
+use Rattle.std.specs.Prelude.{◌≡◌, ◌++◌, ◌&&◌, ◌||◌, not, ℕ, Bool, List, [], ◌∷◌, drop, Option, Some, None, nat_eq}
 use Rattle.std.specs.Cmp.Lexicographic.{pointwise}
 use Rattle.pn_values.specs.declared.mac.Mac.{Mac}
 use Rattle.pn_values.specs.IpSuite.{is_zero}
@@ -10,7 +10,7 @@ use Rattle.services.specs.Answer.{answer_to, heard, is_request}
 use Rattle.plans.specs.declared.parts.Controller.{Controller}
 use Rattle.plans.specs.declared.parts.Parts.{Parts}
 use Rattle.controller_core.specs.declared.event.Event.{Event}
-use Rattle.controller_core.specs.declared.event.Event.TheVariants.{Frame, Tick, Give, Status, Stop}
+use Rattle.controller_core.specs.declared.event.Event.TheVariants.{Frame, Tick, Give, Status, Read, Write, Stop}
 use Rattle.controller_core.specs.Machine.{fresh}
 use Rattle.controller_core.specs.State.{Controlling}
 
@@ -23,6 +23,15 @@ pub record Served : Type 0 where
 pub record Frames : Type 0 where
   pub controller : List (List ℕ)
   pub services : List (List ℕ)
+
+-- All frames, in the order in which they are sent.
+abbrev pub in_order : Frames → List (List ℕ)
+in_order frames = frames.controller ++ frames.services
+
+-- The frame at a place of these, if there is one.
+abbrev pub IsFrameAt : List (List ℕ) → ℕ → Option (List ℕ) → Type 0
+IsFrameAt frames place (Some frame) = (rest : List (List ℕ)) × (drop place frames ≡ frame ∷ rest)
+IsFrameAt frames place None = drop place frames ≡ []
 
 -- Nothing is sent.
 abbrev pub no_frames : Frames
@@ -57,6 +66,8 @@ beside services (Frame octets) frames = beside_frame services octets.items frame
 beside services Tick frames = frames_in (sent_by_tick services)
 beside services (Give slot subslot value) frames = []
 beside services (Status slot subslot is_good) frames = []
+beside services (Read slot subslot index) frames = []
+beside services (Write slot subslot index octets) frames = []
 beside services Stop frames = []
 
 -- The services after a frame to which the controller sends these frames.
@@ -70,6 +81,8 @@ services_after services (Frame octets) frames = after_frame services octets.item
 services_after services Tick frames = ticked services
 services_after services (Give slot subslot value) frames = services
 services_after services (Status slot subslot is_good) frames = services
+services_after services (Read slot subslot index) frames = services
+services_after services (Write slot subslot index octets) frames = services
 services_after services Stop frames = services
 
 -- ---- what is answered, by the plan

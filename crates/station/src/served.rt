@@ -1,16 +1,19 @@
 //! A controller and its services.
-ghost use Rattle.std.specs.Prelude.{◌≡◌, ◌≤◌, [], ℕ, List, true, false, length};
+ghost use Rattle.std.specs.Prelude.{◌≡◌, ◌<◌, ◌≤◌, [], ◌∷◌, ℕ, List, true, false, length};
 ghost use Rattle.pn_values.specs.declared.mac.Mac.{Mac};
 ghost use Rattle.frame_codec.specs.declared.arp.Arp.{Arp};
 ghost use Rattle.frame_codec.specs.Frame.{frame_bytes, frame_of};
 ghost use Rattle.frame_codec.specs.Meaning.{ArpPacket, Meaning};
 ghost use Rattle.frame_codec.specs.Outbox.{boxed};
 ghost use Rattle.services.specs.Answer.{answer_to, arp_reply_of, heard};
-ghost use Rattle.services.specs.State.{frames_in};
+ghost use Rattle.services.specs.State.{frames_in, started};
+ghost use Rattle.services.specs.declared.announcement.Role.TheVariants.{Controller as Controlled};
 ghost use Rattle.controller_frames.specs.Heard.{Nothing, heard_of};
 ghost use Rattle.controller_core.specs.Machine.{opening_of, step_of};
 ghost use Rattle.controller_core.specs.declared.event.Event.TheVariants.{Frame as Framed};
 ghost use Rattle.station.specs.Served.{after_frame, begun, beside, beside_frame, by_services, is_sought, no_frames, only, services_after};
+ghost use Rattle.station.specs.ServedLeaps.{OnlyTheLastSends, sent_beside, sent_by, served_due_in, ticked_by};
+ghost use Rattle.services.specs.Leaps.{due_in, ticks_of};
 
 use crate::ServedOutbox;
 use controller_core::{Controller, Event};
@@ -48,12 +51,40 @@ impl ServedController {
     pub fn new(plan: Plan, ar: Uuid, activity: Uuid) -> ServedController
         ensures { result ≡ begun plan ar activity }
     {
-        let mac = plan.controller().mac;
-        let address = plan.controller().address;
         ServedController {
+            services: services_of(&plan),
             controller: Controller::new(plan, ar, activity),
-            services: Services::new(Role::Controller, mac, address),
         }
+    }
+
+    /// The controller of a plan before it starts, and its services. It is small to make, so it can be written where it
+    /// stays: `start` then completes it in place.
+    #[inline(always)]
+    pub fn unstarted(plan: Plan, ar: Uuid, activity: Uuid) -> ServedController
+        ensures { result.controller.setup ≡ record { plan = plan; ar = ar; activity = activity } }
+    {
+        ServedController {
+            services: services_of(&plan),
+            controller: Controller::unstarted(plan, ar, activity),
+        }
+    }
+
+    /// Starts in place, in any state: both are then as `new` makes them from the same plan. Its opening frame counts as
+    /// sent.
+    pub fn start(&mut self)
+        ensures { self.new ≡ begun self.old.controller.setup.plan self.old.controller.setup.ar self.old.controller.setup.activity }
+    {
+        self.controller.start();
+        self.services = services_of(self.controller.plan());
+    }
+
+    /// Replaces the content of the outbox by the Identify frame with which it begins.
+    pub fn send_opening(&self, outbox: &mut ServedOutbox)
+        ensures { outbox.new ≡ record { controller = opening_of self.now.controller ∷ []; services = [] } }
+    {
+        outbox.controller.clear();
+        outbox.services.clear();
+        self.controller.send_opening(&mut outbox.controller);
     }
 
     /// The Identify frame with which it begins.
@@ -115,6 +146,36 @@ impl ServedController {
             &mut outbox.services,
         );
     }
+
+    /// The number of units up to and with the next one with which either of both sends something, or the controller ends.
+    /// 4,294,967,295 if no unit ever does any of these.
+    pub fn due(&self) -> u32
+        ensures value { result ≡ served_due_in self.now }
+        ensures some { 0 < result }
+    {
+        self.controller.due().min(self.services.due_in())
+    }
+
+    /// Lets `units` units of 31.25 microseconds pass at once, at most as many as `due` returns, and replaces the content of
+    /// the outbox by the frames to be sent. It does what as many Tick events do, one by one.
+    pub fn elapse(&mut self, units: u32, outbox: &mut ServedOutbox)
+        requires { units ≤ served_due_in self.old }
+        // Both, and what they send, are those after that many Tick events. Only the last of them may send.
+        ensures state { self.new ≡ ticked_by units self.old }
+        ensures frames { outbox.new ≡ sent_by units self.old }
+        ensures last { OnlyTheLastSends units self.old }
+    {
+        self.controller.elapse(units, &mut outbox.controller);
+        pass_beside(&mut self.services, units, &mut outbox.services);
+    }
+}
+
+/// The services of the address of the controller in its plan, at their start.
+fn services_of(plan: &Plan) -> Services
+    ensures { result ≡ started Controlled plan.now.controller.mac plan.now.controller.address }
+{
+    let controller = plan.controller();
+    Services::new(Role::Controller, controller.mac, controller.address)
 }
 
 /// One event at the controller, and then at the services.
@@ -135,8 +196,27 @@ fn advance(
     match event {
         Event::Frame(bytes) => hear_beside(services, bytes.as_slice(), sent, outbox),
         Event::Tick => services.tick(outbox),
-        Event::Give(_, _, _) | Event::Status(_, _, _) | Event::Stop => {}
+        Event::Give(_, _, _)
+        | Event::Status(_, _, _)
+        | Event::Read(_, _, _)
+        | Event::Write(_, _, _, _)
+        | Event::Stop => {}
     }
+}
+
+/// Units of time at the services, at most as many as are due there: only the last may send.
+fn pass_beside(services: &mut Services, units: u32, outbox: &mut Outbox)
+    requires { units ≤ due_in services.old }
+    ensures state { services.new ≡ ticks_of units services.old }
+    ensures frames { boxed outbox.new ≡ sent_beside units services.old }
+    ensures last { (before : ℕ) → before < units → sent_beside before services.old ≡ [] }
+{
+    outbox.clear();
+    if units == 0 {
+        return;
+    }
+    services.pass(units - 1);
+    services.tick(outbox);
 }
 
 /// A frame for which the controller sent these frames: only if it sent none, the services receive it.

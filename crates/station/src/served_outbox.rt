@@ -1,6 +1,6 @@
 //! The frames that one event of a controller and its services sends.
-ghost use Rattle.std.specs.Prelude.{◌≡◌, ◌≤◌, length, map};
-ghost use Rattle.station.specs.Served.{no_frames};
+ghost use Rattle.std.specs.Prelude.{◌≡◌, ◌≤◌, length, map, option_map};
+ghost use Rattle.station.specs.Served.{IsFrameAt, in_order, no_frames};
 
 use frame_codec::{Frame, Outbox};
 use std::marker::Model;
@@ -51,5 +51,26 @@ impl ServedOutbox {
         ensures most { length result.now ≤ 4 }
     {
         self.services.as_slice()
+    }
+
+    /// The number of frames, of both.
+    pub fn len(&self) -> usize
+        ensures { result ≡ length (in_order self.now) }
+    {
+        self.controller.len() + self.services.len()
+    }
+
+    /// The frame at a place, in the order in which they are sent.
+    pub fn get(&self, place: usize) -> Option<&Frame>
+        ensures { IsFrameAt (in_order self.now) place (option_map (λ frame. frame.now.items) result) }
+    {
+        let first = self.controller.len();
+        if place < first {
+            return Some(&self.controller.as_slice()[place]);
+        }
+        if place - first < self.services.len() {
+            return Some(&self.services.as_slice()[place - first]);
+        }
+        None
     }
 }

@@ -6,6 +6,7 @@
 mod blocks;
 mod differences;
 mod lists;
+mod listings;
 mod reads;
 mod records;
 mod statuses;

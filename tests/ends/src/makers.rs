@@ -3,8 +3,9 @@
 
 use super::PUMP;
 use configurator::plan_from_json;
-use controller_core::{Controller, Event, State};
+use controller_core::{Answer, Controller, Event, Priority, RecordService, State};
 use frame_codec::Outbox;
+use rpc_core::Status;
 use rattle_std::alloc::Global;
 use test_stations::octets;
 use uuid::Uuid;
@@ -13,7 +14,7 @@ use uuid::Uuid;
 const SCENARIOS: &str = include_str!("makers.txt");
 
 /// How many scenarios there are, so that a file that was cut off is found.
-const COUNT: usize = 20;
+const COUNT: usize = 39;
 
 /// The ARUUID and the activity of the controller, as Scapy's station expects them.
 const AR: &str = "11111111-2222-3333-4444-555555555555";
@@ -32,16 +33,23 @@ fn hex_of(octets: &[u8]) -> std::string::String {
     octets.iter().map(|octet| format!("{octet:02x}")).collect()
 }
 
+/// A status in hex.
+fn status_of(status: Status) -> std::string::String {
+    hex_of(&[status.code, status.decode, status.code1, status.code2])
+}
+
 /// A controller in a scenario, and what it has sent since the last line that something came by.
 struct Scene {
     name: std::string::String,
     controller: Controller,
     sent: std::collections::VecDeque<std::string::String>,
+    /// CycleCounter of the last input.
+    counter: u16,
 }
 
 impl Scene {
-    fn new(name: &str) -> Scene {
-        let plan = plan_from_json(Global, PUMP.as_bytes())
+    fn new(name: &str, catalogue: &str) -> Scene {
+        let plan = plan_from_json(Global, catalogue.as_bytes())
             .ok()
             .expect("there is a plan");
         Scene {
@@ -52,6 +60,7 @@ impl Scene {
                 Uuid::parse_str(ACTIVITY).expect("a UUID"),
             ),
             sent: std::collections::VecDeque::new(),
+            counter: 0,
         }
     }
 
@@ -83,6 +92,79 @@ impl Scene {
         }
     }
 
+    /// The status with which a call was refused last, in hex.
+    fn refusal(&self) -> std::string::String {
+        match self.controller.refusal() {
+            Some(status) => status_of(status),
+            None => "-".into(),
+        }
+    }
+
+    /// The last record that was refused: its number and the status, in hex.
+    fn refused_record(&self) -> std::string::String {
+        match self.controller.refused_record() {
+            Some(record) => format!("{} {}", record.number, status_of(record.status)),
+            None => "-".into(),
+        }
+    }
+
+    /// What the last request of the application was answered with, in words.
+    fn answer(&self) -> std::string::String {
+        let Some(Answer { request, status }) = self.controller.answer() else {
+            return "-".into();
+        };
+        let service = match request.service {
+            RecordService::Read => "read",
+            RecordService::Write => "write",
+        };
+        let record = match self.controller.record() {
+            [] => "-".into(),
+            octets => hex_of(octets),
+        };
+        format!(
+            "{service} {} {} {} {} {} {record}",
+            request.slot,
+            request.subslot,
+            request.index,
+            request.sequence,
+            hex_of(&[status.code, status.decode, status.code1, status.code2])
+        )
+    }
+
+    /// Intervals pass, and after each this cyclic frame comes, with the next CycleCounter.
+    fn run(&mut self, intervals: u32, input: &str) {
+        let mut frame = octets_of(input);
+        let place = frame.len() - 4;
+        for _ in 0..intervals {
+            for _ in 0..32 {
+                self.step(&Event::Tick);
+            }
+            self.counter = self.counter.wrapping_add(32);
+            frame[place..place + 2].copy_from_slice(&self.counter.to_be_bytes());
+            self.step(&Event::Frame(octets(&frame)));
+        }
+        self.forget_outputs();
+    }
+
+    /// Frames of outputs are not compared: those with the FrameID that these stations choose, behind a VLAN tag.
+    fn forget_outputs(&mut self) {
+        self.sent
+            .retain(|frame| frame.get(24..28) != Some("8100") || frame.get(32..40) != Some("88928123"));
+    }
+
+    /// A request of the application: slot, subslot and index, and the octets of a Write.
+    fn ask(&mut self, rest: &str) {
+        let words: std::vec::Vec<&str> = rest.split(' ').collect();
+        let number = |place: usize| words[place].parse::<u16>().expect("a number");
+        let (slot, subslot, index) = (number(0), number(1), number(2));
+        self.is_done();
+        match words.get(3) {
+            None => self.step(&Event::Read(slot, subslot, index)),
+            Some(&"-") => self.step(&Event::Write(slot, subslot, index, octets(&[]))),
+            Some(hex) => self.step(&Event::Write(slot, subslot, index, octets(&octets_of(hex)))),
+        }
+    }
+
     /// The last alarm, in words.
     fn alarm(&self) -> std::string::String {
         match self.controller.alarm() {
@@ -96,6 +178,44 @@ impl Scene {
             ),
             None => "-".into(),
         }
+    }
+
+    /// The last alarm of a priority, in words.
+    fn report(&self, priority: Priority) -> std::string::String {
+        let Some(report) = self.controller.report(priority) else {
+            assert!(self.controller.accepted(priority).is_none(), "{}", self.name);
+            return "-".into();
+        };
+        assert!(report.priority == priority, "{}", self.name);
+        let number = self.controller.accepted(priority).expect("a number");
+        let user_structure = match report.user_structure {
+            Some(number) => number.to_string(),
+            None => "-".into(),
+        };
+        let alarm = report.notification;
+        let data = match alarm.alarm_data.octets() {
+            [] => "-".into(),
+            octets => hex_of(octets),
+        };
+        format!(
+            "{number} {} {} {} {} {} {} {} {user_structure} {data}",
+            alarm.alarm_type,
+            alarm.api,
+            alarm.slot_number,
+            alarm.subslot_number,
+            alarm.module_ident_number,
+            alarm.submodule_ident_number,
+            alarm.alarm_specifier,
+        )
+    }
+
+    /// So many units, of which cyclic frames are not looked at.
+    fn pass(&mut self, units: u32) {
+        for _ in 0..units {
+            self.step(&Event::Tick);
+        }
+        self.sent
+            .retain(|frame| !frame.starts_with("0200000000010200000000028100c00088928123"));
     }
 
     /// A line of the scenario.
@@ -112,10 +232,37 @@ impl Scene {
                     self.step(&Event::Tick);
                 }
             }
+            "pass" => {
+                self.is_done();
+                self.pass(rest.parse().expect("a number"));
+            }
+            "report" => {
+                let (priority, wanted) = rest.split_once(' ').expect("a priority");
+                let priority = match priority {
+                    "high" => Priority::High,
+                    _ => Priority::Low,
+                };
+                assert_eq!(self.report(priority), wanted, "{name}");
+            }
             "out" => assert_eq!(self.sent.pop_front().as_deref(), Some(rest), "{name}"),
             "state" => assert_eq!(self.state(), rest, "{name}"),
             "deviates" => assert_eq!(self.controller.deviates(), rest == "yes", "{name}"),
+            "refusal" => assert_eq!(self.refusal(), rest, "{name}"),
+            "refused" => assert_eq!(self.refused_record(), rest, "{name}"),
             "alarm" => assert_eq!(self.alarm(), rest, "{name}"),
+            "answer" => assert_eq!(self.answer(), rest, "{name}"),
+            "can" => assert_eq!(self.controller.can_request(), rest == "yes", "{name}"),
+            "read" | "write" => self.ask(rest),
+            "run" => {
+                self.is_done();
+                let (intervals, input) = rest.split_once(' ').expect("a number and a frame");
+                self.run(intervals.parse().expect("a number"), input);
+            }
+            "outputs" => self.forget_outputs(),
+            "stop" => {
+                self.is_done();
+                self.step(&Event::Stop);
+            }
             _ => panic!("{name}: {word}"),
         }
     }
@@ -134,8 +281,11 @@ fn the_controller_takes_stations_of_other_makers() {
             if let Some(scene) = &scene {
                 scene.is_done();
             }
-            scene = Some(Scene::new(rest));
+            scene = Some(Scene::new(rest, PUMP));
             scenes += 1;
+        } else if word == "catalogue" {
+            let name = scene.as_ref().expect("a scenario").name.clone();
+            scene = Some(Scene::new(&name, rest));
         } else {
             scene.as_mut().expect("a scenario").line(word, rest);
         }

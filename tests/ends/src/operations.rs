@@ -1,6 +1,7 @@
 //! A controller as a host in C calls it: numbers, answers, and where the reported values are.
 
 use super::PUMP;
+use super::served::{ANNOUNCEMENT, ECHO, ECHO_REPLY, REPLY, REQUEST, RIVAL, padded, spelled};
 use configurator::plan_from_json;
 use controller_abi::{Port, serve};
 use c_layout::Op;
@@ -63,6 +64,59 @@ fn next(port: &mut Port) -> u32 {
     op.work
 }
 
+/// The number of units until something is due.
+fn due(port: &mut Port) -> u32 {
+    let mut op = asked(15);
+    assert_eq!(serve(port, &mut op, &[]), 0);
+    op.units
+}
+
+/// How many conflicts were heard.
+fn conflicts(port: &mut Port) -> u32 {
+    let mut op = asked(19);
+    assert_eq!(serve(port, &mut op, &[]), 0);
+    op.units
+}
+
+/// Lets units pass, and how many of them remain.
+fn pass(port: &mut Port, units: u32) -> u32 {
+    let mut op = asked(4);
+    op.units = units;
+    assert_eq!(serve(port, &mut op, &[]), 0);
+    op.units
+}
+
+/// All frames that wait, which are fetched.
+fn taken(port: &mut Port) -> Vec<Vec<u8>> {
+    let mut frames = Vec::new();
+    let mut op = asked(7);
+    loop {
+        assert_eq!(serve(port, &mut op, &[]), 0);
+        if op.work == 0 {
+            return frames;
+        }
+        frames.push(op.octets[..op.length as usize].to_vec());
+    }
+}
+
+/// What is sent while these units pass.
+fn all_of(port: &mut Port, units: u32) -> Vec<Vec<u8>> {
+    let mut frames = taken(port);
+    let mut left = units;
+    while left > 0 {
+        left = pass(port, left);
+        frames.extend(taken(port));
+    }
+    frames
+}
+
+/// What is sent for this frame.
+fn heard(port: &mut Port, digits: &str) -> Vec<Vec<u8>> {
+    let mut op = asked(3);
+    assert_eq!(serve(port, &mut op, &spelled(digits)), 0);
+    taken(port)
+}
+
 /// How far it is, and why it ended.
 fn state(port: &mut Port) -> (u32, u32) {
     let mut op = asked(9);
@@ -89,7 +143,7 @@ fn events_wait_for_the_frames() {
 #[test]
 fn no_such_operation_or_slot() {
     let mut port = begun(Global);
-    for what in [0, 1, 2, 6, 10, 11, 14, 17, 19, u32::MAX] {
+    for what in [0, 1, 2, 6, 10, 11, 14, 17, 99, u32::MAX] {
         assert_eq!(answer(&mut port, what), 10);
     }
     assert_eq!(next(&mut port), 3);
@@ -147,14 +201,16 @@ fn a_status_is_given_where_the_plan_has_an_output() {
     }
 }
 
-// A request waits a second before it is sent again.
+// With its first unit it announces its address. A request waits a second before it is sent again.
 #[test]
 fn what_is_due_is_told() {
     let mut port = begun(Global);
     assert_eq!(next(&mut port), 3);
-    let mut op = asked(4);
-    op.units = 12;
-    assert_eq!(serve(&mut port, &mut op, &[]), 0);
+    assert_eq!(due(&mut port), 1);
+    assert_eq!(pass(&mut port, 12), 11);
+    assert_eq!(due(&mut port), SECOND - 1);
+    assert_eq!((next(&mut port), next(&mut port)), (3, 0));
+    assert_eq!(pass(&mut port, 11), 0);
     let mut op = asked(15);
     op.work = 9;
     assert_eq!(serve(&mut port, &mut op, &[]), 0);
@@ -175,15 +231,15 @@ fn an_input_is_told() {
 fn time_stops_at_what_is_sent() {
     let mut port = begun(Global);
     assert_eq!(next(&mut port), 3);
-    let mut op = asked(4);
-    op.units = SECOND + 7;
-    assert_eq!(serve(&mut port, &mut op, &[]), 0);
-    assert_eq!(op.units, 7);
+    assert_eq!(pass(&mut port, SECOND + 7), SECOND + 6);
     assert_eq!(answer(&mut port, 4), 7);
-    assert_eq!(next(&mut port), 3);
-    assert_eq!(next(&mut port), 0);
+    assert_eq!((next(&mut port), next(&mut port)), (3, 0));
+    assert_eq!(pass(&mut port, SECOND + 6), 7);
+    assert_eq!(answer(&mut port, 4), 7);
+    assert_eq!((next(&mut port), next(&mut port)), (3, 0));
 }
 
+// Its services go on: they announce the address, and answer for it.
 #[test]
 fn it_is_stopped() {
     let mut port = begun(Global);
@@ -191,8 +247,70 @@ fn it_is_stopped() {
     assert_eq!(next(&mut port), 3);
     assert_eq!(answer(&mut port, 13), 0);
     assert_eq!(state(&mut port), (8, 7));
-    let mut op = asked(4);
-    op.units = SECOND + 7;
-    assert_eq!(serve(&mut port, &mut op, &[]), 0);
-    assert_eq!(op.units, 0);
+    assert_eq!(pass(&mut port, 2 * SECOND + 7), 2 * SECOND + 6);
+    assert_eq!(taken(&mut port), [padded(ANNOUNCEMENT)]);
+    assert_eq!(pass(&mut port, 2 * SECOND + 6), 6);
+    assert_eq!(taken(&mut port), [padded(ANNOUNCEMENT)]);
+    assert_eq!(due(&mut port), u32::MAX);
+    assert_eq!(pass(&mut port, u32::MAX), 0);
+    assert_eq!(heard(&mut port, REQUEST), [padded(REPLY)]);
+}
+
+#[test]
+fn arp_and_echo_are_answered() {
+    let mut port = begun(Global);
+    let _ = taken(&mut port);
+    for _ in 0..2 {
+        assert_eq!(heard(&mut port, REQUEST), [padded(REPLY)]);
+        assert_eq!(heard(&mut port, ECHO), [padded(ECHO_REPLY)]);
+    }
+    // For another address, and a reply.
+    for digits in [
+        "ffffffffffff02000000000108060001080006040001020000000001c0a80002000000000000c0a80003",
+        REPLY,
+    ] {
+        assert_eq!(heard(&mut port, digits), Vec::<Vec<u8>>::new());
+    }
+    assert_eq!(state(&mut port), (1, 0));
+    assert_eq!(conflicts(&mut port), 0);
+}
+
+// Each conflict is counted, and the next unit defends the address. Within 10 seconds it is not defended again.
+#[test]
+fn conflicts_are_counted() {
+    let mut port = begun(Global);
+    let _ = all_of(&mut port, 2 * SECOND + 1);
+    for wanted in 1..=3 {
+        assert_eq!(heard(&mut port, RIVAL), Vec::<Vec<u8>>::new());
+        assert_eq!(conflicts(&mut port), wanted);
+    }
+    assert_eq!(due(&mut port), 1);
+    assert_eq!(all_of(&mut port, 1), [padded(ANNOUNCEMENT)]);
+    assert_eq!(heard(&mut port, RIVAL), Vec::<Vec<u8>>::new());
+    assert_eq!(conflicts(&mut port), 4);
+    assert_eq!(due(&mut port), SECOND - 2);
+    assert_eq!(all_of(&mut port, 1), Vec::<Vec<u8>>::new());
+}
+
+// What it does over some seconds does not depend on how many units pass at once, conflicts among them.
+#[test]
+fn units_at_once_are_units_one_by_one() {
+    let mut one_by_one = begun(Global);
+    let mut at_once = begun(Global);
+    assert_eq!(taken(&mut one_by_one), taken(&mut at_once));
+    let mut sent = 0;
+    for units in [0, 1, 1, 30_000, 2_000, 31_999, 1, 100_000, 250_000, 1] {
+        let mut wanted = Vec::new();
+        for _ in 0..units {
+            assert_eq!(pass(&mut one_by_one, 1), 0);
+            wanted.extend(taken(&mut one_by_one));
+        }
+        sent += wanted.len();
+        assert_eq!(all_of(&mut at_once, units), wanted, "{units} units");
+        assert_eq!(due(&mut at_once), due(&mut one_by_one));
+        assert_eq!(heard(&mut at_once, RIVAL), heard(&mut one_by_one, RIVAL));
+    }
+    // Two announcements, and a request each second. Of the conflicts one is defended after the first announcement, and one
+    // after another 10 seconds.
+    assert_eq!(sent, 2 + 12 + 2);
 }

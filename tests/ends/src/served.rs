@@ -11,21 +11,25 @@ use test_stations::octets;
 use uuid::Uuid;
 
 /// Who has the controller's address? The device asks all.
-const REQUEST: &str =
+pub(crate) const REQUEST: &str =
     "ffffffffffff02000000000108060001080006040001020000000001c0a80002000000000000c0a80001";
 
 /// The reply to it.
-const REPLY: &str =
+pub(crate) const REPLY: &str =
     "02000000000102000000000208060001080006040002020000000002c0a80001020000000001c0a80002";
 
 /// An echo request of the device, and the reply to it.
-const ECHO: &str = "020000000002020000000001080045000024000140004001b984c0a80002c0a800010800542f123400076162636465666768";
+pub(crate) const ECHO: &str = "020000000002020000000001080045000024000140004001b984c0a80002c0a800010800542f123400076162636465666768";
 
-const ECHO_REPLY: &str = "020000000001020000000002080045000024000040004001b985c0a80001c0a8000200005c2f123400076162636465666768";
+pub(crate) const ECHO_REPLY: &str = "020000000001020000000002080045000024000040004001b985c0a80001c0a8000200005c2f123400076162636465666768";
 
 /// The announcement of the controller's address.
-const ANNOUNCEMENT: &str =
+pub(crate) const ANNOUNCEMENT: &str =
     "ffffffffffff02000000000208060001080006040001020000000002c0a80001000000000000c0a80001";
+
+/// The question of another station that uses the controller's address.
+pub(crate) const RIVAL: &str =
+    "ffffffffffff02000000003308060001080006040001020000000033c0a80001000000000000c0a80002";
 
 /// The device's answer to the Identify.
 const FOUND: &str =
@@ -33,7 +37,7 @@ const FOUND: &str =
     70756d702d3102030006000001230456";
 
 /// The octets that these hexadecimal digits spell.
-fn spelled(digits: &str) -> Vec<u8> {
+pub(crate) fn spelled(digits: &str) -> Vec<u8> {
     (0..digits.len())
         .step_by(2)
         .map(|place| u8::from_str_radix(&digits[place..place + 2], 16).expect("a digit"))
@@ -41,7 +45,7 @@ fn spelled(digits: &str) -> Vec<u8> {
 }
 
 /// The frame of these octets, padded with zeros to 60.
-fn padded(digits: &str) -> Vec<u8> {
+pub(crate) fn padded(digits: &str) -> Vec<u8> {
     let mut frame = spelled(digits);
     frame.resize(frame.len().max(60), 0);
     frame
@@ -157,9 +161,7 @@ fn a_frame_of_the_controller_is_the_controllers() {
 #[test]
 fn another_station_with_its_address_is_a_conflict() {
     let mut served = served();
-    let rival =
-        "ffffffffffff02000000003308060001080006040001020000000033c0a80001000000000000c0a80002";
-    assert_eq!(answers(&mut served, rival), Vec::<Vec<u8>>::new());
+    assert_eq!(answers(&mut served, RIVAL), Vec::<Vec<u8>>::new());
     assert_eq!(served.conflicts(), 1);
     assert_eq!(sent(&mut served, &Event::Tick), [padded(ANNOUNCEMENT)]);
 }

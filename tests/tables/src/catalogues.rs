@@ -5,6 +5,7 @@
 //! config FAULT                        why it has no plan
 //! connect HEX                         the blocks, with the ARUUID 11111111-2222-3333-4444-555555555555
 //! record SLOT SUBSLOT INDEX HEX       a record, in the order in which they are written
+//! continue                            the start-up goes on after a refused record
 //! ```
 //!
 //! Layouts and faults of the first 160 lines come from a reference model that was written from the rules of the catalogue alone
@@ -24,7 +25,7 @@ use uuid::Uuid;
 /// The ARUUID of the Connects.
 const AR: Uuid = Uuid::from_u128(0x11111111_2222_3333_4444_555555555555);
 
-/// The Connect of a plan, and its records.
+/// The Connect of a plan, its records, and whether it goes on after a refused one.
 fn plan_lines(plan: &Plan) -> String {
     let connect = format!("connect {}\n", hex(plan.connect(&AR).as_slice()));
     let records = plan.records().iter().map(|record| {
@@ -34,7 +35,11 @@ fn plan_lines(plan: &Plan) -> String {
             record.slot, record.subslot, record.index
         )
     });
-    connect + &records.collect::<String>()
+    let goes_on = match plan.continues_on_refused_record() {
+        true => "continue\n",
+        false => "",
+    };
+    connect + &records.collect::<String>() + goes_on
 }
 
 /// What a catalogue comes to.

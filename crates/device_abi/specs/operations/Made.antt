@@ -9,7 +9,7 @@ use Rattle.device_abi.specs.declared.operations.station.Station.{Station}
 -- fault of the station.
 abbrev pub why_not_made : ℕ → ℕ → ℕ → Station → ℕ
 why_not_made size abi op_size station =
-    if not (abi == 2 && op_size == 1564) then 2 else (if nat_lt size 81920 then 3 else fault_of station)
+    if not (abi == 3 && op_size == 1568) then 2 else (if nat_lt size 81920 then 3 else fault_of station)
 
 -- A port of this station that did not start, and has no work.
 pub record IsMade (written : Station) (port : State) : Type 0 where

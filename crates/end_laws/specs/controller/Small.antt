@@ -8,7 +8,7 @@ use Rattle.plans.specs.declared.parts.Parts.{Parts}
 use Rattle.controller_frames.specs.declared.setup.Setup.{Setup}
 use Rattle.controller_frames.specs.declared.request.Request.{Request}
 use Rattle.controller_frames.specs.declared.request.Request.TheVariants as asks
-use Rattle.controller_frames.specs.Heard.{Heard, Nothing, Answers, Responds, Calls, Cyclic, Alarms}
+use Rattle.controller_frames.specs.Heard.{Heard, Nothing, Answers, Responds, Refuses, Calls, Cyclic, Alarms}
 use Rattle.controller_frames.specs.Requests.{sequence_of}
 use Rattle.controller_frames.specs.Sent.{Sent, Requests, Agrees, Cycles, Confirms, Replies, Ends}
 use Rattle.controller_core.specs.declared.state.State.{State}
@@ -66,6 +66,7 @@ readied_by setup None = small.Nothing
 abbrev pub said_to : Setup → Heard → ToController
 said_to setup (Responds response) =
     if pointwise nat_eq response.header.activity setup.activity then small.Answers response.header.sequence (is_done response.status) else small.Nothing
+said_to setup (Refuses refusal) = small.Nothing
 said_to setup (Calls caller call) = readied_by setup (ready_in call)
 said_to setup Nothing = small.Nothing
 said_to setup (Answers source answer) = small.Nothing

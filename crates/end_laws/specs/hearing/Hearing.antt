@@ -53,6 +53,7 @@ mine_reported mine destination to heard = mine_hears mine destination (if contro
 -- no call and no response was heard
 abbrev pub IsUncalled : controller.Heard → Type 0
 IsUncalled (controller.Responds response) = ⊥
+IsUncalled (controller.Refuses refusal) = ⊥
 IsUncalled (controller.Calls caller call) = ⊥
 IsUncalled heard = ⊤
 

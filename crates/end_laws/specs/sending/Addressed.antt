@@ -3,7 +3,7 @@ use Rattle.std.specs.Prelude.{◌≡◌, ◌<◌, ⊤}
 use Rattle.pn_values.specs.declared.mac.Mac.{Mac}
 use Rattle.cyclic_exchange.specs.declared.route.Route.{Route}
 use Rattle.controller_frames.specs.declared.setup.Setup.{Setup}
-use Rattle.controller_frames.specs.Heard.{Heard, Nothing, Answers, Responds, Calls, Cyclic, Alarms, heard_of}
+use Rattle.controller_frames.specs.Heard.{Heard, Nothing, Answers, Responds, Refuses, Calls, Cyclic, Alarms, heard_of}
 use Rattle.controller_frames.specs.Sent.{Sent, Requests, Agrees, Cycles, Confirms, Replies, Ends}
 use Rattle.controller_core.specs.declared.event.Event.{Event}
 use Rattle.controller_core.specs.declared.event.Event.TheVariants.{Frame, Tick, Give, Status, Stop}
@@ -31,6 +31,7 @@ IsHeardFrom mac (Answers source answer) = IsMac source
 IsHeardFrom mac (Calls caller call) = (caller.mac ≡ mac) × IsCaller caller × IsHeader call.header × (call.args_maximum < 4294967296)
 IsHeardFrom mac Nothing = ⊤
 IsHeardFrom mac (Responds response) = ⊤
+IsHeardFrom mac (Refuses refusal) = ⊤
 IsHeardFrom mac (Cyclic source frame_id body) = ⊤
 IsHeardFrom mac (Alarms source header reported) = ⊤
 

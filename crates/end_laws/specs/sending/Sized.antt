@@ -7,7 +7,7 @@ use Rattle.pn_alarms.specs.Message.{ToController}
 use Rattle.controller_frames.specs.declared.request.Request.{Request}
 use Rattle.controller_frames.specs.declared.request.Request.TheVariants as asks
 use Rattle.controller_frames.specs.declared.setup.Setup.{Setup}
-use Rattle.controller_frames.specs.Heard.{Heard, Nothing, Answers, Responds, Calls, Cyclic, Alarms, heard_of}
+use Rattle.controller_frames.specs.Heard.{Heard, Nothing, Answers, Responds, Refuses, Calls, Cyclic, Alarms, heard_of}
 use Rattle.controller_core.specs.declared.event.Event.{Event}
 use Rattle.controller_core.specs.declared.event.Event.TheVariants.{Frame, Tick, Give, Status, Stop}
 use Rattle.controller_core.specs.Connect.{Chosen, chosen_of, found_in, nothing}
@@ -92,6 +92,7 @@ abbrev pub IsSized : Heard → Type 0
 IsSized Nothing = ⊤
 IsSized (Answers source answer) = IsMac source
 IsSized (Responds response) = IsChosen response.blocks
+IsSized (Refuses refusal) = ⊤
 IsSized (Calls caller call) = IsCaller caller × IsHeader call.header × (call.args_maximum < 4294967296)
 IsSized (Cyclic source frame_id body) = ⊤
 IsSized (Alarms source header reported) = IsNotice reported

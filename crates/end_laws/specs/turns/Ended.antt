@@ -6,7 +6,8 @@ use Rattle.rpc_core.specs.Response.{Answered as Response}
 use Rattle.controller_frames.specs.declared.setup.Setup.{Setup}
 use Rattle.controller_frames.specs.declared.request.Request.{Request}
 use Rattle.controller_frames.specs.declared.request.Request.TheVariants as asks
-use Rattle.controller_frames.specs.Heard.{Heard, Responds, heard_of}
+use Rattle.controller_frames.specs.declared.refusal.Refusal.{Refusal}
+use Rattle.controller_frames.specs.Heard.{Heard, Refuses, Responds, heard_of}
 use Rattle.controller_frames.specs.Sent.{Requests, bytes_of}
 use Rattle.controller_core.specs.declared.event.Event.{Event}
 use Rattle.controller_core.specs.declared.event.Event.TheVariants.{Frame, Tick, Give, Status, Stop}
@@ -14,7 +15,7 @@ use Rattle.controller_core.specs.declared.state.Cause.{Cause}
 use Rattle.controller_core.specs.declared.state.Cause.TheVariants as why
 use Rattle.controller_core.specs.declared.state.State.TheVariants.{Ended}
 use Rattle.controller_core.specs.State.{Controlling, Live, with_live}
-use Rattle.controller_core.specs.Answers.{is_answer}
+use Rattle.controller_core.specs.Answers.{is_answer, is_refused}
 use Rattle.controller_core.specs.Machine.{is_again, later, step_of}
 use Rattle.end_laws.specs.turns.Runs.{IsReached, behind_all, frames_of}
 
@@ -49,6 +50,18 @@ pub record IsAnswered (setup : Setup) (live : Live) (heard : Heard) : Type 0 whe
   pub comes : heard ≡ Responds response
   pub right : is_answer setup (asks.Release sequence) response.header ≡ true
 
+-- The refusal of the active Release.
+pub record IsRefused (setup : Setup) (live : Live) (heard : Heard) : Type 0 where
+  pub refusal : Refusal
+  pub sequence : ℕ
+  pub stood : live.asked ≡ Some (asks.Release sequence)
+  pub comes : heard ≡ Refuses refusal
+  pub right : is_refused setup (asks.Release sequence) refusal ≡ true
+
+-- Either is an answer to it.
+abbrev pub IsReleased : Setup → Live → Heard → Type 0
+IsReleased setup live heard = IsAnswered setup live heard ⊎ IsRefused setup live heard
+
 -- What comes is dropped: a frame, except that a Release that is answered is no longer active; a stop; and an output or its
 -- status, which is sent to nobody.
 abbrev pub IsOnlySet : Live → Live → Type 0
@@ -56,7 +69,7 @@ IsOnlySet before after = after ≡ record before { cyclic = record before.cyclic
 
 abbrev pub IsDropped : Setup → Event → Live → Live → Type 0
 IsDropped setup (Frame bytes) before after =
-    (after ≡ before) ⊎ (IsAnswered setup before (heard_of setup.plan.controller bytes.items) × (after ≡ record before { asked = None }))
+    (after ≡ before) ⊎ (IsReleased setup before (heard_of setup.plan.controller bytes.items) × (after ≡ record before { asked = None }))
 IsDropped setup Tick before after = ⊥
 IsDropped setup (Give slot subslot value) before after = IsOnlySet before after
 IsDropped setup (Status slot subslot is_good) before after = IsOnlySet before after
@@ -90,7 +103,7 @@ IsSilent = (controller : Controlling) (cause : Cause) (events : List Event) → 
     → frames_of events controller ≡ []
 
 -- For an event other than a unit of time no frame is sent. It changes nothing, except that the response to the active
--- Release ends that, and that an output and its status are stored.
+-- Release, or its refusal, ends that, and that an output and its status are stored.
 abbrev pub DropsWhatComes : Type 0
 DropsWhatComes = (controller : Controlling) (cause : Cause) (event : Event) → HasEnded cause controller → is_unit event ≡ false
     → ((step_of controller event).frames ≡ []) × IsDropped controller.setup event controller.live (step_of controller event).controller.live

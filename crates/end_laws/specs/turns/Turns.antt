@@ -3,6 +3,7 @@ use Rattle.std.specs.Prelude.{◌≡◌, ◌⊎◌, ◌+◌, ◌∷◌, [], ℕ,
 use Rattle.pn_values.specs.declared.mac.Mac.{Mac}
 use Rattle.frame_codec.specs.declared.udp.Caller.{Caller}
 use Rattle.dcp_core.specs.Response.{Answered}
+use Rattle.rpc_core.specs.declared.response.Status.{Status}
 use Rattle.rpc_core.specs.Call.{Asked as Call}
 use Rattle.rpc_core.specs.Response.{Answered as Response, is_done}
 use Rattle.connect_blocks.specs.declared.control.ControlBlock.{ControlBlock}
@@ -28,7 +29,7 @@ use Rattle.controller_core.specs.State.{Live}
 use Rattle.controller_core.specs.Answers.{is_answer, is_ready}
 use Rattle.controller_core.specs.Connect.{Chosen, chosen_of, found_in, nothing}
 use Rattle.controller_core.specs.Machine.{Turn, asking, behind_data, brought, due_frames, ended_by, flow_later, given, is_again, later, over, rated, ready_in, released, requests_of, standing, stays, stopped, taken, ticked, turned, where_due, writing}
-use Rattle.end_laws.specs.turns.Ended.{IsAnswered, may_release}
+use Rattle.end_laws.specs.turns.Ended.{IsReleased, may_release}
 
 -- ---- what comes
 
@@ -76,7 +77,7 @@ IsGoing live = (cause : Cause) → IsEnd cause live → ⊥
 -- ---- the kinds
 
 -- Nothing changes, and nothing is sent; a station is asked for the relation, or its address is set; the controller
--- ends, or ends and informs the device; the relation is established with what the device chose, and the first record is
+-- ends, maybe with the status of a refusal, or ends and informs the device; the relation is established with what the device chose, and the first record is
 -- written; the record after this one is written; the controller waits for ApplicationReady; a Release
 -- is no longer active; ApplicationReady is answered, and data is exchanged from then on, or was before; a cyclic frame
 -- is received; an alarm is received, or the ACK of an AlarmAck; an output is set, or its status; a unit of the relation
@@ -85,7 +86,7 @@ pub data Kind : Type 0 where
   Rests : Kind
   Connects : (source : Mac) → Kind
   Addresses : (source : Mac) → Kind
-  Ends : (cause : Cause) → Kind
+  Ends : (cause : Cause) → (refusal : Option Status) → Kind
   Releases : (cause : Cause) → Kind
   Relates : (chosen : Chosen) → Kind
   Writes : (number : ℕ) → Kind
@@ -107,7 +108,7 @@ abbrev pub turn_by : Setup → Live → Kind → Turn
 turn_by setup live Rests = stays live
 turn_by setup live (Connects source) = asking Connecting asks.Connect (record live { device = source })
 turn_by setup live (Addresses source) = asking Addressing asks.Address (record live { device = source })
-turn_by setup live (Ends cause) = stays (over cause live)
+turn_by setup live (Ends cause refusal) = stays (over cause (record live { refusal = refusal }))
 turn_by setup live (Releases cause) = released setup cause live
 turn_by setup live (Relates chosen) = writing (writing_from setup.plan 0) (standing setup live chosen)
 turn_by setup live (Writes number) = writing (writing_from setup.plan (number + 1)) live
@@ -164,12 +165,12 @@ abbrev pub IsKind : Setup → Live → Came → Kind → Type 0
 IsKind setup live came Rests = Unit {0}
 IsKind setup live came (Connects source) = IsSought live came source
 IsKind setup live came (Addresses source) = IsSought live came source
-IsKind setup live came (Ends cause) = IsGoing live
+IsKind setup live came (Ends cause refusal) = IsGoing live
 IsKind setup live came (Releases cause) = IsGoing live × (may_release cause ≡ true)
 IsKind setup live came (Relates chosen) = (granted : IsGranted setup live came asks.Connect) × (chosen_in granted.response.blocks ≡ Some chosen)
 IsKind setup live came (Writes number) = IsGranted setup live came (asks.Write number)
 IsKind setup live came Waits = IsGranted setup live came asks.PrmEnd
-IsKind setup live came Forgets = (heard : Heard) × (came ≡ Hears heard) × IsAnswered setup live heard
+IsKind setup live came Forgets = (heard : Heard) × (came ≡ Hears heard) × IsReleased setup live heard
 IsKind setup live came (Begins caller call block) = ((live.phase ≡ Ending) ⊎ (live.phase ≡ Waiting)) × IsReadied setup came caller call block
 IsKind setup live came (Repeats caller call block) = (live.phase ≡ Exchanging) × IsReadied setup came caller call block
 IsKind setup live came (Follows source frame_id body) = live.stands ≡ true

@@ -25,6 +25,7 @@ ghost use Rattle.end_laws.specs.hearing.Hearing.{IsUncalled, IsUnreported, comes
 ghost use Rattle.end_laws.specs.hearing.Stations.{IsAddress, IsCalled, IsCaller, IsDevice, IsNumbered, IsSetup, ready_call};
 
 use codec_laws::{blocks_are_read, frames_are_read};
+use controller_frames::calls_are_no_refusals;
 use rpc_core::{
     calls_and_responses_differ, calls_are_read, calls_name_their_interface, responses_are_read,
 };
@@ -58,6 +59,7 @@ pub fn calls_are_heard()
 {
     frames_are_read();
     calls_are_read();
+    calls_are_no_refusals();
     calls_and_responses_differ();
     calls_name_their_interface();
 }

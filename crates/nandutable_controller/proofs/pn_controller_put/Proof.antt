@@ -32,7 +32,7 @@ use denote.Triple.Spec.{triple_of}
 use denote.Triple.Table.{framed}
 use denote.Triple.Walked.{Stays, walk_of, says, stay_dropped, Goes-dropped, ends_at}
 use borrow.Table.OneValue.{part_in}
-use Rattle.controller_core.specs.Machine.{fresh}
+use Rattle.station.specs.Served.{begun}
 use Rattle.controller_abi.specs.Plans.{is_plan, parts_of}
 use Rattle.controller_abi.specs.State.{State, opened}
 use Rattle.controller_abi.specs.contracts.plan.WrittenPlan.{the_row as S}
@@ -71,8 +71,8 @@ pn_controller_put_spec 𝓤 𝓛 𝓜 𝓡 wired =
     let Params = RawPtr ∷ ShrRef (named 0) κ S ∷ ShrRef (named 1) η Number ∷ ShrRef (named 2) θ Number ∷ [] in
     let Tokens = ‵ (flft κ qs.0) ⊛ (‵ (flft η qs.1.0) ⊛ (‵ (flft θ qs.1.1.0) ⊛ ‵ ftrue)) in
     let IsUnstarted : State → Type 0 = λ port. port.controller.setup ≡ record { plan = parts_of plan.now; ar = ar.now; activity = activity.now } in
-    let IsStarted : State → State → Type 0 = λ old new. new ≡ opened (fresh old.controller.setup.plan old.controller.setup.ar old.controller.setup.activity) in
-    let IsMade : State → Type 0 = λ port. port ≡ opened (fresh (parts_of plan.now) ar.now activity.now) in
+    let IsStarted : State → State → Type 0 = λ old new. new ≡ opened (begun old.controller.setup.plan old.controller.setup.ar old.controller.setup.activity) in
+    let IsMade : State → Type 0 = λ port. port ≡ opened (begun (parts_of plan.now) ar.now activity.now) in
     let Reported = λ (b o : ℕ) (port : State). sep 𝓤 (types.Logic.sem 𝓛 (lies_at R full_share (block_ptr b o) port)) (fact 𝓤 (IsMade port)) in
     let reported : (b o : ℕ) (port : State) → IsMade port → ent 𝓤 (types.Logic.sem 𝓛 (lies_at R full_share (block_ptr b o) port)) (ex 𝓤 (Reported b o)) = λ b o port made.
     qed 𝓛 (‵ (lies_at R full_share (block_ptr b o) port) ∷ []) ∵ show ! (Reported b o) port $ says ! made $ done ! in
@@ -133,7 +133,7 @@ pn_controller_put_spec 𝓤 𝓛 𝓜 𝓡 wired =
     -- [the port in the memory; the tokens]
     sets ! (of_opd ! (unit_lit !)) refl (tt, tt) $
     returns ! (look_at ! 0 refl) $ free_all ! refl $
-    use1 𝓛 (raw (ex 𝓤 (Reported b o))) (reported b o now.0 (started ∙ ap (λ s. opened (fresh s.plan s.ar s.activity)) made)) $
+    use1 𝓛 (raw (ex 𝓤 (Reported b o))) (reported b o now.0 (started ∙ ap (λ s. opened (begun s.plan s.ar s.activity)) made)) $
     -- [the facts of the memory; the tokens]
     suffices ! _ (ends_at 𝓛 f.ended stayed c (y (block_ptr b o)) vunit tt (tt, (tt, (tt, (tt, tt)))) (tt, (tt, (tt, (tt, tt))))) $
     feq_i ! _ (vunit ∷ []) _ refl $ nothing ! $ nothing ! $ join ! $ nothing ! $ join ! $ nothing ! $ join ! $ nothing ! $ join ! $ move ! (3 ∷ 0 ∷ 1 ∷ 2 ∷ []) $ group ! 3 $ done !))))))))))))))))

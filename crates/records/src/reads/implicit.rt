@@ -4,13 +4,14 @@ ghost use Rattle.records.specs.reads.Implicit.{implicit_read};
 
 use crate::CallFault;
 use crate::reads::judging::read_request;
+use crate::reads::listing::{listing_of, serve_listing};
 use crate::reads::serving::{Blocks, serve};
 use pn_values::{Identity, Real, Settings};
 
 /// Serves a Read Implicit, which reads a record of the device without a relation. Puts the blocks of the response into
 /// `answer`, which must be empty, or returns why the call is refused. The first fault in the order of the checks is
 /// reported.
-#[tactic(auto, unfolding(crate::specs::reads::Implicit::implicit_read))]
+#[tactic(auto, unfolding(crate::specs::reads::Implicit::implicit_read, crate::specs::reads::Listing::served))]
 pub fn read_implicit(
     identity: &Identity,
     real: &Real,
@@ -26,5 +27,8 @@ pub fn read_implicit(
         × (answer.new.items ≡ [])) }
 {
     let request = read_request(blocks)?;
-    serve(identity, real, settings, &request, answer)
+    match listing_of(real, &request) {
+        Some((level, kind)) => serve_listing(false, real, &request, level, kind, answer),
+        None => serve(identity, real, settings, &request, answer),
+    }
 }

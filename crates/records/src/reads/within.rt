@@ -6,6 +6,7 @@ ghost use Rattle.records.specs.reads.Within.{record_within, relation_read, reque
 
 use crate::reads::answering::put_read_answer;
 use crate::reads::judging::{check_place, read_request};
+use crate::reads::listing::{listing_of, serve_listing};
 use crate::reads::serving::{Blocks, serve};
 use crate::{CallFault, check_relation};
 use block_codec::IodReadReq;
@@ -17,7 +18,7 @@ use pn_values::{Identity, Real, Settings};
 /// the response into `answer`, which must be empty, or returns why the call is refused. The first fault in the order of
 /// the checks is reported. Besides the records of a Read Implicit it serves the ModuleDiffBlock of the relation, which is
 /// `differing`: it is empty if nothing differs.
-#[tactic(auto, unfolding(crate::specs::reads::Within::relation_read))]
+#[tactic(auto, unfolding(crate::specs::reads::Within::relation_read, crate::specs::reads::Listing::served))]
 pub fn read_within(
     standing: Option<&Uuid>,
     differing: &[u8],
@@ -37,7 +38,10 @@ pub fn read_within(
         real.now settings.now blocks.now ≡ Err fault) × (answer.new.items ≡ [])) }
 {
     let request = request_within(standing, blocks)?;
-    serve_within(differing, identity, real, settings, &request, answer)
+    match listing_of(real, &request) {
+        Some((level, kind)) => serve_listing(true, real, &request, level, kind, answer),
+        None => serve_within(differing, identity, real, settings, &request, answer),
+    }
 }
 
 /// Reads the IODReadReqHeader of a call, and checks that it names the active relation.

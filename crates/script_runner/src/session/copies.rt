@@ -27,6 +27,7 @@ pub(crate) fn plan_copy(plan: &Plan) -> Plan
         times: plan.times(),
         real: real_copy(plan.real()),
         records: records_copy(plan.records()),
+        continue_on_refused_record: plan.continues_on_refused_record(),
     };
     match Plan::new(parts) {
         Ok(copy) => copy,

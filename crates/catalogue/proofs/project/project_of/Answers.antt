@@ -19,6 +19,10 @@ pub returns-in_err-slots : goal.returns-in_err-slots
 unfolding project
 returns-in_err-slots c = rw c.in_ok-station.ensures (rw c.in_ok-controller.ensures (rw c.in_ok-send_clock_factor.ensures (rw c.in_ok-reduction_ratio.ensures (rw c.in_ok-data_hold_factor.ensures (fails _ _ _ _ _ (let h = c.from_residual-in_err-slots.ensures in search rules) c.in_err-slots.ensures)))))
 
+pub returns-in_err-continue_on_refused_record : goal.returns-in_err-continue_on_refused_record
+unfolding project
+returns-in_err-continue_on_refused_record c = rw c.in_ok-station.ensures (rw c.in_ok-controller.ensures (rw c.in_ok-send_clock_factor.ensures (rw c.in_ok-reduction_ratio.ensures (rw c.in_ok-data_hold_factor.ensures (rw c.in_ok-slots.ensures (fails _ _ _ _ _ (let h = c.from_residual-in_err-continue_on_refused_record.ensures in search rules) (inr c.in_err-continue_on_refused_record.ensures)))))))
+
 pub returns : goal.returns
 unfolding project
-returns c = rw c.in_ok-station.ensures (rw c.in_ok-controller.ensures (rw c.in_ok-send_clock_factor.ensures (rw c.in_ok-reduction_ratio.ensures (rw c.in_ok-data_hold_factor.ensures (rw c.in_ok-slots.ensures refl)))))
+returns c = rw c.in_ok-station.ensures (rw c.in_ok-controller.ensures (rw c.in_ok-send_clock_factor.ensures (rw c.in_ok-reduction_ratio.ensures (rw c.in_ok-data_hold_factor.ensures (rw c.in_ok-slots.ensures (rw c.in_ok-continue_on_refused_record.ensures refl))))))

@@ -1,13 +1,11 @@
 -- Whether frames remain.
-use Rattle.std.proofs.Common.{◌≡◌, ℕ, List, length, map, sym, ap, ◌∙◌}
+use Rattle.std.proofs.Common.{sym, ap, ◌∙◌}
 use Rattle.std.specs.Prelude.{nat_lt}
-use Rattle.std.proofs.lemmas.List.{length-map}
+use Rattle.station.specs.Served.{in_order}
 use Rattle.controller_abi.proofs.Left.{left_is}
 use Rattle.controller_abi.proofs.port.Port.has_work.Goals as goal
 
 pub returns : goal.returns
 returns c =
     let port = c.self.inside in
-    let frames : List (List ℕ) = map (λ frame. frame.items) port.outbox.items in
-    let count : c.len.result ≡ length frames = c.len.ensures.value ∙ sym (length-map port.outbox.items (λ frame. frame.items)) in
-    rw (← c.self.view_is) (ap (nat_lt port.frames_past) count ∙ sym (left_is port.frames_past frames))
+    rw (← c.self.view_is) (ap (nat_lt port.frames_past) c.len.ensures ∙ sym (left_is port.frames_past (in_order port.outbox)))

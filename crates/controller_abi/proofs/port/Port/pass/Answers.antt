@@ -1,7 +1,6 @@
 -- More units pass, or the rest of them remains.
 use Rattle.std.proofs.Common.{◌≡◌, ◌+◌, ◌-◌, ℕ, Bool, true, refl, sym, ap, subst, ◌∙◌, arith}
-use Rattle.controller_core.specs.Leaps.{live_due_in}
-use Rattle.controller_abi.specs.State.{is_over, is_stopped}
+use Rattle.controller_abi.specs.State.{is_over, is_stopped, port_due_in}
 use Rattle.controller_abi.specs.Steps.{Ticks}
 use Rattle.controller_abi.proofs.Leaps.{idle_of, ticks_on}
 use Rattle.controller_abi.proofs.port.Port.pass.Goals as goal
@@ -13,7 +12,7 @@ loop-left-init c =
 
 pub leap-requires : goal.leap-requires
 leap-requires c =
-    let due : c.due.result ≡ live_due_in c.loop-left.self.controller.live = c.due.ensures.value ∙ ap (λ port. live_due_in port.controller.live) c.self-in-loop-left.view_is in
+    let due : c.due.result ≡ port_due_in c.loop-left.self = c.due.ensures.value in
     record { idle = idle_of c.loop-left.self _ (sym c.if-is_stopped.ensures); few = omega (arith, due) }
 
 pub loop-left-preserved : goal.loop-left-preserved

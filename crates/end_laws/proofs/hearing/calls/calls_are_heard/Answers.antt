@@ -8,4 +8,4 @@ returns-clause-device c =
 
 pub returns-clause-controller : goal.returns-clause-controller
 returns-clause-controller c =
-    call_at_controller c.frames_are_read.ensures.udp c.calls_are_read.ensures.read c.calls_are_read.ensures.short c.calls_and_responses_differ.ensures.call c.calls_name_their_interface.ensures.device
+    call_at_controller c.frames_are_read.ensures.udp c.calls_are_read.ensures.read c.calls_are_read.ensures.short c.calls_and_responses_differ.ensures.call c.calls_are_no_refusals.ensures c.calls_name_their_interface.ensures.device

@@ -1,0 +1,158 @@
+-- The records that list what a device consists of, from the whole device down to one submodule (IEC 61158-6-10, 5.2.3):
+-- RealIdentificationData, APIData, and the diagnosis of each level.
+use Rattle.std.specs.Prelude.{◌==◌, ◌&&◌, ◌||◌, ◌+◌, ◌/◌, ◌%◌, ◌++◌, ℕ, Bool, true, false, not, List, [], ◌∷◌, length, Option, Some, None, Result, Ok, if◌then◌else◌}
+use Rattle.std.specs.List.{list_any}
+use Rattle.wire.specs.Formats.{big_bytes}
+use Rattle.pn_values.specs.declared.real.Real.{Real}
+use Rattle.pn_values.specs.declared.real.RealModule.{RealModule}
+use Rattle.pn_values.specs.declared.real.RealSubmodule.{RealSubmodule}
+use Rattle.record_blocks.specs.FilterData.{filter_data}
+use Rattle.record_blocks.specs.declared.filter_data.FilterModule.{FilterModule}
+use Rattle.record_blocks.specs.declared.filter_data.FilterSubmodule.{FilterSubmodule}
+use Rattle.record_blocks.specs.declared.filter_data.ImFilterData.{ImFilterData}
+use Rattle.record_blocks.specs.declared.read_record.IodReadReq.{IodReadReq}
+use Rattle.im_records.specs.Plugged.{part_of}
+use Rattle.im_records.specs.Records.{is_real}
+use Rattle.records.specs.declared.status.call_fault.CallFault.{CallFault}
+use Rattle.records.specs.declared.status.call_fault.CallFault.TheVariants as fault
+use Rattle.records.specs.declared.reads.listing.Listing.{Listing}
+use Rattle.records.specs.declared.reads.listing.Listing.TheVariants.{Identification, Apis, Diagnosis}
+use Rattle.records.specs.declared.reads.listing.Level.{Level}
+use Rattle.records.specs.declared.reads.listing.Level.TheVariants.{Subslot, Slot, Relation, Device}
+use Rattle.records.specs.calls.Handled.{handled}
+use Rattle.records.specs.reads.Answer.{answer_of}
+use Rattle.records.specs.reads.Handled.{has_parameter, read_of}
+
+-- ---- the indices
+
+-- The level of an index, by its first digit: 8 a submodule, C a slot, E the relation, F the device.
+unfoldable pub level_of : ℕ → Option Level
+level_of index =
+    if index / 4096 == 8 then Some Subslot
+    else if index / 4096 == 12 then Some Slot
+    else if index / 4096 == 14 then Some Relation
+    else if index / 4096 == 15 then Some Device
+    else None
+
+-- Whether the record with this index tells diagnosis: 0xF80C, and at each level x the records x00A to x00C and x010 to x013.
+unfoldable pub is_diagnosis : ℕ → Bool
+is_diagnosis index = index == 0xF80C
+    || ((index % 4096 == 0x00A || index % 4096 == 0x00B || index % 4096 == 0x00C)
+    || (index % 4096 == 0x010 || index % 4096 == 0x011 || index % 4096 == 0x012 || index % 4096 == 0x013))
+
+-- What the record with this index lists, at the level of its index.
+unfoldable pub kind_of : ℕ → Option Listing
+kind_of index =
+    if index == 0x8001 then Some Identification
+    else if index == 0xC001 then Some Identification
+    else if index == 0xF000 then Some Identification
+    else if index == 0xF821 then Some Apis
+    else if is_diagnosis index then Some Diagnosis
+    else None
+
+-- ---- the octets
+
+-- Whether a module belongs to what is asked for.
+abbrev pub has_module : Level → ℕ → RealModule → Bool
+has_module Subslot slot entry = entry.slot == slot
+has_module Slot slot entry = entry.slot == slot
+has_module Relation slot entry = true
+has_module Device slot entry = true
+
+-- Whether a submodule of such a module belongs to it.
+abbrev pub has_submodule : Level → ℕ → RealSubmodule → Bool
+has_submodule Subslot subslot part = part.subslot == subslot
+has_submodule Slot subslot part = true
+has_submodule Relation subslot part = true
+has_submodule Device subslot part = true
+
+-- The entries of the submodules that are asked for.
+abbrev pub parts_at : Level → ℕ → List RealSubmodule → List FilterSubmodule
+parts_at level subslot [] = []
+parts_at level subslot (part ∷ parts) = if has_submodule level subslot part then part_of part ∷ parts_at level subslot parts else parts_at level subslot parts
+
+-- The entry of a module: a module without submodules has one too.
+abbrev pub entry_of : RealModule → ℕ → FilterModule
+entry_of entry count = record { slot_number = entry.slot; module_ident_number = entry.ident; number_of_submodules = count }
+
+-- The entries of the modules that are asked for.
+abbrev pub modules_at : Level → ℕ → ℕ → List RealModule → List FilterModule
+modules_at level slot subslot [] = []
+modules_at level slot subslot (entry ∷ entries) =
+    if has_module level slot entry then entry_of entry (length (parts_at level subslot entry.submodules.items)) ∷ modules_at level slot subslot entries
+    else modules_at level slot subslot entries
+
+-- The entries of their submodules.
+abbrev pub submodules_at : Level → ℕ → ℕ → List RealModule → List FilterSubmodule
+submodules_at level slot subslot [] = []
+submodules_at level slot subslot (entry ∷ entries) =
+    if has_module level slot entry then parts_at level subslot entry.submodules.items ++ submodules_at level slot subslot entries
+    else submodules_at level slot subslot entries
+
+-- What is plugged, of what is asked for, in API 0.
+abbrev pub plugged_of : Real → Level → ℕ → ℕ → ImFilterData
+plugged_of real level slot subslot = record {
+  api = 0;
+  modules = record { modules = modules_at level slot subslot real.modules.items; submodules = submodules_at level slot subslot real.modules.items };
+}
+
+-- RealIdentificationData: BlockType 0x0013, BlockLength, version 1.1, and the same fields as an I&M0FilterData.
+unfoldable pub identification_bytes : ImFilterData → List ℕ
+identification_bytes value =
+    big_bytes 2 0x0013 ++ big_bytes 2 (2 + filter_data.size value) ++ (1 ∷ 1 ∷ []) ++ filter_data.write value []
+
+-- APIData: BlockType 0x001A, BlockLength 8, version 1.0, NumberOfAPIs 1, API 0.
+unfoldable pub api_bytes : List ℕ
+api_bytes = 0x00 ∷ 0x1A ∷ 0x00 ∷ 0x08 ∷ 0x01 ∷ 0x00 ∷ 0x00 ∷ 0x01 ∷ 0x00 ∷ 0x00 ∷ 0x00 ∷ 0x00 ∷ []
+
+-- The octets of a record. No diagnosis exists, so its records are empty.
+abbrev pub octets_of : Real → Level → ℕ → ℕ → Listing → List ℕ
+octets_of real level slot subslot Identification = identification_bytes (plugged_of real level slot subslot)
+octets_of real level slot subslot Apis = api_bytes
+octets_of real level slot subslot Diagnosis = []
+
+-- ---- the order of the checks
+
+-- Whether what a level asks for is plugged: a submodule, a slot with any subslot, and nothing for the other levels.
+abbrev pub is_there : Real → Level → ℕ → ℕ → Bool
+is_there real Subslot slot subslot = is_real real slot subslot
+is_there real Slot slot subslot = list_any (λ entry. entry.slot == slot) real.modules.items
+is_there real Relation slot subslot = true
+is_there real Device slot subslot = true
+
+-- Whether a record of this level is one of a relation.
+abbrev pub is_of_relation : Level → Bool
+is_of_relation Subslot = false
+is_of_relation Slot = false
+is_of_relation Relation = true
+is_of_relation Device = false
+
+-- The response to a request for a record of this kind and level. `is_within` says whether it is read within the relation.
+unfoldable pub listed_at : Bool → Real → IodReadReq → Level → Listing → Result (List ℕ) CallFault
+listed_at is_within real request level kind = handled
+    ((not (request.header.api == 0), fault.Api)
+    ∷ (not (is_there real level request.header.slot_number request.header.subslot_number), fault.Place)
+    ∷ (is_of_relation level && not is_within, fault.Index)
+    ∷ [])
+    (Ok (answer_of request (octets_of real level request.header.slot_number request.header.subslot_number kind)))
+
+-- What a request asks for, if it is a record of this page: its level and its kind. A parameter record with such an index
+-- stays what it is.
+abbrev pub listing_in : Bool → Option Level → Option Listing → Option (Level × Listing)
+listing_in true level kind = None
+listing_in false (Some level) (Some kind) = Some (level, kind)
+listing_in false (Some level) None = None
+listing_in false None kind = None
+
+unfoldable pub listing_of : Real → IodReadReq → Option (Level × Listing)
+listing_of real request =
+    listing_in (has_parameter real request.header.slot_number request.header.subslot_number request.header.index)
+    (level_of request.header.index) (kind_of request.header.index)
+
+-- The response to a request: a record of this page, or another one, which is `readable` if there is one.
+abbrev pub served_by : Bool → Real → IodReadReq → Option (Level × Listing) → Option (List ℕ) → Result (List ℕ) CallFault
+served_by is_within real request (Some x) readable = listed_at is_within real request x.0 x.1
+served_by is_within real request None readable = read_of real request readable
+
+unfoldable pub served : Bool → Real → IodReadReq → Option (List ℕ) → Result (List ℕ) CallFault
+served is_within real request readable = served_by is_within real request (listing_of real request) readable
