@@ -162,6 +162,7 @@ typedef struct pn_op {
     uint32_t sector;  /* 0 or 1 */
     uint32_t place;   /* the first octet of a program call in its sector; pn_taken: a number, then the record's index; pn_left; pn_status: 0 is bad */
     uint32_t length;  /* how many of `octets` are valid */
+    uint32_t due;     /* not set yet; see pn_due */
     uint8_t octets[PN_OP_SIZE];
 } pn_op;
 
@@ -180,9 +181,9 @@ typedef struct pn_device {
 
 /* The sizes that the library was built with. */
 #if defined(__cplusplus)
-static_assert(sizeof(pn_op) == 1564 && sizeof(pn_station) == 1508, "another layout than the library's");
+static_assert(sizeof(pn_op) == 1568 && sizeof(pn_station) == 1508, "another layout than the library's");
 #else
-_Static_assert(sizeof(pn_op) == 1564 && sizeof(pn_station) == 1508, "another layout than the library's");
+_Static_assert(sizeof(pn_op) == 1568 && sizeof(pn_station) == 1508, "another layout than the library's");
 #endif
 
 /* The settings that survive a power failure. */

@@ -273,6 +273,31 @@ static inline uint32_t pn_controller_status(pn_controller *controller, pn_op *op
     return pn_controller_ask(controller, op, 16, NULL, 0);
 }
 
+/* The application reads a record of the device: one request at a time, while data is exchanged. It is sent again each second until its answer
+ * comes (pn_controller_answer), and dropped if the relation ends. A refusal does not end the relation. May return PN_BUSY (no data is
+ * exchanged, or another request waits for its answer). */
+static inline uint32_t pn_controller_read_record(pn_controller *controller, pn_op *op, uint16_t slot, uint16_t subslot, uint16_t index)
+{
+    if (op == NULL)
+        return PN_NULL;
+    op->slot = slot;
+    op->subslot = subslot;
+    op->place = index;
+    return pn_controller_ask(controller, op, 30, NULL, 0);
+}
+
+/* The same for a record that it writes. May also return PN_BAD_LENGTH (more than 1,308 octets). */
+static inline uint32_t pn_controller_write_record(pn_controller *controller, pn_op *op, uint16_t slot, uint16_t subslot, uint16_t index,
+                                                  const uint8_t *octets, size_t length)
+{
+    if (op == NULL)
+        return PN_NULL;
+    op->slot = slot;
+    op->subslot = subslot;
+    op->place = index;
+    return pn_controller_ask(controller, op, 31, octets, length);
+}
+
 /* The application stops the controller, which releases the relation. */
 static inline uint32_t pn_controller_stop(pn_controller *controller, pn_op *op)
 {
@@ -342,6 +367,28 @@ static inline uint32_t pn_controller_provider(const pn_controller *controller, p
     return answer;
 }
 
+/* The answer to the last pn_controller_read_record or pn_controller_write_record: its status in `units`, 0 if it succeeded, otherwise the
+ * PNIOStatus or the status of a reject or a fault, whose first octet is the most significant one; the record that was read in `length` and
+ * `octets`. PN_NO_ANSWER if it waits, if the relation ended first, or if there was no request. */
+static inline uint32_t pn_controller_answer(const pn_controller *controller, pn_op *op)
+{
+    return pn_controller_read(controller, op, 32);
+}
+
+/* The status with which the device refused a call last, in `units` as above. PN_NO_ANSWER if it refused none. */
+static inline uint32_t pn_controller_refusal(const pn_controller *controller, pn_op *op)
+{
+    return pn_controller_read(controller, op, 20);
+}
+
+/* The last record that the device refused: its place among the records of the plan, from 0 on, in `place`, and the PNIOStatus in `units` as
+ * above. With continue_on_refused_record of the plan the controller goes on with the next record; look after each event to see each.
+ * PN_NO_ANSWER if it refused none. */
+static inline uint32_t pn_controller_refused_record(const pn_controller *controller, pn_op *op)
+{
+    return pn_controller_read(controller, op, 33);
+}
+
 /* How many units may pass until something is due: with the last of them, and with none before it, the controller sends a frame, sends a
  * request again, announces its address, or ends. It is also in `units` of the operation. 4,294,967,295 if no unit ever does any of these. An event may change it.
  * So a host sleeps until that unit is over, or until the next event. */
@@ -369,11 +416,21 @@ static inline uint32_t pn_controller_conflicts(const pn_controller *controller, 
     return answer;
 }
 
-/* The last accepted alarm: `slot`, `subslot`, its type in `note`, its AlarmSpecifier in `units`, its data in `length` and `octets`.
+/* The last accepted alarm of high priority: `slot`, `subslot`, its type in `note`, its AlarmSpecifier in `units`, its data in `length` and `octets`.
  * PN_NO_SLOT if no alarm was accepted. */
 static inline uint32_t pn_controller_alarm(const pn_controller *controller, pn_op *op)
 {
     return pn_controller_read(controller, op, 12);
+}
+
+/* The last accepted alarm of high or of low priority: as pn_controller_alarm, with its UserStructureIdentifier in `more` (65,536 if it has none)
+ * and its SendSeqNum in `sector`, which is another one after each alarm of this priority. PN_NO_SLOT if none was accepted. */
+static inline uint32_t pn_controller_report(const pn_controller *controller, pn_op *op, int is_low)
+{
+    if (op == NULL)
+        return PN_NULL;
+    op->place = is_low != 0;
+    return pn_controller_read(controller, op, 34);
 }
 
 #ifdef __cplusplus

@@ -48,7 +48,9 @@ enum {
     PN_BAD_OPTION = 23,    /* the smallest interval of the station is more than 65,536 units */
 
     /* Of a controller. */
-    PN_BAD_PLAN = 16, /* the plan is not valid (pn_plan_fault returns why), or the ARUUID is zero */
+    PN_BAD_PLAN = 16,  /* the plan is not valid (pn_plan_fault returns why), or the ARUUID is zero */
+    PN_NO_ANSWER = 25, /* no call or record was refused yet, or no request of the application was answered */
+    PN_BUSY = 26,      /* no data is exchanged, or a request of the application waits for its answer */
 
     /* Of a catalogue that gives no plan (pn_plan_read), or of a plan that a host wrote and that is not valid (pn_plan_fault): its first
      * fault. Only a catalogue has the first three and the last. */
@@ -94,6 +96,8 @@ static inline const char *pn_strerror(uint32_t number)
     case PN_BAD_PARAMETER: return "a parameter record has a wrong index or length, or two have one index";
     case PN_BAD_OPTION: return "the smallest interval of the station is more than 65,536 units";
     case PN_NO_FRAME: return "no cyclic frame with data of this submodule was accepted";
+    case PN_NO_ANSWER: return "nothing was refused yet, or no request was answered";
+    case PN_BUSY: return "no data is exchanged, or another request waits for its answer";
     case PN_PLAN_JSON: return "the text is not JSON";
     case PN_PLAN_MISSING_KEY: return "a key is missing";
     case PN_PLAN_WRONG_KIND: return "a value is of another kind than its key requires";

@@ -255,7 +255,8 @@ class Station:
             if self.records[slot]:
                 entry["Records"] = [{"Subslot": subslot, "Index": record.index, "Data": data.hex()} for subslot, record, data in self.records[slot]]
             slots.append(entry)
-        return {
+        said = {
             "NameOfStation": choice.name, "IPAddress": choice.address, "SubnetMask": choice.mask, "Gateway": choice.gateway,
             "Controller": {"NameOfStation": choice.controller_name, "MAC": choice.controller_mac, "IPAddress": choice.controller_address},
             "SendClockFactor": self.send_clock, "ReductionRatio": self.ratio, "DataHoldFactor": choice.data_hold, "Slots": slots}
+        return {**said, "ContinueOnRefusedRecord": True} if choice.continues else said

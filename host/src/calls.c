@@ -5,6 +5,8 @@
 #define RPC_AT 42u
 #define SEQUENCE_AT (RPC_AT + 64u)
 #define STATUS_AT (RPC_AT + 80u)
+/* After the PNIOStatus and the sizes of the arguments. */
+#define BLOCKS_AT (STATUS_AT + 20u)
 
 /* From the header of DCE/RPC on: its length, the activity, and the ARUUID of the block of a control, after the header, the sizes of the
  * arguments (20), BlockHeader (6) and two octets that are reserved. */
@@ -35,6 +37,12 @@ uint32_t calls_sequence(const uint8_t *octets)
 void calls_status(const uint8_t *octets, uint8_t status[4])
 {
     read_four(octets, STATUS_AT, status);
+}
+
+const uint8_t *calls_blocks(const uint8_t *octets, size_t length, size_t *size)
+{
+    *size = length > BLOCKS_AT ? length - BLOCKS_AT : 0;
+    return octets + (length > BLOCKS_AT ? BLOCKS_AT : 0);
 }
 
 /* The header of DCE/RPC in a frame, whatever is before it; 0 if the frame has none that is complete. */

@@ -5,16 +5,20 @@
 #include <stddef.h>
 #include <stdint.h>
 
-enum { CALLS_REQUEST = 0, CALLS_RESPONSE = 2 };
+enum { CALLS_REQUEST = 0, CALLS_RESPONSE = 2, CALLS_FAULT = 3, CALLS_REJECT = 6 };
 
-/* Whether a frame is a datagram of this type that is long enough for the PNIOStatus of a response. */
+/* Whether a frame is a datagram of this type that is long enough for the PNIOStatus of a response, and the status of a reject or a fault, which
+ * is at the same place. */
 int calls_is(const uint8_t *octets, size_t length, unsigned type);
 
 /* The sequence number of such a datagram. */
 uint32_t calls_sequence(const uint8_t *octets);
 
-/* The PNIOStatus of such a response. */
+/* That status, with its most significant octet first. */
 void calls_status(const uint8_t *octets, uint8_t status[4]);
+
+/* The blocks of a response and their size, with the padding of the frame. */
+const uint8_t *calls_blocks(const uint8_t *octets, size_t length, size_t *size);
 
 /* The numbers that say which relation a datagram is for. */
 struct calls_numbers {

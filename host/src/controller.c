@@ -134,7 +134,7 @@ static uint32_t tick(void *context, uint32_t units)
     struct controller *controller = context;
     (void)units;
     for (unsigned i = 0; i < controller->count; i++)
-        if (controller->relations[i].due_at <= controller->loop.units && !relation_is_over(&controller->relations[i]))
+        if (controller->relations[i].due_at <= controller->loop.units && relation_needs_time(&controller->relations[i]))
             relation_tick(&controller->relations[i]);
     return 0;
 }
@@ -144,9 +144,18 @@ static uint32_t due(void *context)
     const struct controller *controller = context;
     uint64_t first = controller->loop.units + UINT32_MAX;
     for (unsigned i = 0; i < controller->count; i++)
-        if (controller->relations[i].due_at < first && !relation_is_over(&controller->relations[i]))
+        if (controller->relations[i].due_at < first && relation_needs_time(&controller->relations[i]))
             first = controller->relations[i].due_at;
     return first > controller->loop.units ? (uint32_t)(first - controller->loop.units) : 1;
+}
+
+/* A frame of ARP or ICMP: all controllers have one address, and the first one answers for it. */
+static void serve(struct controller *controller, const uint8_t *octets, size_t length)
+{
+    struct relation *sender = routing_find_sender(controller->relations, controller->count, octets, length);
+    relation_serve(&controller->relations[0], octets, length);
+    if (sender != NULL)
+        relation_hear_arp(sender, octets, length);
 }
 
 static void take_frame(void *context, const uint8_t *octets, size_t length)
@@ -154,6 +163,10 @@ static void take_frame(void *context, const uint8_t *octets, size_t length)
     struct controller *controller = context;
     struct relation *relation = controller->relations;
     uint32_t before;
+    if (wire_is_service(octets, length)) {
+        serve(controller, octets, length);
+        return;
+    }
     if (controller->count > 1)
         relation = routing_find(controller->relations, controller->count, octets, length);
     if (relation == NULL) {
@@ -273,30 +286,37 @@ static void show(void *context, char *words[])
     speak_for(controller, NULL);
 }
 
-static void take_give(void *context, char *words[])
+/* A line that is for one station. */
+static void take_for_one(struct controller *controller, char *words[], void (*take)(struct relation *relation, char *words[]), const char *form)
 {
-    struct controller *controller = context;
     struct relation *relation = controller->count == 1 ? controller->relations : controller->chosen;
     if (relation == NULL) {
-        lines_answer(&controller->loop.lines, "wrong: no station has this name; NAME give SLOT SUBSLOT HEX");
+        lines_answer(&controller->loop.lines, "wrong: no station has this name; NAME %s", form);
         return;
     }
     speak_for(controller, relation);
-    relation_give(relation, words);
+    take(relation, words);
     speak_for(controller, NULL);
+}
+
+static void take_give(void *context, char *words[])
+{
+    take_for_one(context, words, relation_give, "give SLOT SUBSLOT HEX");
 }
 
 static void take_status(void *context, char *words[])
 {
-    struct controller *controller = context;
-    struct relation *relation = controller->count == 1 ? controller->relations : controller->chosen;
-    if (relation == NULL) {
-        lines_answer(&controller->loop.lines, "wrong: no station has this name; NAME status SLOT SUBSLOT good|bad");
-        return;
-    }
-    speak_for(controller, relation);
-    relation_rate(relation, words);
-    speak_for(controller, NULL);
+    take_for_one(context, words, relation_rate, "status SLOT SUBSLOT good|bad");
+}
+
+static void take_read(void *context, char *words[])
+{
+    take_for_one(context, words, access_read, "read SLOT SUBSLOT INDEX");
+}
+
+static void take_write(void *context, char *words[])
+{
+    take_for_one(context, words, access_write, "write SLOT SUBSLOT INDEX HEX");
 }
 
 /* The line `stop` of one of several stations; without a name it is the loop's. */
@@ -313,6 +333,8 @@ static void take_stop(void *context, char *words[])
 static const struct command commands[] = {
     {"give", 4, take_give, "give SLOT SUBSLOT HEX   sets the output of a submodule"},
     {"status", 4, take_status, "status SLOT SUBSLOT good|bad   sets whether an output is good: its IOPS"},
+    {"read", 4, take_read, "read SLOT SUBSLOT INDEX   reads a record, while data is exchanged"},
+    {"write", 5, take_write, "write SLOT SUBSLOT INDEX HEX   writes a record, while data is exchanged"},
     {"show", 1, show, "show                    state, status, inputs and outputs"},
     {"statistics", 1, NULL, "statistics              counts since the start"},
     {"stop", 1, take_stop, "stop                    releases the relation and ends the program"},
@@ -321,6 +343,8 @@ static const struct command commands[] = {
 static const struct command commands_of_several[] = {
     {"give", 4, take_give, "NAME give SLOT SUBSLOT HEX   sets the output of a submodule of this station"},
     {"status", 4, take_status, "NAME status SLOT SUBSLOT good|bad   sets whether an output of this station is good: its IOPS"},
+    {"read", 4, take_read, "NAME read SLOT SUBSLOT INDEX   reads a record of this station, while data is exchanged"},
+    {"write", 5, take_write, "NAME write SLOT SUBSLOT INDEX HEX   writes a record of this station, while data is exchanged"},
     {"show", 1, show, "[NAME] show                  state, status, inputs and outputs"},
     {"statistics", 1, NULL, "[NAME] statistics            counts since the start"},
     {"stop", 1, take_stop, "[NAME] stop                  releases the relation of this station; without a name, all, and ends the program"},
@@ -362,12 +386,13 @@ static void usage(void)
          "  nandutable-controller eth1 pump.json valve.json --retry 5\n"
          "  echo 'give 2 1 00ff' | nandutable-controller eth1 pump.json\n"
          "\n"
-         "Lines that it accepts: `give SLOT SUBSLOT HEX`, `status SLOT SUBSLOT good|bad`, `show`, `statistics`, `stop`, `help`. With several plans\n"
-         "the name of a station and a blank are in front of each line that it prints about this station, and of the lines `give`, `status`,\n"
-         "`show`, `statistics` and `stop` that are for one station. On SIGUSR1 it prints its statistics; SIGTERM stops it, and a second one ends it at once. Its status is the cause of\n"
-         "its end (with several plans the lowest): 1 another device, 2 refused, 3 other modules, 4 data hold, 5 ended by the device, 6 an\n"
-         "alarm without answer, 7 stopped; 64 and more: it did not start (64: the plans do not fit together; 75: another station has the\n"
-         "name or the address).");
+         "Lines that it accepts: `give SLOT SUBSLOT HEX`, `status SLOT SUBSLOT good|bad`, `read SLOT SUBSLOT INDEX`,\n"
+         "`write SLOT SUBSLOT INDEX HEX`, `show`, `statistics`, `stop`, `help`. With several plans the name of a station and a blank are in\n"
+         "front of each line that it prints about this station, and of the lines `give`, `status`, `read`, `write`, `show`, `statistics` and\n"
+         "`stop` that are for one station. On SIGUSR1 it prints its statistics; SIGTERM stops it, and a second one ends it at once. Its\n"
+         "status is the cause of its end (with several plans the lowest): 1 another device, 2 refused, 3 other modules, 4 data hold, 5 ended\n"
+         "by the device, 6 an alarm without answer, 7 stopped; 64 and more: it did not start (64: the plans do not fit together; 75: another\n"
+         "station has the name or the address).");
 }
 
 static void take_pause(struct options *options, const char *word)
@@ -504,6 +529,7 @@ static void open_relations(struct controller *controller, const struct options *
         fail(STATUS_SYSTEM, "out of memory");
     memset(controller->relations, 0, size);
     controller->count = options->plan_count;
+    controller->relations[0].serves = 1;
     for (unsigned i = 0; i < controller->count; i++) {
         relation_open(&controller->relations[i], options->plans[i]);
         for (unsigned k = 0; k < i; k++) {

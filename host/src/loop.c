@@ -136,8 +136,8 @@ static void take_line(void *context, char *line)
 {
     struct loop *loop = context;
     const struct events *events = loop->events;
-    char *words[5]; /* the name of a station, and at most four others */
-    int count = words_part(line, words, 5), named = 0;
+    char *words[6]; /* the name of a station, and at most five others */
+    int count = words_part(line, words, 6), named = 0;
     if (count == 0)
         return;
     if (count > 1 && events->choose != NULL)

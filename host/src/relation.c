@@ -1,7 +1,10 @@
 #define _GNU_SOURCE
 #include "relation.h"
+#include "alarms.h"
+#include "arp.h"
 #include "calls.h"
 #include "say.h"
+#include "statuses.h"
 #include "warnings.h"
 #include "words.h"
 #include <errno.h>
@@ -12,6 +15,8 @@
 
 /* The FrameID of the cyclic frames that the controller requests from a device. */
 #define FRAME_INPUT 0xC001u
+/* The shortest time between two reports of a station that uses the controller's address. */
+#define CONFLICT_PAUSE (10 * SECOND)
 /* How long to wait for the answer to a Release. */
 #define RELEASE_WAITS (SECOND / 5)
 
@@ -30,6 +35,8 @@ static const char *const causes[] = {
 static int transmit(void *context, const uint8_t *octets, uint32_t length)
 {
     struct relation *relation = context;
+    if (wire_is_service(octets, length))
+        return relation->serves ? wire_send(&relation->loop->wire, octets, length) : 0;
     if (wire_is_cyclic(octets, length)) {
         memcpy(relation->device, octets, sizeof relation->device);
         relation->has_device = 1;
@@ -126,7 +133,10 @@ void relation_make(struct relation *relation, struct loop *loop)
     relation->has_device = 0;
     relation->last_cyclic = 0;
     relation->ends_at = 0;
-    memset(&relation->alarm, 0, sizeof relation->alarm);
+    relation->conflicts = 0;
+    relation->alarms[0] = relation->alarms[1] = -1;
+    relation->access.is_waiting = 0;
+    relation->refused = 0;
     memset(&relation->reasons, 0, sizeof relation->reasons);
     memset(&relation->holders, 0, sizeof relation->holders);
     loop_must(pn_controller_start(&relation->room, &relation->plan, relation->ar, relation->activity), "pn_controller_start");
@@ -180,25 +190,28 @@ static void look_at_providers(struct relation *relation)
     }
 }
 
-/* Reports the last alarm, if it differs from the one reported before. */
-static void look_at_alarm(struct relation *relation)
+/* Reports the last alarm of a priority, if it is another one than that reported before. */
+static void look_at_alarm(struct relation *relation, int is_low)
 {
-    pn_op *op = &relation->op, *told = &relation->alarm;
-    char label[64], text[2 * PN_OP_SIZE + 96];
-    if (pn_controller_alarm(&relation->room, op) != PN_OK)
+    pn_op *op = &relation->op;
+    struct alarm alarm;
+    char text[ALARMS_LONGEST];
+    int number;
+    if (pn_controller_report(&relation->room, op, is_low) != PN_OK)
         return;
-    if (told->length == op->length && told->note == op->note && told->slot == op->slot && told->subslot == op->subslot && told->units == op->units &&
-        memcmp(told->octets, op->octets, op->length) == 0)
+    number = (int)op->sector;
+    if (number == relation->alarms[is_low])
         return;
-    *told = *op;
-    snprintf(label, sizeof label, "alarm %u %u %u %u", (unsigned)op->note, (unsigned)op->slot, (unsigned)op->subslot, (unsigned)op->units);
-    words_labelled(text, sizeof text, label, op->octets, op->length);
+    relation->alarms[is_low] = number;
+    alarm = (struct alarm){.is_low = is_low, .type = op->note, .slot = op->slot, .subslot = op->subslot, .specifier = op->units,
+                           .structure = op->more > 65535 ? -1 : (long)op->more, .octets = op->octets, .length = op->length};
+    alarms_line(&alarm, text, sizeof text);
     lines_tell(&relation->loop->lines, "%s", text);
 }
 
 static void tell_end(struct relation *relation)
 {
-    char why[320];
+    char why[STATUSES_LONGEST + 192];
     reasons_words(&relation->reasons, &relation->plan, relation->cause, why, sizeof why);
     lines_tell(&relation->loop->lines, "ended %u: %s%s", (unsigned)relation->cause, causes[relation->cause < 8 ? relation->cause : 0], why);
 }
@@ -266,6 +279,29 @@ static void hear(struct relation *relation, const uint8_t *octets, size_t length
     look_at_names(relation, octets, length);
 }
 
+static void spell_status(uint8_t status[4], uint32_t value)
+{
+    for (int i = 0; i < 4; i++)
+        status[i] = (uint8_t)(value >> (24 - 8 * i));
+}
+
+/* Reports a record that the device refused without an end, once. */
+static void look_at_refused(struct relation *relation)
+{
+    pn_op *op = &relation->op;
+    uint8_t status[4];
+    char call[96], words[STATUSES_LONGEST + 32];
+    const pn_record *record;
+    if (pn_controller_refused_record(&relation->room, op) != PN_OK || op->place + 1 == relation->refused || op->place >= relation->plan.record_count)
+        return;
+    relation->refused = op->place + 1;
+    record = &relation->plan.records[op->place];
+    spell_status(status, op->units);
+    reasons_call(&relation->plan, op->place + 1, call, sizeof call);
+    reasons_status(status, words, sizeof words);
+    lines_tell(&relation->loop->lines, "refused record %u %u %u: %s, %s", record->slot, record->subslot, record->index, call, words);
+}
+
 /* --- Events --- */
 
 void relation_tick(struct relation *relation)
@@ -286,13 +322,54 @@ void relation_take(struct relation *relation, const uint8_t *octets, size_t leng
         hear(relation, octets, length);
 }
 
+/* Reports another station that uses the controller's address, which an ARP packet has shown. */
+static void look_at_conflicts(struct relation *relation, const uint8_t *octets, size_t length)
+{
+    const uint8_t *address = relation->plan.controller_address;
+    struct arp_packet packet;
+    char mac[WORDS_MAC];
+    uint32_t conflicts = 0;
+    loop_must(pn_controller_conflicts(&relation->room, &relation->op, &conflicts), "pn_controller_conflicts");
+    if (conflicts == relation->conflicts || !arp_read(octets, length, &packet))
+        return;
+    relation->conflicts = conflicts;
+    if (relation->conflict_told != 0 && ticker_now() < relation->conflict_told + CONFLICT_PAUSE)
+        return;
+    relation->conflict_told = ticker_now();
+    lines_tell(&relation->loop->lines, "warning: another station, %s, uses the controller's address %u.%u.%u.%u (Project.Controller.IPAddress)",
+               words_show_mac(mac, packet.sender), address[0], address[1], address[2], address[3]);
+}
+
+void relation_serve(struct relation *relation, const uint8_t *octets, size_t length)
+{
+    catch_up(relation);
+    loop_must(pn_controller_frame(&relation->room, &relation->op, octets, length), "pn_controller_frame");
+    send_all(relation);
+    look_ahead(relation);
+    look_at_conflicts(relation, octets, length);
+}
+
+void relation_hear_arp(struct relation *relation, const uint8_t *octets, size_t length)
+{
+    waiting_hear(&relation->waiting, octets, length);
+}
+
+int relation_needs_time(const struct relation *relation)
+{
+    return relation->serves || !relation_is_over(relation);
+}
+
 void relation_look_at_data(struct relation *relation, const uint8_t *octets, size_t length, uint32_t before)
 {
     if (wire_is_cyclic(octets, length)) {
         look_at_inputs(relation);
         look_at_providers(relation);
+    } else if (before == PN_WRITING && relation->state == PN_WRITING) {
+        look_at_refused(relation);
     } else if (before == PN_DATA_EXCHANGE) {
-        look_at_alarm(relation);
+        look_at_alarm(relation, 0);
+        look_at_alarm(relation, 1);
+        access_look(relation);
     }
     if (before == PN_ENDED && calls_is(octets, length, CALLS_RESPONSE))
         relation->ends_at = ticker_now();
@@ -317,13 +394,29 @@ int relation_is_changed(struct relation *relation)
     return 1;
 }
 
+/* Reports what the device says of modules that are not as the plan expects them, and that it accepts all the same. */
+static void tell_differences(struct relation *relation)
+{
+    struct differences *differences = &relation->reasons.differences;
+    char words[DIFFERENCES_LONGEST];
+    for (unsigned i = 0; i < differences->count; i++) {
+        differences_words(&differences->list[i], &relation->plan, words, sizeof words);
+        lines_tell(&relation->loop->lines, "warning %s", words);
+    }
+    differences->count = 0;
+}
+
 void relation_tell_state(struct relation *relation)
 {
     if (relation->state != PN_ENDED) {
+        look_at_refused(relation);
         lines_tell(&relation->loop->lines, "state %s", states[relation->state]);
+        if (relation->state > PN_CONNECTING)
+            tell_differences(relation);
         return;
     }
     tell_end(relation);
+    access_drop(relation);
     look_at_inputs(relation);
     /* For these two causes the controller sends a Release; the program waits for its answer. */
     relation->ends_at = ticker_now() + (relation->cause == PN_STOPPED || relation->cause == PN_MODULE_DIFF ? RELEASE_WAITS : 0);
@@ -343,6 +436,35 @@ int relation_is_over(const struct relation *relation)
 }
 
 /* --- Lines --- */
+
+const char *relation_state(const struct relation *relation)
+{
+    return states[relation->state];
+}
+
+void relation_request(struct relation *relation, const struct access *access, const uint8_t *octets, size_t length)
+{
+    pn_op *op = &relation->op;
+    catch_up(relation);
+    if (access->is_write)
+        loop_must(pn_controller_write_record(&relation->room, op, access->slot, access->subslot, access->index, octets, length), "pn_controller_write_record");
+    else
+        loop_must(pn_controller_read_record(&relation->room, op, access->slot, access->subslot, access->index), "pn_controller_read_record");
+    send_all(relation);
+    look_ahead(relation);
+}
+
+int relation_answer(struct relation *relation, struct relation_answer *answer)
+{
+    pn_op *op = &relation->op;
+    if (pn_controller_answer(&relation->room, op) != PN_OK)
+        return 0;
+    spell_status(answer->status, op->units);
+    answer->is_refused = op->units != 0;
+    answer->octets = op->octets;
+    answer->length = op->length;
+    return 1;
+}
 
 void relation_tell_cyclic(struct relation *relation, lines_writer tell)
 {

@@ -2,6 +2,7 @@
 #ifndef HOST_RELATION_H
 #define HOST_RELATION_H
 
+#include "access.h"
 #include "histogram.h"
 #include "loop.h"
 #include "naming.h"
@@ -28,6 +29,9 @@ struct relation {
     uint8_t ar[16];       /* ARUUID */
     uint8_t activity[16]; /* of the calls of the controller */
     struct loop *loop;
+    int serves; /* its services answer for the address that all controllers have */
+    uint32_t conflicts;     /* that were seen */
+    uint64_t conflict_told; /* when the last one was reported; 0: none yet */
     struct places inputs;
     struct places outputs;
     int providers[STATION_PLACES]; /* of each input, what was reported last: its IOPS, and 256 if the device runs; -1: nothing yet */
@@ -36,7 +40,9 @@ struct relation {
     uint8_t device[6];      /* the other end of the relation, to which the cyclic frames go */
     int has_device;
     uint64_t interval; /* of cyclic frames, in nanoseconds */
-    pn_op alarm;       /* the last that was reported */
+    int alarms[2];     /* of each priority, the number of the last alarm that was reported; -1: none yet */
+    struct access access;
+    uint32_t refused; /* how many refused records were reported */
     /* Statistics. */
     struct histogram intervals; /* between received frames */
     struct histogram jitter;    /* how far these differ from the plan's */
@@ -64,6 +70,15 @@ void relation_tick(struct relation *relation);
 /* Hands in a received frame, and sends the answer. */
 void relation_take(struct relation *relation, const uint8_t *octets, size_t length);
 
+/* Hands in a frame of ARP or ICMP, and sends the answer, at the relation that answers for the address. */
+void relation_serve(struct relation *relation, const uint8_t *octets, size_t length);
+
+/* Reads a packet of ARP from the station of the plan, for the lines `waiting`. */
+void relation_hear_arp(struct relation *relation, const uint8_t *octets, size_t length);
+
+/* Whether it gets time: its controller is not over, or it answers for the address. */
+int relation_needs_time(const struct relation *relation);
+
 /* Reports the inputs and the alarm of such a frame. `before` is the state before it. */
 void relation_look_at_data(struct relation *relation, const uint8_t *octets, size_t length, uint32_t before);
 
@@ -81,6 +96,23 @@ void relation_tell_waiting(struct relation *relation);
 
 /* Whether the controller has ended, and does not wait any more for the answer to its Release. */
 int relation_is_over(const struct relation *relation);
+
+/* Its state, as text. */
+const char *relation_state(const struct relation *relation);
+
+/* Hands in the request of the application. */
+void relation_request(struct relation *relation, const struct access *access, const uint8_t *octets, size_t length);
+
+/* The answer to such a request. */
+struct relation_answer {
+    int is_refused;
+    uint8_t status[4]; /* if it is: the PNIOStatus, or the status of a reject or a fault */
+    const uint8_t *octets;
+    size_t length;
+};
+
+/* Fills in the answer to the last request. Returns whether there is one. */
+int relation_answer(struct relation *relation, struct relation_answer *answer);
 
 /* The line `give`, with its words. */
 void relation_give(struct relation *relation, char *words[]);

@@ -28,37 +28,34 @@ static int takes_real_time(const struct relation *relation, const uint8_t *octet
     }
 }
 
-/* What is read once of a frame that is not of real-time data. */
-struct routed {
-    struct arp_packet packet;
-    struct calls_numbers call;
-    int is_arp;
-    int is_call;
-};
-
-static int takes_other(const struct relation *relation, const struct routed *routed)
+static int takes_call(const struct relation *relation, const struct calls_numbers *call)
 {
-    if (routed->is_arp)
-        return memcmp(routed->packet.sender_address, relation->plan.address, 4) == 0;
-    if (!routed->is_call)
-        return 0;
-    return routed->call.has_ar ? memcmp(routed->call.ar, relation->ar, 16) == 0 : memcmp(routed->call.activity, relation->activity, 16) == 0;
+    return call->has_ar ? memcmp(call->ar, relation->ar, 16) == 0 : memcmp(call->activity, relation->activity, 16) == 0;
 }
 
 struct relation *routing_find(struct relation *relations, unsigned count, const uint8_t *octets, size_t length)
 {
     int is_real_time = wire_frame_id_at(octets, length) != 0;
-    struct routed routed;
-    if (!is_real_time) {
-        routed.is_arp = arp_read(octets, length, &routed.packet);
-        routed.is_call = calls_read(octets, length, &routed.call);
-    }
+    struct calls_numbers call;
+    if (!is_real_time && !calls_read(octets, length, &call))
+        return NULL;
     for (unsigned i = 0; i < count; i++) {
         struct relation *relation = &relations[i];
         if (relation_is_over(relation))
             continue;
-        if (is_real_time ? takes_real_time(relation, octets, length) : takes_other(relation, &routed))
+        if (is_real_time ? takes_real_time(relation, octets, length) : takes_call(relation, &call))
             return relation;
     }
+    return NULL;
+}
+
+struct relation *routing_find_sender(struct relation *relations, unsigned count, const uint8_t *octets, size_t length)
+{
+    struct arp_packet packet;
+    if (!arp_read(octets, length, &packet))
+        return NULL;
+    for (unsigned i = 0; i < count; i++)
+        if (!relation_is_over(&relations[i]) && memcmp(packet.sender_address, relations[i].plan.address, 4) == 0)
+            return &relations[i];
     return NULL;
 }

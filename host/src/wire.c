@@ -22,6 +22,9 @@
 #define TYPE_TAG 0x8100u
 #define PORT_CALLS 34964u
 
+/* The type of an echo request of ICMP. */
+#define ECHO_REQUEST 8u
+
 /* Room for frames that arrive while the program waits for its flash. */
 #define RECEIVE_ROOM (1 << 20)
 
@@ -33,16 +36,20 @@
  * The two numbers at the end of a jump are how many lines it skips if the test is true, and if it is false. */
 static struct sock_filter wanted[] = {
     BPF_STMT(BPF_LD | BPF_H | BPF_ABS, 12),
-    BPF_JUMP(BPF_JMP | BPF_JEQ | BPF_K, TYPE_PROFINET, 9, 0),
-    BPF_JUMP(BPF_JMP | BPF_JEQ | BPF_K, ETH_P_ARP, 8, 0),
-    BPF_JUMP(BPF_JMP | BPF_JEQ | BPF_K, ETH_P_IP, 0, 8),
+    BPF_JUMP(BPF_JMP | BPF_JEQ | BPF_K, TYPE_PROFINET, 13, 0),
+    BPF_JUMP(BPF_JMP | BPF_JEQ | BPF_K, ETH_P_ARP, 12, 0),
+    BPF_JUMP(BPF_JMP | BPF_JEQ | BPF_K, ETH_P_IP, 0, 12),
     BPF_STMT(BPF_LD | BPF_B | BPF_ABS, 23),
-    BPF_JUMP(BPF_JMP | BPF_JEQ | BPF_K, IPPROTO_UDP, 0, 6),
+    BPF_JUMP(BPF_JMP | BPF_JEQ | BPF_K, IPPROTO_ICMP, 6, 0),
+    BPF_JUMP(BPF_JMP | BPF_JEQ | BPF_K, IPPROTO_UDP, 0, 9),
     BPF_STMT(BPF_LD | BPF_H | BPF_ABS, 20),
-    BPF_JUMP(BPF_JMP | BPF_JSET | BPF_K, 0x1FFF, 4, 0),
+    BPF_JUMP(BPF_JMP | BPF_JSET | BPF_K, 0x1FFF, 7, 0),
     BPF_STMT(BPF_LDX | BPF_B | BPF_MSH, 14),
     BPF_STMT(BPF_LD | BPF_H | BPF_IND, 16),
-    BPF_JUMP(BPF_JMP | BPF_JEQ | BPF_K, PORT_CALLS, 0, 1),
+    BPF_JUMP(BPF_JMP | BPF_JEQ | BPF_K, PORT_CALLS, 3, 4),
+    BPF_STMT(BPF_LDX | BPF_B | BPF_MSH, 14),
+    BPF_STMT(BPF_LD | BPF_B | BPF_IND, 14),
+    BPF_JUMP(BPF_JMP | BPF_JEQ | BPF_K, ECHO_REQUEST, 0, 1),
     BPF_STMT(BPF_RET | BPF_K, 0xFFFF),
     BPF_STMT(BPF_RET | BPF_K, 0),
 };
@@ -270,4 +277,12 @@ int wire_is_cyclic(const uint8_t *octets, size_t length)
 {
     size_t at = wire_frame_id_at(octets, length);
     return at != 0 && octets[at] >= 0x80 && octets[at] < 0xF8;
+}
+
+int wire_is_service(const uint8_t *octets, size_t length)
+{
+    size_t at = length >= 18 && octets[12] == 0x81 && octets[13] == 0x00 ? 16 : 12;
+    if (length < at + 12 || octets[at] != 0x08)
+        return 0;
+    return octets[at + 1] == 0x06 || (octets[at + 1] == 0x00 && octets[at + 11] == IPPROTO_ICMP);
 }

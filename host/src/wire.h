@@ -49,6 +49,9 @@ uint64_t wire_missed(struct wire *wire);
 /* The name of an interface of this machine that has this address, or NULL. The kernel answers ARP for it, on every interface. */
 const char *wire_with_address(const uint8_t address[4]);
 
+/* Whether a frame is one for or of the services of an address: ARP, or ICMP in IPv4. */
+int wire_is_service(const uint8_t *octets, size_t length);
+
 /* Whether a frame is cyclic: its FrameID is in a range of cyclic data. */
 int wire_is_cyclic(const uint8_t *octets, size_t length);
 

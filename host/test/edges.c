@@ -174,7 +174,7 @@ static void bend_plans(void)
 static void ask_all(const char *when)
 {
     static pn_op asked, told;
-    for (uint32_t what = 0; what < 24; what++) {
+    for (uint32_t what = 0; what < 40; what++) {
         memset(&asked, 0xA5, sizeof asked);
         asked.what = what, asked.units = 5;
         told = asked;
@@ -185,6 +185,16 @@ static void ask_all(const char *when)
         }
     }
     memcpy(&controller, &before, sizeof controller);
+}
+
+/* After a tick: how many units remain, and the destination of its one frame. */
+static void sends(const char *what, uint32_t units, const char *destination)
+{
+    if (op.units != units || pn_controller_next(&controller, &op) != PN_OK || op.work != PN_SEND || memcmp(op.octets, destination, 6) != 0 ||
+        pn_controller_next(&controller, &op) != PN_OK || op.work != PN_NOTHING) {
+        printf("%s does not come, with %u units left\n", what, (unsigned)units);
+        exit(1);
+    }
 }
 
 static void misuse(void)
@@ -205,6 +215,8 @@ static void misuse(void)
     wants("time in front of the work", pn_controller_tick(&controller, &op, 1), PN_HAS_WORK);
     wants("a value in front of the work", pn_controller_give(&controller, &op, 2, 1, octets, 2), PN_HAS_WORK);
     wants("an end in front of the work", pn_controller_stop(&controller, &op), PN_HAS_WORK);
+    wants("a read in front of the work", pn_controller_read_record(&controller, &op, 1, 1, 1), PN_HAS_WORK);
+    wants("a write in front of the work", pn_controller_write_record(&controller, &op, 1, 1, 1, octets, 4), PN_HAS_WORK);
     keep("the first frame", pn_controller_next(&controller, &op));
     if (op.work != PN_SEND || op.length < 26 || memcmp(op.octets, "\x01\x0E\xCF\x00\x00\x00", 6) != 0)
         exit(1);
@@ -222,6 +234,16 @@ static void misuse(void)
     wants("no plan to fill it in from", pn_plan_station(NULL, &station), PN_NULL);
     wants("no such input", pn_controller_value(&controller, &op, 9, 9), PN_NO_SLOT);
     wants("no alarm", pn_controller_alarm(&controller, &op), PN_NO_SLOT);
+    wants("no alarm of high priority", pn_controller_report(&controller, &op, 0), PN_NO_SLOT);
+    wants("no alarm of low priority", pn_controller_report(&controller, &op, 1), PN_NO_SLOT);
+    wants("a read without data", pn_controller_read_record(&controller, &op, 1, 1, 1), PN_BUSY);
+    wants("a write without data", pn_controller_write_record(&controller, &op, 1, 1, 1, octets, 1308), PN_BUSY);
+    wants("a write that is too long", pn_controller_write_record(&controller, &op, 1, 1, 1, octets, 1309), PN_BAD_LENGTH);
+    wants("no answer", pn_controller_answer(&controller, &op), PN_NO_ANSWER);
+    wants("no refusal", pn_controller_refusal(&controller, &op), PN_NO_ANSWER);
+    wants("no refused record", pn_controller_refused_record(&controller, &op), PN_NO_ANSWER);
+    wants("no read's room", pn_controller_read_record(&controller, NULL, 1, 1, 1), PN_NULL);
+    wants("a write of no octets", pn_controller_write_record(&controller, &op, 1, 1, 1, NULL, 4), PN_NULL);
     keep("a frame that is too long", pn_controller_frame(&controller, &op, octets, sizeof octets));
     keep("a frame of nothing", pn_controller_frame(&controller, &op, octets, 0));
     keep("an output", pn_controller_give(&controller, &op, 2, 1, octets, 2));
@@ -232,9 +254,11 @@ static void misuse(void)
     wants("an output of the access point", pn_controller_give(&controller, &op, 0, 1, octets, 0), PN_NO_SLOT);
     wants("an output of another slot", pn_controller_give(&controller, &op, 3, 1, octets, 2), PN_NO_SLOT);
     wants("an output of another subslot", pn_controller_give(&controller, &op, 2, 2, octets, 2), PN_NO_SLOT);
+    /* With the first unit the controller announces its address by ARP, and with the last one of a second it looks again. */
     keep("a second", pn_controller_tick(&controller, &op, 32000));
-    if (op.units != 0 || pn_controller_next(&controller, &op) != PN_OK || op.work != PN_SEND)
-        exit(1);
+    sends("an announcement", 31999, "\xFF\xFF\xFF\xFF\xFF\xFF");
+    keep("the rest of it", pn_controller_tick(&controller, &op, 31999));
+    sends("another Identify", 0, "\x01\x0E\xCF\x00\x00\x00");
 }
 
 static uint32_t drawn(void)

@@ -28,10 +28,23 @@ def internet(sender, target, payload):
     """An IPv4 packet with a datagram from port 34964 to the same port."""
     def packet(checksum):
         return struct.pack(">BBHHHBBH4s4s", 0x45, 0, 28 + len(payload), 0, 0x4000, 64, 17, checksum, sender, target)
-    total = sum(struct.unpack(">10H", packet(0)))
+    return packet(folded(packet(0))) + struct.pack(">HHHH", 34964, 34964, 8 + len(payload), 0) + payload
+
+
+def folded(octets):
+    """The checksum of the Internet (RFC 1071), by its complement to 65,535."""
+    total = sum(struct.unpack(f">{len(octets) // 2}H", octets))
     while total >> 16:
         total = (total & 0xFFFF) + (total >> 16)
-    return packet(total ^ 0xFFFF) + struct.pack(">HHHH", 34964, 34964, 8 + len(payload), 0) + payload
+    return total ^ 0xFFFF
+
+
+def echo(sender, target, kind, rest):
+    """An IPv4 packet with a message of ICMP: an echo request (8) or reply (0), with the octets behind its checksum, an even number of them."""
+    def packet(checksum):
+        return struct.pack(">BBHHHBBH4s4s", 0x45, 0, 24 + len(rest), 0x1234, 0x4000, 64, 1, checksum, sender, target)
+    message = struct.pack(">BBH", kind, 0, folded(struct.pack(">BBH", kind, 0, 0) + rest)) + rest
+    return packet(folded(packet(0))) + message
 
 
 def block_of(kind, fields):

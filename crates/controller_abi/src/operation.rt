@@ -17,6 +17,12 @@ pub enum Operation {
     Status,
     Provider,
     Conflicts,
+    Refusal,
+    ReadRecord,
+    WriteRecord,
+    Answer,
+    RefusedRecord,
+    Report,
 }
 
 // The operation of this number, if it exists.
@@ -36,6 +42,12 @@ pub(crate) fn operation_of(what: u32) -> Option<Operation>
         16 => Some(Operation::Status),
         18 => Some(Operation::Provider),
         19 => Some(Operation::Conflicts),
+        20 => Some(Operation::Refusal),
+        30 => Some(Operation::ReadRecord),
+        31 => Some(Operation::WriteRecord),
+        32 => Some(Operation::Answer),
+        33 => Some(Operation::RefusedRecord),
+        34 => Some(Operation::Report),
         _ => None,
     }
 }

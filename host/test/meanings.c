@@ -1,0 +1,27 @@
+/* Prints the names of statuses, alarms and structures, for a comparison with the names that another program has. */
+#include "../src/alarms.c"
+#include "../src/statuses.c"
+
+static void print(const char *kind, const struct meaning *list, size_t count)
+{
+    for (size_t i = 0; i < count; i++)
+        printf("%s %u %s\n", kind, (unsigned)list[i].code, list[i].name);
+}
+
+#define PRINT(kind, list) print(kind, list, sizeof list / sizeof list[0])
+
+int main(void)
+{
+    PRINT("access", accesses);
+    PRINT("part", parts);
+    PRINT("connection", connections);
+    PRINT("abort", aborts);
+    PRINT("call", calls);
+    for (unsigned type = 0; type < 256; type++)
+        if (*alarms_type(type) != '\0')
+            printf("alarm %u %s\n", type, alarms_type(type));
+    for (unsigned identifier = 0; identifier < 65536; identifier++)
+        if (*alarms_structure(identifier) != '\0')
+            printf("structure %u %s\n", identifier, alarms_structure(identifier));
+    return 0;
+}
