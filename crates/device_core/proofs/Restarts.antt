@@ -14,7 +14,7 @@ use Rattle.relations.specs.Exchanged.{output_in}
 use Rattle.device_frames.specs.declared.event.Event.{Event}
 use Rattle.device_core.specs.State.{Station, State, Live}
 use Rattle.device_core.specs.Steps.{AnswersBy, IsIdentified, Runs}
-use Rattle.device_core.specs.Cycle.{started, cycle_of, Cycled, IsMadeOf, IsStarted, Restarts, Refuses, IsRefused}
+use Rattle.device_core.specs.Cycle.{started, cycle_of, Cycled, IsMadeOf, IsStarted, Restarts, Refuses, RefusesAfter}
 use Rattle.device_frames.specs.Heard.{heard_of}
 use Rattle.relations.specs.Outputs.{output_of}
 use Rattle.device_core.specs.Machine.{step_of}
@@ -157,11 +157,11 @@ pub refused_if : {F : Type 0} {S : ℕ} (as_flash : Flash F S) (power_up : F →
     → MatchResult again (λ device. as_flash.image device.flash ≡ as_flash.image back) (λ refused. as_flash.image refused.1 ≡ as_flash.image back)
     → MatchResult again (λ device. as_flash.failures device.flash ≡ as_flash.failures back) (λ refused. HasBootCause refused.0 (as_flash.failures back) (as_flash.failures refused.1))
     → MatchResult again (λ device. as_flash.asked back [] device.flash) (λ refused. as_flash.asked back [] refused.1)
-    → IfErr again (λ refused. IsRefused as_flash power_up station flash events before now refused.0 refused.1)
+    → IfErr again (λ refused. RefusesAfter as_flash power_up station flash events before now refused.0 refused.1)
 refused_if as_flash power_up station flash events before now begun ran back (Ok again) live is_station starts same_image same_failures inactive run powered kept foreign same cause none_asked = tt
 refused_if as_flash power_up station flash events before now begun ran back (Err refused) live is_station starts same_image same_failures inactive run powered kept foreign same cause none_asked =
     let runs = run_from as_flash station _ _ events before now begun ran live is_station run in
-    inr (record {
+    record {
       first = begun.live.values.stored;
       room = begun.live.values.room;
       outcomes = runs.outcomes;
@@ -172,7 +172,7 @@ refused_if as_flash power_up station flash events before now begun ran back (Err
       powered = powered;
       kept = kept;
       refuses = refuses_from as_flash back refused.0 refused.1 cause same none_asked foreign;
-    })
+    }
 
 pub never_refused : {F : Type 0} (is_reliable : F → Type 0) (again : Result (State F) (BootFault × F))
     → MatchResult again (λ device. is_reliable device.flash) (λ refused. is_reliable refused.1 × (refused.0 ≡ Foreign)) → IfErr again (λ refused. refused.0 ≡ FlashFault) → IsOk again

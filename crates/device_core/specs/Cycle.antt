@@ -56,6 +56,17 @@ pub record IsStarted {F : Type 0} {S : ℕ} (as_flash : Flash F S) (station : St
   pub answers : AnswersBy station device.live.values.stored device.live
   pub shows : (slot subslot : ℕ) → output_of station.real slot subslot (output_in slot subslot device.live.rest.link) ≡ zero_output station.real slot subslot
 
+-- A device was started from this flash, and changed nothing in it: it has the given identity and modules, its settings are
+-- those that the content is read as, and nothing else is left of an earlier cycle.
+pub record IsStartedFrom {F : Type 0} {S : ℕ} (as_flash : Flash F S) (station : Station) (flash : F) (device : State F) : Type 0 where
+  pub station_is : device.station ≡ station
+  pub known : (settings : Settings) (room : ℕ) → StartsWith (as_flash.image flash) settings room → device.live ≡ started settings room
+  pub fresh : device.live ≡ started device.live.values.stored device.live.values.room
+  pub starts : StartsWith (as_flash.image flash) device.live.values.stored device.live.values.room
+  pub image_is : as_flash.image device.flash ≡ as_flash.image flash
+  pub failures_are : as_flash.failures device.flash ≡ as_flash.failures flash
+  pub none_asked : as_flash.asked flash [] device.flash
+
 -- The headline. The cycle ran the events, with any outcomes of its flash for the calls that store. The running and
 -- stored settings of the restarted device are the first settings changed by all accepted commands of the cycle, or by
 -- all but a last one that was not answered 'done'; if no commit failed, they are exactly what the cycle stored. Nothing

@@ -191,6 +191,13 @@ impl<F: Flash<S>, const S: usize> Device<F, S> {
         self.relation.provider(slot, subslot)
     }
 
+    /// The fixed identity.
+    pub fn identity(&self) -> &Identity
+        ensures { result.now ≡ self.now.station.identity }
+    {
+        &self.identity
+    }
+
     /// The modules and submodules that are plugged.
     pub fn real(&self) -> &Real
         ensures { result.now ≡ self.now.station.real }

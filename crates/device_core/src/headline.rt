@@ -1,9 +1,10 @@
 // The headline: what a restart after a power failure finds.
-ghost use Rattle.std.specs.Prelude.{◌≡◌, ℕ, IsOk, IfOk, IfErr, MatchResult};
+ghost use Rattle.std.specs.Prelude.{◌≡◌, ℕ, List, IsOk, IfOk, IfErr};
 ghost use Rattle.pn_values.specs.declared.settings.Settings.{Settings};
 ghost use Rattle.settings_journal.specs.Image.{StartsWith, LeftByDevice};
-ghost use Rattle.device_core.specs.Cycle.{Restarts, IsStarted, IsRefused};
-ghost use Rattle.device_core.specs.State.{plain};
+ghost use Rattle.device_core.specs.Cycle.{IsRefused, IsStarted, IsStartedFrom, RefusesAfter, Restarts};
+ghost use Rattle.device_core.specs.State.{State, plain};
+ghost use Rattle.device_core.specs.Steps.{Runs};
 
 use crate::{Device, Event, Sink};
 use flash_model::Flash;
@@ -46,6 +47,39 @@ pub fn cycle<F: Flash<S>, const S: usize, K: Sink, P: FnOnce(F) -> F>(
 {
     let mut device = Device::boot(identity, real, flash)?;
     device.run(events, sink);
+    restart(device, power_up)
+}
+
+/// Restores the power of a device's flash, and starts the device again from what it left there, with all options at their
+/// defaults. A refused start returns the flash. `cycle` ends with it; so does whoever makes the steps of a device itself.
+pub fn restart<F: Flash<S>, const S: usize, P: FnOnce(F) -> F>(
+    device: Device<F, S>,
+    power_up: P,
+) -> Result<Device<F, S>, (BootFault, F)>
+    // Restoring the power changes no byte.
+    requires powers { P.IsAlwaysCallable power_up }
+    requires keeps { (lost flash : F) → P.post power_up lost flash → F.image flash ≡ F.image lost }
+
+    // What is said of a cycle, of any device that was started from a flash and then run, whoever made its steps.
+    ensures headline { (identity : Identity) (real : Real) (flash : F) (first : Settings) (room : ℕ) (begun : State F)
+        (events : List Event) (before now : List (List ℕ)) → LeftByDevice (F.image flash) → StartsWith (F.image flash) first room →
+        IsStartedFrom F.Flash (plain identity real) flash begun → Runs F.Flash begun events before now device →
+        IfOk result (λ again. Restarts F.Flash (P.post power_up) (plain identity real) flash first room events before now again) }
+    ensures refused { (identity : Identity) (real : Real) (flash : F) (begun : State F)
+        (events : List Event) (before now : List (List ℕ)) →
+        IsStartedFrom F.Flash (plain identity real) flash begun → Runs F.Flash begun events before now device →
+        IfErr result (λ refused. RefusesAfter F.Flash (P.post power_up) (plain identity real) flash events before now
+        refused.0 refused.1) }
+
+    // The device has just started, whatever was done to it before.
+    ensures fresh { (identity : Identity) (real : Real) → device.station ≡ plain identity real →
+        IfOk result (IsStarted F.Flash (plain identity real)) }
+    // Content that this device wrote is refused only with FlashFault. If the flash is also reliable, and `power_up` keeps it
+    // so, the start does not fail.
+    ensures left { LeftByDevice (F.image device.flash) → IfErr result (λ refused. refused.0 ≡ BootFault.FlashFault) }
+    ensures reliable { F.is_reliable device.flash → ((lost flash : F) → P.post power_up lost flash → F.is_reliable lost → F.is_reliable flash) →
+        LeftByDevice (F.image device.flash) → IsOk result }
+{
     let (identity, real, flash) = device.into_parts();
     Device::boot(identity, real, power_up(flash))
 }

@@ -6,6 +6,7 @@ mod calls;
 mod dcp;
 mod device;
 mod headline;
+mod law;
 mod leaps;
 mod run;
 mod sink;
@@ -14,6 +15,7 @@ mod step;
 
 pub use device::Device;
 pub use device_frames::{Event, Note};
-pub use headline::cycle;
+pub use headline::{cycle, restart};
+pub use law::steps_make_runs;
 pub use leaps::leaps_are_ticks;
 pub use sink::Sink;

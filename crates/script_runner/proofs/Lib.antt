@@ -7,3 +7,5 @@ pub mod SessionFlashes
 pub mod SessionObeying
 pub mod SessionTicking
 pub mod SessionLeaping
+pub mod SessionBegins
+pub mod SessionSteps

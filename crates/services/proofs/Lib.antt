@@ -5,3 +5,4 @@ pub mod Replies
 pub mod Calls
 pub mod Facts
 pub mod Runs
+pub mod Leaping

@@ -6,3 +6,4 @@ pub mod Call
 pub mod Unserved
 pub mod Answer
 pub mod Run
+pub mod Leaps

@@ -1,6 +1,9 @@
 //! What is still to be said of the address.
-ghost use Rattle.std.specs.Prelude.{◌≡◌};
+ghost use Rattle.std.specs.Prelude.{◌≡◌, ◌<◌};
+ghost use Rattle.services.specs.Leaps.{announcement_due_in, announcement_later};
 ghost use Rattle.services.specs.State.{announcement_after, is_due as is_due_by};
+
+use crate::NEVER;
 
 /// The end of the relation that the services belong to.
 #[derive(Clone, Copy, Debug, PartialEq, Eq)]
@@ -51,6 +54,29 @@ impl Announcement {
                     Announcement::Second(ticks - 1)
                 }
             }
+        }
+    }
+
+    /// The number of ticks up to and with the next one in which an announcement is sent. `NEVER` if none is still to be sent.
+    pub(crate) fn due_in(self) -> u32
+        ensures value { result ≡ announcement_due_in self }
+        ensures some { 0 < result }
+    {
+        match self {
+            Announcement::Nothing => NEVER,
+            Announcement::First => 1,
+            Announcement::Second(ticks) => ticks.max(1),
+        }
+    }
+
+    /// What is still to be sent after ticks in which no announcement is sent.
+    pub(crate) fn later(self, ticks: u32) -> Announcement
+        ensures { result ≡ announcement_later ticks self }
+    {
+        match self {
+            Announcement::Nothing => Announcement::Nothing,
+            Announcement::First => Announcement::First,
+            Announcement::Second(left) => Announcement::Second(left.saturating_sub(ticks)),
         }
     }
 }

@@ -14,6 +14,7 @@ mod called;
 mod echo;
 mod header;
 mod law;
+mod leaps;
 mod link;
 mod machine;
 mod message;
@@ -27,6 +28,7 @@ pub use law::{
     addresses_are_announced_twice, defences_are_rare, echo_formats_are_sound,
     only_conflicts_are_counted,
 };
+pub use leaps::NEVER;
 pub use machine::Services;
 pub use unserved::{
     Refusal, Refused, Rejection, answer_head, is_read, names_mapper, refusal_bytes, sent_uuid,

@@ -38,9 +38,9 @@ pub struct Services {
     role: Role,
     mac: Mac,
     address: [u8; 4],
-    announcement: Announcement,
-    defends: bool,
-    guard: u32,
+    pub(crate) announcement: Announcement,
+    pub(crate) defends: bool,
+    pub(crate) guard: u32,
     conflicts: u64,
 }
 
@@ -396,7 +396,7 @@ impl Services {
     }
 
     /// Whether a conflict is defended in this tick.
-    fn is_defended(&self) -> bool
+    pub(crate) fn is_defended(&self) -> bool
         ensures { result ≡ defends_by self.now }
     {
         self.defends && self.guard <= 1 && !self.announcement.is_due()

@@ -1,6 +1,7 @@
 -- A step of a station, of the step of its device and what the services do beside it.
-use Rattle.std.proofs.Common.{◌≡◌, ℕ, Bool, true, false, List, [], refl, sym, ap, ◌∙◌}
+use Rattle.std.proofs.Common.{◌≡◌, ℕ, Bool, true, false, List, [], ◌∷◌, map, refl, sym, ap, ◌∙◌}
 use Rattle.std.specs.Prelude.{if◌then◌else◌}
+use Rattle.settings_store.specs.State.{Values}
 use Rattle.flash_model.specs.declared.flash.Flash.{Ghosts as Flash}
 use Rattle.pn_values.specs.declared.identity.Identity.{Identity}
 use Rattle.device_frames.specs.declared.event.Event.{Event}
@@ -11,38 +12,48 @@ use Rattle.services.specs.State as services
 use Rattle.station.specs.Beside.{Beside, beside, event_beside, idle, observing}
 use Rattle.station.specs.Steps.{DeviceSteps, StationSteps, station_of}
 
+abbrev made : services.State → List (List ℕ) → Note → Beside
+made state frames said = record { services = state; sent = frames; note = said }
+
+-- Nothing in a list of what is made of a list.
+pub none_in : {A B : Type 0} (f : A → B) (xs : List A) → map f xs ≡ [] → xs ≡ []
+none_in f [] none = refl
+none_in f (x ∷ xs) none = cc
+
 if_true : (b : Bool) (one other : Beside) → b ≡ true → (if b then one else other) ≡ one
 if_true b one other e = rw e refl
 
 if_false : (b : Bool) (one other : Beside) → b ≡ false → (if b then one else other) ≡ other
 if_false b one other e = rw e refl
 
-module _ {F : Type 0} {S : ℕ} (as_flash : Flash F S) (old new : device.State F) (event : Event) (sent : List (List ℕ)) (note : Note) (alone : DeviceSteps as_flash old event sent note new) (state : services.State) where
-  pub station_stops : new.live.values.is_lost ≡ true → StationSteps as_flash (station_of old state) event (record { device = sent; services = [] }) note (station_of new state)
-  station_stops lost =
-      let is : beside old.station.identity state new.live.values note event ≡ idle state note =
-      if_true new.live.values.is_lost (idle state note) (observing new.live.values.running.suite.address (event_beside old.station.identity state note event)) lost in
-      record {
-        note = note;
-        alone = alone;
-        knows = sym (ap (λ (b : Beside). b.services) is);
-        sends = sym (ap (λ (b : Beside). b.sent) is);
-        says = sym (ap (λ (b : Beside). b.note) is);
-      }
+-- Power was lost: the services do nothing.
+pub idle_beside : (identity : Identity) (state : services.State) (values : Values) (note : Note) (event : Event) → values.is_lost ≡ true
+    → idle state note ≡ beside identity state values note event
+idle_beside identity state values note event lost =
+    sym (if_true values.is_lost (idle state note) (observing values.running.suite.address (event_beside identity state note event)) lost)
 
-  pub station_goes_on : (identity : Identity) (mid seen : services.State) (frames : List (List ℕ)) (said : Note) → identity ≡ old.station.identity → new.live.values.is_lost ≡ false
-      → mid ≡ (event_beside identity state note event).services → frames ≡ (event_beside identity state note event).sent → said ≡ (event_beside identity state note event).note
-      → seen ≡ observed mid new.live.values.running.suite.address
-      → StationSteps as_flash (station_of old state) event (record { device = sent; services = frames }) said (station_of new seen)
-  station_goes_on identity mid seen frames said own there knows sends says sees =
-      let address = new.live.values.running.suite.address in
-      let is : beside old.station.identity state new.live.values note event ≡ observing address (event_beside identity state note event) =
-      ap (λ (i : Identity). beside i state new.live.values note event) (sym own)
-      ∙ if_false new.live.values.is_lost (idle state note) (observing address (event_beside identity state note event)) there in
-      record {
-        note = note;
-        alone = alone;
-        knows = sees ∙ ap (λ (s : services.State). observed s address) knows ∙ sym (ap (λ (b : Beside). b.services) is);
-        sends = sends ∙ sym (ap (λ (b : Beside). b.sent) is);
-        says = says ∙ sym (ap (λ (b : Beside). b.note) is);
-      }
+-- The services do their part, and then see the running address.
+pub observed_beside : (own identity : Identity) (state mid seen : services.State) (values : Values) (note said : Note) (event : Event) (frames : List (List ℕ)) → identity ≡ own → values.is_lost ≡ false
+    → mid ≡ (event_beside identity state note event).services → frames ≡ (event_beside identity state note event).sent → said ≡ (event_beside identity state note event).note
+    → seen ≡ observed mid values.running.suite.address
+    → record { services = seen; sent = frames; note = said } ≡ beside own state values note event
+observed_beside own identity state mid seen values note said event frames same there knows sends says sees =
+    let address = values.running.suite.address in
+    let after = event_beside identity state note event in
+    let is : beside own state values note event ≡ observing address after =
+    ap (λ (i : Identity). beside i state values note event) (sym same) ∙ if_false values.is_lost (idle state note) (observing address after) there in
+    ap (λ (s : services.State). made s frames said) (sees ∙ ap (λ (s : services.State). observed s address) knows)
+    ∙ (ap (λ (f : List (List ℕ)). made (observed after.services address) f said) sends
+    ∙ (ap (made (observed after.services address) after.sent) says ∙ sym is))
+
+-- A step of a station, of the step of its device and what the services do beside it.
+pub station_steps : {F : Type 0} {S : ℕ} (as_flash : Flash F S) (old new : device.State F) (event : Event) (sent frames : List (List ℕ)) (note said : Note) (state after : services.State)
+    → DeviceSteps as_flash old event sent note new → made after frames said ≡ beside old.station.identity state new.live.values note event
+    → StationSteps as_flash (station_of old state) event (record { device = sent; services = frames }) said (station_of new after)
+station_steps as_flash old new event sent frames note said state after alone is = record {
+  note = note;
+  alone = alone;
+  knows = ap (λ (b : Beside). b.services) is;
+  sends = ap (λ (b : Beside). b.sent) is;
+  says = ap (λ (b : Beside). b.note) is;
+}

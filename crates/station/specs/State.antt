@@ -1,5 +1,5 @@
 -- What a contract sees of a station.
-use Rattle.std.specs.Prelude.{ℕ, List, [], ◌++◌}
+use Rattle.std.specs.Prelude.{ℕ, List, [], ◌++◌, if◌then◌else◌, Bool}
 use Rattle.device_core.specs.State as device
 use Rattle.services.specs.State as services
 
@@ -17,6 +17,13 @@ pub record Frames : Type 0 where
 abbrev pub in_order : Frames → List (List ℕ)
 in_order frames = frames.device ++ frames.services
 
+abbrev pub of_device : Frames → List (List ℕ)
+of_device frames = frames.device
+
 -- No frame.
 abbrev pub no_frames : Frames
 no_frames = record { device = []; services = [] }
+
+-- What is handed on of a step: nothing once power is lost.
+abbrev pub handed_on : Bool → Frames → Frames
+handed_on is_lost frames = if is_lost then no_frames else frames

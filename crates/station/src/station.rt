@@ -9,46 +9,37 @@ use crate::StationOutbox;
 use crate::step::step_beside;
 use device_core::{Device, Event, Note};
 use flash_model::Flash;
-use pn_values::Identity;
 use services::{Role, Services};
 use std::marker::Model;
 
 /// A station: a PROFINET IO device, and the services beside it. Clauses see it as these two.
 #[derive(Drop)]
 pub struct IoStation<F: Flash<S>, const S: usize> {
-    device: Device<F, S>,
-    services: Services,
-    /// The identity of the device, for the services.
-    identity: Identity,
+    pub(crate) device: Device<F, S>,
+    pub(crate) services: Services,
 }
 
 impl<F: Flash<S>, const S: usize> Model for IoStation<F, S> {
-    ghost use Rattle.std.specs.Prelude.{◌≡◌};
     ghost use Rattle.station.specs.State.{State};
 
     ghost Value = { State F };
 
     ghost view = { λ station. record { device = station.device; services = station.services } };
-
-    ghost invariant = { λ station. station.identity ≡ station.device.station.identity };
 }
 
 impl<F: Flash<S>, const S: usize> IoStation<F, S> {
-    /// The station of a device with this identity. Its services begin here, with the device's running address.
-    pub fn new(device: Device<F, S>, identity: Identity) -> IoStation<F, S>
-        // It is the identity of the device.
-        requires { identity ≡ device.station.identity }
+    /// The station of a device. Its services begin here, with the device's running address.
+    pub fn new(device: Device<F, S>) -> IoStation<F, S>
         // The device is the given one.
         ensures device { result.device ≡ device }
         // The services are those of a device at its start: they announce its address.
         ensures services { result.services ≡ started role.Device device.station.identity.mac device.live.values.running.suite.address }
     {
+        let mac = device.identity().mac;
         let address = device.running().suite.address();
-        let services = Services::new(Role::Device, identity.mac, address);
         IoStation {
             device,
-            services,
-            identity,
+            services: Services::new(Role::Device, mac, address),
         }
     }
 
@@ -65,13 +56,7 @@ impl<F: Flash<S>, const S: usize> IoStation<F, S> {
         // If the note is not `Done`, nothing is sent and the device is unchanged.
         ensures refused { result ≢ Note.Done → (outbox.new ≡ no_frames) × (self.new.device ≡ self.old.device) }
     {
-        step_beside(
-            &self.identity,
-            &mut self.device,
-            &mut self.services,
-            event,
-            outbox,
-        )
+        step_beside(&mut self.device, &mut self.services, event, outbox)
     }
 
     /// The device.
@@ -95,7 +80,6 @@ impl<F: Flash<S>, const S: usize> IoStation<F, S> {
         let IoStation {
             device,
             services: _,
-            identity: _,
         } = self;
         device
     }

@@ -2,7 +2,7 @@
 ghost use Rattle.std.specs.Prelude.{◌≡◌, [], false, true, if◌then◌else◌};
 ghost use Rattle.frame_codec.specs.Outbox.{boxed};
 ghost use Rattle.services.specs.Answer.{disputes, frame_in, heard};
-ghost use Rattle.station.specs.Beside.{IsUndisputed, answered, event_beside, has_any, heard_beside, is_dropped as is_dropped_by};
+ghost use Rattle.station.specs.Beside.{IsUndisputed, answered, beside, event_beside, has_any, heard_beside, is_dropped as is_dropped_by};
 ghost use Rattle.station.specs.Steps.{DeviceSteps, StationSteps, station_of};
 
 use crate::StationOutbox;
@@ -17,25 +17,37 @@ use services::{Services, only_conflicts_are_counted};
 /// sent. The event goes to the device. The services answer a frame only if the device dropped it, and hear each packet
 /// of ARP. They do nothing in a step in which power was lost.
 pub fn step_beside<F: Flash<S>, const S: usize>(
-    identity: &Identity,
     device: &mut Device<F, S>,
     services: &mut Services,
     event: &Event,
     outbox: &mut StationOutbox,
 ) -> Note
-    // It is the identity of the device.
-    requires { identity.now ≡ device.old.station.identity }
     // The step of the device is a step of the device alone, and the services do what is said of them beside it.
     ensures { StationSteps F.Flash (station_of device.old services.old) event.now outbox.new result (station_of device.new services.new) }
 {
-    let note = device.step(event, &mut outbox.device);
-    outbox.services.clear();
+    step_both(device, services, event, outbox).1
+}
+
+/// The same. Returns the note of the device, and that of the station.
+fn step_both<F: Flash<S>, const S: usize>(
+    device: &mut Device<F, S>,
+    services: &mut Services,
+    event: &Event,
+    outbox: &mut StationOutbox,
+) -> (Note, Note)
+    // The device makes its step alone, and its frames stay in the outbox.
+    ensures alone { DeviceSteps F.Flash device.old event.now outbox.new.device result.0 device.new }
+    // The services do what is said of them beside it.
+    ensures beside { record { services = services.new; sent = outbox.new.services; note = result.1 }
+        ≡ beside device.old.station.identity services.old device.new.live.values result.0 event.now }
+{
+    let note = step_alone(device, event, outbox);
     if device.is_lost() {
-        return note;
+        return (note, note);
     }
     let has_sent = has_frames(&outbox.device);
     let said = attend(
-        identity,
+        device.identity(),
         services,
         event,
         note,
@@ -43,7 +55,7 @@ pub fn step_beside<F: Flash<S>, const S: usize>(
         &mut outbox.services,
     );
     services.observe(device.running().suite.address());
-    said
+    (note, said)
 }
 
 /// Handles an event at a device without services, and replaces the content of the outbox by the frames to be sent.

@@ -1,0 +1,39 @@
+//! Laws of runs, for whoever makes the steps of a device itself, as a station does. No code is involved.
+ghost use Rattle.std.specs.Prelude.{◌≡◌, ◌≢◌, ◌<◌, ◌-◌, ◌^◌, ◌∷◌, ◌++◌, [], ℕ, List, false};
+ghost use Rattle.settings_store.specs.Carries.{Holds};
+ghost use Rattle.device_frames.specs.Heard.{heard_of};
+ghost use Rattle.device_frames.specs.declared.event.Event.{Event};
+ghost use Rattle.device_core.specs.Faults.{RunGoesOn};
+ghost use Rattle.device_core.specs.State.{State};
+ghost use Rattle.device_core.specs.Steps.{HandsOn, IsBehindCalls, IsExactRun, Runs, TakesRoom};
+
+use flash_model::Flash;
+
+/// Steps that are made one after another are a run, and what is known of a run.
+pub fn steps_make_runs<F: Flash<S>, const S: usize>()
+    // Before the first step, no event was run.
+    ensures begins { (device : State F) (taken : List (List ℕ)) → Holds (F.image device.flash) device.live.values →
+        Runs F.Flash device [] taken taken device × RunGoesOn device [] taken taken device }
+    // A run and the step after it are a run with one event more.
+    ensures goes_on { (old between new : State F) (events : List Event) (event : Event) (before taken now : List (List ℕ)) →
+        Runs F.Flash old events before taken between →
+        HandsOn F.Flash between (heard_of between.station.identity event) taken now new →
+        Runs F.Flash old (events ++ event ∷ []) before now new }
+    // While there is power, the step goes on for any flash faults, and all its frames are handed on.
+    ensures all_go_on { (old between new : State F) (events : List Event) (event : Event) (before taken now : List (List ℕ)) →
+        between.station ≡ old.station → (between.live.values.is_lost ≡ false → RunGoesOn old events before taken between) →
+        HandsOn F.Flash between (heard_of between.station.identity event) taken now new → new.live.values.is_lost ≡ false →
+        RunGoesOn old (events ++ event ∷ []) before now new }
+
+    // A run is exactly the specified one if the failure counter of the flash, below 2^64 - 1, does not rise in it, and if no
+    // commit failed by its end.
+    ensures exact { (old new : State F) (events : List Event) (before now : List (List ℕ)) → Runs F.Flash old events before now new →
+        F.failures new.flash ≡ F.failures old.flash → F.failures old.flash < 2 ^ 64 - 1 → IsExactRun old events before now new }
+    ensures fine { (old new : State F) (events : List Event) (before now : List (List ℕ)) → Runs F.Flash old events before now new →
+        new.live.values.has_failed ≡ false → IsExactRun old events before now new }
+    // Only calls change the stored answers. If no commit failed, each accepted command used one of the remaining commits.
+    ensures calls { (old new : State F) (events : List Event) (before now : List (List ℕ)) → Runs F.Flash old events before now new →
+        IsBehindCalls old.live.rest.calls new.live.rest.calls }
+    ensures room { (old new : State F) (events : List Event) (before now : List (List ℕ)) → Runs F.Flash old events before now new →
+        new.live.values.has_failed ≡ false → TakesRoom old events new }
+{}

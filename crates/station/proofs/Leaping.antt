@@ -1,0 +1,292 @@
+-- Several units of time at once at a station, and as many Tick events.
+use Rattle.std.proofs.Common.{◌≡◌, ◌+◌, ◌-◌, ◌≤◌, ◌<◌, ◌++◌, ◌⊎◌, inl, inr, ℕ, zero, suc, Bool, true, false, List, [], ◌∷◌, Option, Some, None, sum, refl, sym, ap, subst, ◌∙◌, arith, append_assoc}
+use Rattle.std.specs.Prelude.{max, min, nat_eq, if◌then◌else◌}
+use Rattle.std.specs.Cmp.Lexicographic.{pointwise}
+use Rattle.std.proofs.lemmas.List.{append-nil}
+use Rattle.std.proofs.lemmas.List.Sums.{sum_by-cons}
+use Rattle.pn_values.specs.declared.identity.Identity.{Identity}
+use Rattle.settings_store.specs.State.{Values}
+use Rattle.device_frames.specs.Heard.{heard_of}
+use Rattle.device_frames.specs.declared.event.Event.TheVariants.{Tick}
+use Rattle.device_frames.specs.declared.note.Note.{Note}
+use Rattle.device_core.specs.State.{Live, Station}
+use Rattle.device_core.specs.Machine.{Stepped, handled_step, heard_step, step_of}
+use Rattle.device_core.specs.Leaps.{live_due_in, OnlyTheLastSends as OnlyTheLastOfDevice, ticks_of as device_ticks}
+use Rattle.services.specs.declared.announcement.Announcement.{Announcement}
+use Rattle.services.specs.declared.announcement.Announcement.TheVariants.{Nothing, First, Second}
+use Rattle.services.specs.State.{frames_in, is_defended, observed, sent_by_tick, ticked}
+use Rattle.services.specs.State as services
+use Rattle.services.specs.Leaps.{NoneSends, announcement_due_in, due_in, ticks_of as services_ticks}
+use Rattle.station.specs.Beside.{Beside, beside, event_beside, idle, observing}
+use Rattle.station.specs.Leaps.{LeapsAreTicks, Leapt, OnlyTheLastSends, due_beside, services_due, then_leap, tick_of, ticks_of}
+
+-- ---- one Tick event
+
+-- A Tick event keeps the settings.
+tick_values : (station : Station) (live : Live) → (step_of [] station live Tick).live.values ≡ live.values
+unfolding heard_of heard_step handled_step
+tick_values station live = refl
+
+pub ticks_values : (units : ℕ) (station : Station) (live : Live) → (device_ticks units station live).live.values ≡ live.values
+ticks_values zero station live = refl
+ticks_values (suc units) station live = tick_values station (device_ticks units station live).live ∙ ticks_values units station live
+
+-- the services after a tick beside a device with these settings, and what they send
+abbrev after_tick : Values → services.State → services.State
+after_tick values state = if values.is_lost then state else observed (ticked state) values.running.suite.address
+
+abbrev sent_beside : Values → services.State → List (List ℕ)
+sent_beside values state = if values.is_lost then [] else frames_in (sent_by_tick state)
+
+services_if : (b : Bool) (one other : Beside) → (if b then one else other).services ≡ (if b then one.services else other.services)
+services_if true one other = refl
+services_if false one other = refl
+
+sent_if : (b : Bool) (one other : Beside) → (if b then one else other).sent ≡ (if b then one.sent else other.sent)
+sent_if true one other = refl
+sent_if false one other = refl
+
+tick_services : (identity : Identity) (state : services.State) (values : Values) (note : Note) → (beside identity state values note Tick).services ≡ after_tick values state
+tick_services identity state values note = services_if values.is_lost (idle state note) (observing values.running.suite.address (event_beside identity state note Tick))
+
+tick_sent : (identity : Identity) (state : services.State) (values : Values) (note : Note) → (beside identity state values note Tick).sent ≡ sent_beside values state
+tick_sent identity state values note = sent_if values.is_lost (idle state note) (observing values.running.suite.address (event_beside identity state note Tick))
+
+-- ---- ticks one by one
+
+-- the services after ticks beside a device with these settings
+abbrev pub side : Values → ℕ → services.State → services.State
+side values zero state = state
+side values (suc units) state = after_tick values (side values units state)
+
+pub live_alone : (units : ℕ) (station : Station) (live : Live) (state : services.State) → (ticks_of units station live state).live ≡ (device_ticks units station live).live
+live_alone zero station live state = refl
+live_alone (suc units) station live state = ap (λ (l : Live). (step_of [] station l Tick).live) (live_alone units station live state)
+
+-- the settings with which the services see a tick
+seen_values : (units : ℕ) (station : Station) (live : Live) (state : services.State) → (step_of [] station (ticks_of units station live state).live Tick).live.values ≡ live.values
+seen_values units station live state =
+    tick_values station (ticks_of units station live state).live ∙ (ap (λ (l : Live). l.values) (live_alone units station live state) ∙ ticks_values units station live)
+
+pub services_alone : (units : ℕ) (station : Station) (live : Live) (state : services.State) → (ticks_of units station live state).services ≡ side live.values units state
+services_alone zero station live state = refl
+services_alone (suc units) station live state =
+    let before = ticks_of units station live state in
+    let step = step_of [] station before.live Tick in
+    tick_services station.identity before.services step.live.values step.note
+    ∙ (ap (λ (v : Values). after_tick v before.services) (seen_values units station live state)
+    ∙ ap (after_tick live.values) (services_alone units station live state))
+
+-- what the next tick sends
+next_sent : (units : ℕ) (station : Station) (live : Live) (state : services.State)
+    → (tick_of station (ticks_of units station live state).live (ticks_of units station live state).services).frames
+    ≡ (step_of [] station (device_ticks units station live).live Tick).frames ++ sent_beside live.values (side live.values units state)
+next_sent units station live state =
+    let before = ticks_of units station live state in
+    let step = step_of [] station before.live Tick in
+    ap (λ (f : List (List ℕ)). step.frames ++ f)
+    (tick_sent station.identity before.services step.live.values step.note
+    ∙ (ap (λ (v : Values). sent_beside v before.services) (seen_values units station live state)
+    ∙ ap (sent_beside live.values) (services_alone units station live state)))
+    ∙ ap (λ (l : Live). (step_of [] station l Tick).frames ++ sent_beside live.values (side live.values units state)) (live_alone units station live state)
+
+-- ---- units with which nothing is sent
+
+none_behind : (xs ys : List (List ℕ)) → xs ≡ [] → xs ++ ys ≡ [] → ys ≡ []
+none_behind xs ys none all = ap (λ (l : List (List ℕ)). l ++ ys) (sym none) ∙ all
+
+none_of_both : (xs ys : List (List ℕ)) → xs ≡ [] → ys ≡ [] → xs ++ ys ≡ []
+none_of_both xs ys one two = ap (λ (l : List (List ℕ)). l ++ ys) one ∙ two
+
+-- the services send nothing in the first ticks
+abbrev pub AreSilent : Values → ℕ → services.State → Type 0
+AreSilent values units state = (before : ℕ) → before < units → sent_beside values (side values before state) ≡ []
+
+-- the frames of a device that sends nothing earlier
+last_step : (units : ℕ) (station : Station) (live : Live) → OnlyTheLastOfDevice (suc units) station live
+    → (step_of [] station (device_ticks units station live).live Tick).frames ≡ (device_ticks (suc units) station live).frames
+last_step units station live last =
+    ap (λ (l : List (List ℕ)). l ++ (step_of [] station (device_ticks units station live).live Tick).frames) (sym (last units (omega arith)))
+
+none_sent : (units : ℕ) (station : Station) (live : Live) (state : services.State) → OnlyTheLastOfDevice (suc units) station live → AreSilent live.values units state
+    → (ticks_of units station live state).frames ≡ []
+none_sent zero station live state last silent = refl
+none_sent (suc units) station live state last silent =
+    let earlier : OnlyTheLastOfDevice (suc units) station live = λ before sooner. last before (omega (arith, sooner)) in
+    none_of_both (ticks_of units station live state).frames
+    (tick_of station (ticks_of units station live state).live (ticks_of units station live state).services).frames
+    (none_sent units station live state earlier (λ before sooner. silent before (omega (arith, sooner))))
+    (next_sent units station live state
+    ∙ none_of_both (step_of [] station (device_ticks units station live).live Tick).frames (sent_beside live.values (side live.values units state))
+    (last_step units station live earlier ∙ last (suc units) (omega arith)) (silent units (omega arith)))
+
+pub leap_last : (units : ℕ) (station : Station) (live : Live) (state : services.State) → OnlyTheLastOfDevice (suc units) station live → AreSilent live.values units state
+    → OnlyTheLastSends (suc units) station live state
+leap_last units station live state last silent before sooner =
+    none_sent before station live state (λ first earlier. last first (omega (arith, earlier, sooner))) (λ first earlier. silent first (omega (arith, earlier, sooner)))
+
+pub leap_frames : (units : ℕ) (station : Station) (live : Live) (state : services.State) → OnlyTheLastOfDevice (suc units) station live → AreSilent live.values units state
+    → (device_ticks (suc units) station live).frames ++ sent_beside live.values (side live.values units state) ≡ (ticks_of (suc units) station live state).frames
+leap_frames units station live state last silent =
+    let sent = sent_beside live.values (side live.values units state) in
+    ap (λ (l : List (List ℕ)). l ++ sent) (sym (last_step units station live last))
+    ∙ (sym (next_sent units station live state)
+    ∙ ap (λ (l : List (List ℕ)). l ++ (tick_of station (ticks_of units station live state).live (ticks_of units station live state).services).frames)
+    (sym (none_sent units station live state last silent)))
+
+-- ---- services beside a device that lost power
+
+pub idle_side : (values : Values) (units : ℕ) (state : services.State) → values.is_lost ≡ true → side values units state ≡ state
+idle_side values zero state lost = refl
+idle_side values (suc units) state lost =
+    ap (after_tick values) (idle_side values units state lost) ∙ ap (λ (b : Bool). if b then state else observed (ticked state) values.running.suite.address) lost
+
+pub idle_sent : (values : Values) (state : services.State) → values.is_lost ≡ true → sent_beside values state ≡ []
+idle_sent values state lost = ap (λ (b : Bool). if b then [] else frames_in (sent_by_tick state)) lost
+
+-- ---- services that know the running address
+
+kept_address : (units : ℕ) (state : services.State) → (services_ticks units state).address ≡ state.address
+kept_address zero state = refl
+kept_address (suc units) state = kept_address units state
+
+observed_same : (state : services.State) (address : List ℕ) → pointwise nat_eq address state.address ≡ true → observed state address ≡ state
+observed_same state address same = rw same refl
+
+pub after_seen : (values : Values) (state : services.State) → values.is_lost ≡ false → after_tick values state ≡ observed (ticked state) values.running.suite.address
+after_seen values state there = ap (λ (b : Bool). if b then state else observed (ticked state) values.running.suite.address) there
+
+pub sent_seen : (values : Values) (state : services.State) → values.is_lost ≡ false → sent_beside values state ≡ frames_in (sent_by_tick state)
+sent_seen values state there = ap (λ (b : Bool). if b then [] else frames_in (sent_by_tick state)) there
+
+seen_side : (values : Values) (units : ℕ) (state : services.State) → values.is_lost ≡ false → pointwise nat_eq values.running.suite.address state.address ≡ true
+    → side values units state ≡ services_ticks units state
+seen_side values zero state there same = refl
+seen_side values (suc units) state there same =
+    let now = services_ticks units state in
+    ap (after_tick values) (seen_side values units state there same)
+    ∙ (after_seen values now there
+    ∙ observed_same (ticked now) values.running.suite.address (ap (pointwise nat_eq values.running.suite.address) (kept_address units state) ∙ same))
+
+-- the services know the address, or there is only the one tick
+abbrev pub IsSeen : Values → ℕ → services.State → Type 0
+IsSeen values units state = (pointwise nat_eq values.running.suite.address state.address ≡ true) ⊎ (units ≡ 0)
+
+pub quiet_side : (values : Values) (units : ℕ) (state : services.State) → values.is_lost ≡ false → IsSeen values units state → side values units state ≡ services_ticks units state
+quiet_side values units state there (inl same) = seen_side values units state there same
+quiet_side values units state there (inr none) = ap (λ (n : ℕ). side values n state) none ∙ sym (ap (λ (n : ℕ). services_ticks n state) none)
+
+pub silent_side : (values : Values) (units : ℕ) (state : services.State) → values.is_lost ≡ false → IsSeen values units state → NoneSends units state → AreSilent values units state
+silent_side values units state there (inl same) none before sooner =
+    sent_seen values (side values before state) there
+    ∙ (ap (λ (s : services.State). frames_in (sent_by_tick s)) (seen_side values before state there same) ∙ ap frames_in (none before sooner))
+silent_side values units state there (inr only) none before sooner = absurd (omega (arith, sooner, only))
+
+-- ---- at most as many units as are due
+
+some_due : (announcement : Announcement) → 0 < announcement_due_in announcement
+some_due Nothing = omega arith
+some_due First = omega arith
+some_due (Second ticks) = omega arith
+
+some_due_by : (b : Bool) (announcement : Announcement) → 0 < (if b then 1 else announcement_due_in announcement)
+some_due_by true announcement = omega arith
+some_due_by false announcement = some_due announcement
+
+pub services_some : (state : services.State) → 0 < due_in state
+services_some state = some_due_by (is_defended state) state.announcement
+
+due_there : (values : Values) (state : services.State) → values.is_lost ≡ false
+    → services_due values state ≡ (if pointwise nat_eq values.running.suite.address state.address then due_in state else 1)
+due_there values state there = ap (λ (b : Bool). if b then 4294967295 else (if pointwise nat_eq values.running.suite.address state.address then due_in state else 1)) there
+
+within_seen : (b : Bool) (units due : ℕ) → 0 < due → suc units ≤ (if b then due else 1) → (units < due) × ((b ≡ true) ⊎ (units ≡ 0))
+within_seen true units due some within = (omega (arith, within), inl refl)
+within_seen false units due some within = (omega (arith, within, some), inr (omega (arith, within)))
+
+pub within : (units : ℕ) (live : Live) (state : services.State) → live.values.is_lost ≡ false → suc units ≤ due_beside live state → (units < due_in state) × IsSeen live.values units state
+within units live state there due =
+    let services : suc units ≤ services_due live.values state = omega (arith, due) in
+    within_seen (pointwise nat_eq live.values.running.suite.address state.address) units (due_in state) (services_some state)
+    (subst (λ (n : ℕ). suc units ≤ n) (due_there live.values state there) services)
+
+-- ---- a leap of both
+
+-- What a leap of this many units leaves, if the services are then this and the frames of both are these.
+abbrev pub IsLeap : ℕ → Station → Live → services.State → services.State → List (List ℕ) → Type 0
+IsLeap units station live state after sent =
+    (after ≡ (ticks_of units station live state).services)
+    × ((device_ticks units station live).frames ++ sent ≡ (ticks_of units station live state).frames)
+    × OnlyTheLastSends units station live state
+
+pub no_leap : (units : ℕ) (station : Station) (live : Live) (state : services.State) (sent : List (List ℕ)) → units ≡ 0 → sent ≡ [] → IsLeap units station live state state sent
+no_leap units station live state sent none silent =
+    subst (λ (n : ℕ). IsLeap n station live state state sent) (sym none) (refl, silent, λ before sooner. absurd (omega (arith, sooner)))
+
+lost_at : (units : ℕ) (station : Station) (live : Live) (state : services.State) (sent : List (List ℕ)) → live.values.is_lost ≡ true → OnlyTheLastOfDevice (suc units) station live → sent ≡ []
+    → IsLeap (suc units) station live state state sent
+lost_at units station live state sent lost last none =
+    let silent : AreSilent live.values units state = λ before sooner. idle_sent live.values (side live.values before state) lost in (
+      sym (services_alone (suc units) station live state ∙ idle_side live.values (suc units) state lost),
+      ap (λ (s : List (List ℕ)). (device_ticks (suc units) station live).frames ++ s) (none ∙ sym (idle_sent live.values (side live.values units state) lost))
+          ∙ leap_frames units station live state last silent,
+      leap_last units station live state last silent,
+    )
+
+pub lost_leap : (units before : ℕ) (station : Station) (live : Live) (state : services.State) (sent : List (List ℕ)) → units ≡ suc before → live.values.is_lost ≡ true
+    → OnlyTheLastOfDevice units station live → sent ≡ [] → IsLeap units station live state state sent
+lost_leap units before station live state sent count lost last none =
+    subst (λ (n : ℕ). IsLeap n station live state state sent) (sym count)
+    (lost_at before station live state sent lost (subst (λ (n : ℕ). OnlyTheLastOfDevice n station live) count last) none)
+
+leap_at : (units : ℕ) (station : Station) (live : Live) (state after : services.State) (sent : List (List ℕ)) → live.values.is_lost ≡ false → OnlyTheLastOfDevice (suc units) station live
+    → IsSeen live.values units state → NoneSends units state → after ≡ observed (ticked (services_ticks units state)) live.values.running.suite.address → sent ≡ frames_in (sent_by_tick (services_ticks units state))
+    → IsLeap (suc units) station live state after sent
+leap_at units station live state after sent there last seen none is frames =
+    let silent = silent_side live.values units state there seen none in
+    let now = quiet_side live.values units state there seen in (
+      is ∙ (sym (after_seen live.values (services_ticks units state) there) ∙ (ap (after_tick live.values) (sym now) ∙ sym (services_alone (suc units) station live state))),
+      ap (λ (s : List (List ℕ)). (device_ticks (suc units) station live).frames ++ s)
+          (frames ∙ (sym (sent_seen live.values (services_ticks units state) there) ∙ ap (sent_beside live.values) (sym now)))
+          ∙ leap_frames units station live state last silent,
+      leap_last units station live state last silent,
+    )
+
+pub both_leap : (units before : ℕ) (station : Station) (live : Live) (state after : services.State) (sent : List (List ℕ)) → units ≡ suc before → live.values.is_lost ≡ false
+    → OnlyTheLastOfDevice units station live → IsSeen live.values before state → NoneSends before state
+    → after ≡ observed (ticked (services_ticks before state)) live.values.running.suite.address → sent ≡ frames_in (sent_by_tick (services_ticks before state))
+    → IsLeap units station live state after sent
+both_leap units before station live state after sent count there last seen none is frames =
+    subst (λ (n : ℕ). IsLeap n station live state after sent) (sym count)
+    (leap_at before station live state after sent there (subst (λ (n : ℕ). OnlyTheLastOfDevice n station live) count last) seen none is frames)
+
+-- ---- leaps one after another
+
+abbrev sent_with : Live → services.State → List (List ℕ) → Leapt
+sent_with live state frames = record { live = live; services = state; frames = frames }
+
+abbrev and_tick : Station → Leapt → Leapt
+and_tick station before = then_leap before (tick_of station before.live before.services)
+
+ticks_more : (station : Station) (live : Live) (state : services.State) (units more : ℕ)
+    → ticks_of (units + more) station live state
+    ≡ then_leap (ticks_of units station live state) (ticks_of more station (ticks_of units station live state).live (ticks_of units station live state).services)
+ticks_more station live state units zero =
+    let sent = ticks_of units station live state in
+    let none : units + 0 ≡ units = omega arith in
+    ap (λ (n : ℕ). ticks_of n station live state) none ∙ ap (sent_with sent.live sent.services) (sym (append-nil sent.frames))
+ticks_more station live state units (suc more) =
+    let sent = ticks_of units station live state in
+    let next = ticks_of more station sent.live sent.services in
+    let last = tick_of station next.live next.services in
+    let one : units + suc more ≡ suc (units + more) = omega arith in
+    ap (λ (n : ℕ). ticks_of n station live state) one
+    ∙ (ap (and_tick station) (ticks_more station live state units more)
+    ∙ ap (sent_with last.live last.services) (append_assoc sent.frames next.frames last.frames))
+
+pub leaps_are_ticks : LeapsAreTicks
+leaps_are_ticks station live state [] = refl
+leaps_are_ticks station live state (units ∷ leaps) =
+    let first = ticks_of units station live state in
+    ap (then_leap first) (leaps_are_ticks station first.live first.services leaps)
+    ∙ (sym (ticks_more station live state units (sum leaps)) ∙ ap (λ (n : ℕ). ticks_of n station live state) (sym (sum_by-cons (λ (x : ℕ). x) units leaps)))

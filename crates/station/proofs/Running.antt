@@ -1,0 +1,112 @@
+-- A run of a station, step by step.
+use Rattle.std.proofs.Common.{◌≡◌, ◌<◌, ℕ, Bool, true, false, List, [], ◌∷◌, ◌++◌, refl, sym, ap, subst, ◌∙◌, append_assoc}
+use Rattle.std.specs.Prelude.{flat_map, if◌then◌else◌}
+use Rattle.std.proofs.lemmas.List.{append-nil, flat_map_more}
+use Rattle.flash_model.specs.declared.flash.Flash.{Ghosts as Flash}
+use Rattle.device_frames.specs.declared.event.Event.{Event}
+use Rattle.device_frames.specs.Heard.{heard_of}
+use Rattle.device_core.specs.State as device
+use Rattle.device_core.specs.Faults.{RunGoesOn}
+use Rattle.device_core.specs.Steps.{HandsOn, IsBehindCalls, IsExactRun, Runs, TakesRoom}
+use Rattle.station.specs.State.{State, Frames, handed_on, in_order, of_device}
+use Rattle.station.specs.Steps.{StationSteps}
+use Rattle.station.specs.Runs.{DeviceRuns, StationHandsOn, StepByStep, StationRuns}
+
+module _ {F : Type 0} {S : ℕ} (as_flash : Flash F S) where
+  -- the steps so far, and one more
+  steps_more : (old mid new : State F) (events : List Event) (event : Event) (turns : List Frames) (before now : List (List ℕ))
+      → StepByStep as_flash old events turns mid → (on : StationHandsOn as_flash mid event before now new)
+      → StepByStep as_flash old (events ++ event ∷ []) (turns ++ handed_on new.device.live.values.is_lost on.sent ∷ []) new
+  steps_more old mid new [] event turns before now run on = (
+    new,
+    on.sent,
+    on.said,
+    [],
+    subst (λ (s : State F). StationSteps as_flash s event on.sent on.said new) run.1 on.steps,
+    ap (λ (t : List Frames). t ++ handed_on new.device.live.values.is_lost on.sent ∷ []) run.0,
+    (refl, refl),
+  )
+  steps_more old mid new (one ∷ events) event turns before now run on =
+      let turn = handed_on new.device.live.values.is_lost on.sent in (
+        run.0,
+        run.1,
+        run.2,
+        run.3 ++ turn ∷ [],
+        run.4,
+        ap (λ (t : List Frames). t ++ turn ∷ []) run.5,
+        steps_more run.0 mid new events event run.3 before now run.6 on,
+      )
+
+  -- the device's frames of a turn
+  turn_of_device : (is_lost : Bool) (frames : Frames) → (if is_lost then [] else frames.device) ≡ of_device (handed_on is_lost frames)
+  turn_of_device true frames = refl
+  turn_of_device false frames = refl
+
+  -- the device's part of a step
+  alone_on : (old new : State F) (event : Event) (before now : List (List ℕ)) → (on : StationHandsOn as_flash old event before now new) → (taken : List (List ℕ))
+      → HandsOn as_flash old.device (heard_of old.device.station.identity event) taken (taken ++ of_device (handed_on new.device.live.values.is_lost on.sent)) new.device
+  alone_on old new event before now on taken = record {
+    sent = on.sent.device;
+    said = on.steps.note;
+    steps = on.steps.alone.steps;
+    handed_on = ap (λ (f : List (List ℕ)). taken ++ f) (sym (turn_of_device new.device.live.values.is_lost on.sent));
+  }
+
+  -- what the laws of the device's runs say
+  pub record Laws : Type 0 where
+    pub goes_on : (old between new : device.State F) (events : List Event) (event : Event) (before taken now : List (List ℕ)) → Runs as_flash old events before taken between
+        → HandsOn as_flash between (heard_of between.station.identity event) taken now new → Runs as_flash old (events ++ event ∷ []) before now new
+    pub all_go_on : (old between new : device.State F) (events : List Event) (event : Event) (before taken now : List (List ℕ)) → between.station ≡ old.station
+        → (between.live.values.is_lost ≡ false → RunGoesOn old events before taken between)
+        → HandsOn as_flash between (heard_of between.station.identity event) taken now new → new.live.values.is_lost ≡ false → RunGoesOn old (events ++ event ∷ []) before now new
+    pub exact : (old new : device.State F) (events : List Event) (before now : List (List ℕ)) → Runs as_flash old events before now new
+        → as_flash.failures new.flash ≡ as_flash.failures old.flash → as_flash.failures old.flash < 18446744073709551615 → IsExactRun old events before now new
+    pub fine : (old new : device.State F) (events : List Event) (before now : List (List ℕ)) → Runs as_flash old events before now new
+        → new.live.values.has_failed ≡ false → IsExactRun old events before now new
+    pub calls : (old new : device.State F) (events : List Event) (before now : List (List ℕ)) → Runs as_flash old events before now new
+        → IsBehindCalls old.live.rest.calls new.live.rest.calls
+    pub room : (old new : device.State F) (events : List Event) (before now : List (List ℕ)) → Runs as_flash old events before now new
+        → new.live.values.has_failed ≡ false → TakesRoom old events new
+
+  -- a flash that never fails stays so
+  abbrev StaysFine : device.State F → device.State F → Type 0
+  StaysFine old new = as_flash.is_reliable old.flash → old.live.values.has_failed ≡ false → as_flash.is_reliable new.flash × (new.live.values.has_failed ≡ false)
+
+  -- all that is known of a run
+  all_of : Laws → (old new : device.State F) (events : List Event) (now : List (List ℕ)) → Runs as_flash old events [] now new
+      → (new.live.values.is_lost ≡ false → RunGoesOn old events [] now new) → StaysFine old new → DeviceRuns as_flash old events [] now new
+  all_of laws old new events now runs goes_on fine = record {
+    runs = runs;
+    exact = laws.exact old new events [] now runs;
+    reliable = λ reliable unfailed. let still = fine reliable unfailed in (still.0, still.1, laws.fine old new events [] now runs still.1);
+    goes_on = goes_on;
+    calls = laws.calls old new events [] now runs;
+    room = laws.room old new events [] now runs;
+  }
+
+  pub run_none : Laws → (old : State F) (taken : List (List ℕ)) → Runs as_flash old.device [] [] [] old.device → RunGoesOn old.device [] [] [] old.device → StationRuns as_flash old [] taken taken old
+  run_none laws old taken runs goes_on = record {
+    turns = [];
+    steps = (refl, refl);
+    alone = all_of laws old.device old.device [] [] runs (λ _. goes_on) (λ reliable unfailed. (reliable, unfailed));
+    handed = sym (append-nil taken);
+  }
+
+  pub run_more : Laws → (old mid new : State F) (events : List Event) (event : Event) (before between now : List (List ℕ))
+      → StationRuns as_flash old events before between mid → StationHandsOn as_flash mid event between now new → StationRuns as_flash old (events ++ event ∷ []) before now new
+  run_more laws old mid new events event before between now run on =
+      let turn = handed_on new.device.live.values.is_lost on.sent in
+      let taken = flat_map of_device run.turns in
+      let alone = alone_on mid new event between now on taken in
+      record {
+        turns = run.turns ++ turn ∷ [];
+        steps = steps_more old mid new events event run.turns between now run.steps on;
+        alone = subst (λ (f : List (List ℕ)). DeviceRuns as_flash old.device (events ++ event ∷ []) [] f new.device) (flat_map_more of_device [] run.turns turn)
+            (all_of laws old.device new.device (events ++ event ∷ []) (taken ++ of_device turn)
+            (laws.goes_on old.device mid.device new.device events event [] taken (taken ++ of_device turn) run.alone.runs alone)
+            (laws.all_go_on old.device mid.device new.device events event [] taken (taken ++ of_device turn) run.alone.runs.same run.alone.goes_on alone)
+            (λ reliable unfailed.
+            let was = run.alone.reliable reliable unfailed in
+            let now = on.steps.alone.reliable was.0 was.1 in (now.0, now.1)));
+        handed = on.handed ∙ ap (λ (t : List (List ℕ)). t ++ in_order turn) run.handed ∙ flat_map_more in_order before run.turns turn;
+      }
