@@ -333,7 +333,7 @@ def refused_records(say):
     begin("goes-on-behind-a-record", True, "The first and the last of three records are refused: the next request goes out for each, and each is told.")
     refuses(0, CONFLICT, writes[1])
     say.state("writing")
-    # A response that comes again, and one to the record behind, are none to the second record.
+    # A repeated response to the first record, and one to the third, do not count for the second.
     say.hear(response(writes[0], [], status=NO_STATION, endian=LITTLE))
     say.hear(response(writes[2], [], status=NO_STATION, endian=LITTLE))
     say.tells(f"refused 0 {CONFLICT:08x}")
