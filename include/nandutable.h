@@ -162,7 +162,7 @@ typedef struct pn_op {
     uint32_t sector;  /* 0 or 1 */
     uint32_t place;   /* the first octet of a program call in its sector; pn_taken: a number, then the record's index; pn_left; pn_status: 0 is bad */
     uint32_t length;  /* how many of `octets` are valid; pn_next: how many octets lie at `data` */
-    uint32_t due;     /* pn_tick: units until something is due, as pn_due says; 0 after a single unit, of which it is not computed */
+    uint32_t due;     /* pn_tick: units until something is due after it, as pn_due says */
     uint8_t octets[PN_OP_SIZE];
     const uint8_t *data; /* pn_next: the octets of the piece of work, in the memory of the device */
 } pn_op;
@@ -300,7 +300,7 @@ static inline uint32_t pn_frame(pn_device *device, pn_op *op, const uint8_t *oct
 /* `units` units of time have passed (PN_UNIT_NS each; 0 is allowed). It stops after a unit that sends something: then `units` of the
  * operation is the remaining number, and `note` is PN_DONE. Take the work, and hand in the rest again. Units with which nothing is due
  * pass at once, however many they are (pn_due). Sets `due` to what pn_due returns, valid until the next event, so that a host can arm its
- * timer by it. After a call with `units` = 1 `due` is 0: then ask pn_due. A call with 0 units sets it too. */
+ * timer by it. A call with 0 units sets it too. */
 static inline uint32_t pn_tick(pn_device *device, pn_op *op, uint32_t units)
 {
     if (op == NULL)
@@ -574,8 +574,8 @@ static inline uint32_t pn_left(const pn_device *device, pn_op *op, uint32_t *lef
 /* --- What changed ---
  *
  * How a host learns of a parameter record, of PrmEnd, of a reset, and of another name or address. Only frames that are not cyclic change
- * these, and units of time that end the relation. So keep one pn_watch for each device, all zeros at first, and call pn_news when the work
- * of such an event is done. */
+ * these, and units of time that end the relation. So keep one pn_watch for each device, all zeros at first, show it each frame
+ * (pn_watch_frame) before pn_frame, and call pn_news when the work of such an event is done. */
 enum {
     PN_NEW_PHASE = 1,      /* the phase of the relation (`phase` of the watch) */
     PN_NEW_RELATION = 2,   /* a Connect was accepted: the records before it are no longer valid */
@@ -583,7 +583,7 @@ enum {
     PN_PARAMETERS_END = 8, /* PrmEnd was accepted: the records are complete. With `ready_by_application`, call pn_ready when they are in use */
     PN_NEW_NAME = 16,      /* the running name (`settings`) */
     PN_NEW_ADDRESS = 32,   /* the running address, mask or gateway */
-    PN_RESET = 64          /* the settings were stored, and they are those of the factory: by a reset, or because the last value was deleted */
+    PN_RESET = 64          /* a reset was accepted: FactoryReset, or ResetToFactory of any kind (needs pn_watch_frame) */
 };
 
 typedef struct pn_watch {
@@ -593,7 +593,31 @@ typedef struct pn_watch {
     uint32_t records;  /* how many the relation has accepted */
     uint32_t left;     /* commits that the flash still accepts */
     uint32_t is_begun; /* 0 before the first call */
+    uint32_t is_asked; /* 1 if a frame asked for a reset since the call before */
 } pn_watch;
+
+/* Whether a frame is a DCP Set with a block FactoryReset (5/5) or ResetToFactory (5/6), with a VLAN tag or without. */
+static inline int pn_asks_reset(const uint8_t *octets, size_t length)
+{
+    static const uint8_t set[6] = {0x88, 0x92, 0xFE, 0xFD, 0x04, 0x00};
+    size_t at = length >= 14 && octets[12] == 0x81 && octets[13] == 0x00 ? 16 : 12, end;
+    if (length < at + 14 || memcmp(octets + at, set, sizeof set) != 0)
+        return 0;
+    end = at + 14 + octets[at + 12] * 256u + octets[at + 13];
+    if (end > length)
+        end = length;
+    for (at += 14; at + 4 <= end; at += 4 + ((octets[at + 2] * 256u + octets[at + 3] + 1u) & ~(size_t)1))
+        if (octets[at] == 5 && (octets[at + 1] == 5 || octets[at + 1] == 6))
+            return 1;
+    return 0;
+}
+
+/* Shows a frame to the watch, before pn_frame gets it. Whether the device accepts it is seen later, by what it stores. */
+static inline void pn_watch_frame(pn_watch *watch, const uint8_t *octets, size_t length)
+{
+    if (watch != NULL && octets != NULL && pn_asks_reset(octets, length))
+        watch->is_asked = 1;
+}
 
 /* Whether these are the factory settings: no name, no address, and I&M texts of blanks. */
 static inline int pn_are_factory(const pn_settings *settings)
@@ -654,10 +678,11 @@ static inline uint32_t pn_settings_news(const pn_settings *now, uint32_t left, p
         news |= PN_NEW_NAME;
     if (memcmp(now->address, was->address, 4) != 0 || memcmp(now->mask, was->mask, 4) != 0 || memcmp(now->gateway, was->gateway, 4) != 0)
         news |= PN_NEW_ADDRESS;
-    if (left != watch->left && pn_are_factory(now))
+    if (left != watch->left && watch->is_asked != 0)
         news |= PN_RESET;
     watch->settings = *now;
     watch->left = left;
+    watch->is_asked = 0;
     return news;
 }
 

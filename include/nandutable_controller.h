@@ -123,6 +123,7 @@ _Static_assert(sizeof(pn_plan) == 4276, "another layout than the library's");
  * PN_OK if one can be made. pn_plan_judge returns the first fault of a plan, or PN_OK if it is valid.
  * pn_controller_put puts a controller into the room and overwrites its contents. Call it only with a plan for which pn_controller_judge
  * returned PN_OK, and a room of PN_CONTROLLER_SIZE octets whose address is a multiple of 16.
+ * pn_controller_begin starts it: call it after pn_controller_put, before any pn_controller_step. Later it starts the controller again.
  * pn_controller_step executes one operation on a room into which pn_controller_put put a controller and that only these calls changed
  * since.
  * pn_plan_make reads a catalogue into a plan of `size` octets, and pn_plan_show writes the key of its first fault. The memory that they
@@ -133,6 +134,7 @@ uint32_t pn_plan_show(const uint8_t *text, size_t length, char *where, size_t si
 uint32_t pn_plan_judge(const pn_plan *plan);
 uint32_t pn_controller_judge(size_t size, uint32_t abi, size_t op_size, const pn_plan *plan, const uint8_t ar[16]);
 void pn_controller_put(void *room, const pn_plan *plan, const uint8_t ar[16], const uint8_t activity[16]);
+void pn_controller_begin(void *room);
 uint32_t pn_controller_step(void *room, pn_op *op, const uint8_t *given, size_t length);
 
 /* Reads the catalogue of a station, whose keys are those of GSDML. After a number from PN_PLAN_JSON on the plan is all zeros.
@@ -191,8 +193,10 @@ static inline uint32_t pn_controller_make(void *room, size_t size, uint32_t abi,
     if ((uintptr_t)room % 16 != 0)
         return PN_SMALL_ROOM;
     answer = pn_controller_judge(size, abi, op_size, plan, ar);
-    if (answer == PN_OK)
+    if (answer == PN_OK) {
         pn_controller_put(room, plan, ar, activity);
+        pn_controller_begin(room);
+    }
     return answer;
 }
 
@@ -271,6 +275,30 @@ static inline uint32_t pn_controller_status(pn_controller *controller, pn_op *op
     op->subslot = subslot;
     op->place = is_good != 0;
     return pn_controller_ask(controller, op, 16, NULL, 0);
+}
+
+/* The application reads a record of the device: one request at a time, while data is exchanged. It is sent again each second until its
+ * answer comes (pn_controller_answer), and dropped if the relation ends. A refusal does not end the relation. May return PN_BUSY. */
+static inline uint32_t pn_controller_read_record(pn_controller *controller, pn_op *op, uint16_t slot, uint16_t subslot, uint16_t index)
+{
+    if (op == NULL)
+        return PN_NULL;
+    op->slot = slot;
+    op->subslot = subslot;
+    op->place = index;
+    return pn_controller_ask(controller, op, 30, NULL, 0);
+}
+
+/* The same for a record that it writes. May return PN_BAD_LENGTH (more than 1,308 octets), PN_BUSY. */
+static inline uint32_t pn_controller_write_record(pn_controller *controller, pn_op *op, uint16_t slot, uint16_t subslot, uint16_t index,
+                                                  const uint8_t *octets, size_t length)
+{
+    if (op == NULL)
+        return PN_NULL;
+    op->slot = slot;
+    op->subslot = subslot;
+    op->place = index;
+    return pn_controller_ask(controller, op, 31, octets, length);
 }
 
 /* The application stops the controller, which releases the relation. */
@@ -398,11 +426,35 @@ static inline uint32_t pn_controller_refused_record(const pn_controller *control
     return answer;
 }
 
-/* The last accepted alarm: `slot`, `subslot`, its type in `note`, its AlarmSpecifier in `units`, its data in `length` and `octets`.
- * PN_NO_SLOT if no alarm was accepted. */
+/* The answer to the last pn_controller_read_record or pn_controller_write_record: its status, 0 if it succeeded, otherwise as that of
+ * pn_controller_refusal, also in `units` of the operation; the record that was read in `length` and `octets`. May return PN_NO_ANSWER. */
+static inline uint32_t pn_controller_answer(const pn_controller *controller, pn_op *op, uint32_t *status)
+{
+    uint32_t answer;
+    if (status == NULL)
+        return PN_NULL;
+    answer = pn_controller_read(controller, op, 32);
+    if (answer == PN_OK)
+        *status = op->units;
+    return answer;
+}
+
+/* The last accepted alarm of high priority: `slot`, `subslot`, its type in `note`, its AlarmSpecifier in `units`, and the octets that follow its
+ * UserStructureIdentifier in `length` and `octets`. PN_NO_SLOT if none was accepted. */
 static inline uint32_t pn_controller_alarm(const pn_controller *controller, pn_op *op)
 {
     return pn_controller_read(controller, op, 12);
+}
+
+/* The last accepted alarm of low priority if `is_low` is not 0, otherwise of high priority: as pn_controller_alarm, with its
+ * UserStructureIdentifier in `more` (65,536 if the alarm ends with its AlarmSpecifier), and its SendSeqNum in `sector`. That number differs
+ * from the number of the alarm before it, so look after each event to see each alarm. PN_NO_SLOT if none was accepted. */
+static inline uint32_t pn_controller_report(const pn_controller *controller, pn_op *op, int is_low)
+{
+    if (op == NULL)
+        return PN_NULL;
+    op->place = is_low != 0;
+    return pn_controller_read(controller, op, 34);
 }
 
 #ifdef __cplusplus

@@ -49,7 +49,9 @@ enum {
 
     /* Of a controller. */
     PN_BAD_PLAN = 16,   /* the plan is not valid (pn_plan_fault returns why), or the ARUUID is zero */
-    PN_NO_REFUSAL = 25, /* the device refused no call or no record yet */
+    PN_NO_REFUSAL = 25, /* the device refused no call, or no record of the plan, yet */
+    PN_BUSY = 26,       /* no data is exchanged, or a request of the application waits for its answer */
+    PN_NO_ANSWER = 27,  /* no request of the application was answered: none was made, it waits, or the relation ended first */
 
     /* Of a catalogue that gives no plan (pn_plan_read), or of a plan that a host wrote and that is not valid (pn_plan_fault): its first
      * fault. Only a catalogue has the first three and the last. */
@@ -95,7 +97,9 @@ static inline const char *pn_strerror(uint32_t number)
     case PN_BAD_PARAMETER: return "a parameter record has a wrong index or length, or two have one index";
     case PN_BAD_OPTION: return "the smallest interval of the station is more than 65,536 units";
     case PN_NO_FRAME: return "no cyclic frame with data of this submodule was accepted";
-    case PN_NO_REFUSAL: return "the device refused nothing yet";
+    case PN_NO_REFUSAL: return "the device refused no call, or no record of the plan, yet";
+    case PN_BUSY: return "no data is exchanged, or another request waits for its answer";
+    case PN_NO_ANSWER: return "no request of the application was answered";
     case PN_PLAN_JSON: return "the text is not JSON";
     case PN_PLAN_MISSING_KEY: return "a key is missing";
     case PN_PLAN_WRONG_KIND: return "a value is of another kind than its key requires";

@@ -232,6 +232,15 @@ class File:
         text = said.get("TextId") if said is not None else element.get("TextId")
         return shown(self.texts.get(text, ""))
 
+    def errors(self):
+        """The errors of channels that the maker names: each element, and those of its extended errors."""
+        found = [element for kind in ("ChannelDiagItem", "SystemDefinedChannelDiagItem") for element in self.process.all(f"ChannelDiagList/{kind}")]
+        return [(element, element.all("ExtChannelDiagList/ExtChannelDiagItem")) for element in found]
+
+    def error_name(self, element):
+        said = element.first("Name")
+        return shown(self.texts.get(said.get("TextId"), "")) if said is not None else ""
+
     def vendor_name(self):
         said = self.identity.first("VendorName")
         return shown(said.get("Value", "")) if said is not None else ""

@@ -1,7 +1,7 @@
 """What a GSDML file offers, as text: access points, slots, modules, submodules and their records."""
 
 from .elements import Refused
-from .values import shown
+from .values import number, shown
 
 UNIT = 0.03125  # milliseconds: 31.25 microseconds
 MOST_OCTETS = 64  # of a record in a catalogue
@@ -78,8 +78,24 @@ def point_lines(file, point):
         yield from item_lines(file, module, "        ")
 
 
+def error_line(file, element, head):
+    try:
+        return f"{head} {number(element, 'ErrorType', 0, 65_535)}{titled(file.error_name(element))}"
+    except Refused as fault:
+        return f"{head} unknown, line {fault.line}: {fault.what}"
+
+
+def error_lines(file):
+    """What the maker calls the errors in the alarms of a channel."""
+    for element, extended in file.errors():
+        yield error_line(file, element, "channel error")
+        for other in extended:
+            yield error_line(file, other, "    extended error")
+
+
 def lines(file, wanted=None):
     """All that a file offers, or what one access point does."""
     yield f"vendor 0x{file.vendor:04x}{titled(file.vendor_name())}, device 0x{file.device:04x}"
     for name in [wanted] if wanted is not None else list(file.points):
         yield from point_lines(file, file.point(name))
+    yield from error_lines(file)

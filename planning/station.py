@@ -10,6 +10,7 @@ MOST_RECORDS = 2
 MOST_ALL_RECORDS = 32
 MOST_DATA = 1_440
 MOST_CONNECT = 1_372
+MOST_SHOWN = 64  # options in a message
 
 
 class Station:
@@ -169,9 +170,26 @@ class Station:
             raise Refused(record.line, f"the record has {record.length} octets, and {len(given)} were given")
         return record.data() if given is None else given
 
-    @staticmethod
-    def way_out(slot, subslot, record):
-        return f"--without {slot}:{subslot}:{record.index} leaves it out"
+    def way_out(self, slot, subslot, record):
+        """The option that leaves a record out, and those that leave out all records that a catalogue cannot hold."""
+        said, places = f"--without {slot}:{subslot}:{record.index} leaves it out", self.too_many()
+        if not 1 < len(places) <= MOST_SHOWN:
+            return said
+        return f"{said}; all that must go: {' '.join('--without {}:{}:{}'.format(*place) for place in places)}"
+
+    def too_many(self):
+        """The records that do not fit beside those before them: each one of the access point, long ones, the third of a submodule, the 33rd of all."""
+        found, kept = [], 0
+        for slot, subslot, part in ((slot, subslot, part) for slot, parts in self.parts.items() for subslot, part in parts):
+            held = 0
+            for record in part.records():
+                if (slot, subslot, record.index) in self.choice.without:
+                    continue
+                if slot == 0 or record.length > MOST_OCTETS or held == MOST_RECORDS or kept == MOST_ALL_RECORDS:
+                    found.append((slot, subslot, record.index))
+                else:
+                    held, kept = held + 1, kept + 1
+        return found
 
     def judge_records(self):
         total = 0

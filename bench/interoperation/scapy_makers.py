@@ -7,8 +7,13 @@ here by the fields of IEC 61158-6-10.
     bench/interoperation/scapy_makers.py --check    status 1 where that file differs
 
 A line `scenario NAME` begins with a new controller. `in HEX` is a frame that it receives, `tick N` that many units; each `out HEX` below
-is a frame that it has to send for that, and it sends no other. `state`, `deviates`, `refusal`, `refused` (number and status of a record)
-and `alarm` are what it then tells. `catalogue JSON` begins the scenario anew with another plan than that of the demo station.
+is a frame that it has to send for that, and it sends no other. `pass N` is that many units too, but its cyclic frames are not listed.
+`state`, `deviates`, `refusal`, `refused` (number and status of a record), `alarm` and `answer` are what it then tells, and
+`report PRIORITY ..` its last alarm of a priority: the SendSeqNum, AlarmType, API, slot, subslot, both idents, AlarmSpecifier and
+UserStructureIdentifier in decimal (`-` for none), and the data in hex. `read SLOT SUBSLOT INDEX`, `write SLOT SUBSLOT INDEX HEX` and `stop`
+are requests of its application, and `number N` is what the library for C then returns: 0, 8 for a record that is too long, or 26 where no
+request can be made. `run N HEX` is N intervals, after each of which this cyclic frame comes, with the next CycleCounter; the
+frames of outputs are not compared. `catalogue JSON` begins the scenario anew with another plan than that of the demo station.
 
 Needs Scapy (Debian: apt-get install python3-scapy; 2.5.0 was used).
 """
@@ -28,13 +33,14 @@ import scapy_exchange as exchange
 import scapy_relation as relation
 import scapy_station as station
 from scapy_calls import BIG, DEVICE, LITTLE
-from scapy_exchange import ACK, DATA, NONE_SENT, NONE_TAKEN, TOOL
+from scapy_exchange import ACK, DATA, ERR, NACK, NONE_SENT, NONE_TAKEN, TOOL
 from scapy_relation import AR, PRM_END
 from scapy_station import Plan, padded, response
 from scapy.compat import raw
 from scapy.contrib.pnio import ProfinetIO
 from scapy.contrib.pnio_rpc import (
-    Alarm_High, AlarmCRBlockRes, ARBlockRes, IOCRBlockRes, IODControlRes, PNIOServiceReqPDU)
+    Alarm_High, Alarm_Low, AlarmCRBlockRes, AlarmItem, AlarmNotification_High, AlarmNotification_Low, ARBlockRes, DiagnosisItem,
+    IOCRBlockRes, IODControlRes, IODReadRes, IODWriteRes, MaintenanceItem, PNIOServiceReqPDU)
 from scapy.layers.dcerpc import DceRpc4
 from scapy.layers.inet import IP, UDP
 from scapy.layers.l2 import Ether
@@ -106,6 +112,36 @@ def alarm_pdu(source, kind, sent, taken, destination, origin, body=b""):
     return exchange.head(source) / ProfinetIO(frameID=0xFC01) / header / Raw(raw(body))
 
 
+def low_pdu(source, kind, sent, taken, body=b"", priority=5, frame_id=0xFE01):
+    """The same of low priority, between the endpoint 7 of a station and the controller's."""
+    destination, origin = (1, REFERENCE) if source == DEVICE else (REFERENCE, 1)
+    header = Alarm_Low(AlarmDstEndpoint=destination, AlarmSrcEndpoint=origin, PDUTypeType=1, PDUTypeVersion=kind,
+                       AddFlags=0x11 if kind == DATA else 1, SendSeqNum=sent, AckSeqNum=taken, VarPartLen=len(raw(body)))
+    return exchange.head(source, priority) / ProfinetIO(frameID=frame_id) / header / Raw(raw(body))
+
+
+def high_pdu(source, kind, sent, taken, body=b""):
+    """The same of high priority."""
+    destination, origin = (1, REFERENCE) if source == DEVICE else (REFERENCE, 1)
+    return alarm_pdu(source, kind, sent, taken, destination, origin, body)
+
+
+def alarm(layer, kind, specifier, *items, slot=1, ident=16):
+    """The block of an alarm of any type, with these items."""
+    return layer(AlarmType=kind, SlotNumber=slot, SubslotNumber=1, ModuleIdentNumber=ident, SubmoduleIdentNUmber=ident + 1,
+                 AlarmSpecifier=specifier, AlarmPayload=list(items))
+
+
+class LowAlarmAck(exchange.AlarmAck):
+    """The AlarmAck of low priority."""
+    block_type = 0x8002
+
+
+def acked(layer, kind, specifier, slot=1):
+    """The AlarmAck of an alarm."""
+    return layer(AlarmType=kind, SlotNumber=slot, SubslotNumber=1, AlarmSpecifier=specifier)
+
+
 class Scenarios:
     def __init__(self):
         self.lines = []
@@ -118,11 +154,37 @@ class Scenarios:
     def hear(self, packet, *sent):
         self.lines += [f"in {padded(packet).hex()}", *(f"out {padded(frame).hex()}" for frame in sent)]
 
+    def asks(self, line, *sent):
+        """What the application asks, and what the controller then has to send."""
+        self.lines += [line, "number 0", *(f"out {padded(frame).hex()}" for frame in sent)]
+
+    def stops(self, *sent):
+        """The application stops it."""
+        self.lines += ["stop", *(f"out {padded(frame).hex()}" for frame in sent)]
+
+    def asks_in_vain(self, line, number):
+        """What the application asks, and cannot have now."""
+        self.lines += [line, f"number {number}"]
+
+    def runs(self, intervals):
+        self.lines.append(f"run {intervals} {padded(INPUT).hex()}")
+
+    def outputs_alone(self, *others):
+        """Of the frames of outputs none is compared."""
+        self.lines += ["outputs", *others]
+
     def state(self, *words):
         self.lines.append(" ".join(("state", *words)))
 
     def tells(self, word):
         self.lines.append(word)
+
+    def passes(self, units, *sent):
+        """So many units; cyclic frames are not listed."""
+        self.lines += [f"pass {units}", *(f"out {padded(frame).hex()}" for frame in sent)]
+
+    def reports(self, priority, *words):
+        self.lines.append(" ".join(("report", priority, *(str(word) for word in words))))
 
     def connected(self, *words, **named):
         self.hear(response(CONNECT, blocks(*words, **named), endian=LITTLE), END)
@@ -193,6 +255,102 @@ def alarms(say):
     # The ACK of another endpoint is not one: the AlarmAck is sent again.
     say.hear(alarm_pdu(DEVICE, ACK, 0xFFFF, 0xFFFF, 1, 1))
     say.hear(alarm_pdu(DEVICE, ACK, 0xFFFF, 0xFFFF, 1, 7))
+
+
+DIAGNOSIS = DiagnosisItem(UserStructureIdentifier=0x8000, ChannelNumber=3, ChannelProperties=0x0800, ChannelErrorType=1)
+APPEARS = alarm(AlarmNotification_Low, 1, 0xA800, DIAGNOSIS)
+PROCESS = alarm(AlarmNotification_High, 2, 5, AlarmItem(UserStructureIdentifier=1, load=Raw(b"\xab\xcd")))
+
+
+def take_low(say, number, taken, block, kind, specifier, slot=1, source=low_pdu):
+    """An alarm of low priority under this number, of which the controller has confirmed as many as it was sent."""
+    say.hear(source(DEVICE, DATA, number, taken, block), low_pdu(TOOL, ACK, taken if taken != NONE_TAKEN else NONE_SENT, number),
+             low_pdu(TOOL, DATA, number, number, acked(LowAlarmAck, kind, specifier, slot)))
+
+
+def take_high(say, number, taken, block, kind, specifier, slot=1, source=high_pdu):
+    """The same of high priority."""
+    say.hear(source(DEVICE, DATA, number, taken, block), high_pdu(TOOL, ACK, taken if taken != NONE_TAKEN else NONE_SENT, number),
+             high_pdu(TOOL, DATA, number, number, acked(exchange.AlarmAck, kind, specifier, slot)))
+
+
+def priorities(say):
+    """Alarms of both priorities, of any type and with any UserStructureIdentifier."""
+    say.begin("alarms-of-both-priorities", "Each priority has its FrameID, its tag, its block types and its numbers.")
+    say.connected()
+    say.started()
+    say.reports("high", "-")
+    say.reports("low", "-")
+    take_low(say, 0xFFFF, NONE_TAKEN, APPEARS, 1, 0xA800)
+    say.reports("low", 65535, 1, 0, 1, 1, 16, 17, 0xA800, 0x8000, "000308000001")
+    say.reports("high", "-")
+    say.tells("alarm -")
+    take_high(say, 0xFFFF, NONE_TAKEN, PROCESS, 2, 5)
+    say.reports("high", 65535, 2, 0, 1, 1, 16, 17, 5, 1, "abcd")
+    say.reports("low", 65535, 1, 0, 1, 1, 16, 17, 0xA800, 0x8000, "000308000001")
+    # A repeat gets its ACK again, and is not told twice; an unexpected number gets a NACK.
+    say.hear(low_pdu(DEVICE, DATA, 0xFFFF, NONE_TAKEN, APPEARS), low_pdu(TOOL, ACK, 0xFFFF, 0xFFFF))
+    say.hear(low_pdu(DEVICE, DATA, 5, NONE_TAKEN, APPEARS), low_pdu(TOOL, NACK, 0xFFFF, 0xFFFF))
+    say.hear(high_pdu(DEVICE, DATA, 0xFFFF, NONE_TAKEN, PROCESS), high_pdu(TOOL, ACK, 0xFFFF, 0xFFFF))
+    # One that is equal to the one before it has another number.
+    take_low(say, 0, 0xFFFF, APPEARS, 1, 0xA800)
+    say.reports("low", 0, 1, 0, 1, 1, 16, 17, 0xA800, 0x8000, "000308000001")
+    # Pull, with neither UserStructureIdentifier nor data; plug; return of submodule; maintenance, of any FrameID.
+    take_high(say, 0, 0xFFFF, alarm(AlarmNotification_High, 3, 6, slot=2, ident=32), 3, 6, 2)
+    say.reports("high", 0, 3, 0, 2, 1, 32, 33, 6, "-", "-")
+    say.tells("alarm 3 2 1 6 ")
+    take_low(say, 1, 0, alarm(AlarmNotification_Low, 4, 1, slot=2, ident=32), 4, 1, 2, source=lambda *words: low_pdu(*words, frame_id=0xFC01, priority=6))
+    say.reports("low", 1, 4, 0, 2, 1, 32, 33, 1, "-", "-")
+    take_high(say, 1, 0, alarm(AlarmNotification_High, 0x0B, 7), 0x0B, 7, source=lambda *words: low_pdu(*words))
+    say.reports("high", 1, 11, 0, 1, 1, 16, 17, 7, "-", "-")
+    maintenance = MaintenanceItem(UserStructureIdentifier=0x8100, block_type=0x0F00, MaintenanceStatus=1)
+    take_low(say, 2, 1, alarm(AlarmNotification_Low, 1, 2, maintenance), 1, 2)
+    say.reports("low", 2, 1, 0, 1, 1, 16, 17, 2, 0x8100, raw(maintenance)[2:].hex())
+    take_low(say, 3, 2, alarm(AlarmNotification_Low, 0x0C, 0, AlarmItem(UserStructureIdentifier=0x7FFF)), 0x0C, 0)
+    say.reports("low", 3, 12, 0, 1, 1, 16, 17, 0, 0x7FFF, "-")
+    # A block that ends in its UserStructureIdentifier, one of version 1.1, and one of another type are no alarms.
+    whole = raw(alarm(AlarmNotification_Low, 1, 3))
+    for bent in (whole[:3] + b"\x17" + whole[4:] + b"\0", whole[:5] + b"\1" + whole[6:], b"\0\3" + whole[2:], whole[:-1]):
+        say.hear(low_pdu(DEVICE, DATA, 4, 3, Raw(bent)))
+    say.reports("low", 3, 12, 0, 1, 1, 16, 17, 0, 0x7FFF, "-")
+    # The numbers of an ERR of the station are not looked at.
+    say.hear(low_pdu(DEVICE, ERR, 9, 9, Raw(b"\xcf\x81\xfd\x0d")))
+    say.state("ended", "5")
+
+    say.begin("both-alarm-acks-are-repeated", "Each until its own ACK: under 0xFE01 that of low priority, once an AlarmAck of low priority was sent.")
+    say.connected()
+    say.hear(ended(END))
+    take_high(say, 0xFFFF, NONE_TAKEN, PROCESS, 2, 5)
+    take_low(say, 0xFFFF, NONE_TAKEN, APPEARS, 1, 0xA800)
+    high, low = (high_pdu(TOOL, DATA, 0xFFFF, 0xFFFF, acked(exchange.AlarmAck, 2, 5)), low_pdu(TOOL, DATA, 0xFFFF, 0xFFFF, acked(LowAlarmAck, 1, 0xA800)))
+    say.passes(3199)
+    say.passes(1, high, low)
+    say.hear(low_pdu(DEVICE, ACK, 0xFFFF, 0xFFFF))
+    say.passes(3200, high)
+    say.hear(low_pdu(DEVICE, ACK, 0xFFFF, 0xFFFF))
+    say.passes(3200, high)
+    say.hear(high_pdu(DEVICE, ACK, 0xFFFF, 0xFFFF))
+    say.passes(6400)
+    say.state("waiting")
+
+    say.begin("an-ack-of-high-priority-under-fe01", "Before an AlarmAck of low priority was sent an ACK under either FrameID is of high priority.")
+    say.connected()
+    say.hear(ended(END))
+    take_high(say, 0xFFFF, NONE_TAKEN, PROCESS, 2, 5)
+    say.hear(low_pdu(DEVICE, ACK, 0xFFFF, 0xFFFF))
+    say.passes(12800)
+    say.state("waiting")
+
+    say.begin("repeats-of-low-priority-are-spent", "The relation ends by an ERR, which has the numbers of high priority.")
+    say.connected()
+    say.hear(ended(END))
+    take_low(say, 0xFFFF, NONE_TAKEN, APPEARS, 1, 0xA800)
+    low = low_pdu(TOOL, DATA, 0xFFFF, 0xFFFF, acked(LowAlarmAck, 1, 0xA800))
+    for _ in range(3):
+        say.passes(3200, low)
+    say.passes(3199)
+    say.passes(1, low_pdu(TOOL, ERR, NONE_SENT, NONE_TAKEN, Raw(b"\xcf\x81\xfd\x0d")))
+    say.state("ended", "6")
 
 
 # What a ModuleDiffBlock may say, and whether the relation then stands.
@@ -303,6 +461,128 @@ def refusals(say):
     say.tells("refusal -")
 
 
+def asks_read(sequence, slot, subslot, index):
+    """The Read that the controller has to send: for as many octets as a frame can bring."""
+    return relation.read(relation.ACTIVITY, sequence, index, BIG, most=1308, slot=slot, subslot=subslot)
+
+
+def asks_write(sequence, slot, subslot, index, octets):
+    """The Write that it has to send."""
+    return relation.write(relation.ACTIVITY, sequence, octets, BIG, index=index, slot=slot, subslot=subslot)
+
+
+def read_record(octets, count=None, **named):
+    """The block of the answer to a Read, and the record after it."""
+    return IODReadRes(ARUUID=AR, recordDataLength=len(octets) if count is None else count, **named) / Raw(octets)
+
+
+def written(**named):
+    """The block of the answer to a Write."""
+    return IODWriteRes(ARUUID=AR, **named)
+
+
+INPUT = exchange.inputs(b"\x12\x34", 0)
+
+
+# What the library for C returns for a request that cannot be made now, and for a record that is too long.
+BUSY_NOW, TOO_LONG = 26, 8
+
+
+def requests(say):
+    """Records that the application reads and writes while data is exchanged."""
+    say.begin("requests", "One at a time, each with the next number of a call. A Release has the next one.")
+    say.tells("can no")
+    say.asks_in_vain("read 1 1 5", BUSY_NOW)
+    say.connected()
+    say.asks_in_vain("write 1 1 5 aa", BUSY_NOW)
+    say.hear(ended(END))
+    say.asks_in_vain("read 1 1 5", BUSY_NOW)
+    call = ready(49153)
+    say.hear(call, ready_answer(call))
+    say.state("exchanging")
+    say.tells("answer -")
+    say.tells("can yes")
+    first = asks_read(2, 1, 1, 0x8028)
+    say.asks(f"read 1 1 {0x8028}", first)
+    say.tells("can no")
+    say.asks_in_vain("read 1 1 6", BUSY_NOW)
+    say.asks_in_vain("write 2 1 33 aa", BUSY_NOW)
+    say.asks_in_vain(f"write 2 1 33 {bytes(1309).hex()}", TOO_LONG)
+    for other in (response(first, [read_record(b"\1")], sequence=1), response(first, [read_record(b"\1")], sequence=3),
+                  response(first, [read_record(b"\1")], activity=relation.OTHER_ACTIVITY), response(first, [written()]), response(first, []),
+                  packet(first, WORKING), packet(first, NOCALL), packet(first, FAULT, word(BUSY, BIG), sequence=1),
+                  packet(first, REJECT, word(BUSY, BIG), activity=relation.OTHER_ACTIVITY)):
+        say.hear(other)
+        say.tells("answer -")
+    say.hear(response(first, [read_record(b"\xca\xfe\0\1")], endian=LITTLE))
+    say.tells(f"answer read 1 1 {0x8028} 2 00000000 cafe0001")
+    say.tells("refusal -")
+    say.hear(response(first, [read_record(b"\1")]))
+    say.hear(packet(first, FAULT, word(BUSY, BIG)))
+    say.tells(f"answer read 1 1 {0x8028} 2 00000000 cafe0001")
+    say.tells("can yes")
+    say.asks("write 2 1 33 0102030405", asks_write(3, 2, 1, 33, bytes((1, 2, 3, 4, 5))))
+    say.tells("answer -")
+    say.hear(response(asks_write(3, 2, 1, 33, b""), [written()], endian=LITTLE))
+    say.tells("answer write 2 1 33 3 00000000 -")
+    say.asks("write 2 1 33 -", asks_write(4, 2, 1, 33, b""))
+    say.hear(response(asks_write(4, 2, 1, 33, b""), [], status=0xDF80B500))
+    say.tells("answer write 2 1 33 4 df80b500 -")
+    say.tells("refusal df80b500")
+    say.state("exchanging")
+    for sequence, kind, endian in ((5, FAULT, LITTLE), (6, REJECT, BIG)):
+        asked = asks_read(sequence, 15, 65535, 65535)
+        say.asks("read 15 65535 65535", asked)
+        say.hear(packet(asked, kind, word(NO_OPERATION + sequence, endian), endian))
+        say.tells(f"answer read 15 65535 65535 {sequence} {NO_OPERATION + sequence:08x} -")
+        say.tells(f"refusal {NO_OPERATION + sequence:08x}")
+        say.state("exchanging")
+    for sequence, count, octets, came in ((7, 3, b"\1\2\3\4\5", "010203"), (8, 9, b"\1\2", "0102"), (9, 0, b"", "-"),
+                                          (10, 1308, bytes(range(256)) * 5 + bytes(28), (bytes(range(256)) * 5 + bytes(28)).hex())):
+        asked = asks_read(sequence, 0, 1, 0xAFF0)
+        say.asks(f"read 0 1 {0xAFF0}", asked)
+        say.hear(response(asked, [read_record(octets, count)]))
+        say.tells(f"answer read 0 1 {0xAFF0} {sequence} 00000000 {came}")
+    say.stops(release(11))
+    say.state("ended", "7")
+    say.tells("can no")
+    say.asks_in_vain("read 1 1 5", BUSY_NOW)
+    say.tells(f"answer read 0 1 {0xAFF0} 10 00000000 {came}")
+
+    say.begin("a-request-again", "It is sent again each second, counted from its sending, with the octets of a whole frame, and no more once it is answered.")
+    say.connected()
+    say.started()
+    record = bytes(n * 7 % 256 for n in range(1308))
+    asked = asks_write(2, 1, 1, 32, record)
+    say.lines.append("tick 7")
+    say.asks_in_vain(f"write 1 1 32 {record.hex()}00", TOO_LONG)
+    say.asks(f"write 1 1 32 {record.hex()}", asked)
+    say.runs(999)
+    say.lines.append("tick 31")
+    say.outputs_alone()
+    say.lines.append("tick 1")
+    say.lines.append(f"out {padded(asked).hex()}")
+    say.runs(999)
+    say.lines.append("tick 32")
+    say.outputs_alone(f"out {padded(asked).hex()}")
+    say.hear(response(asks_write(2, 1, 1, 32, b""), [written()]))
+    say.tells("answer write 1 1 32 2 00000000 -")
+    say.runs(1001)
+    say.state("exchanging")
+
+    say.begin("a-request-that-is-dropped", "The relation ends before its answer: it is not sent again, and its answer does not count.")
+    say.connected()
+    say.started()
+    asked = asks_read(2, 1, 1, 7)
+    say.asks("read 1 1 7", asked)
+    say.stops(release(3))
+    say.hear(response(asked, [read_record(b"\1")]))
+    say.tells("answer -")
+    say.lines.append("tick 32000")
+    say.lines.append(f"out {padded(release(3)).hex()}")
+    say.hear(response(release(3), []))
+    say.lines.append("tick 64000")
+    say.state("ended", "7")
 # The status of a Write that is refused (ErrorDecode PNIORW, access, of a conflict), and another one.
 CONFLICT, NO_STATION = 0xDF80B200, 0xDF80B000
 WRITES = Plan(32, 1, 3, ((1, 0x20, bytes.fromhex("0102030405")), (1, 0x20, bytes.fromhex("0607080900")), (2, 0x21, b"\xaa")))
@@ -380,8 +660,10 @@ def scenarios():
     say = Scenarios()
     answers(say)
     alarms(say)
+    priorities(say)
     differences(say)
     refusals(say)
+    requests(say)
     refused_records(say)
     first = ["# Stations of other makers: what each sends, and what the controller has to do.",
              "# `bench/interoperation/scapy_makers.py` printed this: all frames are those that Scapy builds."]

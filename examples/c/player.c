@@ -124,10 +124,14 @@ static void end_of(uint32_t answer)
 
 static void tick(uint32_t units)
 {
+    static pn_op reading;
+    uint32_t due;
     for (op.units = units; op.units != 0;) {
         uint32_t answer = pn_tick(&device, &op, op.units), left = op.units;
         if (answer != PN_OK)
             stop("pn_tick", answer);
+        if ((answer = pn_due(&device, &reading, &due)) != PN_OK || due != op.due)
+            stop("pn_due does not return what pn_tick says", answer);
         sent_length = 0;
         if (!carry_out())
             return;

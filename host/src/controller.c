@@ -183,6 +183,8 @@ static void take_frame(void *context, const uint8_t *octets, size_t length)
 
 static void stop(struct controller *controller, struct relation *relation)
 {
+    relation->is_stopped = 1;
+    relation->is_wanted = 0;
     if (relation->state == PN_ENDED)
         return;
     relation_stop(relation);
@@ -201,7 +203,14 @@ static void start_again(struct controller *controller, struct relation *relation
 /* Whether a controller that has ended is to be started again. */
 static int is_wanted_again(const struct controller *controller, const struct relation *relation)
 {
-    return controller->pause != 0 && !controller->is_stopped && relation->cause != PN_STOPPED;
+    return !controller->is_stopped && (relation->is_wanted || (controller->pause != 0 && !relation->is_stopped));
+}
+
+/* Whether it is time for that. */
+static int is_due_again(const struct controller *controller, const struct relation *relation)
+{
+    return is_wanted_again(controller, relation) && relation_is_over(relation) &&
+           (relation->is_wanted || ticker_now() >= relation->ends_at + controller->pause);
 }
 
 static void look_around(void *context)
@@ -211,7 +220,7 @@ static void look_around(void *context)
         struct relation *relation = &controller->relations[i];
         speak_for(controller, relation);
         relation_tell_waiting(relation);
-        if (relation_is_over(relation) && is_wanted_again(controller, relation) && ticker_now() >= relation->ends_at + controller->pause)
+        if (is_due_again(controller, relation))
             start_again(controller, relation);
     }
     speak_for(controller, NULL);
@@ -296,6 +305,7 @@ static void take_for_one(struct controller *controller, char *words[], void (*ta
     }
     speak_for(controller, relation);
     take(relation, words);
+    look_at_state(controller, relation);
     speak_for(controller, NULL);
 }
 
@@ -307,6 +317,21 @@ static void take_give(void *context, char *words[])
 static void take_status(void *context, char *words[])
 {
     take_for_one(context, words, relation_rate, "status SLOT SUBSLOT good|bad");
+}
+
+static void take_read(void *context, char *words[])
+{
+    take_for_one(context, words, access_read, "read SLOT SUBSLOT INDEX");
+}
+
+static void take_write(void *context, char *words[])
+{
+    take_for_one(context, words, access_write, "write SLOT SUBSLOT INDEX HEX");
+}
+
+static void take_restart(void *context, char *words[])
+{
+    take_for_one(context, words, relation_restart, "restart");
 }
 
 /* The line `stop` of one of several stations; without a name it is the loop's. */
@@ -323,16 +348,22 @@ static void take_stop(void *context, char *words[])
 static const struct command commands[] = {
     {"give", 4, take_give, "give SLOT SUBSLOT HEX   sets the output of a submodule"},
     {"status", 4, take_status, "status SLOT SUBSLOT good|bad   sets whether an output is good: its IOPS"},
+    {"read", 4, take_read, "read SLOT SUBSLOT INDEX   reads a record, while data is exchanged"},
+    {"write", 5, take_write, "write SLOT SUBSLOT INDEX HEX   writes a record, while data is exchanged"},
     {"show", 1, show, "show                    state, status, inputs and outputs"},
     {"statistics", 1, NULL, "statistics              counts since the start"},
+    {"restart", 1, take_restart, "restart                 releases the relation and starts it again, with all its parameters"},
     {"stop", 1, take_stop, "stop                    releases the relation and ends the program"},
     {NULL, 0, NULL, NULL}};
 
 static const struct command commands_of_several[] = {
     {"give", 4, take_give, "NAME give SLOT SUBSLOT HEX   sets the output of a submodule of this station"},
     {"status", 4, take_status, "NAME status SLOT SUBSLOT good|bad   sets whether an output of this station is good: its IOPS"},
+    {"read", 4, take_read, "NAME read SLOT SUBSLOT INDEX   reads a record of this station, while data is exchanged"},
+    {"write", 5, take_write, "NAME write SLOT SUBSLOT INDEX HEX   writes a record of this station, while data is exchanged"},
     {"show", 1, show, "[NAME] show                  state, status, inputs and outputs"},
     {"statistics", 1, NULL, "[NAME] statistics            counts since the start"},
+    {"restart", 1, take_restart, "NAME restart                 releases the relation of this station and starts it again, with all its parameters"},
     {"stop", 1, take_stop, "[NAME] stop                  releases the relation of this station; without a name, all, and ends the program"},
     {NULL, 0, NULL, NULL}};
 
@@ -372,12 +403,13 @@ static void usage(void)
          "  nandutable-controller eth1 pump.json valve.json --retry 5\n"
          "  echo 'give 2 1 00ff' | nandutable-controller eth1 pump.json\n"
          "\n"
-         "Lines that it accepts: `give SLOT SUBSLOT HEX`, `status SLOT SUBSLOT good|bad`, `show`, `statistics`,\n"
-         "`stop`, `help`. With several plans the name of a station and a blank are in front of each line that it prints about this station,\n"
-         "and of the lines `give`, `status`, `show`, `statistics` and `stop` that are for one station. On SIGUSR1 it prints its statistics; SIGTERM stops it, and a second one ends it at once. Its\n"
-         "status is the cause of its end (with several plans the lowest): 1 another device, 2 refused, 3 other modules, 4 data hold, 5 ended\n"
-         "by the device, 6 an alarm without answer, 7 stopped; 64 and more: it did not start (64: the plans do not fit together; 75: another\n"
-         "station has the name or the address).");
+         "Lines that it accepts: `give SLOT SUBSLOT HEX`, `status SLOT SUBSLOT good|bad`, `read SLOT SUBSLOT INDEX`,\n"
+         "`write SLOT SUBSLOT INDEX HEX`, `restart`, `show`, `statistics`, `stop`, `help`. With several plans the name of a station and a\n"
+         "blank are in front of each line that it prints about this station, and of the lines `give`, `status`, `read`, `write`, `restart`,\n"
+         "`show`, `statistics` and `stop` that are for one station. On SIGUSR1 it prints its statistics; SIGTERM stops it, and a second one\n"
+         "ends it at once. Its status is the cause of its end (with several plans the lowest): 1 another device, 2 refused, 3 other\n"
+         "modules, 4 data hold, 5 ended by the device, 6 an alarm without answer, 7 stopped; 64 and more: it did not start (64: the plans do\n"
+         "not fit together; 75: another station has the name or the address).");
 }
 
 static void take_pause(struct options *options, const char *word)

@@ -294,6 +294,7 @@ static void take_frame(void *context, const uint8_t *octets, size_t length)
     uint32_t note;
     if (!sets_let_in(&device->sets, octets, length, device->station.mac, ticker_now()))
         return;
+    pn_watch_frame(&device->watch, octets, length);
     loop_must(pn_frame(&device->room, &device->op, octets, length), "pn_frame");
     note = device->op.note;
     if (note < sizeof device->notes / sizeof device->notes[0])

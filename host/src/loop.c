@@ -119,14 +119,22 @@ static void carry_out(struct loop *loop, const struct command *command, char *wo
         loop->wake.is_ended = 1;
 }
 
-static void take_words(struct loop *loop, char *words[], int count)
+static const struct command *find_command(const struct loop *loop, const char *word)
 {
     for (const struct command *command = loop->events->commands; command->word != NULL; command++)
-        if (command->count == count && strcmp(command->word, words[0]) == 0) {
-            carry_out(loop, command, words);
-            return;
-        }
-    if (count == 1 && strcmp(words[0], "help") == 0)
+        if (strcmp(command->word, word) == 0)
+            return command;
+    return NULL;
+}
+
+static void take_words(struct loop *loop, char *words[], int count)
+{
+    const struct command *command = find_command(loop, words[0]);
+    if (command != NULL && command->count == count)
+        carry_out(loop, command, words);
+    else if (command != NULL)
+        lines_answer(&loop->lines, "wrong: %s", command->help);
+    else if (count == 1 && strcmp(words[0], "help") == 0)
         help(loop);
     else
         lines_answer(&loop->lines, "wrong: no such line; `help` lists them");
@@ -136,8 +144,8 @@ static void take_line(void *context, char *line)
 {
     struct loop *loop = context;
     const struct events *events = loop->events;
-    char *words[5]; /* the name of a station, and at most four others */
-    int count = words_part(line, words, 5), named = 0;
+    char *words[6]; /* the name of a station, and at most five others */
+    int count = words_part(line, words, 6), named = 0;
     if (count == 0)
         return;
     if (count > 1 && events->choose != NULL)

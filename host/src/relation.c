@@ -1,5 +1,6 @@
 #define _GNU_SOURCE
 #include "relation.h"
+#include "alarms.h"
 #include "arp.h"
 #include "calls.h"
 #include "say.h"
@@ -133,7 +134,9 @@ void relation_make(struct relation *relation, struct loop *loop)
     relation->last_cyclic = 0;
     relation->ends_at = 0;
     relation->conflicts = 0;
-    memset(&relation->alarm, 0, sizeof relation->alarm);
+    relation->alarms[0] = relation->alarms[1] = -1;
+    relation->access.is_waiting = 0;
+    relation->is_stopped = relation->is_wanted = 0;
     relation->refused = 0;
     memset(&relation->reasons, 0, sizeof relation->reasons);
     memset(&relation->holders, 0, sizeof relation->holders);
@@ -188,20 +191,26 @@ static void look_at_providers(struct relation *relation)
     }
 }
 
-/* Reports the last alarm, if it differs from the one reported before. */
-static void look_at_alarm(struct relation *relation)
+/* Reports the last alarm of a priority, if it is another one than that reported before. */
+static void look_at_alarm(struct relation *relation, int is_low)
 {
-    pn_op *op = &relation->op, *told = &relation->alarm;
-    char label[64], text[2 * PN_OP_SIZE + 96];
-    if (pn_controller_alarm(&relation->room, op) != PN_OK)
+    pn_op *op = &relation->op;
+    struct alarm alarm;
+    char text[ALARMS_LONGEST];
+    int number;
+    if (pn_controller_report(&relation->room, op, is_low) != PN_OK)
         return;
-    if (told->length == op->length && told->note == op->note && told->slot == op->slot && told->subslot == op->subslot && told->units == op->units &&
-        memcmp(told->octets, op->octets, op->length) == 0)
+    number = (int)op->sector;
+    if (number == relation->alarms[is_low])
         return;
-    *told = *op;
-    snprintf(label, sizeof label, "alarm %u %u %u %u", (unsigned)op->note, (unsigned)op->slot, (unsigned)op->subslot, (unsigned)op->units);
-    words_labelled(text, sizeof text, label, op->octets, op->length);
+    relation->alarms[is_low] = number;
+    alarm = (struct alarm){.is_low = is_low, .type = op->note, .slot = op->slot, .subslot = op->subslot, .specifier = op->units,
+                           .structure = op->more > 65535 ? -1 : (long)op->more, .octets = op->octets, .length = op->length};
+    alarms_line(&alarm, text, sizeof text);
     lines_tell(&relation->loop->lines, "%s", text);
+    if (alarms_wants_parameters(alarm.type))
+        lines_tell(&relation->loop->lines, "warning slot %u subslot %u: it gets its parameters again when the relation is started again: line restart",
+                   alarm.slot, alarm.subslot);
 }
 
 static void tell_end(struct relation *relation)
@@ -363,7 +372,9 @@ void relation_look_at_data(struct relation *relation, const uint8_t *octets, siz
     } else if (before == PN_WRITING && relation->state == PN_WRITING) {
         look_at_refused(relation);
     } else if (before == PN_DATA_EXCHANGE) {
-        look_at_alarm(relation);
+        look_at_alarm(relation, 0);
+        look_at_alarm(relation, 1);
+        access_look(relation);
     }
     if (before == PN_ENDED && calls_is(octets, length, CALLS_RESPONSE))
         relation->ends_at = ticker_now();
@@ -410,6 +421,7 @@ void relation_tell_state(struct relation *relation)
         return;
     }
     tell_end(relation);
+    access_drop(relation);
     look_at_inputs(relation);
     /* For these two causes the controller sends a Release; the program waits for its answer. */
     relation->ends_at = ticker_now() + (relation->cause == PN_STOPPED || relation->cause == PN_MODULE_DIFF ? RELEASE_WAITS : 0);
@@ -418,6 +430,7 @@ void relation_tell_state(struct relation *relation)
 void relation_tell_waiting(struct relation *relation)
 {
     char text[448];
+    access_tell_waiting(relation);
     waiting_ask(&relation->waiting, &relation->loop->wire);
     if (waiting_line(&relation->waiting, &relation->loop->wire, text, sizeof text))
         lines_tell(&relation->loop->lines, "%s", text);
@@ -429,6 +442,49 @@ int relation_is_over(const struct relation *relation)
 }
 
 /* --- Lines --- */
+
+const char *relation_state(const struct relation *relation)
+{
+    return states[relation->state];
+}
+
+int relation_request(struct relation *relation, const struct access *access, const uint8_t *octets, size_t length)
+{
+    pn_op *op = &relation->op;
+    const char *call = access->is_write ? "pn_controller_write_record" : "pn_controller_read_record";
+    uint32_t answer;
+    catch_up(relation);
+    if (access->is_write)
+        answer = pn_controller_write_record(&relation->room, op, access->slot, access->subslot, access->index, octets, length);
+    else
+        answer = pn_controller_read_record(&relation->room, op, access->slot, access->subslot, access->index);
+    if (answer != PN_BUSY)
+        loop_must(answer, call);
+    send_all(relation);
+    look_ahead(relation);
+    return answer == PN_OK;
+}
+
+int relation_answer(struct relation *relation, struct relation_answer *answer)
+{
+    pn_op *op = &relation->op;
+    uint32_t status = 0;
+    if (pn_controller_answer(&relation->room, op, &status) != PN_OK)
+        return 0;
+    spell_status(answer->status, status);
+    answer->is_refused = status != 0;
+    answer->octets = op->octets;
+    answer->length = op->length;
+    return 1;
+}
+
+void relation_restart(struct relation *relation, char *words[])
+{
+    (void)words;
+    relation->is_wanted = 1;
+    if (relation->state != PN_ENDED)
+        relation_stop(relation);
+}
 
 void relation_tell_cyclic(struct relation *relation, lines_writer tell)
 {

@@ -2,6 +2,7 @@
 #ifndef HOST_RELATION_H
 #define HOST_RELATION_H
 
+#include "access.h"
 #include "histogram.h"
 #include "loop.h"
 #include "naming.h"
@@ -39,8 +40,11 @@ struct relation {
     uint8_t device[6];      /* the other end of the relation, to which the cyclic frames go */
     int has_device;
     uint64_t interval; /* of cyclic frames, in nanoseconds */
-    pn_op alarm;       /* the last that was reported */
-    uint32_t refused;  /* the number of the last refused record that was reported, from 1 on */
+    int alarms[2];     /* of each priority, the number of the last alarm that was reported; -1: none yet */
+    struct access access;
+    int is_stopped;   /* by a line: it is not started again by itself */
+    int is_wanted;    /* by a line: it is started again once it has ended */
+    uint32_t refused; /* the number of the last refused record that was reported, from 1 on */
     /* Statistics. */
     struct histogram intervals; /* between received frames */
     struct histogram jitter;    /* how far these differ from the plan's */
@@ -94,6 +98,26 @@ void relation_tell_waiting(struct relation *relation);
 
 /* Whether the controller has ended, and does not wait any more for the answer to its Release. */
 int relation_is_over(const struct relation *relation);
+
+/* Its state, as text. */
+const char *relation_state(const struct relation *relation);
+
+/* Hands in the request of the application. Returns 0 if the relation has ended in the time before it. */
+int relation_request(struct relation *relation, const struct access *access, const uint8_t *octets, size_t length);
+
+/* The answer to such a request. */
+struct relation_answer {
+    int is_refused;
+    uint8_t status[4]; /* if it is: the PNIOStatus, or the status of a reject or a fault */
+    const uint8_t *octets;
+    size_t length;
+};
+
+/* Fills in the answer to the last request. Returns whether there is one. */
+int relation_answer(struct relation *relation, struct relation_answer *answer);
+
+/* The line `restart`: ends the relation, after which the program starts it again. */
+void relation_restart(struct relation *relation, char *words[]);
 
 /* The line `give`, with its words. */
 void relation_give(struct relation *relation, char *words[]);

@@ -27,6 +27,22 @@ static int digit(char letter)
     return letter >= 'a' && letter <= 'f' ? letter - 'a' + 10 : -1;
 }
 
+int words_index(const char *word, unsigned long *value)
+{
+    unsigned long sum = 0;
+    if (word[0] != '0' || word[1] != 'x' || word[2] == '\0')
+        return words_number(word, 65535, value);
+    for (word += 2; *word != '\0'; word++) {
+        if (digit(*word) < 0)
+            return 0;
+        sum = sum * 16 + (unsigned long)digit(*word);
+        if (sum > 65535)
+            return 0;
+    }
+    *value = sum;
+    return 1;
+}
+
 long words_octets(const char *word, uint8_t *octets, size_t most)
 {
     size_t length = strlen(word);

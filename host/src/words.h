@@ -8,6 +8,9 @@
 /* Reads the whole argument as a decimal number of at most `most`. Returns whether it is one. */
 int words_number(const char *word, unsigned long most, unsigned long *value);
 
+/* Reads the index of a record: a decimal number of at most 65,535, or `0x` and hex digits. Returns whether it is one. */
+int words_index(const char *word, unsigned long *value);
+
 /* Reads the whole argument as octets in hex, at most `most` of them. Returns their number, or -1. */
 long words_octets(const char *word, uint8_t *octets, size_t most);
 

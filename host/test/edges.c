@@ -216,6 +216,8 @@ static void misuse(void)
     wants("time in front of the work", pn_controller_tick(&controller, &op, 1), PN_HAS_WORK);
     wants("a value in front of the work", pn_controller_give(&controller, &op, 2, 1, octets, 2), PN_HAS_WORK);
     wants("an end in front of the work", pn_controller_stop(&controller, &op), PN_HAS_WORK);
+    wants("a read in front of the work", pn_controller_read_record(&controller, &op, 1, 1, 1), PN_HAS_WORK);
+    wants("a write in front of the work", pn_controller_write_record(&controller, &op, 1, 1, 1, octets, 4), PN_HAS_WORK);
     keep("the first frame", pn_controller_next(&controller, &op));
     if (op.work != PN_SEND || op.length < 26 || memcmp(op.octets, "\x01\x0E\xCF\x00\x00\x00", 6) != 0)
         exit(1);
@@ -233,6 +235,16 @@ static void misuse(void)
     wants("no plan to fill it in from", pn_plan_station(NULL, &station), PN_NULL);
     wants("no such input", pn_controller_value(&controller, &op, 9, 9), PN_NO_SLOT);
     wants("no alarm", pn_controller_alarm(&controller, &op), PN_NO_SLOT);
+    wants("no alarm of high priority", pn_controller_report(&controller, &op, 0), PN_NO_SLOT);
+    wants("no alarm of low priority", pn_controller_report(&controller, &op, 1), PN_NO_SLOT);
+    wants("no operation for a report", pn_controller_report(&controller, NULL, 1), PN_NULL);
+    wants("a read without data", pn_controller_read_record(&controller, &op, 1, 1, 1), PN_BUSY);
+    wants("a write without data", pn_controller_write_record(&controller, &op, 1, 1, 1, octets, 1308), PN_BUSY);
+    wants("a write that is too long", pn_controller_write_record(&controller, &op, 1, 1, 1, octets, 1309), PN_BAD_LENGTH);
+    wants("a write of no octets", pn_controller_write_record(&controller, &op, 1, 1, 1, NULL, 4), PN_NULL);
+    wants("no operation for a read", pn_controller_read_record(&controller, NULL, 1, 1, 1), PN_NULL);
+    wants("no answer", pn_controller_answer(&controller, &op, &number), PN_NO_ANSWER);
+    wants("no number for an answer", pn_controller_answer(&controller, &op, NULL), PN_NULL);
     wants("no refusal", pn_controller_refusal(&controller, &op, &number), PN_NO_REFUSAL);
     wants("no refused record", pn_controller_refused_record(&controller, &op, &number, &number), PN_NO_REFUSAL);
     keep("a frame that is too long", pn_controller_frame(&controller, &op, octets, sizeof octets));

@@ -1,4 +1,5 @@
-/* Prints the names of statuses, for a comparison with the names that another program has. */
+/* Prints the names of statuses, alarms, structures and errors of a channel, for a comparison with the names that another program has. */
+#include "../src/alarms.c"
 #include "../src/statuses.c"
 
 static void print(const char *kind, const struct meaning *list, size_t count)
@@ -16,5 +17,14 @@ int main(void)
     PRINT("connection", connections);
     PRINT("abort", aborts);
     PRINT("call", calls);
+    for (unsigned type = 0; type < 256; type++)
+        if (*alarms_type(type) != '\0')
+            printf("alarm %u %s\n", type, alarms_type(type));
+    for (unsigned identifier = 0; identifier < 65536; identifier++)
+        if (*alarms_structure(identifier) != '\0')
+            printf("structure %u %s\n", identifier, alarms_structure(identifier));
+    for (unsigned error = 0; error < 65536; error++)
+        if (*alarms_error(error) != '\0')
+            printf("error %u %s\n", error, alarms_error(error));
     return 0;
 }

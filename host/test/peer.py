@@ -1,4 +1,4 @@
-"""Stations at the end d0 of a wire that answer what a test tells them to answer, and nothing else. Their frames are made here."""
+"""Stations at the end d0 of a wire that answer what a test tells them to answer, and nothing else; a partner also exchanges data. Their frames are made here."""
 
 import struct
 import threading
@@ -7,7 +7,8 @@ import time
 from wire import block
 
 ZEROS = bytes(4)
-CONNECT, WRITE, PRM_END = 0x0101, 0x0008, 0x0110
+CONNECT, WRITE, READ, PRM_END, RELEASE, READY = 0x0101, 0x0008, 0x0009, 0x0110, 0x0114, 0x0112
+FAULT, REJECT = 3, 6  # packet types of DCE/RPC
 RPC_AT, BLOCKS_AT = 42, 142  # after Ethernet, IPv4 and UDP; and after the header of DCE/RPC and the sizes of the arguments
 
 
@@ -56,14 +57,17 @@ class Station(threading.Thread):
 
     `identifies`: how often it answers an Identify for its name; `is_careless`: for another name too. `sets`: the BlockError of its answer to a
     Set, None for no answer. `arp`: the address for which it answers ARP, or None. `calls`: the PNIOStatus of its answer to a call, by the type of
-    the first block, or for a Write by that type and the index; no answer if there is none."""
+    the first block, or for a Write by that type and the index; no answer if there is none. `rejects`: a packet type (FAULT, REJECT) and the octets
+    with which it answers such a call instead. `differs`: the ModuleState and the SubmoduleState of slot 1 subslot 1 in its answer to the Connect, or
+    None. `reference`: its LocalAlarmReference."""
 
     def __init__(self, wire, number, name="pump-1", identity=(291, 1110), suite=bytes(12), identifies=1, is_careless=False, sets=None, arp=None,
-                 calls=None):
+                 calls=None, rejects=None, differs=None, reference=1):
         super().__init__(daemon=True)
         self.link, self.mac = wire.socket("d0"), mac_of(number)
         self.name_of_station, self.identity, self.suite = name.encode(), identity, suite
         self.identifies, self.is_careless, self.sets, self.arp, self.calls = identifies, is_careless, sets, arp, calls or {}
+        self.rejects, self.differs, self.reference = rejects or {}, differs, reference
         self.is_over = False
         self.start()
 
@@ -78,6 +82,7 @@ class Station(threading.Thread):
     def run(self):
         self.link.settimeout(0.02)
         while not self.is_over:
+            self.tick()
             try:
                 came = self.link.recv(2048)
                 self.hear(came)
@@ -85,6 +90,9 @@ class Station(threading.Thread):
                 continue
             except OSError:  # the link is down
                 time.sleep(0.02)
+
+    def tick(self):
+        """What it sends by itself."""
 
     def send(self, octets):
         self.link.send(octets.ljust(60, b"\0"))
@@ -120,18 +128,146 @@ class Station(threading.Thread):
         kind = struct.unpack_from(">H", came, BLOCKS_AT)[0]
         index = int.from_bytes(came[BLOCKS_AT + 34:BLOCKS_AT + 36], "big")  # of a Write
         status = self.calls.get((kind, index), self.calls.get(kind))
-        if status is None:
-            return
-        order = "<" if came[RPC_AT + 4] >> 4 == 1 else ">"
-        blocks = b"" if status != ZEROS else self.connected(came) if kind == CONNECT else block_of(kind | 0x8000, came[BLOCKS_AT + 6:BLOCKS_AT + 32])
-        body = struct.pack(order + "5I", int.from_bytes(status, "big"), len(blocks), len(blocks), 0, len(blocks)) + blocks
+        if kind in self.rejects:
+            self.respond(came, *self.rejects[kind])
+        elif status is not None:
+            blocks = self.blocks_to(kind, came) if status == ZEROS else b""
+            order = "<" if came[RPC_AT + 4] >> 4 == 1 else ">"
+            self.respond(came, 2, struct.pack(order + "5I", int.from_bytes(status, "big"), len(blocks), len(blocks), 0, len(blocks)) + blocks)
+
+    def respond(self, came, packet_type, body):
+        """Answers a call by a packet of this type, in the order of octets of the call."""
         head = bytearray(came[RPC_AT:RPC_AT + 80])
-        head[1:3] = b"\2\x0a"
-        head[74:76] = struct.pack(order + "H", len(body))
+        head[1:3] = bytes((packet_type, 0x0A if packet_type == 2 else 0x08))
+        head[74:76] = struct.pack("<H" if head[4] >> 4 == 1 else ">H", len(body))
         self.send(came[6:12] + self.mac + b"\x08\0" + internet(came[30:34], came[26:30], bytes(head) + body))
+
+    def blocks_to(self, kind, came):
+        """The blocks of a positive answer."""
+        return self.connected(came) if kind == CONNECT else block_of(kind | 0x8000, came[BLOCKS_AT + 6:BLOCKS_AT + 32])
 
     def connected(self, came):
         """The blocks of a positive answer to a Connect."""
         ar = came[BLOCKS_AT + 6:BLOCKS_AT + 26]  # ARType, ARUUID and SessionKey
         return (block_of(0x8101, ar + self.mac + b"\x88\x92") + block_of(0x8102, struct.pack(">HHH", 1, 1, 0xC001)) +
-                block_of(0x8102, struct.pack(">HHH", 2, 2, 0xC000)) + block_of(0x8103, struct.pack(">HHH", 1, 1, 200)))
+                block_of(0x8102, struct.pack(">HHH", 2, 2, 0xC000)) + block_of(0x8103, struct.pack(">HHH", 1, self.reference, 200)) +
+                (block_of(0x8104, struct.pack(">HIHHIHHHIH", 1, 0, 1, 1, 0x110, self.differs[0], 1, 1, 0x110, self.differs[1])) if self.differs else b""))
+
+
+def place_of(came):
+    """Slot, subslot and index of a Read or a Write."""
+    slot, subslot, _, index = struct.unpack_from(">4H", came, BLOCKS_AT + 28)
+    return slot, subslot, index
+
+
+class End:
+    """The alarms of one priority of a partner."""
+
+    def __init__(self, is_low):
+        self.name, self.frame_id, self.tag = ("low", 0xFE01, 0xA000) if is_low else ("high", 0xFC01, 0xC000)
+        self.block = 2 if is_low else 1
+        self.sent, self.taken = 0xFFFE, 0xFFFE  # before the first
+        self.acked = []  # the number of each ACK that came
+        self.acknowledged = []  # of each AlarmAck: block, AlarmType, slot, subslot, AlarmSpecifier, PNIOStatus
+
+
+class Partner(Station):
+    """A station that also exchanges data, as the demo station does: two octets of input in slot 1, two of output in slot 2. It raises alarms, and
+    keeps records: `records` by slot, subslot and index. `is_mute`: it answers no call."""
+
+    def __init__(self, wire, number, *words, **more):
+        self.ends = {"high": End(False), "low": End(True)}
+        self.records, self.asked, self.is_mute = {}, [], False
+        self.ar, self.controller, self.value, self.counter, self.next_at = None, None, bytes(2), 0, 0.0
+        super().__init__(wire, number, *words, **{"sets": 0, "calls": {kind: ZEROS for kind in (CONNECT, WRITE, READ, PRM_END, RELEASE)}, **more})
+
+    def tick(self):
+        now = time.monotonic()
+        if self.ar is None or now < self.next_at:
+            return
+        self.next_at, self.counter = now + 0.008, (self.counter + 256) % 65536
+        data = b"\x80" * 3 + self.value + b"\x80\x80"
+        self.real_time(0xC000, 0xC001, data.ljust(40, b"\0") + struct.pack(">HBB", self.counter, 0x35, 0))
+
+    def real_time(self, tag, frame_id, octets):
+        self.send(self.controller[:6] + self.mac + struct.pack(">HHHH", 0x8100, tag, 0x8892, frame_id) + octets)
+
+    def hear(self, came):
+        number = int.from_bytes(came[14:16], "big") if came[12:14] == b"\x88\x92" else 0
+        end = {0xFC01: self.ends["high"], 0xFE01: self.ends["low"]}.get(number)
+        if end is not None and came[:6] == self.mac:
+            self.hear_alarm(end, came[16:])
+        else:
+            super().hear(came)
+
+    def call(self, came):
+        kind = struct.unpack_from(">H", came, BLOCKS_AT)[0]
+        self.asked.append(kind)
+        if self.is_mute:
+            return
+        if kind == WRITE:
+            length = struct.unpack_from(">I", came, BLOCKS_AT + 36)[0]
+            self.records[place_of(came)] = came[BLOCKS_AT + 64:BLOCKS_AT + 64 + length]
+        elif kind == READ:
+            self.calls[READ] = ZEROS if place_of(came) in self.records else b"\xde\x80\xb0\0"
+        elif kind == CONNECT:
+            self.connect(came)
+        elif kind == RELEASE:
+            self.ar = None
+        super().call(came)
+        if kind == PRM_END:
+            self.call_ready()
+
+    def blocks_to(self, kind, came):
+        if kind != READ:
+            return super().blocks_to(kind, came)
+        record = self.records[place_of(came)]
+        return block_of(0x8009, came[BLOCKS_AT + 6:BLOCKS_AT + 36] + struct.pack(">I", len(record)) + bytes(24)) + record
+
+    def connect(self, came):
+        """Keeps what the Connect says: the ARUUID and the SessionKey, the other end, and its LocalAlarmReference."""
+        at, end = BLOCKS_AT, BLOCKS_AT + int.from_bytes(came[BLOCKS_AT - 16:BLOCKS_AT - 12], "big")
+        while at < min(end, len(came)):
+            kind, length = struct.unpack_from(">HH", came, at)
+            if kind == 0x0101:
+                self.object = came[at + 32:at + 48]
+            elif kind == 0x0103:
+                self.other_reference = struct.unpack_from(">H", came, at + 18)[0]
+            at += 4 + length
+        self.ends = {"high": End(False), "low": End(True)}
+        self.controller = came[6:12] + came[26:30] + came[30:34]  # its MAC and address, and this station's address
+        self.ar = came[BLOCKS_AT + 8:BLOCKS_AT + 26]
+
+    def call_ready(self):
+        """Calls ApplicationReady."""
+        block = block_of(READY, bytes(2) + self.ar[:16] + self.ar[16:] + struct.pack(">HHH", 0, 2, 0))
+        body = struct.pack(">5I", len(block), len(block), len(block), 0, len(block)) + block
+        head = (bytes.fromhex("04002000" "00000000") + self.object + bytes.fromhex("dea000026c9711d1827100a02442df7d") + b"\x5e" * 16 +
+                struct.pack(">IIIHHHHHBB", 0, 1, 0, 4, 0xFFFF, 0xFFFF, len(body), 0, 0, 0))
+        self.send(self.controller[:6] + self.mac + b"\x08\0" + internet(self.controller[10:14], self.controller[6:10], head + body))
+
+    # ---- alarms
+
+    def pdu(self, end, kind, body=b""):
+        head = struct.pack(">HHBBHHH", self.other_reference, self.reference, 0x10 | kind, 0x11 if kind == 1 else 1, end.sent, end.taken, len(body))
+        self.real_time(end.tag, end.frame_id, head + body)
+
+    def raises(self, name, alarm_type, slot, subslot, specifier, octets, idents=(16, 16), is_again=False):
+        """Sends an alarm of this priority: `octets` follow the specifier."""
+        end = self.ends[name]
+        if not is_again:
+            end.sent = 0xFFFF if end.sent == 0xFFFE else (end.sent + 1) % 32768
+        self.pdu(end, 1, block_of(end.block, struct.pack(">HIHHIIH", alarm_type, 0, slot, subslot, *idents, specifier) + octets))
+
+    def hear_alarm(self, end, octets):
+        destination, source, kind, _, number, acked, _ = struct.unpack_from(">HHBBHHH", octets)
+        if (destination, source) != (self.reference, self.other_reference):
+            end.acked.append(f"a PDU from {source} to {destination}")
+        elif kind & 15 == 3:
+            end.acked.append(acked)
+        elif kind & 15 == 1:
+            block, alarm_type, _, slot, subslot, specifier, status = struct.unpack_from(">H4xHIHHHI", octets, 12)
+            if number != end.taken:
+                end.acknowledged.append((block, alarm_type, slot, subslot, specifier, status))
+            end.taken = number
+            self.pdu(end, 3)

@@ -11,14 +11,15 @@ use Rattle.pn_alarms.specs.declared.pdu.Header.{Header}
 use Rattle.pn_alarms.specs.declared.pdu.PduType.{PduType}
 use Rattle.pn_alarms.specs.declared.pdu.PduType.TheVariants as pdu
 use Rattle.pn_alarms.specs.Abort.{abort_of}
-use Rattle.pn_alarms.specs.Carried.{ack_of, alarm_pdu, notification_of}
+use Rattle.pn_alarms.specs.Carried.{ack_of, alarm_pdu}
 use Rattle.std.proofs.lemmas.Bool.{le-leb}
 use Rattle.wire.specs.Codec.{◌>>=◌}
 use Rattle.pn_alarms.specs.Format.{Said, flags_of, header, is_long, kind, pdu_bytes, pdu_of}
 use Rattle.pn_alarms.specs.Message.{alarm_of, message_of, notice_in, notice_of}
+use Rattle.pn_alarms.specs.Report.{ours, report_of}
 use Rattle.codec_laws.specs.blocks.Writable.{IsAck, IsAlarm}
 use Rattle.codec_laws.specs.alarms.Sendable.{CanBeSaid, IsHeader, ack_pdu, empty_pdu}
-use Rattle.codec_laws.proofs.AlarmsBlocks.{BlocksAreLong, BlocksAreRead, ack_long, ack_read, alarm_long, alarm_read}
+use Rattle.codec_laws.proofs.AlarmsBlocks.{BlocksAreLong, BlocksAreRead, OursIsRead, ack_long, ack_read, alarm_long, alarm_read}
 
 -- ---- any PDU
 
@@ -71,12 +72,12 @@ ack_said fitting reads sized value ack more same is good =
     let can : CanBeSaid (ack_pdu value ack) = record { header = is; long = any_long value.kind (length (ack_pdu value ack).body) (omega (arith, ack_long sized ack)); few = omega (arith, ack_long sized ack) } in
     says fitting ack_of (ack_pdu value ack) more pdu.Data (notice.Data value.send_number ack) can same (rw (ack_read reads ack good) refl)
 
-pub alarm_said : FittingIsRead → BlocksAreRead → BlocksAreLong → (value : Header) (alarm : AlarmNotification) (more : List ℕ) → value.kind ≡ pdu.Data → IsHeader value → IsAlarm alarm
-    → alarm_of (pdu_bytes (alarm_pdu value alarm) ++ more) ≡ Ok (value, notice.Data value.send_number alarm)
+pub alarm_said : FittingIsRead → OursIsRead → BlocksAreLong → (value : Header) (alarm : AlarmNotification) (more : List ℕ) → value.kind ≡ pdu.Data → IsHeader value → IsAlarm alarm
+    → alarm_of (pdu_bytes (alarm_pdu value alarm) ++ more) ≡ Ok (value, notice.Data value.send_number (ours alarm))
 alarm_said fitting reads sized value alarm more same is good =
     let can : CanBeSaid (alarm_pdu value alarm) =
     record { header = is; long = any_long value.kind (length (alarm_pdu value alarm).body) (omega (arith, alarm_long sized alarm)); few = omega (arith, alarm_long sized alarm, good.few) } in
-    says fitting notification_of (alarm_pdu value alarm) more pdu.Data (notice.Data value.send_number alarm) can same (rw (alarm_read reads alarm good) refl)
+    says fitting report_of (alarm_pdu value alarm) more pdu.Data (notice.Data value.send_number (ours alarm)) can same (rw (alarm_read reads alarm good) refl)
 
 -- a PDU without a body
 empty_is : (value : Header) (type : PduType) → value.kind ≡ type → is_long type 0 ≡ true → IsHeader value → CanBeSaid (empty_pdu value)

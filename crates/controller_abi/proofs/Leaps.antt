@@ -2,6 +2,8 @@
 use Rattle.std.proofs.Common.{◌≡◌, ◌+◌, ◌≤◌, ◌++◌, ℕ, zero, suc, Bool, true, false, List, [], ◌∷◌, map, Some, None, if◌then◌else◌, refl, sym, ap, subst, ◌∙◌, arith}
 use Rattle.std.specs.Prelude.{◌||◌, ◌&&◌, not}
 use Rattle.cyclic_exchange.specs.Units.{Brought}
+use Rattle.pn_alarms.specs.declared.repeats.Due.{Due}
+use Rattle.pn_alarms.specs.Sending.{due}
 use Rattle.controller_core.specs.declared.event.Event.TheVariants.{Tick}
 use Rattle.controller_core.specs.declared.state.State as phase
 use Rattle.controller_core.specs.Leaps.{ticks_of}
@@ -24,18 +26,19 @@ map_none f (item ∷ items) none = cc none
 abbrev TypeOf : {A : Type 0} → A → Type 0
 TypeOf {A = A} value = A
 
-by_ending : (live : Live) (is_request : Bool) (tick : Brought) (ending : TypeOf tick.ending) → (flowed live is_request tick ending).sent ≡ [] → (flowed live is_request tick ending).live.phase ≡ live.phase
-by_ending live is_request tick None none = refl
-by_ending live is_request tick (Some reason) none = cc none
+by_ending : (live : Live) (high low : Due) (is_request : Bool) (tick : Brought) (ending : TypeOf tick.ending) → (flowed live high low is_request tick ending).sent ≡ []
+    → (flowed live high low is_request tick ending).live.phase ≡ live.phase
+by_ending live high low is_request tick None none = refl
+by_ending live high low is_request tick (Some reason) none = cc none
 
 abbrev gone_by : Live → Bool → Bool → Turn
 gone_by live is_request stands =
-    if stands then flowed (exchange_later live) is_request (brought live) (brought live).ending
+    if stands then flowed (exchange_later live) (due live.alarms.sending) (due live.low_alarms.sending) is_request (brought live) (brought live).ending
     else record { live = live; sent = where_due is_request (requests_of live.device live.asked) }
 
 by_relation : (live : Live) (is_request stands : Bool) → (gone_by live is_request stands).sent ≡ [] → (gone_by live is_request stands).live.phase ≡ live.phase
 by_relation live is_request false none = refl
-by_relation live is_request true none = by_ending (exchange_later live) is_request (brought live) (brought live).ending none
+by_relation live is_request true none = by_ending (exchange_later live) (due live.alarms.sending) (due live.low_alarms.sending) is_request (brought live) (brought live).ending none
 
 gone_phase : (live : Live) (is_request : Bool) → (gone_on live is_request).sent ≡ [] → (gone_on live is_request).live.phase ≡ live.phase
 gone_phase live is_request none = by_relation live is_request live.stands none

@@ -1,5 +1,5 @@
--- The outputs of the submodules of a plan.
-use Rattle.std.specs.Prelude.{◌==◌, ℕ, Bool, true, false, if◌then◌else◌, List, [], ◌∷◌, Option, Some, None}
+-- The outputs of the submodules of a plan, and why an operation is refused.
+use Rattle.std.specs.Prelude.{◌==◌, nat_le, ℕ, Bool, true, false, if◌then◌else◌, List, [], ◌∷◌, Option, Some, None}
 use Rattle.pn_values.specs.declared.real.RealModule.{RealModule}
 use Rattle.pn_values.specs.declared.real.RealSubmodule.{RealSubmodule}
 
@@ -31,3 +31,15 @@ abbrev pub why_not_set : Bool → Option ℕ → ℕ → Option ℕ
 why_not_set true output size = Some 7
 why_not_set false None size = Some 9
 why_not_set false (Some output) size = why_not_fit output size
+
+-- Why no record is read, if it is not read: 7, frames of the step before remain; 26, no data is exchanged, or another
+-- request waits for its answer.
+abbrev pub why_not_read : Bool → Bool → Option ℕ
+why_not_read true can = Some 7
+why_not_read false true = None
+why_not_read false false = Some 26
+
+-- The same of a record of this size that is written: 8 if it is longer than a call can carry.
+abbrev pub why_not_written : Bool → Bool → ℕ → Option ℕ
+why_not_written true can size = Some 7
+why_not_written false can size = if nat_le size 1308 then why_not_read false can else Some 8

@@ -2,13 +2,18 @@
 -- afterwards: an equation of the whole operation says which fields are written, and with what. All other fields are
 -- unchanged, and so are the octets after those that are written. A refused operation changes nothing, neither in the
 -- controller nor in the operation.
-use Rattle.std.specs.Prelude.{◌≡◌, ◌+◌, ◌*◌, ◌==◌, ℕ, Bool, true, false, not, if◌then◌else◌, List, [], ◌∷◌, length, min, take, Option, Some, None}
+use Rattle.std.specs.Prelude.{◌≡◌, ◌+◌, ◌*◌, ◌==◌, nat_lt, ℕ, Bool, true, false, not, if◌then◌else◌, List, [], ◌∷◌, length, min, take, Option, Some, None}
 use Rattle.record_blocks.specs.declared.alarm_notification.AlarmNotification.{AlarmNotification}
 use Rattle.controller_core.specs.Cause.{number_of}
 use Rattle.cyclic_exchange.specs.Process.{value_at}
 use Rattle.cyclic_exchange.specs.declared.exchange.ProviderStatus.{ProviderStatus}
 use Rattle.rpc_core.specs.declared.response.Status.{Status}
-use Rattle.controller_core.specs.Machine.{provider_of}
+use Rattle.pn_alarms.specs.declared.priority.Priority.{Priority}
+use Rattle.pn_alarms.specs.declared.priority.Priority.TheVariants.{High, Low}
+use Rattle.pn_alarms.specs.declared.report.Report.{Report}
+use Rattle.controller_core.specs.Access.{record_of}
+use Rattle.controller_core.specs.Machine.{can_request, end_of, provider_of, report_in}
+use Rattle.controller_core.specs.declared.access.Answer.{Answer}
 use Rattle.controller_core.specs.declared.state.RefusedRecord.{RefusedRecord}
 use Rattle.controller_core.specs.declared.event.Event.{Event}
 use Rattle.controller_core.specs.declared.event.Event.TheVariants as event
@@ -19,7 +24,7 @@ use Rattle.c_layout.specs.Places.{place_in}
 use Rattle.c_layout.specs.Reported.{with_octets}
 use Rattle.controller_abi.specs.declared.operation.Operation.{Operation}
 use Rattle.controller_abi.specs.declared.operation.Operation.TheVariants as operation
-use Rattle.controller_abi.specs.Outputs.{output_at, why_not_rated, why_not_set}
+use Rattle.controller_abi.specs.Outputs.{output_at, why_not_rated, why_not_read, why_not_set, why_not_written}
 use Rattle.controller_abi.specs.State.{State, advanced, after, has_frames, port_due_in}
 use Rattle.controller_abi.specs.Steps.{Passes}
 
@@ -39,7 +44,11 @@ operation_of what =
     if what == 18 then Some operation.Provider else
     if what == 19 then Some operation.Conflicts else
     if what == 20 then Some operation.Refusal else
-    if what == 33 then Some operation.RefusedRecord else None
+    if what == 30 then Some operation.ReadRecord else
+    if what == 31 then Some operation.WriteRecord else
+    if what == 32 then Some operation.Answer else
+    if what == 33 then Some operation.RefusedRecord else
+    if what == 34 then Some operation.Report else None
 
 -- ---- events
 
@@ -76,6 +85,24 @@ abbrev pub IsStatus : Option (ℕ × ℕ) → State → Bool → ℕ → State �
 IsStatus (Some place) old is_good answer new =
     IsSet (why_not_rated (has_frames old.frames) (planned_output old place.0 place.1)) old (event.Status place.0 place.1 is_good) answer new
 IsStatus None old is_good answer new = (answer ≡ why_no_place (has_frames old.frames)) × (new ≡ old)
+
+-- The index of a record, if it is a number of 16 bits.
+abbrev pub index_in : ℕ → Option ℕ
+index_in index = if nat_lt index 65536 then Some index else None
+
+-- A request of the application is one step of the controller, which sends it; or it is refused, with why.
+abbrev pub IsRead : Option (ℕ × ℕ) → Option ℕ → State → ℕ → State → Type 0
+IsRead (Some place) (Some index) old answer new =
+    IsSet (why_not_read (has_frames old.frames) (can_request old.controller.live)) old (event.Read place.0 place.1 index) answer new
+IsRead (Some place) None old answer new = (answer ≡ why_no_place (has_frames old.frames)) × (new ≡ old)
+IsRead None index old answer new = (answer ≡ why_no_place (has_frames old.frames)) × (new ≡ old)
+
+abbrev pub IsWrite : Option (ℕ × ℕ) → Option ℕ → State → List ℕ → ℕ → State → Type 0
+IsWrite (Some place) (Some index) old given answer new =
+    IsSet (why_not_written (has_frames old.frames) (can_request old.controller.live) (length given)) old
+    (event.Write place.0 place.1 index (record { items = take 1519 given })) answer new
+IsWrite (Some place) None old given answer new = (answer ≡ why_no_place (has_frames old.frames)) × (new ≡ old)
+IsWrite None index old given answer new = (answer ≡ why_no_place (has_frames old.frames)) × (new ≡ old)
 
 -- Units of time passed, and the number that remains is reported.
 pub record IsPast (old : State) (asked : Op) (answer : ℕ) (new : State) (reported : Op) : Type 0 where
@@ -178,6 +205,32 @@ IsRefusedRecord (Some refused) asked answer reported =
     (answer ≡ 0) × (reported ≡ record asked { place = refused.number; units = status_number refused.status })
 IsRefusedRecord None asked answer reported = (answer ≡ 25) × (reported ≡ asked)
 
+-- What the last request of the application was answered with: its status, 0 if it succeeded, and the record that it read;
+-- 27 if no request was made, if it waits, or if the relation ended before its answer.
+abbrev pub IsAnswered : Option Answer → List ℕ → Op → ℕ → Op → Type 0
+IsAnswered (Some said) octets asked answer reported =
+    (answer ≡ 0) × (reported ≡ with_octets (take 1520 octets) (record asked { units = status_number said.status }))
+IsAnswered None octets asked answer reported = (answer ≡ 27) × (reported ≡ asked)
+
+-- The priority that is asked for: 0 for high.
+abbrev pub priority_in : ℕ → Priority
+priority_in place = if place == 0 then High else Low
+
+-- The UserStructureIdentifier of an alarm; 65,536 if it has none.
+abbrev pub structure_number : Option ℕ → ℕ
+structure_number (Some structure) = structure
+structure_number None = 65536
+
+-- The last alarm of a priority, its UserStructureIdentifier and its SendSeqNum; 9 if none was accepted.
+abbrev pub with_report : Report → ℕ → Op → Op
+with_report report number asked =
+    with_alarm report.notification (record asked { more = structure_number report.user_structure; sector = number })
+
+abbrev pub IsReported : Option Report → Option ℕ → Op → ℕ → Op → Type 0
+IsReported (Some report) (Some number) asked answer reported = (answer ≡ 0) × (reported ≡ with_report report number asked)
+IsReported (Some report) None asked answer reported = (answer ≡ 9) × (reported ≡ asked)
+IsReported None number asked answer reported = (answer ≡ 9) × (reported ≡ asked)
+
 -- ---- all of them
 
 -- The result of an operation: 10 if there is no such operation.
@@ -205,6 +258,15 @@ Serves (Some operation.Conflicts) old asked given answer new reported =
     (new ≡ old) × (answer ≡ 0) × (reported ≡ with_conflicts old.services.conflicts asked)
 Serves (Some operation.Refusal) old asked given answer new reported =
     (new ≡ old) × IsRefusal old.controller.live.refusal asked answer reported
+Serves (Some operation.ReadRecord) old asked given answer new reported =
+    (reported ≡ asked) × IsRead (place_in asked.slot asked.subslot) (index_in asked.place) old answer new
+Serves (Some operation.WriteRecord) old asked given answer new reported =
+    (reported ≡ asked) × IsWrite (place_in asked.slot asked.subslot) (index_in asked.place) old given answer new
+Serves (Some operation.Answer) old asked given answer new reported =
+    (new ≡ old) × IsAnswered old.controller.live.access.answer (record_of old.controller.live.access) asked answer reported
 Serves (Some operation.RefusedRecord) old asked given answer new reported =
     (new ≡ old) × IsRefusedRecord old.controller.live.refused_record asked answer reported
+Serves (Some operation.Report) old asked given answer new reported =
+    (new ≡ old) × IsReported (report_in old.controller.live (priority_in asked.place))
+    (end_of old.controller.live (priority_in asked.place)).seen asked answer reported
 Serves None old asked given answer new reported = (answer ≡ 10) × (new ≡ old) × (reported ≡ asked)

@@ -18,7 +18,11 @@ pub enum Operation {
     Provider,
     Conflicts,
     Refusal,
+    ReadRecord,
+    WriteRecord,
+    Answer,
     RefusedRecord,
+    Report,
 }
 
 // The operation of this number, if it exists.
@@ -39,7 +43,11 @@ pub(crate) fn operation_of(what: u32) -> Option<Operation>
         18 => Some(Operation::Provider),
         19 => Some(Operation::Conflicts),
         20 => Some(Operation::Refusal),
+        30 => Some(Operation::ReadRecord),
+        31 => Some(Operation::WriteRecord),
+        32 => Some(Operation::Answer),
         33 => Some(Operation::RefusedRecord),
+        34 => Some(Operation::Report),
         _ => None,
     }
 }

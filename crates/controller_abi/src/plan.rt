@@ -436,8 +436,8 @@ fn are_slots_low(modules: &[Module]) -> bool
 
 // ---- the plan
 
-// The plan, or what is too long.
-#[inline(never)]
+// The plan, or what is too long. It is inlined so that a caller's stack holds its parts once.
+#[inline(always)]
 fn planned(written: &WrittenPlan) -> Result<Plan, TooLong>
     requires { is_all_written written.now ≡ true }
     ensures { Gives (λ plan. plan) result (plan_of (parts_of written.now)) }

@@ -1,12 +1,14 @@
 //! One operation of the host.
-ghost use Rattle.std.specs.Prelude.{◌≡◌, ◌==◌, length, not, take};
+ghost use Rattle.std.specs.Prelude.{◌≡◌, ◌==◌, Some, length, not, take};
 ghost use Rattle.cyclic_exchange.specs.Process.{value_at};
-ghost use Rattle.controller_core.specs.declared.event.Event.TheVariants.{Frame as Framed, Give as Given, Status as Rated};
-ghost use Rattle.controller_core.specs.Machine.{provider_of};
+ghost use Rattle.controller_core.specs.declared.event.Event.TheVariants.{Frame as Framed, Give as Given, Read as Reads, Status as Rated, Write as Writes};
+ghost use Rattle.controller_core.specs.Access.{record_of};
+ghost use Rattle.controller_core.specs.Machine.{can_request, end_of, provider_of, report_in};
 ghost use Rattle.c_layout.specs.Places.{place_in};
-ghost use Rattle.controller_abi.specs.Outputs.{why_not_fit, why_not_rated, why_not_set};
+ghost use Rattle.controller_abi.specs.Outputs.{why_not_fit, why_not_rated, why_not_read, why_not_set, why_not_written};
 ghost use Rattle.controller_abi.specs.State.{has_frames, port_due_in};
-ghost use Rattle.controller_abi.specs.Serves.{IsAlarm, IsEvent, IsGift, IsHandOut, IsInput, IsProvider, IsProviderAt, IsRefusal, IsRefusedRecord, IsSet, IsStatus, IsTick, IsValue, Serves};
+ghost use Rattle.controller_abi.specs.Serves.{IsAlarm, IsAnswered, IsEvent, IsGift, IsHandOut, IsInput, IsProvider, IsProviderAt, IsRead, IsRefusal, IsRefusedRecord, IsReported, IsSet, IsStatus, IsTick, IsValue, IsWrite, Serves};
+ghost use Rattle.controller_abi.specs.Serves.{index_in, priority_in, status_number as status_number_in, structure_number as structure_number_in};
 ghost use Rattle.controller_abi.specs.Serves.{cause_number, operation_of as operation_in, phase_number, planned_output, why_no_place};
 ghost use Rattle.controller_abi.specs.Serves.{status_number as status_number_in, with_alarm, with_conflicts, with_next, with_state};
 
@@ -16,11 +18,21 @@ use block_codec::AlarmNotification;
 use c_layout::{BAD_LENGTH, HAS_WORK, NO_FRAME, NO_SLOT, Op, UNKNOWN, place_of, put};
 use controller_core::{Event, ProviderStatus, State};
 use frame_codec::Bytes;
+use pn_alarms::{Priority, Report};
 use rpc_core::Status;
 use wire::at_most;
 
-/// The device refused nothing yet.
+/// No call, or no record of the plan, was refused yet.
 const NO_REFUSAL: u32 = 25;
+
+/// No data is exchanged, or a request of the application waits for its answer.
+const BUSY: u32 = 26;
+
+/// No request of the application was answered.
+const NO_ANSWER: u32 = 27;
+
+/// The maximum number of octets of a record in one call.
+const MOST_RECORD: usize = 1308;
 
 /// Carries out one operation, with the given octets. Returns 0, or why nothing changed.
 pub fn serve(port: &mut Port, op: &mut Op, given: &[u8]) -> u32
@@ -50,7 +62,11 @@ fn perform(operation: Operation, port: &mut Port, op: &mut Op, given: &[u8]) -> 
         Operation::Provider => provider(port, op),
         Operation::Conflicts => conflicts(port, op),
         Operation::Refusal => refusal(port, op),
+        Operation::ReadRecord => read_record(port, op),
+        Operation::WriteRecord => write_record(port, op, given),
+        Operation::Answer => answer(port, op),
         Operation::RefusedRecord => refused_record(port, op),
+        Operation::Report => report(port, op),
     }
 }
 
@@ -157,6 +173,92 @@ fn why_unrated(port: &Port, slot: u16, subslot: u16) -> Option<u32>
     match port.output_at(slot, subslot) {
         Some(0) | None => Some(NO_SLOT),
         Some(_) => None,
+    }
+}
+
+// The application reads a record.
+fn read_record(port: &mut Port, op: &Op) -> u32
+    ensures { IsRead (place_in op.now.slot op.now.subslot) (index_in op.now.place) port.old result port.new }
+{
+    match (place_of(op), index_of(op)) {
+        (Some(place), Some(index)) => read_at(port, place.0, place.1, index),
+        _ => no_place(port),
+    }
+}
+
+// Reads a record, or returns why not.
+#[inline(never)]
+fn read_at(port: &mut Port, slot: u16, subslot: u16, index: u16) -> u32
+    ensures { IsSet (why_not_read (has_frames port.old.frames) (can_request port.old.controller.live)) port.old (Reads slot subslot index) result port.new }
+{
+    match why_unread(port) {
+        Some(why) => why,
+        None => {
+            port.take(&Event::Read(slot, subslot, index));
+            0
+        }
+    }
+}
+
+// Why no record is read, if it is not read.
+fn why_unread(port: &Port) -> Option<u32>
+    ensures { result ≡ why_not_read (has_frames port.now.frames) (can_request port.now.controller.live) }
+{
+    if port.has_work() {
+        return Some(HAS_WORK);
+    }
+    if port.controller().can_request() {
+        None
+    } else {
+        Some(BUSY)
+    }
+}
+
+// The application writes a record.
+fn write_record(port: &mut Port, op: &Op, given: &[u8]) -> u32
+    ensures { IsWrite (place_in op.now.slot op.now.subslot) (index_in op.now.place) port.old given.now result port.new }
+{
+    match (place_of(op), index_of(op)) {
+        (Some(place), Some(index)) => write_at(port, place.0, place.1, index, given),
+        _ => no_place(port),
+    }
+}
+
+// Writes a record, or returns why not.
+#[inline(never)]
+fn write_at(port: &mut Port, slot: u16, subslot: u16, index: u16, given: &[u8]) -> u32
+    ensures { IsSet (why_not_written (has_frames port.old.frames) (can_request port.old.controller.live) (length given.now)) port.old (Writes slot subslot index (record { items = take 1519 given.now })) result port.new }
+{
+    match why_unwritten(port, given.len()) {
+        Some(why) => why,
+        None => {
+            port.take(&Event::Write(slot, subslot, index, first_of(given)));
+            0
+        }
+    }
+}
+
+// Why no record of this size is written, if it is not written.
+fn why_unwritten(port: &Port, size: usize) -> Option<u32>
+    ensures { result ≡ why_not_written (has_frames port.now.frames) (can_request port.now.controller.live) size }
+{
+    if port.has_work() {
+        return Some(HAS_WORK);
+    }
+    if size > MOST_RECORD {
+        return Some(BAD_LENGTH);
+    }
+    why_unread(port)
+}
+
+// The index of a record that is asked for, if it is a number of 16 bits.
+fn index_of(op: &Op) -> Option<u16>
+    ensures { result ≡ index_in op.now.place }
+{
+    if op.place < 65536 {
+        Some(op.place as u16)
+    } else {
+        None
     }
 }
 
@@ -339,7 +441,55 @@ fn tell_alarm(alarm: &AlarmNotification<'_>, op: &mut Op)
     put(op, at_most(alarm.alarm_data.octets(), 1520));
 }
 
-// ---- what was refused
+// The last alarm of a priority that was accepted: `place` is 0 for high.
+fn report(port: &Port, op: &mut Op) -> u32
+    ensures { IsReported (report_in port.now.controller.live (priority_in op.old.place)) (end_of port.now.controller.live (priority_in op.old.place)).seen op.old result op.new }
+{
+    let priority = priority_of(op.place);
+    let number = port.controller().accepted(priority);
+    match port.controller().report(priority) {
+        Some(report) => tell_report(&report, number, op),
+        None => NO_SLOT,
+    }
+}
+
+// The priority of this number.
+fn priority_of(place: u32) -> Priority
+    ensures { result ≡ priority_in place }
+{
+    if place == 0 {
+        Priority::High
+    } else {
+        Priority::Low
+    }
+}
+
+// Reports an alarm with its number.
+fn tell_report(report: &Report<'_>, number: Option<u16>, op: &mut Op) -> u32
+    ensures { IsReported (Some report.now) number op.old result op.new }
+{
+    match number {
+        Some(number) => {
+            op.more = structure_number(report.user_structure);
+            op.sector = u32::from(number);
+            tell_alarm(&report.notification, op);
+            0
+        }
+        None => NO_SLOT,
+    }
+}
+
+// The number of a UserStructureIdentifier.
+fn structure_number(structure: Option<u16>) -> u32
+    ensures { result ≡ structure_number_in structure }
+{
+    match structure {
+        Some(structure) => u32::from(structure),
+        None => 65_536,
+    }
+}
+
+// ---- what was refused, and what was answered
 
 // A status as a number.
 fn status_number(status: Status) -> u32
@@ -373,5 +523,19 @@ fn refused_record(port: &Port, op: &mut Op) -> u32
             0
         }
         None => NO_REFUSAL,
+    }
+}
+
+// What the last request of the application was answered with.
+fn answer(port: &Port, op: &mut Op) -> u32
+    ensures { IsAnswered port.now.controller.live.access.answer (record_of port.now.controller.live.access) op.old result op.new }
+{
+    match port.controller().answer() {
+        Some(answer) => {
+            op.units = status_number(answer.status);
+            put(op, at_most(port.controller().record(), 1520));
+            0
+        }
+        None => NO_ANSWER,
     }
 }

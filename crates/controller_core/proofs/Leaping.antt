@@ -13,16 +13,17 @@ use Rattle.pn_alarms.specs.declared.repeats.Due.TheVariants.{Nothing}
 use Rattle.pn_alarms.specs.declared.abort.Abort.TheVariants.{DataHold}
 use Rattle.pn_alarms.specs.Controller.{controller_later}
 use Rattle.pn_alarms.specs.Ends.{ControllerEnd}
-use Rattle.pn_alarms.specs.Leaps.{NothingDue, ack_due, after, never}
-use Rattle.pn_alarms.specs.Sending.{due}
+use Rattle.pn_alarms.specs.Leaps.{NothingDue, ack_due, after, data_due_in, never}
+use Rattle.pn_alarms.specs.Sending.{due, either_due}
 use Rattle.cyclic_exchange.specs.Cyclic.{Cyclic}
-use Rattle.cyclic_exchange.specs.Leaps.{IsQuietFor}
+use Rattle.cyclic_exchange.specs.Leaps.{IsQuietFor, cyclic_due_in}
 use Rattle.cyclic_exchange.specs.Units.{Brought, cyclic_later, ending_by, is_silent, tick_by, tick_of}
+use Rattle.controller_frames.specs.declared.record_request.RecordRequest.{RecordRequest}
 use Rattle.controller_frames.specs.declared.request.Request.{Request}
 use Rattle.controller_frames.specs.Sent.{Sent, bytes_of}
 use Rattle.controller_core.specs.declared.event.Event.TheVariants.{Tick}
-use Rattle.controller_core.specs.Leaps.{LeapsAreTicks, NoneSends, OnlyTheLastSends, and_then, request_due_in, ticks_of}
-use Rattle.controller_core.specs.Machine.{Stepped, Turn, exchange_later, flowed, gone_on, is_again, later, requests_of, step_of, stepped, ticked, where_due}
+use Rattle.controller_core.specs.Leaps.{LeapsAreTicks, NoneSends, OnlyTheLastSends, access_due_in, and_then, exchange_due_in, request_due_in, ticks_of}
+use Rattle.controller_core.specs.Machine.{Stepped, Turn, accesses_by, exchange_later, flowed, gone_on, is_again, later, pending_by, pending_of, requests_of, step_of, stepped, ticked, where_due}
 use Rattle.controller_core.specs.State.{Controlling, Live, with_live}
 
 pub below_left : (number one other : ℕ) → number < min one other → number < one
@@ -30,6 +31,10 @@ below_left number one other below = omega (arith, below)
 
 pub below_right : (number one other : ℕ) → number < min one other → number < other
 below_right number one other below = omega (arith, below)
+
+pub exchange_below : (live : Live) (number : ℕ) → live.stands ≡ true → number < exchange_due_in live
+    → number < min (access_due_in live) (min (min (cyclic_due_in live.cyclic) (data_due_in live.alarms.sending)) (data_due_in live.low_alarms.sending))
+exchange_below live number stands below = rw stands at below
 
 -- ---- one Tick event
 
@@ -47,16 +52,30 @@ tick_nothing cyclic alarm heard frame none =
     ap (tick_of cyclic) none
     ∙ (ap (λ (b : Bool). tick_by cyclic Nothing (if b then Some DataHold else ending_by Nothing)) heard ∙ ap only_cyclic frame)
 
--- Each of the next units brings nothing of a relation that is established.
-unfoldable pub BringNothing : ℕ → Cyclic → ControllerEnd → Type 0
-BringNothing units cyclic alarms = (before : ℕ) → before < units → tick_of (after cyclic_later before cyclic) (due (after controller_later before alarms).sending) ≡ only_cyclic false
+-- What one unit brings, with what is due of the alarms of each priority.
+abbrev BringsNothing : Cyclic → Due → Due → Type 0
+BringsNothing cyclic high low = (tick_of cyclic (either_due high low) ≡ only_cyclic false) × (high ≡ Nothing) × (low ≡ Nothing)
 
-pub brings_nothing : (cyclic : Cyclic) (alarms : ControllerEnd) (units : ℕ) → IsQuietFor units cyclic → NothingDue ack_due controller_later units alarms
-    → BringNothing units cyclic alarms
+-- Each of the next units brings nothing of a relation that is established.
+unfoldable pub BringNothing : ℕ → Cyclic → ControllerEnd → ControllerEnd → Type 0
+BringNothing units cyclic high low =
+    (before : ℕ) → before < units
+    → BringsNothing (after cyclic_later before cyclic) (due (after controller_later before high).sending) (due (after controller_later before low).sending)
+
+both_nothing : (high low : Due) → high ≡ Nothing → low ≡ Nothing → either_due high low ≡ Nothing
+both_nothing high low one other = rw (one, other) refl
+
+pub brings_nothing : (cyclic : Cyclic) (high low : ControllerEnd) (units : ℕ) → IsQuietFor units cyclic → NothingDue ack_due controller_later units high
+    → NothingDue ack_due controller_later units low → BringNothing units cyclic high low
 unfolding BringNothing
-brings_nothing cyclic alarms units quiet none before earlier =
+brings_nothing cyclic high low units quiet none none_low before earlier =
     let heard = quiet before earlier in
-    tick_nothing (after cyclic_later before cyclic) (due (after controller_later before alarms).sending) heard.0 heard.1 (none before earlier)
+    let one = due (after controller_later before high).sending in
+    let other = due (after controller_later before low).sending in (
+      tick_nothing (after cyclic_later before cyclic) (either_due one other) heard.0 heard.1 (both_nothing one other (none before earlier) (none_low before earlier)),
+      none before earlier,
+      none_low before earlier,
+    )
 
 -- ---- the request
 
@@ -71,6 +90,19 @@ no_request device (Some request) waited units before =
     let small : waited + units < 32000 = omega (arith, before) in
     let same : (waited + units) % 32000 ≡ waited + units = mod-eq_of_lt small in
     ap (λ (b : Bool). where_due b (requests_of device (Some request))) (ne_eqb ((waited + units) % 32000 + 1) 32000 (λ e. omega (arith, e, same, before)))
+
+no_access : (device : Mac) (octets : List ℕ) (waiting : Option RecordRequest) (waited units : ℕ) → suc units < (if is_some waiting then 32000 - waited else never)
+    → where_due ((waited + units) % 32000 + 1 == 32000) (accesses_by device octets waiting) ≡ []
+no_access device octets None waited units before = idle ((waited + units) % 32000 + 1 == 32000)
+no_access device octets (Some request) waited units before =
+    let small : waited + units < 32000 = omega (arith, before) in
+    let same : (waited + units) % 32000 ≡ waited + units = mod-eq_of_lt small in
+    ap (λ (b : Bool). where_due b (accesses_by device octets (Some request))) (ne_eqb ((waited + units) % 32000 + 1) 32000 (λ e. omega (arith, e, same, before)))
+
+no_pending : (live : Live) (asked : Option Request) (units : ℕ) → suc units < (if is_some asked then 32000 - live.waited else never) → suc units < access_due_in live
+    → where_due ((live.waited + units) % 32000 + 1 == 32000) (pending_by live asked) ≡ []
+no_pending live None units before sooner = no_access live.device live.access.octets live.access.waiting live.waited units sooner
+no_pending live (Some request) units before sooner = no_request live.device (Some request) live.waited units before
 
 wraps : (waited units : ℕ) → waited ≡ units % 32000 → (if (waited + 1 == 32000) then 0 else waited + 1) ≡ (units + 1) % 32000
 wraps waited units h = grind (arith, nat_tests)
@@ -117,32 +149,40 @@ off_turn live units stands before =
 
 -- ---- the same if it is established
 
-abbrev with_exchange : Live → ℕ → ℕ → Cyclic → ControllerEnd → Live
-with_exchange live waited units cyclic alarms = record live { waited = waited; units = units; cyclic = cyclic; alarms = alarms }
+abbrev with_exchange : Live → ℕ → ℕ → Cyclic → ControllerEnd → ControllerEnd → Live
+with_exchange live waited units cyclic high low = record live { waited = waited; units = units; cyclic = cyclic; alarms = high; low_alarms = low }
 
 abbrev on_later : ℕ → Live → Live
 on_later units live =
     with_exchange live ((live.waited + units) % 32000) ((live.units + units) % 65536) (after cyclic_later units live.cyclic) (after controller_later units live.alarms)
+    (after controller_later units live.low_alarms)
 
-gone_there : (live : Live) (is_request : Bool) → live.stands ≡ true → tick_of live.cyclic (due live.alarms.sending) ≡ only_cyclic false
-    → gone_on live is_request ≡ turn_with (exchange_later live) (where_due is_request (requests_of live.device live.asked) ++ [])
-gone_there live is_request stands none =
-    let moved : gone_on live is_request ≡ flowed (exchange_later live) is_request (tick_of live.cyclic (due live.alarms.sending)) (tick_of live.cyclic (due live.alarms.sending)).ending = rw stands refl in
-    moved ∙ ap (λ (b : Brought). flowed (exchange_later live) is_request b b.ending) none
+gone_there : (live : Live) (is_request : Bool) → live.stands ≡ true → BringsNothing live.cyclic (due live.alarms.sending) (due live.low_alarms.sending)
+    → gone_on live is_request ≡ turn_with (exchange_later live) (where_due is_request (pending_of live) ++ [])
+gone_there live is_request stands (none, no_high, no_low) =
+    let high = due live.alarms.sending in
+    let low = due live.low_alarms.sending in
+    let moved : gone_on live is_request ≡ flowed (exchange_later live) high low is_request (tick_of live.cyclic (either_due high low)) (tick_of live.cyclic (either_due high low)).ending = rw stands refl in
+    moved
+    ∙ (ap (λ (b : Brought). flowed (exchange_later live) high low is_request b b.ending) none
+    ∙ (ap (λ (d : Due). flowed (exchange_later live) d low is_request (only_cyclic false) None) no_high
+    ∙ ap (λ (d : Due). flowed (exchange_later live) Nothing d is_request (only_cyclic false) None) no_low))
 
 on_next : (live : Live) (units : ℕ) → exchange_later (later (on_later units live)) ≡ on_later (suc units) live
 on_next live units =
     let cyclic = after cyclic_later (suc units) live.cyclic in
-    let alarms = after controller_later (suc units) live.alarms in
-    ap (λ (w : ℕ). with_exchange live w (((live.units + units) % 65536 + 1) % 65536) cyclic alarms) (waited_next live.waited units)
-    ∙ ap (λ (u : ℕ). with_exchange live ((live.waited + suc units) % 32000) u cyclic alarms) (counter_next live.units units)
+    let high = after controller_later (suc units) live.alarms in
+    let low = after controller_later (suc units) live.low_alarms in
+    ap (λ (w : ℕ). with_exchange live w (((live.units + units) % 65536 + 1) % 65536) cyclic high low) (waited_next live.waited units)
+    ∙ ap (λ (u : ℕ). with_exchange live ((live.waited + suc units) % 32000) u cyclic high low) (counter_next live.units units)
 
-on_turn : (live : Live) (units : ℕ) → live.stands ≡ true → suc units < request_due_in live
-    → tick_of (after cyclic_later units live.cyclic) (due (after controller_later units live.alarms).sending) ≡ only_cyclic false
+on_turn : (live : Live) (units : ℕ) → live.stands ≡ true → suc units < request_due_in live → suc units < access_due_in live
+    → BringsNothing (after cyclic_later units live.cyclic) (due (after controller_later units live.alarms).sending) (due (after controller_later units live.low_alarms).sending)
     → ticked (on_later units live) ≡ turn_with (on_later (suc units) live) []
-on_turn live units stands before none =
+on_turn live units stands before sooner none =
+    let next = exchange_later (later (on_later units live)) in
     gone_there (later (on_later units live)) (is_again (on_later units live)) stands none
-    ∙ (ap (λ (s : List Sent). turn_with (exchange_later (later (on_later units live))) (s ++ [])) (no_request live.device live.asked live.waited units before)
+    ∙ (ap (λ (s : List Sent). turn_with next (s ++ [])) (no_pending live live.asked units before sooner)
     ∙ ap (λ (l : Live). turn_with l []) (on_next live units))
 
 -- ---- many units
@@ -169,16 +209,16 @@ off_ticks controlling (suc units) stands few fits below =
     ∙ one_more controlling (off_later units controlling.live) (off_later (suc units) controlling.live) (off_turn controlling.live units stands below)
 
 on_ticks : (controlling : Controlling) (units : ℕ) → controlling.live.stands ≡ true → controlling.live.waited < 32000 → controlling.live.units < 65536
-    → units < request_due_in controlling.live → BringNothing units controlling.live.cyclic controlling.live.alarms
+    → units < request_due_in controlling.live → units < access_due_in controlling.live → BringNothing units controlling.live.cyclic controlling.live.alarms controlling.live.low_alarms
     → ticks_of units controlling ≡ sent_with (with_live controlling (on_later units controlling.live)) []
 unfolding BringNothing
-on_ticks controlling zero stands few fits below none =
+on_ticks controlling zero stands few fits below sooner none =
     let live = controlling.live in
-    ap (λ (w : ℕ). sent_with (with_live controlling (with_exchange live w live.units live.cyclic live.alarms)) []) (none_later live.waited 32000 few)
-    ∙ ap (λ (u : ℕ). sent_with (with_live controlling (with_exchange live ((live.waited + 0) % 32000) u live.cyclic live.alarms)) []) (none_later live.units 65536 fits)
-on_ticks controlling (suc units) stands few fits below none =
-    ap and_tick (on_ticks controlling units stands few fits (omega (arith, below)) (λ before earlier. none before (omega (arith, earlier))))
-    ∙ one_more controlling (on_later units controlling.live) (on_later (suc units) controlling.live) (on_turn controlling.live units stands below (none units (omega arith)))
+    ap (λ (w : ℕ). sent_with (with_live controlling (with_exchange live w live.units live.cyclic live.alarms live.low_alarms)) []) (none_later live.waited 32000 few)
+    ∙ ap (λ (u : ℕ). sent_with (with_live controlling (with_exchange live ((live.waited + 0) % 32000) u live.cyclic live.alarms live.low_alarms)) []) (none_later live.units 65536 fits)
+on_ticks controlling (suc units) stands few fits below sooner none =
+    ap and_tick (on_ticks controlling units stands few fits (omega (arith, below)) (omega (arith, sooner)) (λ before earlier. none before (omega (arith, earlier))))
+    ∙ one_more controlling (on_later units controlling.live) (on_later (suc units) controlling.live) (on_turn controlling.live units stands below sooner (none units (omega arith)))
 
 pub off_state : (controlling : Controlling) (units : ℕ) → controlling.live.stands ≡ false → controlling.live.waited < 32000 → controlling.live.units < 65536
     → units < request_due_in controlling.live → (ticks_of units controlling).controller ≡ with_live controlling (off_later units controlling.live)
@@ -190,15 +230,16 @@ off_sends controlling units stands few fits below before earlier =
     ap (λ (s : Stepped). s.frames) (off_ticks controlling before stands few fits (omega (arith, below, earlier)))
 
 pub on_state : (controlling : Controlling) (units : ℕ) → controlling.live.stands ≡ true → controlling.live.waited < 32000 → controlling.live.units < 65536
-    → units < request_due_in controlling.live → BringNothing units controlling.live.cyclic controlling.live.alarms
+    → units < request_due_in controlling.live → units < access_due_in controlling.live → BringNothing units controlling.live.cyclic controlling.live.alarms controlling.live.low_alarms
     → (ticks_of units controlling).controller ≡ with_live controlling (on_later units controlling.live)
-on_state controlling units stands few fits below none = ap (λ (s : Stepped). s.controller) (on_ticks controlling units stands few fits below none)
+on_state controlling units stands few fits below sooner none = ap (λ (s : Stepped). s.controller) (on_ticks controlling units stands few fits below sooner none)
 
 pub on_sends : (controlling : Controlling) (units : ℕ) → controlling.live.stands ≡ true → controlling.live.waited < 32000 → controlling.live.units < 65536
-    → units < request_due_in controlling.live → BringNothing units controlling.live.cyclic controlling.live.alarms → NoneSends units controlling
+    → units < request_due_in controlling.live → units < access_due_in controlling.live → BringNothing units controlling.live.cyclic controlling.live.alarms controlling.live.low_alarms → NoneSends units controlling
 unfolding BringNothing
-on_sends controlling units stands few fits below none before earlier =
-    ap (λ (s : Stepped). s.frames) (on_ticks controlling before stands few fits (omega (arith, below, earlier)) (λ first sooner. none first (omega (arith, earlier, sooner))))
+on_sends controlling units stands few fits below sooner none before earlier =
+    ap (λ (s : Stepped). s.frames)
+    (on_ticks controlling before stands few fits (omega (arith, below, earlier)) (omega (arith, sooner, earlier)) (λ first first_below. none first (omega (arith, earlier, first_below))))
 
 -- ---- a leap: units with which nothing is due, and then one Tick event
 

@@ -1,4 +1,5 @@
 pub mod Blocks
 pub mod Found
 pub mod Leaping
+pub mod Quiet
 pub mod OutputsGiven

@@ -1,5 +1,5 @@
 -- The alarms of a relation at a controller (IEC 61158-6-10, 4.8 and 5.2.5).
-use Rattle.std.specs.Prelude.{Bool, ◌==◌, ◌&&◌, nat_eq, take}
+use Rattle.std.specs.Prelude.{ℕ, Bool, ◌==◌, ◌&&◌, nat_eq, take, Option, Some, None}
 use Rattle.std.specs.Cmp.Lexicographic.{pointwise}
 use Rattle.pn_values.specs.declared.mac.Mac.{Mac}
 use Rattle.record_blocks.specs.declared.alarm_ack.AlarmAck.{AlarmAck}
@@ -39,6 +39,11 @@ alarm_in kept = record {
   alarm_specifier = kept.alarm_specifier;
   alarm_data = kept.alarm_data.items;
 }
+
+-- Its UserStructureIdentifier.
+abbrev pub structure_in : Option KeptAlarm → Option ℕ
+structure_in (Some kept) = kept.user_structure
+structure_in None = None
 
 -- The header of a PDU that is sent now, from the endpoint of the controller to that of the device.
 abbrev pub header_of : ControllerEnd → Route → PduType → Header

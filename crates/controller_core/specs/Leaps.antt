@@ -10,9 +10,14 @@ use Rattle.controller_core.specs.Machine.{Stepped, step_of}
 abbrev pub request_due_in : Live → ℕ
 request_due_in live = if is_some live.asked then 32000 - live.waited else never
 
+-- The same of the request of the application.
+abbrev pub access_due_in : Live → ℕ
+access_due_in live = if is_some live.access.waiting then 32000 - live.waited else never
+
 -- The number of units up to and with the next one with which the relation sends a frame or ends.
 abbrev pub exchange_due_in : Live → ℕ
-exchange_due_in live = if live.stands then min (cyclic_due_in live.cyclic) (data_due_in live.alarms.sending) else never
+exchange_due_in live =
+    if live.stands then min (access_due_in live) (min (min (cyclic_due_in live.cyclic) (data_due_in live.alarms.sending)) (data_due_in live.low_alarms.sending)) else never
 
 -- The number of units up to and with the next one with which something is sent, or the controller ends.
 abbrev pub live_due_in : Live → ℕ

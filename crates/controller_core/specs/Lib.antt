@@ -1,3 +1,4 @@
+pub mod Access
 pub mod Cause
 pub mod Outputs
 pub mod State

@@ -1,5 +1,5 @@
 -- What an event does to a controller, and what is then sent (IEC 61158-6-10, 5.2; protocol machine CMCTL).
-use Rattle.std.specs.Prelude.{◌+◌, ◌*◌, ◌%◌, ◌==◌, ◌&&◌, ◌++◌, ℕ, Bool, true, false, List, [], ◌∷◌, length, map, unwrap_or, if◌then◌else◌, replicate, Option, Some, None, Result, Ok, Err}
+use Rattle.std.specs.Prelude.{◌+◌, ◌*◌, ◌%◌, ◌==◌, ◌&&◌, ◌++◌, ℕ, Bool, true, false, not, List, [], ◌∷◌, length, map, nat_lt, unwrap_or, if◌then◌else◌, is_some, option_map, replicate, Option, Some, None, Result, Ok, Err}
 use Rattle.pn_values.specs.declared.mac.Mac.{Mac}
 use Rattle.frame_codec.specs.declared.udp.Caller.{Caller}
 use Rattle.dcp_core.specs.Response.{Answered}
@@ -22,6 +22,10 @@ use Rattle.pn_alarms.specs.declared.abort.Abort.{Abort}
 use Rattle.pn_alarms.specs.declared.abort.Abort.TheVariants as reason
 use Rattle.pn_alarms.specs.declared.message.Notice.TheVariants as notice
 use Rattle.pn_alarms.specs.declared.pdu.Header.{Header}
+use Rattle.pn_alarms.specs.declared.priority.Priority.{Priority}
+use Rattle.pn_alarms.specs.declared.priority.Priority.TheVariants.{High, Low}
+use Rattle.pn_alarms.specs.declared.repeats.Due.{Due}
+use Rattle.pn_alarms.specs.declared.report.Report.{Report}
 use Rattle.pn_alarms.specs.declared.pdu.PduType.{PduType}
 use Rattle.pn_alarms.specs.declared.pdu.PduType.TheVariants as pdu
 use Rattle.pn_alarms.specs.declared.receiver.Taken.{Taken}
@@ -29,7 +33,9 @@ use Rattle.pn_alarms.specs.declared.receiver.Taken.TheVariants.{New, Again, Refu
 use Rattle.pn_alarms.specs.Controller.{confirmed, controller_later, unheard, with_ack, with_data}
 use Rattle.pn_alarms.specs.Message.{ToController}
 use Rattle.pn_alarms.specs.Receiver.{taken_as}
-use Rattle.pn_alarms.specs.Sending.{due}
+use Rattle.pn_alarms.specs.Ends.{ControllerEnd}
+use Rattle.pn_alarms.specs.Sending.{due, either_due}
+use Rattle.pn_alarms.specs.Sending.{is_again as is_repeated}
 use Rattle.cyclic_exchange.specs.declared.route.Route.{Route}
 use Rattle.cyclic_exchange.specs.Cyclic.{Cyclic}
 use Rattle.cyclic_exchange.specs.Opening.{begun_of, ended_of, opened, related}
@@ -42,14 +48,19 @@ use Rattle.plans.specs.declared.parts.Times.{Times}
 use Rattle.plans.specs.Numbers.{alarm_factor, alarm_retries, high_tag, input_frame_id}
 use Rattle.plans.specs.Packed.{layout_in}
 use Rattle.plans.specs.Parts.{data_of}
+use Rattle.controller_frames.specs.declared.record_request.RecordRequest.{RecordRequest}
+use Rattle.controller_frames.specs.declared.record_request.RecordService.{RecordService}
+use Rattle.controller_frames.specs.declared.record_request.RecordService.TheVariants as service
 use Rattle.controller_frames.specs.declared.refusal.Refusal.{Refusal}
 use Rattle.controller_frames.specs.declared.setup.Setup.{Setup}
 use Rattle.controller_frames.specs.declared.request.Request.{Request}
 use Rattle.controller_frames.specs.declared.request.Request.TheVariants as asks
 use Rattle.controller_frames.specs.Heard.{Heard, Nothing, Answers, Responds, Refuses, Calls, Alarms, heard_of}
 use Rattle.controller_frames.specs.Heard.{Cyclic as Comes}
+use Rattle.controller_frames.specs.RecordRequests.{most_record_octets}
 use Rattle.controller_frames.specs.Requests.{writing_from}
-use Rattle.controller_frames.specs.Sent.{Sent, Requests, Agrees, Cycles, Confirms, Replies, Ends, bytes_of, ready_answer}
+use Rattle.controller_frames.specs.Sent.{Sent, Requests, Accesses, Agrees, Cycles, Confirms, Replies, Ends, bytes_of, ready_answer}
+use Rattle.controller_frames.specs.Sent.{done as no_error}
 use Rattle.controller_core.specs.declared.connect.Found.{Found}
 use Rattle.controller_core.specs.declared.outputs.OutputMark.{OutputMark}
 use Rattle.controller_core.specs.declared.state.Cause.{Cause}
@@ -57,7 +68,8 @@ use Rattle.controller_core.specs.declared.state.Cause.TheVariants as cause
 use Rattle.controller_core.specs.declared.state.State.{State}
 use Rattle.controller_core.specs.declared.state.State.TheVariants.{Looking, Addressing, Connecting, Writing, Ending, Waiting, Exchanging, Ended}
 use Rattle.controller_core.specs.declared.event.Event.{Event}
-use Rattle.controller_core.specs.declared.event.Event.TheVariants.{Frame, Tick as Ticks, Give, Status as Rate, Stop}
+use Rattle.controller_core.specs.declared.event.Event.TheVariants.{Frame, Tick as Ticks, Give, Status as Rate, Read, Write, Stop}
+use Rattle.controller_core.specs.Access.{Accessing, answered_with, call_number, dropped, is_rejected, is_reply, made, no_access, record_in}
 use Rattle.controller_core.specs.Outputs.{awaits, change_by, first_mark, iops_of, mark_at, marked}
 use Rattle.controller_core.specs.State.{Controlling, Live, with_live}
 use Rattle.controller_core.specs.Answers.{is_addressed, is_answer, is_found, is_ready, is_refused, is_right, is_set_answer}
@@ -84,21 +96,21 @@ asking phase request live = record {
 
 -- The controller has ended, and so has its relation.
 abbrev pub over : Cause → Live → Live
-over cause live = record live { phase = Ended cause; asked = None; waited = 0; stands = false; cyclic = ended_of live.cyclic }
+over cause live = record live { phase = Ended cause; asked = None; waited = 0; stands = false; cyclic = ended_of live.cyclic; access = dropped live.access }
 
 -- The device refuses a call with this status: the controller has ended.
 abbrev pub denied : Status → Live → Live
 denied status live = over cause.Refused (record live { refusal = Some status })
 
--- The number of the call after the last one.
-abbrev pub next_sequence : Parts → Option Request → ℕ
-next_sequence plan (Some asks.Connect) = 1
-next_sequence plan (Some (asks.Write number)) = number + 2
-next_sequence plan request = length plan.records.items + 2
+-- The number of the call after the last one: after this many requests of the application, which follow PrmEnd.
+abbrev pub next_sequence : Parts → ℕ → Option Request → ℕ
+next_sequence plan calls (Some asks.Connect) = 1
+next_sequence plan calls (Some (asks.Write number)) = number + 2
+next_sequence plan calls request = call_number plan calls
 
 -- The controller has ended, and the device is informed by a Release.
 abbrev pub released : Setup → Cause → Live → Turn
-released setup cause live = asking (Ended cause) (asks.Release (next_sequence setup.plan live.asked)) (over cause live)
+released setup cause live = asking (Ended cause) (asks.Release (next_sequence setup.plan live.access.calls live.asked)) (over cause live)
 
 -- The application stops it. From the Connect on the device is informed.
 abbrev pub stopped : Setup → Live → State → Turn
@@ -209,10 +221,32 @@ abbrev pub decided : Setup → Live → Response → Request → Turn
 decided setup live response (asks.Release sequence) = stays (record live { asked = None })
 decided setup live response request = handled setup live response request
 
+-- To a request of the application: it is reported, and ends nothing. A positive answer to a Read whose block can't be read
+-- is dropped.
+abbrev pub failed : Status → RecordRequest → Live → Live
+failed status request live = record live { refusal = Some status; access = answered_with request status [] live.access }
+
+abbrev pub brings : RecordRequest → Option (List ℕ) → Live → Live
+brings request (Some octets) live = record live { access = answered_with request no_error octets live.access }
+brings request None live = live
+
+abbrev pub granted : RecordRequest → List ℕ → RecordService → Live → Live
+granted request blocks service.Read live = brings request (record_in (block_of blocks)) live
+granted request blocks service.Write live = record live { access = answered_with request no_error [] live.access }
+
+abbrev pub replied_by : Live → Response → RecordRequest → Live
+replied_by live response request =
+    if is_done response.status then granted request response.blocks request.service live else failed response.status request live
+
+abbrev pub replied : Setup → Live → Response → Option RecordRequest → Live
+replied setup live response (Some request) = if is_reply setup request response.header then replied_by live response request else live
+replied setup live response None = live
+
+-- A response to the call that waits, of the start-up or else of the application.
 abbrev pub responded : Setup → Live → Response → Option Request → Turn
 responded setup live response (Some request) =
     if is_answer setup request response.header then decided setup live response request else stays live
-responded setup live response None = stays live
+responded setup live response None = stays (replied setup live response live.access.waiting)
 
 -- ---- rejects and faults
 
@@ -221,9 +255,14 @@ abbrev pub refused_by : Live → Refusal → Request → Turn
 refused_by live refusal (asks.Release sequence) = stays (record live { asked = None })
 refused_by live refusal request = stays (denied refusal.status live)
 
+-- To a request of the application it is reported, and ends nothing.
+abbrev pub rejected : Setup → Live → Refusal → Option RecordRequest → Live
+rejected setup live refusal (Some request) = if is_rejected setup request refusal then failed refusal.status request live else live
+rejected setup live refusal None = live
+
 abbrev pub refused : Setup → Live → Refusal → Option Request → Turn
 refused setup live refusal (Some request) = if is_refused setup request refusal then refused_by live refusal request else stays live
-refused setup live refusal None = stays live
+refused setup live refusal None = stays (rejected setup live refusal live.access.waiting)
 
 -- ---- ApplicationReady
 
@@ -254,36 +293,75 @@ called setup live caller call None = stays live
 
 -- ---- alarms
 
--- An alarm is received: a new one is confirmed with its AlarmAck after the ACK.
-abbrev pub behind_data : Live → ℕ → Live
-behind_data live number = record live { alarms = with_data live.alarms number }
+-- The end of the alarms of a priority.
+abbrev pub end_of : Live → Priority → ControllerEnd
+end_of live High = live.alarms
+end_of live Low = live.low_alarms
 
-abbrev pub confirming : Live → AlarmNotification → Live
-confirming live alarm = record live { alarms = confirmed live.alarms (ack_of alarm); alarm = Some (kept_alarm alarm) }
+abbrev pub with_end : Live → Priority → ControllerEnd → Live
+with_end live High end = record live { alarms = end }
+with_end live Low end = record live { low_alarms = end }
 
-abbrev pub reply_of : Live → PduType → Sent
-reply_of live kind = Replies live.cyclic.route (header_of live.alarms live.cyclic.route kind)
+-- An alarm is stored as the last one of its priority.
+abbrev pub keeping : Live → Priority → AlarmNotification → Option ℕ → Live
+keeping live High alarm user_structure = record live { alarm = Some alarm; user_structure = user_structure }
+keeping live Low alarm user_structure = record live { low_alarm = Some alarm; low_user_structure = user_structure }
 
-abbrev pub ack_now : Live → AlarmAck → Sent
-ack_now live ack = Confirms live.cyclic.route (header_of live.alarms live.cyclic.route pdu.Data) ack
+-- An alarm is received as data of its priority: a new one is confirmed with its AlarmAck after the ACK.
+abbrev pub behind_data : Live → Priority → ℕ → Live
+behind_data live priority number = with_end live priority (with_data (end_of live priority) number)
 
-abbrev pub taken : Live → AlarmNotification → Taken → Turn
-taken live alarm New = record {
-  live = confirming live alarm;
-  sent = reply_of live pdu.Ack ∷ ack_now (confirming live alarm) (ack_of alarm) ∷ [];
+abbrev pub acking : Live → Priority → AlarmAck → Live
+acking live priority ack = with_end live priority (confirmed (end_of live priority) ack)
+
+abbrev pub confirming : Live → Report → Live
+confirming live report =
+    keeping (acking live report.priority (ack_of report.notification)) report.priority (kept_alarm report.notification) report.user_structure
+
+abbrev pub reply_of : Live → Priority → PduType → Sent
+reply_of live priority kind = Replies live.cyclic.route priority (header_of (end_of live priority) live.cyclic.route kind)
+
+abbrev pub ack_now : Live → Priority → AlarmAck → Sent
+ack_now live priority ack = Confirms live.cyclic.route priority (header_of (end_of live priority) live.cyclic.route pdu.Data) ack
+
+abbrev pub taken : Live → Report → Taken → Turn
+taken live report New = record {
+  live = confirming live report;
+  sent = reply_of live report.priority pdu.Ack ∷ ack_now (confirming live report) report.priority (ack_of report.notification) ∷ [];
 }
-taken live alarm Again = record { live = live; sent = reply_of live pdu.Ack ∷ [] }
-taken live alarm Refused = record { live = live; sent = reply_of live pdu.Nack ∷ [] }
+taken live report Again = record { live = live; sent = reply_of live report.priority pdu.Ack ∷ [] }
+taken live report Refused = record { live = live; sent = reply_of live report.priority pdu.Nack ∷ [] }
 
-abbrev pub noticed : Live → ToController → Turn
-noticed live (notice.Data number alarm) = taken (behind_data live number) alarm (taken_as live.alarms.seen number)
-noticed live (notice.Ack number) = stays (record live { alarms = with_ack live.alarms number })
-noticed live notice.Nack = stays live
-noticed live notice.Abort = stays (over cause.Aborted live)
+-- The priority whose AlarmAck an ACK under the FrameID of this priority acknowledges: low if an AlarmAck of low priority
+-- was sent in this relation, otherwise high.
+abbrev pub acked_under : Live → Priority → Priority
+acked_under live High = High
+acked_under live Low = if is_some live.low_alarms.sending.last then Low else High
+
+abbrev pub behind_ack : Live → Priority → ℕ → Live
+behind_ack live priority number = with_end live priority (with_ack (end_of live priority) number)
+
+-- Data has the priority of its block, under either FrameID.
+abbrev pub noticed : Live → Priority → ToController → Turn
+noticed live under (notice.Data number report) =
+    taken (behind_data live report.priority number) report (taken_as (end_of live report.priority).seen number)
+noticed live under (notice.Ack number) = stays (behind_ack live (acked_under live under) number)
+noticed live under notice.Nack = stays live
+noticed live under notice.Abort = stays (over cause.Aborted live)
 
 -- An alarm frame counts if it belongs to the relation, while that is established.
-abbrev pub alarmed : Live → Mac → Header → ToController → Turn
-alarmed live source header notice = if live.stands && is_alarm live.cyclic.route source header then noticed live notice else stays live
+abbrev pub alarmed : Live → Mac → Priority → Header → ToController → Turn
+alarmed live source under header notice =
+    if live.stands && is_alarm live.cyclic.route source header then noticed live under notice else stays live
+
+-- The last alarm of a priority that was accepted.
+abbrev pub reported_as : Priority → Option ℕ → Option AlarmNotification → Option Report
+reported_as priority user_structure alarm =
+    option_map (λ a. record { priority = priority; notification = a; user_structure = user_structure }) alarm
+
+abbrev pub report_in : Live → Priority → Option Report
+report_in live High = reported_as High live.user_structure live.alarm
+report_in live Low = reported_as Low live.low_user_structure live.low_alarm
 
 -- ---- what was received
 
@@ -298,7 +376,7 @@ turned setup live (Responds response) = responded setup live response live.asked
 turned setup live (Refuses refusal) = refused setup live refusal live.asked
 turned setup live (Calls caller call) = called setup live caller call (ready_in call)
 turned setup live (Comes source frame_id body) = stays (come live source frame_id body)
-turned setup live (Alarms source header notice) = alarmed live source header notice
+turned setup live (Alarms source under header notice) = alarmed live source under header notice
 
 -- ---- units
 
@@ -318,19 +396,38 @@ abbrev pub requests_of : Mac → Option Request → List Sent
 requests_of device (Some request) = Requests device request ∷ []
 requests_of device None = []
 
-abbrev pub acks_in : Live → Option AlarmAck → List Sent
-acks_in live (Some ack) = ack_now live ack ∷ []
-acks_in live None = []
+abbrev pub accesses_by : Mac → List ℕ → Option RecordRequest → List Sent
+accesses_by device octets (Some request) = Accesses device request octets ∷ []
+accesses_by device octets None = []
 
-abbrev pub acks_of : Live → List Sent
-acks_of live = acks_in live live.alarms.confirming
+abbrev pub accesses_of : Live → List Sent
+accesses_of live = accesses_by live.device live.access.octets live.access.waiting
+
+-- The request that waits: of the start-up, or else of the application. There is at most one.
+abbrev pub pending_by : Live → Option Request → List Sent
+pending_by live (Some request) = Requests live.device request ∷ []
+pending_by live None = accesses_of live
+
+abbrev pub pending_of : Live → List Sent
+pending_of live = pending_by live live.asked
+
+abbrev pub acks_in : Live → Priority → Option AlarmAck → List Sent
+acks_in live priority (Some ack) = ack_now live priority ack ∷ []
+acks_in live priority None = []
+
+abbrev pub acks_of : Live → Priority → List Sent
+acks_of live priority = acks_in live priority (end_of live priority).confirming
 
 abbrev pub outputs_of : Live → List Sent
 outputs_of live = Cycles live.cyclic.route live.cyclic.shown live.units ∷ []
 
 -- The exchange of the relation a unit later.
 abbrev pub exchange_later : Live → Live
-exchange_later live = record live { cyclic = cyclic_later live.cyclic; alarms = controller_later live.alarms }
+exchange_later live = record live {
+  cyclic = cyclic_later live.cyclic;
+  alarms = controller_later live.alarms;
+  low_alarms = controller_later live.low_alarms;
+}
 
 -- The exchange and the timer of the request a unit later.
 abbrev pub flow_later : Live → Live
@@ -342,30 +439,37 @@ cause_of reason.DataHold = cause.DataHold
 cause_of reason.Activity = cause.AlarmRetries
 cause_of reason.Other = cause.AlarmRetries
 
--- The relation ends, the device is informed of the reason, and nothing else is sent.
+-- The relation ends, the device is informed of the reason, and nothing else is sent. An ERR has the numbers of high
+-- priority.
 abbrev pub ended_by : Live → Abort → Turn
 ended_by live reason = record {
   live = over (cause_of reason) live;
   sent = Ends live.cyclic.route (header_of live.alarms live.cyclic.route pdu.Error) reason ∷ [];
 }
 
--- The AlarmAck again, the request again, and the outputs, each if it is due.
-abbrev pub due_frames : Live → Bool → Bool → Bool → List Sent
-due_frames live is_ack is_request is_cyclic =
-    where_due is_ack (acks_of live) ++ (where_due is_request (requests_of live.device live.asked) ++ where_due is_cyclic (outputs_of live))
+-- The AlarmAck of high priority again, that of low priority again, the request again, of the start-up or of the application,
+-- and the outputs, each if it is due.
+abbrev pub due_frames : Live → Bool → Bool → Bool → Bool → List Sent
+due_frames live is_high is_low is_request is_cyclic =
+    where_due is_high (acks_of live High)
+    ++ (where_due is_low (acks_of live Low)
+    ++ (where_due is_request (pending_of live) ++ where_due is_cyclic (outputs_of live)))
 
-abbrev pub flowed : Live → Bool → Brought → Option Abort → Turn
-flowed live is_request tick (Some reason) = ended_by live reason
-flowed live is_request tick None = record { live = live; sent = due_frames live tick.is_alarm is_request tick.is_cyclic }
+-- What a unit brings: `high` and `low` are due of the alarms of each priority.
+abbrev pub flowed : Live → Due → Due → Bool → Brought → Option Abort → Turn
+flowed live high low is_request tick (Some reason) = ended_by live reason
+flowed live high low is_request tick None =
+    record { live = live; sent = due_frames live (is_repeated high) (is_repeated low) is_request tick.is_cyclic }
 
 -- What a unit brings of the relation.
 abbrev pub brought : Live → Brought
-brought live = tick_of live.cyclic (due live.alarms.sending)
+brought live = tick_of live.cyclic (either_due (due live.alarms.sending) (due live.low_alarms.sending))
 
 -- The rest of a unit, after the timer of the request; the Bool says whether the request is due.
 abbrev pub gone_on : Live → Bool → Turn
 gone_on live is_request =
-    if live.stands then flowed (exchange_later live) is_request (brought live) (brought live).ending
+    if live.stands
+    then flowed (exchange_later live) (due live.alarms.sending) (due live.low_alarms.sending) is_request (brought live) (brought live).ending
     else record { live = live; sent = where_due is_request (requests_of live.device live.asked) }
 
 -- A unit passes: what is due of the relation, if it is established, and the request again.
@@ -417,11 +521,41 @@ given live slot subslot value = record live {
 abbrev pub provider_of : Live → ℕ → ℕ → Option ProviderStatus
 provider_of live slot subslot = if live.stands then provider_at live.cyclic slot subslot else None
 
+-- Whether the application can make a request: data is exchanged, and no other one waits.
+abbrev pub is_exchanging : State → Bool
+is_exchanging Exchanging = true
+is_exchanging phase = false
+
+abbrev pub can_request : Live → Bool
+can_request live = is_exchanging live.phase && not (is_some live.access.waiting)
+
+-- The application reads or writes a record. The request is sent, and waits from now on.
+abbrev pub accessing : RecordRequest → List ℕ → Live → Turn
+accessing request octets live = record {
+  live = record live { waited = 0; access = made request octets live.access };
+  sent = Accesses live.device request octets ∷ [];
+}
+
+abbrev pub request_for : Setup → Live → RecordService → ℕ → ℕ → ℕ → RecordRequest
+request_for setup live kind slot subslot index =
+    record { sequence = call_number setup.plan live.access.calls; service = kind; slot = slot; subslot = subslot; index = index }
+
+abbrev pub requested : Setup → Live → RecordService → ℕ → ℕ → ℕ → List ℕ → Turn
+requested setup live kind slot subslot index octets =
+    if can_request live then accessing (request_for setup live kind slot subslot index) octets live else stays live
+
+-- A record with more octets than a call can carry is not written.
+abbrev pub written : Setup → Live → ℕ → ℕ → ℕ → List ℕ → Turn
+written setup live slot subslot index octets =
+    if nat_lt most_record_octets (length octets) then stays live else requested setup live service.Write slot subslot index octets
+
 abbrev pub turn_of : Setup → Live → Event → Turn
 turn_of setup live (Frame bytes) = turned setup live (heard_of setup.plan.controller bytes.items)
 turn_of setup live Ticks = ticked live
 turn_of setup live (Give slot subslot value) = stays (given live slot subslot value.items)
 turn_of setup live (Rate slot subslot is_good) = stays (rated live slot subslot is_good)
+turn_of setup live (Read slot subslot index) = requested setup live service.Read slot subslot index []
+turn_of setup live (Write slot subslot index octets) = written setup live slot subslot index octets.items
 turn_of setup live Stop = stopped setup live live.phase
 
 -- ---- the beginning
@@ -462,8 +596,13 @@ first plan = record {
   refused_record = None;
   cyclic = first_cyclic plan;
   alarms = unheard alarm_factor alarm_retries;
+  low_alarms = unheard alarm_factor alarm_retries;
   outputs = first_outputs plan;
   alarm = None;
+  access = no_access;
+  user_structure = None;
+  low_alarm = None;
+  low_user_structure = None;
 }
 
 -- The controller of a plan, with this ARUUID and this activity.

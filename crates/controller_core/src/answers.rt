@@ -7,6 +7,7 @@ ghost use Rattle.controller_frames.specs.Requests.{writing_from};
 ghost use Rattle.controller_core.specs.Answers.{ident_bytes, is_addressed, is_found, is_right, is_set_answer, is_reported};
 ghost use Rattle.controller_core.specs.Machine.{cause_of, next_sequence, phase_for, ready_in};
 
+use crate::access::call_number;
 use crate::{Cause, State};
 use arrayvec::ArrayVec;
 use block_codec::{Block, ControlBlock, read_block};
@@ -88,14 +89,14 @@ pub(crate) fn is_set_answer(answer: &dcp_core::Response<'_>) -> bool
     matches!(answer.service, Service::Set) && answer.xid == 2
 }
 
-/// The number of the call after the last one.
-pub(crate) fn next_sequence(plan: &Plan, asked: Option<Request>) -> u32
-    ensures { result ≡ next_sequence plan.now asked }
+/// The number of the call after the last one, after this many requests of the application.
+pub(crate) fn next_sequence(plan: &Plan, calls: u32, asked: Option<Request>) -> u32
+    ensures { result ≡ next_sequence plan.now calls asked }
 {
     match asked {
         Some(Request::Connect) => 1,
         Some(Request::Write(number)) => u32::from(number) + 2,
-        _ => plan.records().len() as u32 + 2,
+        _ => call_number(plan, calls),
     }
 }
 

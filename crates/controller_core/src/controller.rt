@@ -2,19 +2,21 @@
 ghost use Rattle.std.specs.Prelude.{◌≡◌, ◌≤◌, IfSome, [], ◌∷◌, length, option_map};
 ghost use Rattle.cyclic_exchange.specs.Process.{value_at};
 ghost use Rattle.frame_codec.specs.Outbox.{boxed};
-ghost use Rattle.controller_core.specs.Machine.{first_cyclic, first_outputs, fresh, interval_of, opening_of, provider_of, route_of};
+ghost use Rattle.controller_core.specs.Access.{record_of};
+ghost use Rattle.controller_core.specs.Machine.{can_request, end_of, first_cyclic, first_outputs, fresh, interval_of, opening_of, provider_of, report_in, route_of};
 
+use crate::access::{Access, Answer};
 use crate::kept::KeptAlarm;
 use crate::outputs::{OutputMark, begin};
 use crate::{RefusedRecord, State};
 use arrayvec::ArrayVec;
 use block_codec::{AlarmNotification, IocrType};
-use controller_frames::{Request, Setup, send_request};
+use controller_frames::{RecordRequest, Request, Setup, send_request};
 use cyclic_data::{Consumer, PlaceKind, Provider};
 use cyclic_exchange::{CyclicExchange, ProviderStatus, Route, Statuses};
 use frame_codec::{Frame, Outbox};
 use plans::{INPUT_FRAME_ID, Plan, RTA_RETRIES, RTA_TIMEOUT_FACTOR, TAG_HIGH, Times};
-use pn_alarms::ControllerAlarms;
+use pn_alarms::{ControllerAlarms, Priority, Report};
 use pn_values::Mac;
 use rpc_core::{Status, Uuid};
 use std::marker::Model;
@@ -49,16 +51,24 @@ pub struct Controller {
     /// The last record that was refused.
     pub(crate) refused_record: Option<RefusedRecord>,
     pub(crate) exchange: CyclicExchange,
+    /// The alarms of high priority.
     pub(crate) alarms: ControllerAlarms,
+    /// The alarms of low priority.
+    pub(crate) low_alarms: ControllerAlarms,
     /// Why the IOPS of outputs are not good, for each place.
     pub(crate) outputs: ArrayVec<OutputMark, 128>,
+    /// The last alarm of high priority that was accepted.
     pub(crate) alarm: Option<KeptAlarm>,
+    /// The last alarm of low priority that was accepted.
+    pub(crate) low_alarm: Option<KeptAlarm>,
+    /// The requests of the application.
+    pub(crate) access: Access,
 }
 
 impl Model for Controller {
     ghost use Rattle.std.specs.Prelude.{◌<◌, option_map};
     ghost use Rattle.controller_core.specs.State.{Controlling};
-    ghost use Rattle.controller_core.specs.Alarms.{alarm_in};
+    ghost use Rattle.controller_core.specs.Alarms.{alarm_in, structure_in};
 
     ghost Value = { Controlling };
 
@@ -76,8 +86,13 @@ impl Model for Controller {
         refused_record = controller.refused_record;
         cyclic = controller.exchange;
         alarms = controller.alarms;
+        low_alarms = controller.low_alarms;
         outputs = controller.outputs.items;
         alarm = option_map alarm_in controller.alarm;
+        user_structure = structure_in controller.alarm;
+        low_alarm = option_map alarm_in controller.low_alarm;
+        low_user_structure = structure_in controller.low_alarm;
+        access = controller.access;
       };
     } };
 
@@ -165,6 +180,7 @@ impl Controller {
     {
         // In this order the plan is copied once less.
         let alarms = ControllerAlarms::new(RTA_TIMEOUT_FACTOR, RTA_RETRIES);
+        let low_alarms = ControllerAlarms::new(RTA_TIMEOUT_FACTOR, RTA_RETRIES);
         Controller {
             exchange: CyclicExchange::new(),
             phase: State::Looking,
@@ -177,8 +193,11 @@ impl Controller {
             refusal: None,
             refused_record: None,
             alarms,
+            low_alarms,
             outputs: ArrayVec::new(),
             alarm: None,
+            low_alarm: None,
+            access: Access::new(),
             setup: Setup { plan, ar, activity },
         }
     }
@@ -198,7 +217,10 @@ impl Controller {
         self.refusal = None;
         self.refused_record = None;
         self.alarms = ControllerAlarms::new(RTA_TIMEOUT_FACTOR, RTA_RETRIES);
+        self.low_alarms = ControllerAlarms::new(RTA_TIMEOUT_FACTOR, RTA_RETRIES);
         self.alarm = None;
+        self.low_alarm = None;
+        self.access.clear();
         open(&mut self.exchange, &mut self.outputs, &self.setup.plan);
     }
 
@@ -208,7 +230,12 @@ impl Controller {
     fn of(setup: Setup) -> Controller
         ensures { result ≡ fresh setup.plan setup.ar setup.activity }
     {
-        let mut controller = Controller {
+        // The exchange is large: it is opened before the controller is written, which is then written once, where the
+        // caller has room for it.
+        let mut exchange = CyclicExchange::new();
+        let mut outputs = ArrayVec::new();
+        open(&mut exchange, &mut outputs, &setup.plan);
+        Controller {
             setup,
             phase: State::Looking,
             device: Mac { octets: [0; 6] },
@@ -219,18 +246,14 @@ impl Controller {
             deviates: false,
             refusal: None,
             refused_record: None,
-            exchange: CyclicExchange::new(),
+            exchange,
             alarms: ControllerAlarms::new(RTA_TIMEOUT_FACTOR, RTA_RETRIES),
-            outputs: ArrayVec::new(),
+            low_alarms: ControllerAlarms::new(RTA_TIMEOUT_FACTOR, RTA_RETRIES),
+            outputs,
             alarm: None,
-        };
-        // The exchange is large: it is opened in its final place.
-        open(
-            &mut controller.exchange,
-            &mut controller.outputs,
-            &controller.setup.plan,
-        );
-        controller
+            low_alarm: None,
+            access: Access::new(),
+        }
     }
 
     /// Appends the Identify frame with which it begins.
@@ -292,6 +315,36 @@ impl Controller {
         self.refusal
     }
 
+    /// Whether the application can read or write a record: data is exchanged, and no other request waits for its answer.
+    pub fn can_request(&self) -> bool
+        ensures { result ≡ can_request self.now.live }
+    {
+        matches!(self.phase, State::Exchanging) && self.access.waiting().is_none()
+    }
+
+    /// The request of the application that waits for its answer. It is sent again each second, and dropped if the relation
+    /// ends.
+    pub fn waiting(&self) -> Option<RecordRequest>
+        ensures { result ≡ self.now.live.access.waiting }
+    {
+        self.access.waiting()
+    }
+
+    /// What the last request of the application was answered with. `None` if none was made, if it waits, or if the relation
+    /// ended before its answer.
+    pub fn answer(&self) -> Option<Answer>
+        ensures { result ≡ self.now.live.access.answer }
+    {
+        self.access.answer()
+    }
+
+    /// The record that this answer brought: empty if it is not the answer to a Read, or if the device refused that.
+    pub fn record(&self) -> &[u8]
+        ensures { result.now ≡ record_of self.now.live.access }
+    {
+        self.access.record()
+    }
+
     /// The last record that the device refused, if it refused one. A plan may say that the start-up goes on after it
     /// (`Plan::continues_on_refused_record`); then an application that looks after each step sees each of them, since a later
     /// record has a greater number.
@@ -323,13 +376,52 @@ impl Controller {
         }
     }
 
-    /// The last alarm that was accepted, if there was one.
+    /// The last alarm of high priority that was accepted, if there was one.
     pub fn alarm(&self) -> Option<AlarmNotification<'_>>
         ensures { result ≡ self.now.live.alarm }
     {
         match &self.alarm {
             Some(alarm) => Some(alarm.notification()),
             None => None,
+        }
+    }
+
+    /// The last alarm of low priority that was accepted, if there was one.
+    pub fn low_alarm(&self) -> Option<AlarmNotification<'_>>
+        ensures { result ≡ self.now.live.low_alarm }
+    {
+        match &self.low_alarm {
+            Some(alarm) => Some(alarm.notification()),
+            None => None,
+        }
+    }
+
+    /// The last alarm of a priority that was accepted, if there was one, with its UserStructureIdentifier.
+    pub fn report(&self, priority: Priority) -> Option<Report<'_>>
+        ensures { result ≡ report_in self.now.live priority }
+    {
+        let kept = match priority {
+            Priority::High => &self.alarm,
+            Priority::Low => &self.low_alarm,
+        };
+        match kept {
+            Some(alarm) => Some(Report {
+                priority,
+                notification: alarm.notification(),
+                user_structure: alarm.user_structure,
+            }),
+            None => None,
+        }
+    }
+
+    /// The SendSeqNum of the last alarm of a priority that was accepted, if there was one. It is another one after each
+    /// alarm that is accepted, also if its fields are those of the alarm before it.
+    pub fn accepted(&self, priority: Priority) -> Option<u16>
+        ensures { result ≡ (end_of self.now.live priority).seen }
+    {
+        match priority {
+            Priority::High => self.alarms.accepted(),
+            Priority::Low => self.low_alarms.accepted(),
         }
     }
 }

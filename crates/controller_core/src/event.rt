@@ -12,6 +12,12 @@ pub enum Event {
     Give(u16, u16, Bytes),
     /// The application says whether the output of the submodule in this slot and subslot is good.
     Status(u16, u16, bool),
+    /// The application reads the record with this index of the submodule in this slot and subslot. Only while data is
+    /// exchanged and no other request waits (`can_request`); otherwise nothing happens.
+    Read(u16, u16, u16),
+    /// The application writes these octets, at most 1,308, to the record with this index of the submodule in this slot and
+    /// subslot. The same holds; with more octets nothing happens.
+    Write(u16, u16, u16, Bytes),
     /// The application stops the controller.
     Stop,
 }

@@ -4,6 +4,7 @@ ghost use Rattle.controller_core.specs.Alarms.{ack_of, alarm_in, kept_alarm};
 
 use arrayvec::ArrayVec;
 use block_codec::{AlarmAck, AlarmData, AlarmNotification};
+use pn_alarms::Report;
 use wire::at_most;
 
 /// The maximum number of octets of an alarm's data that are stored: more than a frame holds.
@@ -19,14 +20,17 @@ pub(crate) struct KeptAlarm {
     module_ident_number: u32,
     submodule_ident_number: u32,
     alarm_specifier: u16,
+    pub(crate) user_structure: Option<u16>,
     alarm_data: ArrayVec<u8, 1500>,
 }
 
 impl KeptAlarm {
     /// A copy of an alarm.
-    pub(crate) fn of(alarm: &AlarmNotification<'_>) -> KeptAlarm
-        ensures { alarm_in result ≡ kept_alarm alarm.now }
+    pub(crate) fn of(report: &Report<'_>) -> KeptAlarm
+        ensures alarm { alarm_in result ≡ kept_alarm report.now.notification }
+        ensures structure { result.user_structure ≡ report.now.user_structure }
     {
+        let alarm = &report.notification;
         let mut alarm_data = ArrayVec::new();
         let _ = alarm_data.try_extend_from_slice(at_most(alarm.alarm_data.octets(), MOST_DATA));
         KeptAlarm {
@@ -37,6 +41,7 @@ impl KeptAlarm {
             module_ident_number: alarm.module_ident_number,
             submodule_ident_number: alarm.submodule_ident_number,
             alarm_specifier: alarm.alarm_specifier,
+            user_structure: report.user_structure,
             alarm_data,
         }
     }

@@ -1,7 +1,7 @@
 //! Several units of time at once.
 ghost use Rattle.std.specs.Prelude.{◌≡◌, ◌<◌, ◌≤◌, ◌+◌, ◌%◌};
 ghost use Rattle.frame_codec.specs.Outbox.{boxed};
-ghost use Rattle.controller_core.specs.Leaps.{LeapsAreTicks, NoneSends, OnlyTheLastSends, exchange_due_in, live_due_in, request_due_in, ticks_of};
+ghost use Rattle.controller_core.specs.Leaps.{LeapsAreTicks, NoneSends, OnlyTheLastSends, access_due_in, exchange_due_in, live_due_in, request_due_in, ticks_of};
 
 use crate::Controller;
 use crate::step::SECOND;
@@ -30,13 +30,30 @@ impl Controller {
         }
     }
 
+    // The same of the request of the application.
+    fn access_due_in(&self) -> u32
+        ensures value { result ≡ access_due_in self.now.live }
+        ensures some { 0 < result }
+    {
+        if self.access.waiting().is_some() {
+            SECOND - self.waited
+        } else {
+            NEVER
+        }
+    }
+
     // The number of units up to and with the next one with which the relation sends a frame or ends.
     fn exchange_due_in(&self) -> u32
         ensures value { result ≡ exchange_due_in self.now.live }
         ensures some { 0 < result }
     {
         if self.stands {
-            self.exchange.due_in().min(self.alarms.due_in())
+            self.access_due_in().min(
+                self.exchange
+                    .due_in()
+                    .min(self.alarms.due_in())
+                    .min(self.low_alarms.due_in()),
+            )
         } else {
             NEVER
         }
@@ -72,6 +89,7 @@ impl Controller {
         }
         self.exchange.pass(units);
         self.alarms.pass(units);
+        self.low_alarms.pass(units);
     }
 }
 

@@ -1,5 +1,5 @@
 //! One step.
-ghost use Rattle.std.specs.Prelude.{◌≡◌, ◌<◌, ◌≤◌, ◌+◌, ◌++◌, Some, [], false, map, true};
+ghost use Rattle.std.specs.Prelude.{◌≡◌, ◌<◌, ◌≤◌, ◌+◌, ◌++◌, Some, [], false, length, map, true};
 ghost use Rattle.arrayvec.specs.ArrayVec.{array_vec_len};
 ghost use Rattle.dcp_core.specs.Answered.{answered as answered_as};
 ghost use Rattle.rpc_core.specs.Call.{asked};
@@ -10,13 +10,17 @@ ghost use Rattle.controller_frames.specs.Reported.{reported};
 ghost use Rattle.controller_core.specs.Answers.{is_answer, is_ready, is_refused};
 ghost use Rattle.controller_core.specs.Connect.{chosen_by, nothing, found_in as all_found};
 ghost use Rattle.controller_core.specs.State.{with_live};
+ghost use Rattle.controller_core.specs.Machine.{accesses_of, accessing, failed, granted, pending_of, rejected, replied, replied_by, requested, written};
 ghost use Rattle.controller_core.specs.Machine.{acks_of, addressed, alarmed, answered, asking, called, come, connected, connected_by};
 ghost use Rattle.controller_core.specs.Machine.{brought, decided, denied, done, due_frames, ended_by, exchange_later, flowed, found, given};
 ghost use Rattle.controller_core.specs.Machine.{gone_on, is_again, handled, later, outputs_of, past_record};
 ghost use Rattle.controller_core.specs.Machine.{rated, readied, ready_in as block_of_ready, refused, refused_by, related_by, released, remarked, requests_of, responded, step_of};
 ghost use Rattle.controller_core.specs.Machine.{stopped, ticked, turned, undone, where_due, writing};
 ghost use Rattle.frame_codec.specs.Outbox.{boxed};
+ghost use Rattle.pn_alarms.specs.Sending.{due};
+ghost use Rattle.pn_alarms.specs.Sending.{is_again as is_repeated};
 
+use crate::access::{call_number, is_rejected, is_reply, record_in};
 use crate::alarms::{header_of, is_alarm};
 use crate::answers::{
     cause_of, is_addressed, is_found, is_right, is_set_answer, next_sequence, phase_for, ready_in,
@@ -26,21 +30,30 @@ use crate::connect::{Found, found_in};
 use crate::controller::route_of;
 use crate::outputs::{awaits, change, iops_in};
 use crate::{Cause, Controller, Event, RefusedRecord, State};
-use block_codec::{AlarmNotification, ControlBlock};
+use block_codec::ControlBlock;
 use controller_frames::{
-    Hearing, Refusal, Request, heard, heard_real_time, real_time_in, send_alarm_ack,
-    send_alarm_end, send_outputs, send_ready_answer, send_request,
+    Hearing, MOST_RECORD_OCTETS, RecordRequest, RecordService, Refusal, Request, heard,
+    heard_real_time, real_time_in, send_alarm_end, send_outputs, send_ready_answer,
+    send_record_request, send_request,
 };
 use cyclic_data::Provider;
 use cyclic_exchange::Tick;
 use frame_codec::{Bytes, Caller, Outbox, is_cyclic};
 use plans::SESSION_KEY;
-use pn_alarms::{Abort, Header, Notice, PduType};
+use pn_alarms::{Abort, Due, Header, Notice, PduType, Priority, Report};
 use pn_values::Mac;
 use rpc_core::{Call, Response, Status};
 
 /// The maximum number of blocks in the answer to a Connect: more than a frame holds.
 const MOST_BLOCKS: usize = 400;
+
+/// The status without an error.
+const NO_ERROR: Status = Status {
+    code: 0,
+    decode: 0,
+    code1: 0,
+    code2: 0,
+};
 
 /// One second, in units of 31.25 microseconds: an unanswered request is sent again after this time.
 pub(crate) const SECOND: u32 = 32_000;
@@ -58,6 +71,12 @@ impl Controller {
             Event::Tick => self.tick(outbox),
             Event::Give(slot, subslot, value) => self.give(*slot, *subslot, value.as_slice()),
             Event::Status(slot, subslot, is_good) => self.rate(*slot, *subslot, *is_good),
+            Event::Read(slot, subslot, index) => {
+                self.request(RecordService::Read, *slot, *subslot, *index, &[], outbox)
+            }
+            Event::Write(slot, subslot, index, octets) => {
+                self.write_record(*slot, *subslot, *index, octets.as_slice(), outbox)
+            }
             Event::Stop => self.stop(outbox),
         }
     }
@@ -80,7 +99,7 @@ impl Controller {
         ensures state { self.new ≡ with_live self.old (released self.old.setup cause self.old.live).live }
         ensures frames { boxed outbox.new ≡ map (bytes_of self.old.setup) (released self.old.setup cause self.old.live).sent }
     {
-        let sequence = next_sequence(&self.setup.plan, self.asked);
+        let sequence = next_sequence(&self.setup.plan, self.access.calls(), self.asked);
         self.end(cause);
         self.ask(State::Ended(cause), Request::Release(sequence), outbox);
     }
@@ -133,6 +152,70 @@ impl Controller {
         change(&mut self.outputs, slot, subslot, status);
         let iops = iops_in(self.outputs.as_slice(), slot, subslot);
         self.exchange.state(slot, subslot, iops);
+    }
+
+    // The application writes a record.
+    #[inline(never)]
+    fn write_record(
+        &mut self,
+        slot: u16,
+        subslot: u16,
+        index: u16,
+        octets: &[u8],
+        outbox: &mut Outbox,
+    )
+        requires empty { outbox.old.items ≡ [] }
+        ensures state { self.new ≡ with_live self.old (written self.old.setup self.old.live slot subslot index octets.now).live }
+        ensures frames { boxed outbox.new
+            ≡ map (bytes_of self.old.setup) (written self.old.setup self.old.live slot subslot index octets.now).sent }
+    {
+        if octets.len() <= MOST_RECORD_OCTETS {
+            self.request(RecordService::Write, slot, subslot, index, octets, outbox);
+        }
+    }
+
+    // The application reads a record, or writes these octets.
+    #[inline(never)]
+    fn request(
+        &mut self,
+        service: RecordService,
+        slot: u16,
+        subslot: u16,
+        index: u16,
+        octets: &[u8],
+        outbox: &mut Outbox,
+    )
+        requires few { length octets.now ≤ 1308 }
+        requires empty { outbox.old.items ≡ [] }
+        ensures state { self.new
+            ≡ with_live self.old (requested self.old.setup self.old.live service slot subslot index octets.now).live }
+        ensures frames { boxed outbox.new
+            ≡ map (bytes_of self.old.setup) (requested self.old.setup self.old.live service slot subslot index octets.now).sent }
+    {
+        // A second request is refused: the first one waits for its answer, and the device serves one call at a time.
+        if !self.can_request() {
+            return;
+        }
+        let request = RecordRequest {
+            sequence: call_number(&self.setup.plan, self.access.calls()),
+            service,
+            slot,
+            subslot,
+            index,
+        };
+        self.access_record(request, octets, outbox);
+    }
+
+    // Sends a request of the application, which waits from now on.
+    fn access_record(&mut self, request: RecordRequest, octets: &[u8], outbox: &mut Outbox)
+        requires few { length octets.now ≤ 1308 }
+        requires empty { outbox.old.items ≡ [] }
+        ensures state { self.new ≡ with_live self.old (accessing request octets.now self.old.live).live }
+        ensures frames { boxed outbox.new ≡ map (bytes_of self.old.setup) (accessing request octets.now self.old.live).sent }
+    {
+        self.waited = 0;
+        self.access.make(request, octets);
+        send_record_request(&self.setup, self.device, &request, octets, outbox);
     }
 
     // Receives a frame.
@@ -201,8 +284,8 @@ impl Controller {
             // Not reached: `hear` handles a cyclic frame before a `Hearing` is made of it. It is here because the
             // contract covers any `Hearing`.
             Hearing::Cyclic(source, frame_id, body) => self.hear_cyclic(*source, *frame_id, body),
-            Hearing::Alarms(source, header, notice) => {
-                self.hear_alarm(*source, header, notice, outbox)
+            Hearing::Alarms(source, under, header, notice) => {
+                self.hear_alarm(*source, *under, header, notice, outbox)
             }
         }
     }
@@ -292,12 +375,61 @@ impl Controller {
         ensures frames { boxed outbox.new
             ≡ map (bytes_of self.old.setup) (responded self.old.setup self.old.live (responded_as response.now) self.old.live.asked).sent }
     {
-        let Some(request) = self.asked else {
+        match self.asked {
+            Some(request) => {
+                if self.is_answer(request, response) {
+                    self.decide(request, response, outbox);
+                }
+            }
+            None => self.hear_reply(response),
+        }
+    }
+
+    // A response, while no request of the start-up waits.
+    fn hear_reply(&mut self, response: &Response<'_>)
+        ensures { self.new ≡ with_live self.old (replied self.old.setup self.old.live (responded_as response.now)
+            self.old.live.access.waiting) }
+    {
+        let Some(request) = self.access.waiting() else {
             return;
         };
-        if self.is_answer(request, response) {
-            self.decide(request, response, outbox);
+        if is_reply(&self.setup, &request, response) {
+            self.take_reply(request, response);
         }
+    }
+
+    // The response to a request of the application.
+    fn take_reply(&mut self, request: RecordRequest, response: &Response<'_>)
+        ensures { self.new ≡ with_live self.old (replied_by self.old.live (responded_as response.now) request) }
+    {
+        if !response.status.is_done() {
+            self.fail(request, response.status);
+            return;
+        }
+        self.grant(request, response.blocks);
+    }
+
+    // A request of the application succeeded.
+    fn grant(&mut self, request: RecordRequest, blocks: &[u8])
+        ensures { self.new ≡ with_live self.old (granted request blocks.now request.service self.old.live) }
+    {
+        match request.service {
+            // Blocks that cannot be read are not an answer: the Read is sent again, and the device repeats its answer.
+            RecordService::Read => {
+                if let Some(octets) = record_in(blocks) {
+                    self.access.finish(request, NO_ERROR, octets);
+                }
+            }
+            RecordService::Write => self.access.finish(request, NO_ERROR, &[]),
+        }
+    }
+
+    // A request of the application is refused with this status.
+    fn fail(&mut self, request: RecordRequest, reason: Status)
+        ensures { self.new ≡ with_live self.old (failed reason request self.old.live) }
+    {
+        self.refusal = Some(reason);
+        self.access.finish(request, reason, &[]);
     }
 
     // The response to the active request. That to a Release counts with any status.
@@ -378,11 +510,25 @@ impl Controller {
     fn hear_refusal(&mut self, refusal: &Refusal)
         ensures { self.new ≡ with_live self.old (refused self.old.setup self.old.live refusal.now self.old.live.asked).live }
     {
-        let Some(request) = self.asked else {
+        match self.asked {
+            Some(request) => {
+                if self.is_refused(request, refusal) {
+                    self.refuse(request, refusal);
+                }
+            }
+            None => self.hear_rejection(refusal),
+        }
+    }
+
+    // A reject or a fault, while no request of the start-up waits.
+    fn hear_rejection(&mut self, refusal: &Refusal)
+        ensures { self.new ≡ with_live self.old (rejected self.old.setup self.old.live refusal.now self.old.live.access.waiting) }
+    {
+        let Some(request) = self.access.waiting() else {
             return;
         };
-        if self.is_refused(request, refusal) {
-            self.refuse(request, refusal);
+        if is_rejected(&self.setup, &request, refusal) {
+            self.fail(request, refusal.status);
         }
     }
 
@@ -570,16 +716,17 @@ impl Controller {
     fn hear_alarm(
         &mut self,
         source: Mac,
+        under: Priority,
         header: &Header,
-        notice: &Notice<AlarmNotification<'_>>,
+        notice: &Notice<Report<'_>>,
         outbox: &mut Outbox,
     )
         requires empty { outbox.old.items ≡ [] }
-        ensures state { self.new ≡ with_live self.old (alarmed self.old.live source header.now notice.now).live }
-        ensures frames { boxed outbox.new ≡ map (bytes_of self.old.setup) (alarmed self.old.live source header.now notice.now).sent }
+        ensures state { self.new ≡ with_live self.old (alarmed self.old.live source under header.now notice.now).live }
+        ensures frames { boxed outbox.new ≡ map (bytes_of self.old.setup) (alarmed self.old.live source under header.now notice.now).sent }
     {
         if self.stands && is_alarm(self.exchange.route(), source, header) {
-            self.hear_notice(notice, outbox);
+            self.hear_notice(under, notice, outbox);
         }
     }
 
@@ -601,12 +748,15 @@ impl Controller {
 
     // Advances the timers of the exchange.
     #[inline(always)]
-    fn tick_exchange(&mut self) -> Tick
-        ensures brought { result ≡ brought self.old.live }
+    fn tick_exchange(&mut self) -> (Tick, Due, Due)
+        ensures brought { result.0 ≡ brought self.old.live }
+        ensures high { result.1 ≡ due self.old.live.alarms.sending }
+        ensures low { result.2 ≡ due self.old.live.low_alarms.sending }
         ensures state { self.new ≡ with_live self.old (exchange_later self.old.live) }
     {
-        let due = self.alarms.tick();
-        self.exchange.tick(due)
+        let high = self.alarms.tick();
+        let low = self.low_alarms.tick();
+        (self.exchange.tick(high.or(low)), high, low)
     }
 
     // A unit of time is over.
@@ -622,7 +772,7 @@ impl Controller {
         if !self.stands {
             return;
         }
-        let tick = self.tick_exchange();
+        let (tick, high, low) = self.tick_exchange();
         // With most units nothing is due, and no frame is built. Of the others most bring only outputs, which have
         // their own path.
         if tick.is_nothing() {
@@ -631,7 +781,7 @@ impl Controller {
         if tick.is_cyclic_alone() {
             return self.send_outputs(outbox);
         }
-        self.bring(&tick, false, outbox);
+        self.bring(&tick, high, low, false, outbox);
     }
 
     // A unit with which the request is due again.
@@ -644,21 +794,21 @@ impl Controller {
         if !self.stands {
             return self.send_request_again(true, outbox);
         }
-        let tick = self.tick_exchange();
-        self.bring(&tick, true, outbox);
+        let (tick, high, low) = self.tick_exchange();
+        self.bring(&tick, high, low, true, outbox);
     }
 
     // What a unit of time brings: a timeout ends the relation, otherwise what is due is sent.
     #[inline(never)]
-    fn bring(&mut self, tick: &Tick, is_request: bool, outbox: &mut Outbox)
+    fn bring(&mut self, tick: &Tick, high: Due, low: Due, is_request: bool, outbox: &mut Outbox)
         requires empty { outbox.old.items ≡ [] }
-        ensures state { self.new ≡ with_live self.old (flowed self.old.live is_request tick.now tick.now.ending).live }
+        ensures state { self.new ≡ with_live self.old (flowed self.old.live high low is_request tick.now tick.now.ending).live }
         ensures frames { boxed outbox.new
-            ≡ map (bytes_of self.old.setup) (flowed self.old.live is_request tick.now tick.now.ending).sent }
+            ≡ map (bytes_of self.old.setup) (flowed self.old.live high low is_request tick.now tick.now.ending).sent }
     {
         match tick.ending() {
             Some(reason) => self.end_by(reason, outbox),
-            None => self.send_due(tick, is_request, outbox),
+            None => self.send_due(high, low, is_request, tick.is_cyclic(), outbox),
         }
     }
 
@@ -675,33 +825,32 @@ impl Controller {
     }
 
     // Sends what is due with a unit: that of the relation, and the request again if it is due.
-    fn send_due(&self, tick: &Tick, is_request: bool, outbox: &mut Outbox)
+    fn send_due(&self, high: Due, low: Due, is_request: bool, is_cyclic: bool, outbox: &mut Outbox)
         requires empty { outbox.old.items ≡ [] }
         ensures frames { boxed outbox.new
-            ≡ map (bytes_of self.now.setup) (due_frames self.now.live tick.now.is_alarm is_request tick.now.is_cyclic) }
+            ≡ map (bytes_of self.now.setup) (due_frames self.now.live (is_repeated high) (is_repeated low) is_request is_cyclic) }
     {
         // They are sent in this order, so that the definition of a step is one list.
-        self.send_ack_again(tick.is_alarm(), outbox);
-        self.send_request_again(is_request, outbox);
-        self.send_outputs_due(tick.is_cyclic(), outbox);
+        self.send_ack_again(Priority::High, high.is_again(), outbox);
+        self.send_ack_again(Priority::Low, low.is_again(), outbox);
+        self.send_pending_again(is_request, outbox);
+        self.send_outputs_due(is_cyclic, outbox);
     }
 
-    // The AlarmAck again, if it is due and there is one.
-    fn send_ack_again(&self, is_due: bool, outbox: &mut Outbox)
+    // The AlarmAck of a priority again, if it is due and there is one.
+    fn send_ack_again(&self, priority: Priority, is_due: bool, outbox: &mut Outbox)
         requires room { array_vec_len outbox.old < 4 }
         ensures frames { boxed outbox.new
-            ≡ boxed outbox.old ++ map (bytes_of self.now.setup) (where_due is_due (acks_of self.now.live)) }
+            ≡ boxed outbox.old ++ map (bytes_of self.now.setup) (where_due is_due (acks_of self.now.live priority)) }
         ensures few { array_vec_len outbox.new ≤ array_vec_len outbox.old + 1 }
     {
         if !is_due {
             return;
         }
-        let Some(ack) = self.alarms.confirming() else {
+        let Some(ack) = self.end_of(priority).confirming() else {
             return;
         };
-        let route = self.exchange.route();
-        let header = header_of(&self.alarms, route, PduType::Data);
-        send_alarm_ack(&self.setup, route, &header, &ack, outbox);
+        self.send_ack(priority, &ack, outbox);
     }
 
     // The request again, if it is due and there is one.
@@ -718,6 +867,40 @@ impl Controller {
             return;
         };
         send_request(&self.setup, self.device, request, outbox);
+    }
+
+    // The request that waits again, of the start-up or else of the application, if it is due and there is one.
+    fn send_pending_again(&self, is_due: bool, outbox: &mut Outbox)
+        requires room { array_vec_len outbox.old < 4 }
+        ensures frames { boxed outbox.new
+            ≡ boxed outbox.old ++ map (bytes_of self.now.setup) (where_due is_due (pending_of self.now.live)) }
+        ensures few { array_vec_len outbox.new ≤ array_vec_len outbox.old + 1 }
+    {
+        if !is_due {
+            return;
+        }
+        match self.asked {
+            Some(request) => send_request(&self.setup, self.device, request, outbox),
+            None => self.send_access_again(outbox),
+        }
+    }
+
+    // The request of the application again, if one waits.
+    fn send_access_again(&self, outbox: &mut Outbox)
+        requires room { array_vec_len outbox.old < 4 }
+        ensures frames { boxed outbox.new ≡ boxed outbox.old ++ map (bytes_of self.now.setup) (accesses_of self.now.live) }
+        ensures few { array_vec_len outbox.new ≤ array_vec_len outbox.old + 1 }
+    {
+        let Some(request) = self.access.waiting() else {
+            return;
+        };
+        send_record_request(
+            &self.setup,
+            self.device,
+            &request,
+            self.access.octets(),
+            outbox,
+        );
     }
 
     // The outputs.

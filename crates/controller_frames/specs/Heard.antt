@@ -18,13 +18,16 @@ use Rattle.rpc_core.specs.Call.{Asked as Call, call_of}
 use Rattle.rpc_core.specs.Response.{Answered as Response, response_of}
 use Rattle.pn_alarms.specs.declared.fault.AlarmFault.{AlarmFault}
 use Rattle.pn_alarms.specs.declared.pdu.Header.{Header}
+use Rattle.pn_alarms.specs.declared.priority.Priority.{Priority}
 use Rattle.pn_alarms.specs.Message.{ToController, alarm_of}
+use Rattle.pn_alarms.specs.Priority.{priority_of}
 use Rattle.plans.specs.declared.parts.Controller.{Controller}
 use Rattle.controller_frames.specs.declared.refusal.Refusal.{Refusal}
 use Rattle.controller_frames.specs.Refusal.{refusal_of}
 
 -- What a frame is: one that a controller drops, a DCP answer and its sender, a response to a call, its refusal, a call to the
--- controller and its caller, a cyclic frame, or an alarm frame: its sender, its endpoints, and what it says.
+-- controller and its caller, a cyclic frame, or an alarm frame: its sender, the priority of its FrameID, its endpoints, and
+-- what it says.
 pub data Heard : Type 0 where
   Nothing : Heard
   Answers : (source : Mac) → (answer : Answered) → Heard
@@ -32,16 +35,16 @@ pub data Heard : Type 0 where
   Refuses : (refusal : Refusal) → Heard
   Calls : (caller : Caller) → (call : Call) → Heard
   Cyclic : (source : Mac) → (frame_id : ℕ) → (body : List ℕ) → Heard
-  Alarms : (source : Mac) → (header : Header) → (notice : ToController) → Heard
+  Alarms : (source : Mac) → (under : Priority) → (header : Header) → (notice : ToController) → Heard
 
 -- What can't be read is dropped.
 abbrev pub heard_answer : Mac → Result Answered DcpFault → Heard
 heard_answer source (Ok answer) = Answers source answer
 heard_answer source (Err fault) = Nothing
 
-abbrev pub heard_alarm : Mac → Result (Header × ToController) AlarmFault → Heard
-heard_alarm source (Ok x) = Alarms source x.0 x.1
-heard_alarm source (Err fault) = Nothing
+abbrev pub heard_alarm : Mac → ℕ → Result (Header × ToController) AlarmFault → Heard
+heard_alarm source frame_id (Ok x) = Alarms source (priority_of frame_id) x.0 x.1
+heard_alarm source frame_id (Err fault) = Nothing
 
 -- A call with wrong lengths of its blocks is dropped too.
 abbrev pub heard_call : Caller → Call → Option (List ℕ) → Heard
@@ -69,7 +72,7 @@ heard_body caller body = heard_first caller (call_of controllers body) (response
 unfoldable pub heard_real_time : Mac → ℕ → List ℕ → Heard
 heard_real_time source frame_id body =
     if is_cyclic frame_id then Cyclic source frame_id body
-    else if is_alarm frame_id then heard_alarm source (alarm_of body)
+    else if is_alarm frame_id then heard_alarm source frame_id (alarm_of body)
     else if frame_id == 0xFEFD then heard_answer source (answer_of frame_id body)
     else if frame_id == 0xFEFF then heard_answer source (answer_of frame_id body)
     else Nothing

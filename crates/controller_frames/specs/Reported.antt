@@ -13,4 +13,4 @@ reported (found.Responds response) = Responds (answered response)
 reported (found.Refuses refusal) = Refuses refusal
 reported (found.Calls caller call) = Calls caller (asked call)
 reported (found.Cyclic source frame_id body) = Cyclic source frame_id body.now
-reported (found.Alarms source header notice) = Alarms source header notice
+reported (found.Alarms source under header notice) = Alarms source under header notice

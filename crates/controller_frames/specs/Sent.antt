@@ -18,24 +18,32 @@ use Rattle.pn_alarms.specs.declared.abort.Abort.{Abort}
 use Rattle.pn_alarms.specs.declared.pdu.Header.{Header}
 use Rattle.pn_alarms.specs.declared.pdu.PduType.TheVariants.{Error}
 use Rattle.pn_alarms.specs.Abort.{abort_of}
+use Rattle.pn_alarms.specs.declared.priority.Priority.{Priority}
+use Rattle.pn_alarms.specs.declared.priority.Priority.TheVariants.{High, Low}
 use Rattle.pn_alarms.specs.Format.{Said, frame_id_of, pdu_bytes}
+use Rattle.pn_alarms.specs.Priority.{frame_id_at}
+use Rattle.pn_alarms.specs.Report.{ack_bytes}
 use Rattle.cyclic_exchange.specs.declared.route.Route.{Route}
 use Rattle.cyclic_exchange.specs.Frames.{cyclic_frame, plain_frame, tagged_frame}
 use Rattle.plans.specs.Connect.{alarm_block}
+use Rattle.controller_frames.specs.declared.record_request.RecordRequest.{RecordRequest}
 use Rattle.controller_frames.specs.declared.setup.Setup.{Setup}
 use Rattle.controller_frames.specs.declared.request.Request.{Request}
 use Rattle.controller_frames.specs.declared.request.Request.TheVariants as asks
+use Rattle.controller_frames.specs.RecordRequests.{record_call}
 use Rattle.controller_frames.specs.Requests.{address_asked, call_for, identify_asked}
 
--- A message: a request to the device; the answer to its ApplicationReady, to the caller; a cyclic frame of outputs at a
--- CycleCounter; an AlarmAck as data, with its header; the ACK or NACK that is the response to an alarm; or the ERR with
+-- A message: a request to the device; a request of the application for a record, with the octets that it writes; the answer
+-- to its ApplicationReady, to the caller; a cyclic frame of outputs at a CycleCounter; an AlarmAck of a priority as data, with
+-- its header; the ACK or NACK that is the response to an alarm of a priority; or the ERR with
 -- which the controller ends its relation.
 pub data Sent : Type 0 where
   Requests : (device : Mac) → (request : Request) → Sent
+  Accesses : (device : Mac) → (request : RecordRequest) → (octets : List ℕ) → Sent
   Agrees : (caller : Caller) → (answer : Answered) → Sent
   Cycles : (route : Route) → (shown : Shown) → (counter : ℕ) → Sent
-  Confirms : (route : Route) → (header : Header) → (ack : AlarmAck) → Sent
-  Replies : (route : Route) → (header : Header) → Sent
+  Confirms : (route : Route) → (priority : Priority) → (header : Header) → (ack : AlarmAck) → Sent
+  Replies : (route : Route) → (priority : Priority) → (header : Header) → Sent
   Ends : (route : Route) → (header : Header) → (reason : Abort) → Sent
 
 -- ---- requests
@@ -82,9 +90,9 @@ answer_frame setup caller answer =
 
 -- ---- alarms
 
--- The PDU of an AlarmAck, and that of an ACK or NACK.
-abbrev pub ack_pdu : Header → AlarmAck → Said
-ack_pdu header ack = record { header = header; body = block_bytes (is.AlarmAck ack) }
+-- The PDU of an AlarmAck of a priority, and that of an ACK or NACK.
+abbrev pub ack_pdu : Priority → Header → AlarmAck → Said
+ack_pdu priority header ack = record { header = header; body = ack_bytes priority ack }
 
 abbrev pub reply_pdu : Header → Said
 reply_pdu header = record { header = header; body = [] }
@@ -93,10 +101,15 @@ reply_pdu header = record { header = header; body = [] }
 abbrev pub end_pdu : Header → Abort → Said
 end_pdu header reason = abort_of reason header.destination header.source header.send_number header.ack_number
 
--- The frame of a PDU to the partner, of high priority.
-abbrev pub alarm_frame : Setup → Route → Said → List ℕ
-alarm_frame setup route pdu =
-    tagged_frame setup.plan.controller.mac route.partner route.alarm_tag (RealTime (frame_id_of pdu.header.kind) (pdu_bytes pdu))
+-- The tag of alarms of a priority: AlarmCRTagHeaderHigh and AlarmCRTagHeaderLow of the plan.
+abbrev pub tag_of : Route → Priority → ℕ
+tag_of route High = route.alarm_tag
+tag_of route Low = alarm_block.tag_header_low
+
+-- The frame of a PDU to the partner, of a priority.
+abbrev pub alarm_frame : Setup → Route → Priority → Said → List ℕ
+alarm_frame setup route priority pdu =
+    tagged_frame setup.plan.controller.mac route.partner (tag_of route priority) (RealTime (frame_id_at priority pdu.header.kind) (pdu_bytes pdu))
 
 -- An ERR has low priority: its tag is AlarmCRTagHeaderLow of the plan.
 abbrev pub end_frame : Setup → Route → Said → List ℕ
@@ -108,8 +121,9 @@ end_frame setup route pdu =
 -- The octets of a message.
 abbrev pub bytes_of : Setup → Sent → List ℕ
 bytes_of setup (Requests device request) = request_frame setup device request
+bytes_of setup (Accesses device request octets) = call_frame setup device (record_call setup request octets)
 bytes_of setup (Agrees caller answer) = answer_frame setup caller answer
 bytes_of setup (Cycles route shown counter) = cyclic_frame setup.plan.controller.mac route shown counter
-bytes_of setup (Confirms route header ack) = alarm_frame setup route (ack_pdu header ack)
-bytes_of setup (Replies route header) = alarm_frame setup route (reply_pdu header)
+bytes_of setup (Confirms route priority header ack) = alarm_frame setup route priority (ack_pdu priority header ack)
+bytes_of setup (Replies route priority header) = alarm_frame setup route priority (reply_pdu header)
 bytes_of setup (Ends route header reason) = end_frame setup route (end_pdu header reason)

@@ -29,7 +29,7 @@ const RELEASE: u16 = 4;
 
 /// The object that is called: with instance 1, and DeviceID and VendorID of the plan.
 #[tactic(auto, unfolding(crate::specs::Requests::object_of))]
-fn object_of(station: &Station) -> Uuid
+pub(crate) fn object_of(station: &Station) -> Uuid
     ensures { result ≡ object_of station.now }
 {
     let device = station.device_id.to_be_bytes();
@@ -139,19 +139,24 @@ fn put_blocks(setup: &Setup, request: Request, blocks: &mut ArrayVec<u8, 1372>)
     }
 }
 
-/// Appends a call, addressed to the device, to the outbox.
-pub(crate) fn send_call(setup: &Setup, device: Mac, request: Request, outbox: &mut Outbox)
+/// Appends a call with these blocks, addressed to the device, to the outbox.
+pub(crate) fn send_blocks(
+    setup: &Setup,
+    device: Mac,
+    header: &CallHeader,
+    blocks: &ArrayVec<u8, 1372>,
+    outbox: &mut Outbox,
+)
     requires room { array_vec_len outbox.old < 4 }
     ensures frames { boxed outbox.new
-        ≡ boxed outbox.old ++ call_frame setup.now device (call_for setup.now request) ∷ [] }
+        ≡ boxed outbox.old
+        ++ call_frame setup.now device (record { header = header.now; args_maximum = 1372; blocks = Some blocks.now.items }) ∷ [] }
     ensures len { array_vec_len outbox.new ≡ array_vec_len outbox.old + 1 }
 {
-    let mut blocks: ArrayVec<u8, 1372> = ArrayVec::new();
-    put_blocks(setup, request, &mut blocks);
     let mut datagram = Datagram::new();
     write_request(
         &Call {
-            header: header_of(setup, request),
+            header: *header,
             args_maximum: ARGS_MAXIMUM,
             blocks: Some(blocks.as_slice()),
         },
@@ -167,4 +172,16 @@ pub(crate) fn send_call(setup: &Setup, device: Mac, request: Request, outbox: &m
             body: datagram.as_slice(),
         }),
     });
+}
+
+/// Appends a call of the start-up, addressed to the device, to the outbox.
+pub(crate) fn send_call(setup: &Setup, device: Mac, request: Request, outbox: &mut Outbox)
+    requires room { array_vec_len outbox.old < 4 }
+    ensures frames { boxed outbox.new
+        ≡ boxed outbox.old ++ call_frame setup.now device (call_for setup.now request) ∷ [] }
+    ensures len { array_vec_len outbox.new ≡ array_vec_len outbox.old + 1 }
+{
+    let mut blocks: ArrayVec<u8, 1372> = ArrayVec::new();
+    put_blocks(setup, request, &mut blocks);
+    send_blocks(setup, device, &header_of(setup, request), &blocks, outbox);
 }

@@ -9,13 +9,12 @@ ghost use Rattle.frame_codec.specs.Frame.{datagram, frame_of};
 ghost use Rattle.pn_alarms.specs.Message.{alarm_of};
 
 use crate::refusal::{Refusal, read_refusal};
-use block_codec::AlarmNotification;
 use frame_codec::{
     Bytes, Caller, ContentKind, DCP_GET_SET, DCP_IDENTIFY_RESPONSE, Endpoint, RPC_PORT,
     RealTimeFrame, datagram_at, frame_id_at, is_alarm, is_cyclic, open, read_real_time,
 };
 use plans::Controller;
-use pn_alarms::{Header, Notice, read_alarm};
+use pn_alarms::{Header, Notice, Priority, Report, read_alarm};
 use pn_values::Mac;
 use rpc_core::{Call, Interface, Response, read_call, read_response};
 
@@ -34,8 +33,8 @@ pub enum Hearing<'a> {
     Calls(Caller, Call<'a>),
     /// A cyclic frame of this station: its FrameID, and the octets that follow it.
     Cyclic(Mac, u16, &'a [u8]),
-    /// An alarm frame of this station.
-    Alarms(Mac, Header, Notice<AlarmNotification<'a>>),
+    /// An alarm frame of this station: the priority of its FrameID, its header, and what it says.
+    Alarms(Mac, Priority, Header, Notice<Report<'a>>),
 }
 
 /// The DCP answer under this FrameID.
@@ -48,12 +47,12 @@ fn heard_answer<'a>(source: Mac, frame_id: u16, body: &'a [u8]) -> Hearing<'a>
     }
 }
 
-/// The alarm frame of this station.
-fn heard_alarm<'a>(source: Mac, body: &'a [u8]) -> Hearing<'a>
-    ensures { reported result ≡ heard_alarm source (alarm_of body.now) }
+/// The alarm frame of this station, under this FrameID.
+fn heard_alarm<'a>(source: Mac, frame_id: u16, body: &'a [u8]) -> Hearing<'a>
+    ensures { reported result ≡ heard_alarm source frame_id (alarm_of body.now) }
 {
     match read_alarm(body) {
-        Ok((header, notice)) => Hearing::Alarms(source, header, notice),
+        Ok((header, notice)) => { Hearing::Alarms(source, Priority::of(frame_id), header, notice) }
         Err(_) => Hearing::Nothing,
     }
 }
@@ -90,7 +89,7 @@ pub fn heard_real_time<'a>(source: Mac, frame_id: u16, body: &'a [u8]) -> Hearin
         return Hearing::Cyclic(source, frame_id, body);
     }
     if is_alarm(frame_id) {
-        return heard_alarm(source, body);
+        return heard_alarm(source, frame_id, body);
     }
     match frame_id {
         DCP_GET_SET | DCP_IDENTIFY_RESPONSE => heard_answer(source, frame_id, body),

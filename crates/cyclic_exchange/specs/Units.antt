@@ -5,6 +5,7 @@ use Rattle.pn_alarms.specs.declared.abort.Abort.{Abort}
 use Rattle.pn_alarms.specs.declared.abort.Abort.TheVariants.{DataHold, Activity, Other}
 use Rattle.pn_alarms.specs.declared.repeats.Due.{Due}
 use Rattle.pn_alarms.specs.declared.repeats.Due.TheVariants.{Nothing, Again, Spent}
+use Rattle.pn_alarms.specs.Sending.{is_again}
 use Rattle.cyclic_exchange.specs.declared.units.Brings.{Brings}
 use Rattle.cyclic_exchange.specs.declared.units.Brings.TheVariants as brings
 use Rattle.cyclic_exchange.specs.Cyclic.{Cyclic}
@@ -22,11 +23,6 @@ ending_by Spent = Some Other
 
 abbrev pub ending_of : Cyclic → Due → Option Abort
 ending_of cyclic alarm = if is_silent cyclic then Some DataHold else ending_by alarm
-
-abbrev pub is_again : Due → Bool
-is_again Nothing = false
-is_again Again = true
-is_again Spent = false
 
 -- What a unit brings: why the relation ends, if it does, and what is sent.
 pub record Brought : Type 0 where

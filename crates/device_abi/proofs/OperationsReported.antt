@@ -1,6 +1,10 @@
 -- What is reported of a port.
 use Rattle.std.proofs.Common.{◌≡◌, ℕ, true, false, refl, List, [], ◌∷◌, Option, Some, None, sym, ap, subst, ◌∙◌}
 use Rattle.flash_model.specs.Calls.{Call}
+use Rattle.std.specs.Prelude.{IfOk, Result, Ok, Err}
+use Rattle.device_core.specs.Leaps.{live_due_in}
+use Rattle.device_abi.specs.declared.port.device.Passed.{Passed}
+use Rattle.device_abi.specs.port.Steps.{PassesOrNot}
 use Rattle.device_abi.specs.port.State.{State, IsIdle, IsNext, IsUnreported, has_some, waiting, work_kind}
 use Rattle.device_abi.specs.port.Refusals.{refusal_number}
 use Rattle.device_abi.specs.declared.port.device.Work.{Work}
@@ -49,3 +53,8 @@ pub unreported : (why : Option Refusal) (value : Option (List ℕ)) (refusal : R
 unreported (Some late) value refusal asked answer reported is at same = (at ∙ ap refusal_number is, same)
 unreported None value refusal asked answer reported is at same =
     subst (λ v. IsValue v asked answer reported) (sym is.0) (at ∙ ap refusal_number is.1, same)
+
+-- What units of time tell as due.
+pub due_told : (old : State) (units : ℕ) (result : Result Passed Refusal) (new : State) → PassesOrNot old units result new → IfOk result (λ passed. passed.due ≡ live_due_in new.device.live)
+due_told old units (Ok passed) new passes = passes.2
+due_told old units (Err refusal) new passes = tt

@@ -1,5 +1,5 @@
 -- The work that remains after a position in the calls and a position in the frames.
-use Rattle.std.proofs.Common.{◌≡◌, ◌+◌, ◌<◌, ◌≤◌, ℕ, Bool, true, false, zero, suc, refl, List, [], ◌∷◌, length, map, drop, get_or, sym, ap, ◌∙◌, inl, inr, arith}
+use Rattle.std.proofs.Common.{◌≡◌, ◌+◌, ◌<◌, ◌≤◌, ℕ, Bool, true, false, zero, suc, refl, List, [], ◌∷◌, length, map, drop, get_or, sym, ap, ◌∙◌, inl, inr, arith, Option, Some, None}
 use Rattle.std.specs.Prelude.{nat_lt}
 use Rattle.std.proofs.lemmas.Bool.{cases_Bool, ltb-true, ltb-false}
 use Rattle.std.proofs.Math.ListN.{get_or-map}
@@ -8,7 +8,8 @@ use Rattle.flash_model.specs.Calls.{Call, Erases}
 use Rattle.flash_model.specs.declared.flash.Sector.TheVariants.{First}
 use Rattle.device_abi.specs.declared.port.stage.Stage.{Stage}
 use Rattle.device_abi.specs.declared.port.stage.Stage.TheVariants.{Made, Booted, Lost}
-use Rattle.device_abi.specs.port.State.{State, IsSteady, has_some, has_work, advanced_by}
+use Rattle.device_core.specs.State.{Live}
+use Rattle.device_abi.specs.port.State.{State, IsCounted, IsSteady, has_some, has_work, advanced_by}
 
 pub call_left : (n : ℕ) (calls : List Call) (frames : List (List ℕ)) → n < length calls → has_work (drop n calls) frames ≡ true
 call_left n calls frames some = ap (λ c. has_work c frames) (drop_more calls n (Erases First) some)
@@ -62,6 +63,11 @@ pub frame_taken : (port : State) (n m : ℕ) (calls : List Call) (frames : List 
 frame_taken port n m calls frames none is =
     ap (advanced_by port) (drop_all n calls none) ∙ ap (λ f. record port { frames = f }) (ap (drop 1) is ∙ drop-drop 1 m frames)
 
+pub frame_drawn : (port : State) (m : ℕ) (frames : List (List ℕ)) → port.calls ≡ [] → port.frames ≡ drop m frames
+    → advanced_by port port.calls ≡ record port { frames = drop (m + 1) frames }
+frame_drawn port m frames none is =
+    ap (advanced_by port) none ∙ ap (λ f. record port { frames = f }) (ap (drop 1) is ∙ drop-drop 1 m frames)
+
 pub none_taken : (port : State) (n : ℕ) (calls : List Call) → length calls ≤ n → port.frames ≡ [] → advanced_by port (drop n calls) ≡ port
 none_taken port n calls none is =
     ap (advanced_by port) (drop_all n calls none) ∙ ap (λ f. record port { frames = drop 1 f }) is ∙ sym (ap (λ f. record port { frames = f }) is)
@@ -94,3 +100,18 @@ pub steady_frame : (stage : Stage) (has_failed : Bool) (m : ℕ) (calls : List C
 steady_frame Made has_failed m calls frames some steady = absurd (none_there m frames some steady.2)
 steady_frame Booted has_failed m calls frames some steady = steady
 steady_frame Lost has_failed m calls frames some steady = absurd (none_there m frames some steady.1)
+
+-- ---- what is due is known only if no call remains
+
+pub counted_call : (due : Option ℕ) (live : Live) (stage : Stage) (n : ℕ) (calls : List Call) → n < length calls
+    → IsCounted due live stage (drop n calls) → IsCounted due live stage (drop (n + 1) calls)
+counted_call None live stage n calls some counted = tt
+counted_call (Some due) live stage n calls some counted = absurd (none_there n calls some counted.3)
+
+pub no_calls : (calls : List Call) → has_some calls ≡ false → calls ≡ []
+no_calls [] none = refl
+no_calls (call ∷ calls) none = cc none
+
+-- A call remains at this position.
+pub some_there : {T : Type 0} (n : ℕ) (all : List T) → has_some (drop n all) ≡ true → n < length all
+some_there n all some = ltb-true n (length all) (sym (some_left n all) ∙ some)

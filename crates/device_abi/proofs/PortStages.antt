@@ -6,7 +6,8 @@ use Rattle.settings_journal.specs.declared.journal.BootFault.TheVariants.{Foreig
 use Rattle.device_abi.specs.declared.port.refusal.Refusal.TheVariants as refusal
 use Rattle.device_abi.specs.declared.port.stage.Stage.{Stage}
 use Rattle.device_abi.specs.declared.port.stage.Stage.TheVariants.{Made, Booted, Lost}
-use Rattle.device_abi.specs.port.State.{IsSteady, barred_by, closed, past_start}
+use Rattle.device_abi.specs.port.State.{IsSteady, barred_by, closed, has_some, has_work, past_start}
+use Rattle.device_abi.proofs.PortLeft.{only_frames}
 
 -- A port that accepts events has started, and no commit failed.
 pub booted_of : (stage : Stage) (is_left : Bool) → barred_by stage is_left ≡ None → stage ≡ Booted
@@ -51,3 +52,11 @@ pub open_of : (stage : Stage) → closed stage ≡ None → stage ≡ Booted
 open_of Made open_now = cc open_now
 open_of Booted open_now = refl
 open_of Lost open_now = cc open_now
+
+-- The same of an open port without flash calls, by its frames.
+pub free_at : (stage : Stage) (calls : List Call) (frames : List (List ℕ)) → stage ≡ Booted → calls ≡ [] → has_some frames ≡ false → barred_by stage (has_work calls frames) ≡ None
+free_at stage calls frames is none idle = free_of stage (has_work calls frames) is (sym (only_frames calls frames (ap has_some none)) ∙ idle)
+
+pub working_at : (stage : Stage) (calls : List Call) (frames : List (List ℕ)) → stage ≡ Booted → calls ≡ [] → has_some frames ≡ true
+    → barred_by stage (has_work calls frames) ≡ Some refusal.HasWork
+working_at stage calls frames is none busy = working_of stage (has_work calls frames) is (sym (only_frames calls frames (ap has_some none)) ∙ busy)

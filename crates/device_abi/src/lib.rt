@@ -10,6 +10,6 @@ mod recorded;
 mod recording;
 
 pub use operations::{Station, hand_out, judge, port_of, serve};
-pub use port::{Operation, Port, Refusal, SECTOR_SIZE, Stage, Work, play};
+pub use port::{Operation, Passed, Port, Refusal, SECTOR_SIZE, Stage, Work, play};
 pub use recorded::{MOST_BYTES, MOST_CALLS, Recorded, RecordedFlash};
 pub use recording::{leap, skip, step, step_frame, unit};

@@ -6,7 +6,7 @@ mod host;
 mod refusal;
 mod stage;
 
-pub use device::{Port, SECTOR_SIZE, Work};
+pub use device::{Passed, Port, SECTOR_SIZE, Work};
 pub use host::{Operation, play};
 pub use refusal::Refusal;
 pub use stage::Stage;

@@ -15,7 +15,6 @@ use Rattle.records.specs.declared.status.operation.Operation.TheVariants.{Connec
 use Rattle.records.specs.declared.status.call_fault.CallFault.{CallFault}
 use Rattle.records.specs.status.Operation.{operation_of}
 use Rattle.records.specs.reads.Implicit.{implicit_read}
-use Rattle.records.specs.reads.Within.{relation_read}
 use Rattle.record_blocks.specs.declared.write_record.IodWriteReq.{IodWriteReq}
 use Rattle.records.specs.declared.writes.write.Effect.{Effect}
 use Rattle.records.specs.declared.writes.write.Effect.TheVariants.{Stores, Keeps}
@@ -31,7 +30,8 @@ use Rattle.relations.specs.exchange.Flow.{Flow}
 use Rattle.relations.specs.Exchanged.{given_to, heard_by, hearing, raised_to, received_by, receiving}
 use Rattle.relations.specs.declared.hearing.ReadyAnswer.{ReadyAnswer}
 use Rattle.relations.specs.declared.hearing.ReadyAnswer.TheVariants as to_ready
-use Rattle.relations.specs.RelationState.{RelationState, uuid_of, differing_in, is_alarm_of, is_preparing, phase_of}
+use Rattle.relations.specs.RelationState.{RelationState, uuid_of, is_alarm_of, is_preparing, phase_of}
+use Rattle.relation_records.specs.Reading.{relation_read}
 use Rattle.relations.specs.Phases.{keeping, updated}
 use Rattle.relations.specs.Calls.{prm_end_answer, release_answer}
 use Rattle.relations.specs.Connect.{connect_answer}
@@ -91,7 +91,7 @@ new_called station live answers caller call blocks Connect is_new =
 new_called station live answers caller call blocks Release is_new =
     served_called station live caller call Release (release_answer live.rest.link blocks) is_new
 new_called station live answers caller call blocks Read is_new =
-    served_called station live caller call Read (relation_read (uuid_of live.rest.link) (differing_in live.rest.link) station.identity station.real live.values.running blocks) is_new
+    served_called station live caller call Read (relation_read live.rest.link station.identity station.real live.values.running blocks) is_new
 new_called station live answers caller call blocks Write is_new =
     write_called station live answers caller call (write_of (uuid_of live.rest.link) station.real blocks) is_new
 new_called station live answers caller call blocks Control is_new =

@@ -117,6 +117,18 @@ leap_frames {F} old mid frames units before count is none ticks =
 pub leap_last : (station : Station) (live : Live) (units before : ℕ) → units ≡ suc before → NoneSends before station live → OnlyTheLastSends units station live
 leap_last station live units before count none first earlier = none first (omega (arith, count, earlier))
 
+-- The same with one unit fewer before.
+pub leap_device_to : {F : Type 0} (old mid new : State F) (units : ℕ) → 0 < units → mid ≡ with_live old (ticks_of (units - 1) old.station old.live).live
+    → new ≡ behind mid (ticked mid.live) → new ≡ with_live old (ticks_of units old.station old.live).live
+leap_device_to old mid new units some is ticks = leap_device old mid new units (units - 1) (omega (arith, some)) is ticks
+
+pub leap_frames_to : {F : Type 0} (old mid : State F) (frames : List (List ℕ)) (units : ℕ) → 0 < units → mid ≡ with_live old (ticks_of (units - 1) old.station old.live).live
+    → NoneSends (units - 1) old.station old.live → frames ≡ frames_of mid (ticked mid.live) → frames ≡ (ticks_of units old.station old.live).frames
+leap_frames_to old mid frames units some is none ticks = leap_frames old mid frames units (units - 1) (omega (arith, some)) is none ticks
+
+pub leap_last_to : (station : Station) (live : Live) (units : ℕ) → 0 < units → NoneSends (units - 1) station live → OnlyTheLastSends units station live
+leap_last_to station live units some none = leap_last station live units (units - 1) (omega (arith, some)) none
+
 -- ---- leaps one after another
 
 ticks_more : (station : Station) (live : Live) (units more : ℕ) → ticks_of (units + more) station live ≡ then_leap (ticks_of units station live) (ticks_of more station (ticks_of units station live).live)

@@ -1,6 +1,6 @@
 -- What a step does, from what its parts do.
 use Rattle.std.proofs.lemmas.Bool.{cond_both, cond-true}
-use Rattle.std.proofs.Common.{◌≡◌, ◌≢◌, ℕ, false, List, [], ◌∷◌, ◌++◌, map, Option, None, is_some, refl, sym, ap, subst, ◌∙◌, inl, arith}
+use Rattle.std.proofs.Common.{◌≡◌, ◌≢◌, ℕ, false, List, [], ◌∷◌, ◌++◌, map, is_some, refl, sym, ap, subst, ◌∙◌, inl, arith}
 use Rattle.std.proofs.lemmas.List.{append-nil, map-append}
 use Rattle.flash_model.specs.declared.flash.Flash.{Ghosts as Flash}
 use Rattle.pn_values.specs.declared.mac.Mac.{Mac}
@@ -11,9 +11,7 @@ use Rattle.settings_store.specs.State as store
 use Rattle.settings_store.specs.Carries.{Carries, OneByOne, Holds, Stretch, Continues}
 use Rattle.settings_store.specs.Faults.{GoesOn}
 use Rattle.rpc_core.specs.Call.{Asked as Called}
-use Rattle.rpc_core.specs.Cache.{Kept, looked, again}
-use Rattle.relations.specs.RelationState.{RelationState}
-use Rattle.relations.specs.declared.statuses.InputStatus.{InputStatus}
+use Rattle.rpc_core.specs.Cache.{looked, again}
 use Rattle.dcp_core.specs.declared.request.Service.TheVariants as service
 use Rattle.dcp_core.specs.Request.{Asked}
 use Rattle.dcp_core.specs.Identify.{matches}
@@ -21,7 +19,7 @@ use Rattle.dcp_core.specs.Set.{plan_of}
 use Rattle.device_frames.specs.declared.note.Note.{Note}
 use Rattle.device_frames.specs.declared.note.Note.TheVariants as note
 use Rattle.device_core.specs.Cycle.{started}
-use Rattle.device_core.specs.State.{Station, State, Rest, Live, store_of, with_rest}
+use Rattle.device_core.specs.State.{Station, State, Rest, Live, at_start, store_of, with_rest}
 use Rattle.device_frames.specs.Heard.{Heard, Asks}
 use Rattle.device_frames.specs.Sendable.{AreSendable, IsSendable}
 use Rattle.device_frames.specs.Sent.{Sent, GetAnswer, SetAnswer, Again, bytes_of}
@@ -308,11 +306,8 @@ again_step as_flash old new heard frames said steps call frame served reported =
       done = steps.note ∙ one.done;
     }
 
--- The values of a store that has just started, an empty cache, no relation, and no status.
-pub as_started : (values : store.Values) (calls : List Kept) (link : Option RelationState) (statuses : List InputStatus) (settings : Settings) (room : ℕ) → values.running ≡ values.stored → values.has_failed ≡ false → values.is_lost ≡ false
-    → calls ≡ [] → link ≡ None → statuses ≡ [] → values.stored ≡ settings → values.room ≡ room
-    → record { values = values; rest = record { lamp = 0; calls = calls; link = link; units = 0; statuses = statuses } } ≡ started settings room
-as_started values calls link statuses settings room running failed lost empty none unrated stored left =
-    same_live _ _ (same_values values (started settings room).values (running ∙ stored) stored left failed lost)
-    (ap (λ c. record { lamp = 0; calls = c; link = link; units = 0; statuses = statuses }) empty
-    ∙ (ap (λ l. record { lamp = 0; calls = []; link = l; units = 0; statuses = statuses }) none ∙ ap (λ s. record { lamp = 0; calls = []; link = None; units = 0; statuses = s }) unrated))
+-- The values of a store that has just started, and nothing else.
+pub as_started : (values : store.Values) (settings : Settings) (room : ℕ) → values.running ≡ values.stored → values.has_failed ≡ false → values.is_lost ≡ false
+    → values.stored ≡ settings → values.room ≡ room → record { values = values; rest = at_start } ≡ started settings room
+as_started values settings room running failed lost stored left =
+    same_live _ _ (same_values values (started settings room).values (running ∙ stored) stored left failed lost) refl

@@ -11,17 +11,17 @@ use Rattle.settings_store.specs.Legal.{CrashSafe, made_of}
 use Rattle.settings_store.specs.Carries.{IsCaused}
 use Rattle.relations.specs.Exchanged.{output_in}
 use Rattle.device_frames.specs.declared.event.Event.{Event}
-use Rattle.device_core.specs.State.{Station, State, Live}
+use Rattle.device_core.specs.State.{Station, State, Live, at_start}
 use Rattle.device_core.specs.Machine.{Ran, run_of}
 use Rattle.relations.specs.Outputs.{output_of, zero_output}
 use Rattle.device_core.specs.Steps.{EventByEvent, AnswersBy}
 
--- A device as it starts: the stored settings are the running settings, no commit failed, there is power, the lamp is
--- off, no answer is kept, there is no relation, and the application gave no status.
+-- A device as it starts: the stored settings are the running settings, no commit failed, there is power, and nothing
+-- else is left of an earlier cycle.
 abbrev pub started : Settings → ℕ → Live
 started settings room = record {
   values = record { running = settings; stored = settings; room = room; has_failed = false; is_lost = false };
-  rest = record { lamp = 0; calls = []; link = None; units = 0; statuses = [] };
+  rest = at_start;
 }
 
 -- The events of a cycle that begins with the first settings, and with room for this many commits.

@@ -26,7 +26,7 @@ use Rattle.records.specs.status.Status.{done, status_of}
 use Rattle.connect_blocks.specs.declared.control.ControlBlock.{ControlBlock}
 use Rattle.record_blocks.specs.declared.write_record.IodWriteReq.{IodWriteReq}
 use Rattle.records.specs.reads.Implicit.{implicit_read}
-use Rattle.records.specs.reads.Within.{relation_read, names_relation}
+use Rattle.records.specs.reads.Within.{names_relation}
 use Rattle.records.specs.declared.writes.taken.TakenRecord.{TakenRecord}
 use Rattle.records.specs.declared.writes.write.Effect.{Effect}
 use Rattle.records.specs.declared.writes.write.Effect.TheVariants.{Stores, Keeps}
@@ -47,7 +47,8 @@ use Rattle.relations.specs.Exchanged.{given_to, heard_by, hearing, raised_to, ra
 use Rattle.relations.specs.declared.hearing.ReadyAnswer.{ReadyAnswer}
 use Rattle.relations.specs.declared.hearing.ReadyAnswer.TheVariants as to_ready
 use Rattle.relations.specs.declared.phase.Partner.{Partner}
-use Rattle.relations.specs.RelationState.{RelationState, uuid_of, differing_in, flow_of, is_alarm_of, is_preparing, phase_of}
+use Rattle.relations.specs.RelationState.{RelationState, uuid_of, flow_of, is_alarm_of, is_preparing, phase_of}
+use Rattle.relation_records.specs.Reading.{relation_read}
 use Rattle.relations.specs.Calls.{prm_end_of, release_of, prm_end_answer, release_answer}
 use Rattle.relations.specs.Connect.{connect_within, connect_answer, making}
 use Rattle.relations.specs.Ready.{answer_of as ready_answer, handled_by}
@@ -177,7 +178,7 @@ handled_new station live caller call blocks Connect =
 handled_new station live caller call blocks Release =
     served station live caller call Release (release_answer live.rest.link blocks) (updated (answered Ended (release_of live.rest.link blocks)) live.rest.link) []
 handled_new station live caller call blocks Read =
-    let read = relation_read (uuid_of live.rest.link) (differing_in live.rest.link) station.identity station.real live.values.running blocks in
+    let read = relation_read live.rest.link station.identity station.real live.values.running blocks in
     served station live caller call Read read (updated (answered Named read) live.rest.link) []
 handled_new station live caller call blocks Write = handled_write station live caller call (write_of (uuid_of live.rest.link) station.real blocks)
 handled_new station live caller call blocks Control =

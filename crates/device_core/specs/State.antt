@@ -1,5 +1,5 @@
 -- What a contract sees of a device.
-use Rattle.std.specs.Prelude.{ℕ, List, Option}
+use Rattle.std.specs.Prelude.{ℕ, List, [], Option, None}
 use Rattle.pn_values.specs.declared.identity.Identity.{Identity}
 use Rattle.pn_values.specs.declared.real.Real.{Real}
 use Rattle.settings_store.specs.State as store
@@ -29,6 +29,11 @@ pub record Rest : Type 0 where
   pub link : Option RelationState
   pub units : ℕ
   pub statuses : List InputStatus
+
+-- The rest as a device starts: the lamp is off, no answer is kept, there is no relation, and the application gave no
+-- status.
+abbrev pub at_start : Rest
+at_start = record { lamp = 0; calls = []; link = None; units = 0; statuses = [] }
 
 -- The state that changes from event to event: the settings, and the rest.
 pub record Live : Type 0 where

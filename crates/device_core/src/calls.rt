@@ -27,8 +27,9 @@ use frame_codec::Outbox;
 use pn_values::{BlockError, Command, Identity, ImValue, SetItem};
 use records::{
     Blocks, CallFault, Effect, Operation, TakenRecord, Write, done, judge_write, names_relation,
-    put_write_answer, read_implicit, read_within,
+    put_write_answer, read_implicit,
 };
+use relation_records::read_within;
 use relations::{Application, Partner, ReadyAnswer};
 use rpc_core::{Call, CallCache, Interface, Looked, Response, Status, read_call, read_response};
 
@@ -242,8 +243,7 @@ impl<F: Flash<S>, const S: usize> Device<F, S> {
         let running = self.store.running();
         self.answers.blocks.clear();
         let came = read_within(
-            self.relation.uuid(),
-            self.relation.differing(),
+            &self.relation,
             &self.identity,
             &self.real,
             running,

@@ -20,6 +20,7 @@ impl<F: Flash<S>, const S: usize> Device<F, S> {
 
     /// Lets `units` units of 31.25 microseconds pass at once, at most as many as `due` returns, and replaces the content
     /// of the outbox by the frames to be sent. It does what as many Tick events do, one by one.
+    #[tactic(auto, using(crate::proofs::Leaping::leap_device_to, crate::proofs::Leaping::leap_frames_to, crate::proofs::Leaping::leap_last_to))]
     pub fn elapse(&mut self, units: u32, outbox: &mut Outbox) -> Note
         requires { units ≤ live_due_in self.old.live }
         // The device and the frames are those after that many Tick events. Only the last of them may send.

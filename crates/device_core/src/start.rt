@@ -6,6 +6,7 @@ ghost use Rattle.pn_values.specs.declared.settings.Settings.{Settings};
 ghost use Rattle.settings_journal.specs.Commit.{HasBootCause};
 ghost use Rattle.settings_journal.specs.Image.{StartsWith, IsAmple, capacity, IsForeign, LeftByDevice};
 ghost use Rattle.device_core.specs.Cycle.{started};
+ghost use Rattle.device_core.specs.State.{at_start, with_rest};
 
 use crate::Device;
 use crate::calls::Answering;
@@ -86,12 +87,19 @@ impl<F: Flash<S>, const S: usize> Device<F, S> {
             F.is_reliable self.new.flash × IfErr result (λ fault. fault ≡ BootFault.Foreign) }
     {
         self.store.load()?;
+        self.forget();
+        Ok(())
+    }
+
+    // Forgets all that is not stored: besides the settings, the device is as it starts.
+    fn forget(&mut self)
+        ensures { self.new ≡ with_rest self.old at_start }
+    {
         self.lamp = 0;
         self.units = 0;
         self.statuses.clear();
         self.answers.kept = CallCache::new();
         // No frame is sent: the controller that had the relation hears nothing, and notices by its own data hold.
         let _ = self.relation.end(Abort::Other);
-        Ok(())
     }
 }

@@ -24,10 +24,10 @@ module _ {T Q : Type 0} where
     asks_on skips (Asking sequence) behind = behind_on skips sequence behind
     asks_on skips other behind = tt
 
-    module _ (rules : Rules T Q) (Was WasNow : Type 0) (Good GoodNow : List ℕ → Type 0) (was_on : Was → WasNow) (good_on : (frame : List ℕ) → Good frame → GoodNow frame) where
-      device_on : (heard : ToDevice) → TellsDevice rules Was kept link heard → TellsDevice rules WasNow kept_now link_now heard
+    module _ (rules : Rules T Q) (Good GoodNow : List ℕ → Type 0) (good_on : (frame : List ℕ) → Good frame → GoodNow frame) where
+      device_on : (heard : ToDevice) → TellsDevice rules kept link heard → TellsDevice rules kept_now link_now heard
       device_on (Call sequence ask) tells = call_on rules sequence ask tells
-      device_on Confirms tells = was_on tells
+      device_on Confirms tells = tells
       device_on Idle tells = tt
 
       controller_on : (frame : List ℕ) (heard : ToController) → TellsController rules Good kept link frame heard → TellsController rules GoodNow kept_now link_now frame heard
@@ -36,16 +36,16 @@ module _ {T Q : Type 0} where
       controller_on frame Readies tells = good_on frame tells
       controller_on frame Nothing tells = tt
 
-      pub fine_on : (frame : List ℕ) → IsFine rules Was Good kept link frame → IsFine rules WasNow GoodNow kept_now link_now frame
+      pub fine_on : (frame : List ℕ) → IsFine rules Good kept link frame → IsFine rules GoodNow kept_now link_now frame
       fine_on frame fine = record {
         device = device_on (rules.to_device frame) fine.device;
         controller = controller_on frame (rules.to_controller frame) fine.controller;
       }
 
-      pub are_fine_on : (frames : List (List ℕ)) → AreFine rules Was Good kept link frames → AreFine rules WasNow GoodNow kept_now link_now frames
-      are_fine_on frames fine = each_so (IsFine rules Was Good kept link) (IsFine rules WasNow GoodNow kept_now link_now) fine_on frames fine
+      pub are_fine_on : (frames : List (List ℕ)) → AreFine rules Good kept link frames → AreFine rules GoodNow kept_now link_now frames
+      are_fine_on frames fine = each_so (IsFine rules Good kept link) (IsFine rules GoodNow kept_now link_now) fine_on frames fine
 
-      pub keeps_on : (answer : Option Kept) → KeepsFine rules Was Good kept link answer → KeepsFine rules WasNow GoodNow kept_now link_now answer
+      pub keeps_on : (answer : Option Kept) → KeepsFine rules Good kept link answer → KeepsFine rules GoodNow kept_now link_now answer
       keeps_on None fine = tt
       keeps_on (Some answer) fine = fine_on answer.frame fine
 
@@ -53,16 +53,16 @@ module _ {T Q : Type 0} where
   same_grows kept link count took = took
 
   -- a frame is fine if what each end hears of it is
-  pub fine_as : (rules : Rules T Q) (Was : Type 0) (Good : List ℕ → Type 0) (kept : Option Kept) (link : Option (RelationState T Q)) (frame : List ℕ) (to_device : ToDevice) (to_controller : ToController)
+  pub fine_as : (rules : Rules T Q) (Good : List ℕ → Type 0) (kept : Option Kept) (link : Option (RelationState T Q)) (frame : List ℕ) (to_device : ToDevice) (to_controller : ToController)
       → rules.to_device frame ≡ to_device → rules.to_controller frame ≡ to_controller
-      → TellsDevice rules Was kept link to_device → TellsController rules Good kept link frame to_controller → IsFine rules Was Good kept link frame
-  fine_as rules Was Good kept link frame to_device to_controller e f device controller = record {
-    device = subst (λ (heard : ToDevice). TellsDevice rules Was kept link heard) (sym e) device;
+      → TellsDevice rules kept link to_device → TellsController rules Good kept link frame to_controller → IsFine rules Good kept link frame
+  fine_as rules Good kept link frame to_device to_controller e f device controller = record {
+    device = subst (λ (heard : ToDevice). TellsDevice rules kept link heard) (sym e) device;
     controller = subst (λ (heard : ToController). TellsController rules Good kept link frame heard) (sym f) controller;
   }
 
   -- the same for a frame of which the controller hears at most this
-  pub fine_at_most : (rules : Rules T Q) (Was : Type 0) (Good : List ℕ → Type 0) (kept : Option Kept) (link : Option (RelationState T Q)) (frame : List ℕ) (heard : ToController)
-      → rules.to_device frame ≡ Idle → SaysAtMost rules heard frame → TellsController rules Good kept link frame heard → IsFine rules Was Good kept link frame
-  fine_at_most rules Was Good kept link frame heard idle (inl nothing) tells = fine_as rules Was Good kept link frame Idle Nothing idle nothing tt tt
-  fine_at_most rules Was Good kept link frame heard idle (inr says) tells = fine_as rules Was Good kept link frame Idle heard idle says tt tells
+  pub fine_at_most : (rules : Rules T Q) (Good : List ℕ → Type 0) (kept : Option Kept) (link : Option (RelationState T Q)) (frame : List ℕ) (heard : ToController)
+      → rules.to_device frame ≡ Idle → SaysAtMost rules heard frame → TellsController rules Good kept link frame heard → IsFine rules Good kept link frame
+  fine_at_most rules Good kept link frame heard idle (inl nothing) tells = fine_as rules Good kept link frame Idle Nothing idle nothing tt tt
+  fine_at_most rules Good kept link frame heard idle (inr says) tells = fine_as rules Good kept link frame Idle heard idle says tt tells

@@ -1,6 +1,6 @@
--- The invariant of both ends at each point of a start-up. Facts about earlier points are parameters: `Was`: the
--- controller exchanged data. `Past`: a frame was delivered to the device since. `Good`: the device sent this
--- ApplicationReady. `Handed`: the controller received one.
+-- The invariant of both ends at each point of a start-up: until the controller exchanges data, and from then on. Facts
+-- about earlier points are parameters: `Was`: the controller exchanged data. `Past`: a frame was delivered to the device
+-- since. `Good`: the device sent this ApplicationReady. `Handed`: the controller received one.
 use Rattle.std.proofs.Common.{◌≡◌, ◌⊎◌, ◌<◌, ◌≤◌, ℕ, zero, suc, Bool, true, false, List, ◌++◌, length, Option, Some, None}
 use Rattle.std.specs.List.{AllByRecursion}
 use Rattle.end_laws.specs.both.Small.{Ask, Releases, ToDevice, Call, Confirms, Idle, ToController, Answers, Readies, Nothing, Rules, Started, Exchanging, RelationState, Kept, Controller, Asking, Exchanges, World}
@@ -53,10 +53,10 @@ module _ {T Q : Type 0} where
       (ask ≡ Releases) ⊎ (IsAsked (length rules.records) sequence ask × Behind rules.skips sequence kept link)
 
   -- what the device may hear in a frame
-  abbrev pub TellsDevice : Rules T Q → Type 0 → Option Kept → Option (RelationState T Q) → ToDevice → Type 0
-  TellsDevice rules Was kept link (Call sequence ask) = IsCall rules sequence ask kept link
-  TellsDevice rules Was kept link Confirms = Was
-  TellsDevice rules Was kept link Idle = Unit {0}
+  abbrev pub TellsDevice : Rules T Q → Option Kept → Option (RelationState T Q) → ToDevice → Type 0
+  TellsDevice rules kept link (Call sequence ask) = IsCall rules sequence ask kept link
+  TellsDevice rules kept link Confirms = ⊥
+  TellsDevice rules kept link Idle = Unit {0}
 
   -- what the controller may hear in a frame
   abbrev pub TellsController : Rules T Q → (List ℕ → Type 0) → Option Kept → Option (RelationState T Q) → List ℕ → ToController → Type 0
@@ -66,31 +66,49 @@ module _ {T Q : Type 0} where
   TellsController rules Good kept link frame Nothing = Unit {0}
 
   -- the invariant of each frame that was ever sent
-  pub record IsFine (rules : Rules T Q) (Was : Type 0) (Good : List ℕ → Type 0) (kept : Option Kept) (link : Option (RelationState T Q)) (frame : List ℕ) : Type 0 where
-    pub device : TellsDevice rules Was kept link (rules.to_device frame)
+  pub record IsFine (rules : Rules T Q) (Good : List ℕ → Type 0) (kept : Option Kept) (link : Option (RelationState T Q)) (frame : List ℕ) : Type 0 where
+    pub device : TellsDevice rules kept link (rules.to_device frame)
     pub controller : TellsController rules Good kept link frame (rules.to_controller frame)
 
-  abbrev pub AreFine : Rules T Q → Type 0 → (List ℕ → Type 0) → Option Kept → Option (RelationState T Q) → List (List ℕ) → Type 0
-  AreFine rules Was Good kept link frames = AllByRecursion (IsFine rules Was Good kept link) frames
+  abbrev pub AreFine : Rules T Q → (List ℕ → Type 0) → Option Kept → Option (RelationState T Q) → List (List ℕ) → Type 0
+  AreFine rules Good kept link frames = AllByRecursion (IsFine rules Good kept link) frames
 
   -- the same for the frame that is stored
-  abbrev pub KeepsFine : Rules T Q → Type 0 → (List ℕ → Type 0) → Option Kept → Option (RelationState T Q) → Option Kept → Type 0
-  KeepsFine rules Was Good kept link None = Unit {0}
-  KeepsFine rules Was Good kept link (Some answer) = IsFine rules Was Good kept link answer.frame
+  abbrev pub KeepsFine : Rules T Q → (List ℕ → Type 0) → Option Kept → Option (RelationState T Q) → Option Kept → Type 0
+  KeepsFine rules Good kept link None = Unit {0}
+  KeepsFine rules Good kept link (Some answer) = IsFine rules Good kept link answer.frame
 
   -- what was accepted before the controller makes a call, unless records may be skipped
   abbrev pub AsksBehind : Bool → Option Kept → Option (RelationState T Q) → Controller → Type 0
   AsksBehind skips kept link (Asking sequence) = Behind skips sequence kept link
   AsksBehind skips kept link other = Unit {0}
 
+  -- the device does not exchange data
+  abbrev pub Unconfirmed : Option (RelationState T Q) → Type 0
+  Unconfirmed None = Unit {0}
+  Unconfirmed (Some link) = link.phase ≡ Exchanging → ⊥
+
+  -- until the controller exchanges data: no frame is a call of the application, or confirms ApplicationReady
+  pub record Holds (rules : Rules T Q) (Good : List ℕ → Type 0) (w : World T Q) : Type 0 where
+    pub held : HoldsAt rules w.device.kept w.device.link
+    pub kept : KeepsFine rules Good w.device.kept w.device.link w.device.kept
+    pub sent : AreFine rules Good w.device.kept w.device.link w.sent
+    pub asked : AsksBehind rules.skips w.device.kept w.device.link w.controller
+    pub before : w.controller ≡ Exchanges → ⊥
+    pub unconfirmed : Unconfirmed w.device.link
+
+  -- a relation is the one that the Connect asks for
+  abbrev pub MadeIn : Rules T Q → Option (RelationState T Q) → Type 0
+  MadeIn rules None = Unit {0}
+  MadeIn rules (Some link) = link.request ≡ rules.request
+
   abbrev pub ConfirmedIn : Type 0 → Option (RelationState T Q) → Type 0
   ConfirmedIn Past None = Unit {0}
   ConfirmedIn Past (Some link) = link.phase ≡ Exchanging → Past
 
-  pub record Holds (rules : Rules T Q) (Was Past : Type 0) (Good : List ℕ → Type 0) (Handed : Type 0) (w : World T Q) : Type 0 where
-    pub held : HoldsAt rules w.device.kept w.device.link
-    pub kept : KeepsFine rules Was Good w.device.kept w.device.link w.device.kept
-    pub sent : AreFine rules Was Good w.device.kept w.device.link w.sent
-    pub asked : AsksBehind rules.skips w.device.kept w.device.link w.controller
-    pub readied : w.controller ≡ Exchanges → Handed
+  -- from then on
+  pub record HoldsSince (rules : Rules T Q) (Was Past Handed : Type 0) (w : World T Q) : Type 0 where
+    pub was : Was
+    pub handed : Handed
+    pub made : MadeIn rules w.device.link
     pub confirmed : ConfirmedIn Past w.device.link

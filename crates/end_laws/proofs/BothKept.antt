@@ -3,9 +3,9 @@
 use Rattle.std.proofs.Common.{◌≡◌, ◌⊎◌, inl, inr, ◌<◌, ◌≤◌, ℕ, suc, Bool, true, false, List, [], ◌∷◌, ◌++◌, length, Option, Some, None, refl, sym, ap, subst, ◌∙◌, append_assoc, append-nil, length-append, arith}
 use Rattle.std.specs.List.{AllByRecursion}
 use Rattle.std.specs.Prelude.{slice_get}
-use Rattle.end_laws.specs.both.Small.{Ask, Connects, Writes, Parameterized, Releases, ToDevice, Call, Confirms, Idle, Answers, Readies, Nothing, Rules, Started, Awaiting, Exchanging, RelationState, Kept, Device}
-use Rattle.end_laws.specs.both.Steps.{IsNew, made, TakesRecord, IsParameterized, Comes, IsReady, IsDull, IsAnswered, IsAgain, Rests, IsConfirmed, GoesBy, DeviceSteps}
-use Rattle.end_laws.proofs.BothHolds.{IsSomeKept, TookIn, Took, IsPast, IsHeld, IsHeldIn, HoldsAt, Behind, IsCall, TellsDevice, TellsController, IsFine, AreFine, KeepsFine, ConfirmedIn}
+use Rattle.end_laws.specs.both.Small.{Ask, Connects, Writes, Parameterized, Releases, Accesses, ToDevice, Call, Confirms, Idle, Answers, Readies, Nothing, Rules, Started, Awaiting, Exchanging, RelationState, Kept, Device}
+use Rattle.end_laws.specs.both.Steps.{IsNew, made, TakesRecord, IsParameterized, Comes, IsReady, IsDull, IsAnswered, IsAgain, Rests, GoesBy, DeviceSteps}
+use Rattle.end_laws.proofs.BothHolds.{IsSomeKept, TookIn, Took, IsPast, IsHeld, IsHeldIn, HoldsAt, Behind, IsCall, TellsDevice, TellsController, IsFine, AreFine, KeepsFine, Unconfirmed}
 use Rattle.end_laws.proofs.BothGoes.{Grows, are_fine_on, keeps_on, same_grows, fine_as, fine_at_most}
 
 -- ---- lists
@@ -31,33 +31,13 @@ all_taken taken (x ∷ rest) all begins few = absurd (omega (arith, length-appen
 module _ {T Q : Type 0} (rules : Rules T Q) where
   -- ---- a new call
 
-  -- the effect of a call, if a Connect finds no relation
-  abbrev Does : Bool → Ask → Option (RelationState T Q) → Option (RelationState T Q) → Type 0
-  Does false ask before after = after ≡ before
-  Does true Connects before after = after ≡ Some (made rules)
-  Does true (Writes number) before after = TakesRecord rules number before after
-  Does true Parameterized before after = IsParameterized before after
-  Does true Releases before after = after ≡ None
-
-  first_unrelated : (sequence : ℕ) (kept : Option Kept) (link : Option (RelationState T Q)) → sequence ≡ 0 → IsNew sequence kept → HoldsAt rules kept link → link ≡ None
-  first_unrelated sequence None link first new holds = holds
-  first_unrelated sequence (Some kept) link first new holds = absurd (omega (arith, first, new))
-
-  does_by : (sequence : ℕ) (ask : Ask) (positive : Bool) (kept : Option Kept) (link after : Option (RelationState T Q))
-      → IsNew sequence kept → IsCall rules sequence ask kept link → Comes rules positive ask link after → HoldsAt rules kept link → Does positive ask link after
-  does_by sequence ask false kept link after new call comes holds = comes
-  does_by sequence Connects true kept link after new (inl releases) comes holds = absurd cc
-  does_by sequence Connects true kept link after new (inr asked) comes holds = comes (first_unrelated sequence kept link asked.0 new holds)
-  does_by sequence (Writes number) true kept link after new call comes holds = comes
-  does_by sequence other true kept link after new call comes holds = comes
-
   -- no sequence number is below the first
   never_first : (sequence : ℕ) (kept : Option Kept) → sequence ≡ 0 → IsNew sequence kept → IsSomeKept kept → ⊥
   never_first sequence None first new some = some
   never_first sequence (Some kept) first new some = absurd (omega (arith, first, new))
 
   took_by : (sequence : ℕ) (ask : Ask) (positive : Bool) (kept : Option Kept) (link after : Option (RelationState T Q)) (count : ℕ)
-      → IsNew sequence kept → IsCall rules sequence ask kept link → Does positive ask link after → Took count kept link → TookIn count after
+      → IsNew sequence kept → IsCall rules sequence ask kept link → Comes rules positive ask link after → Took count kept link → TookIn count after
   took_by sequence ask false kept link after count new call comes took = subst (λ (l : Option (RelationState T Q)). TookIn count l) (sym comes) took.taken
   took_by sequence Connects true kept link after count new (inl releases) comes took = absurd cc
   took_by sequence Connects true kept link after count new (inr asked) comes took = absurd (never_first sequence kept asked.0 new took.called)
@@ -66,6 +46,8 @@ module _ {T Q : Type 0} (rules : Rules T Q) where
       subst (λ (l : Option (RelationState T Q)). TookIn count l) (sym comes.becomes) (omega (arith, before, length-append comes.link.taken (comes.value ∷ [])))
   took_by sequence Parameterized true kept link after count new call comes took =
       subst (λ (l : Option (RelationState T Q)). TookIn count l) (sym comes.becomes) (subst (λ (l : Option (RelationState T Q)). TookIn count l) comes.was took.taken)
+  took_by sequence Accesses true kept link after count new (inl releases) comes took = absurd cc
+  took_by sequence Accesses true kept link after count new (inr asked) comes took = absurd asked.0
   took_by sequence Releases true kept link after count new call comes took = subst (λ (l : Option (RelationState T Q)). TookIn count l) (sym comes) tt
 
   -- the relation is held after a later response too
@@ -137,7 +119,7 @@ module _ {T Q : Type 0} (rules : Rules T Q) where
   behind_suc sequence count kept link is behind = subst (λ (s : ℕ). Behind rules.skips s kept link) is behind
 
   held_by : (sequence : ℕ) (ask : Ask) (positive : Bool) (kept : Option Kept) (link after : Option (RelationState T Q))
-      → IsNew sequence kept → IsCall rules sequence ask kept link → Does positive ask link after → HoldsAt rules kept link → IsHeldIn rules sequence after
+      → IsNew sequence kept → IsCall rules sequence ask kept link → Comes rules positive ask link after → HoldsAt rules kept link → IsHeldIn rules sequence after
   held_by sequence ask false kept link after new call comes holds =
       subst (λ (l : Option (RelationState T Q)). IsHeldIn rules sequence l) (sym comes) (held_later sequence kept link new holds)
   held_by sequence Connects true kept link after new call comes holds = subst (λ (l : Option (RelationState T Q)). IsHeldIn rules sequence l) (sym comes) (new_held sequence)
@@ -149,11 +131,13 @@ module _ {T Q : Type 0} (rules : Rules T Q) where
   held_by sequence Parameterized true kept link after new (inr asked) comes holds =
       let is : sequence ≡ suc (length rules.records) = omega (arith, asked.0) in
       end_held sequence kept link after new is (behind_suc sequence (length rules.records) kept link is asked.1) comes holds
+  held_by sequence Accesses true kept link after new (inl releases) comes holds = absurd cc
+  held_by sequence Accesses true kept link after new (inr asked) comes holds = absurd asked.0
   held_by sequence Releases true kept link after new call comes holds = subst (λ (l : Option (RelationState T Q)). IsHeldIn rules sequence l) (sym comes) tt
 
   -- a positive response says what was accepted, unless records may be skipped
   reported_by : (sequence : ℕ) (ask : Ask) (kept : Option Kept) (link after : Option (RelationState T Q))
-      → IsCall rules sequence ask kept link → Does true ask link after → sequence ≤ length rules.records → rules.skips ≡ false → TookIn sequence after
+      → IsCall rules sequence ask kept link → Comes rules true ask link after → sequence ≤ length rules.records → rules.skips ≡ false → TookIn sequence after
   reported_by sequence Connects kept link after (inr asked) comes few strict =
       subst (λ (l : Option (RelationState T Q)). TookIn sequence l) (sym comes) (omega (arith, asked.0))
   reported_by sequence (Writes number) kept link after (inr asked) comes few strict =
@@ -163,6 +147,7 @@ module _ {T Q : Type 0} (rules : Rules T Q) where
       subst (λ (l : Option (RelationState T Q)). TookIn sequence l) (sym comes.becomes) (omega (arith, is, there, length-append comes.link.taken (comes.value ∷ [])))
   reported_by sequence Parameterized kept link after (inr asked) comes few strict = absurd (omega (arith, asked.0, few))
   reported_by sequence Releases kept link after call comes few strict = subst (λ (l : Option (RelationState T Q)). TookIn sequence l) (sym comes) tt
+  reported_by sequence Accesses kept link after (inr asked) comes few strict = absurd asked.0
   reported_by sequence other kept link after (inl releases) comes few strict = absurd cc
 
   -- while ApplicationReady waits for its response, all records were accepted, unless records may be skipped
@@ -182,14 +167,14 @@ module _ {T Q : Type 0} (rules : Rules T Q) where
 
   -- ---- steps
 
-  module _ (Was WasNow Past PastNow : Type 0) (Good GoodNow : List ℕ → Type 0) (was_on : Was → WasNow) (past_on : Past → PastNow) (good_on : (frame : List ℕ) → Good frame → GoodNow frame) where
+  module _ (Good GoodNow : List ℕ → Type 0) (good_on : (frame : List ℕ) → Good frame → GoodNow frame) where
     -- the effect of a step of the device that sends these frames
     pub record Leaves (before after : Device T Q) (frames : List (List ℕ)) : Type 0 where
       pub grows : Grows before.kept before.link after.kept after.link
       pub held : HoldsAt rules after.kept after.link
-      pub kept : KeepsFine rules WasNow GoodNow after.kept after.link after.kept
-      pub new : AreFine rules WasNow GoodNow after.kept after.link frames
-      pub confirmed : ConfirmedIn PastNow after.link
+      pub kept : KeepsFine rules GoodNow after.kept after.link after.kept
+      pub new : AreFine rules GoodNow after.kept after.link frames
+      pub unconfirmed : Unconfirmed after.link
 
     -- each ApplicationReady that is sent now is good from now on
     abbrev pub AreGood : Device T Q → List (List ℕ) → Type 0
@@ -198,10 +183,10 @@ module _ {T Q : Type 0} (rules : Rules T Q) where
     good_behind : (after : Device T Q) (frame : List ℕ) (frames : List (List ℕ)) → AreGood after (frame ∷ frames) → AreGood after frames
     good_behind after frame frames good number other there ready = good (suc number) other there ready
 
-    ready_fine : (after : Device T Q) (frame : List ℕ) → GoodNow frame → IsReady rules after frame → IsFine rules WasNow GoodNow after.kept after.link frame
-    ready_fine after frame good ready = fine_at_most rules WasNow GoodNow after.kept after.link frame Readies ready.to_device ready.to_controller good
+    ready_fine : (after : Device T Q) (frame : List ℕ) → GoodNow frame → IsReady rules after frame → IsFine rules GoodNow after.kept after.link frame
+    ready_fine after frame good ready = fine_at_most rules GoodNow after.kept after.link frame Readies ready.to_device ready.to_controller good
 
-    readies_fine : (after : Device T Q) (frames : List (List ℕ)) → AreGood after frames → AllByRecursion (IsReady rules after) frames → AreFine rules WasNow GoodNow after.kept after.link frames
+    readies_fine : (after : Device T Q) (frames : List (List ℕ)) → AreGood after frames → AllByRecursion (IsReady rules after) frames → AreFine rules GoodNow after.kept after.link frames
     readies_fine after [] good all = tt
     readies_fine after (frame ∷ frames) good all = (
       ready_fine after frame (good 0 frame refl all.0) all.0,
@@ -209,57 +194,55 @@ module _ {T Q : Type 0} (rules : Rules T Q) where
     )
 
     dull_fine : (after : Device T Q) (frame : List ℕ) → (IsReady rules after frame → GoodNow frame) → IsDull rules frame ⊎ IsReady rules after frame
-        → IsFine rules WasNow GoodNow after.kept after.link frame
-    dull_fine after frame good (inl dull) = fine_as rules WasNow GoodNow after.kept after.link frame Idle Nothing dull.0 dull.1 tt tt
+        → IsFine rules GoodNow after.kept after.link frame
+    dull_fine after frame good (inl dull) = fine_as rules GoodNow after.kept after.link frame Idle Nothing dull.0 dull.1 tt tt
     dull_fine after frame good (inr ready) = ready_fine after frame (good ready) ready
 
     all_dull_fine : (after : Device T Q) (frames : List (List ℕ)) → AreGood after frames → AllByRecursion (λ frame. IsDull rules frame ⊎ IsReady rules after frame) frames
-        → AreFine rules WasNow GoodNow after.kept after.link frames
+        → AreFine rules GoodNow after.kept after.link frames
     all_dull_fine after [] good all = tt
     all_dull_fine after (frame ∷ frames) good all = (
       dull_fine after frame (good 0 frame refl) all.0,
       all_dull_fine after frames (good_behind after frame frames good) all.1,
     )
 
-    -- a confirmed relation stays confirmed, and no call confirms another
-    still_confirmed : (link after : Option (RelationState T Q)) → (after ≡ link) ⊎ (after ≡ None) → ConfirmedIn Past link → ConfirmedIn PastNow after
-    still_confirmed None after (inl same) confirmed = subst (λ (l : Option (RelationState T Q)). ConfirmedIn PastNow l) (sym same) tt
-    still_confirmed (Some link) after (inl same) confirmed =
-        subst (λ (l : Option (RelationState T Q)). ConfirmedIn PastNow l) (sym same) (λ exchanges. past_on (confirmed exchanges))
-    still_confirmed link after (inr none) confirmed = subst (λ (l : Option (RelationState T Q)). ConfirmedIn PastNow l) (sym none) tt
+    -- no call confirms a relation
+    still_unconfirmed : (link after : Option (RelationState T Q)) → (after ≡ link) ⊎ (after ≡ None) → Unconfirmed link → Unconfirmed after
+    still_unconfirmed link after (inl same) unconfirmed = subst (λ (l : Option (RelationState T Q)). Unconfirmed l) (sym same) unconfirmed
+    still_unconfirmed link after (inr none) unconfirmed = subst (λ (l : Option (RelationState T Q)). Unconfirmed l) (sym none) tt
 
-    confirmed_by : (ask : Ask) (positive : Bool) (link after : Option (RelationState T Q)) → Does positive ask link after → ConfirmedIn Past link → ConfirmedIn PastNow after
-    confirmed_by ask false link after comes confirmed = still_confirmed link after (inl comes) confirmed
-    confirmed_by Connects true link after comes confirmed =
-        subst (λ (l : Option (RelationState T Q)). ConfirmedIn PastNow l) (sym comes) (λ exchanges. absurd (started_is exchanges))
-      where
-        started_is : Started ≡ Exchanging → ⊥
-        started_is e = absurd cc
-    confirmed_by (Writes number) true link after comes confirmed =
-        let before : ConfirmedIn Past (Some comes.link) = subst (λ (l : Option (RelationState T Q)). ConfirmedIn Past l) comes.was confirmed in
-        subst (λ (l : Option (RelationState T Q)). ConfirmedIn PastNow l) (sym comes.becomes) (λ exchanges. past_on (before exchanges))
-    confirmed_by Parameterized true link after comes confirmed =
-        subst (λ (l : Option (RelationState T Q)). ConfirmedIn PastNow l) (sym comes.becomes) (λ exchanges. absurd (awaiting_is exchanges))
-      where
-        awaiting_is : Awaiting ≡ Exchanging → ⊥
-        awaiting_is e = absurd cc
-    confirmed_by Releases true link after comes confirmed = subst (λ (l : Option (RelationState T Q)). ConfirmedIn PastNow l) (sym comes) tt
+    started_is : Started ≡ Exchanging → ⊥
+    started_is e = absurd cc
+
+    awaiting_is : Awaiting ≡ Exchanging → ⊥
+    awaiting_is e = absurd cc
+
+    unconfirmed_by : (ask : Ask) (positive : Bool) (link after : Option (RelationState T Q)) → Comes rules positive ask link after → Unconfirmed link → Unconfirmed after
+    unconfirmed_by ask false link after comes unconfirmed = still_unconfirmed link after (inl comes) unconfirmed
+    unconfirmed_by Connects true link after comes unconfirmed = subst (λ (l : Option (RelationState T Q)). Unconfirmed l) (sym comes) started_is
+    unconfirmed_by (Writes number) true link after comes unconfirmed =
+        subst (λ (l : Option (RelationState T Q)). Unconfirmed l) (sym comes.becomes) (subst (λ (l : Option (RelationState T Q)). Unconfirmed l) comes.was unconfirmed)
+    unconfirmed_by Parameterized true link after comes unconfirmed = subst (λ (l : Option (RelationState T Q)). Unconfirmed l) (sym comes.becomes) awaiting_is
+    unconfirmed_by Releases true link after comes unconfirmed = subst (λ (l : Option (RelationState T Q)). Unconfirmed l) (sym comes) tt
+    unconfirmed_by Accesses true link after (inl same) unconfirmed = still_unconfirmed link after (inl same) unconfirmed
+    unconfirmed_by Accesses true link after (inr takes) unconfirmed =
+        subst (λ (l : Option (RelationState T Q)). Unconfirmed l) (sym takes.becomes) (subst (λ (l : Option (RelationState T Q)). Unconfirmed l) takes.was unconfirmed)
 
     answer_tells : (sequence : ℕ) (ask : Ask) (positive : Bool) (kept : Option Kept) (link : Option (RelationState T Q)) (answer : Kept) (after : Option (RelationState T Q)) (frame : List ℕ)
-        → IsCall rules sequence ask kept link → Does positive ask link after
+        → IsCall rules sequence ask kept link → Comes rules positive ask link after
         → TellsController rules GoodNow (Some answer) after frame (Answers sequence positive)
     answer_tells sequence ask true kept link answer after frame call comes = λ few strict. record { called = tt; taken = reported_by sequence ask kept link after call comes few strict }
     answer_tells sequence ask false kept link answer after frame call comes = tt
 
     module _ (before after : Device T Q) (frames : List (List ℕ)) (held : HoldsAt rules before.kept before.link)
-        (kept : KeepsFine rules Was Good before.kept before.link before.kept) (confirmed : ConfirmedIn Past before.link) where
+        (kept : KeepsFine rules Good before.kept before.link before.kept) (unconfirmed : Unconfirmed before.link) where
       answered_leaves : (sequence : ℕ) (ask : Ask) → IsCall rules sequence ask before.kept before.link → AreGood after frames → IsAnswered rules sequence ask before after frames
           → Leaves before after frames
       answered_leaves sequence ask call good answered =
           let answer : Kept = record { sequence = sequence; frame = answered.frame } in
-          let does = does_by sequence ask answered.positive before.kept before.link after.link answered.new call answered.does held in
-          let fine : IsFine rules WasNow GoodNow (Some answer) after.link answered.frame =
-          fine_at_most rules WasNow GoodNow (Some answer) after.link answered.frame (Answers sequence answered.positive) answered.to_device answered.to_controller
+          let does = answered.does in
+          let fine : IsFine rules GoodNow (Some answer) after.link answered.frame =
+          fine_at_most rules GoodNow (Some answer) after.link answered.frame (Answers sequence answered.positive) answered.to_device answered.to_controller
           (answer_tells sequence ask answered.positive before.kept before.link answer after.link answered.frame call does) in
           let behind : AreGood after (answered.frame ∷ answered.others) = subst (λ (fs : List (List ℕ)). AreGood after fs) answered.sent good in
           record {
@@ -269,32 +252,32 @@ module _ {T Q : Type 0} (rules : Rules T Q) where
             };
             held = subst (λ (k : Option Kept). HoldsAt rules k after.link) (sym answered.keeps)
                 (held_by sequence ask answered.positive before.kept before.link after.link answered.new call does held);
-            kept = subst (λ (k : Option Kept). KeepsFine rules WasNow GoodNow k after.link k) (sym answered.keeps) fine;
-            new = subst (λ (fs : List (List ℕ)). AreFine rules WasNow GoodNow after.kept after.link fs) (sym answered.sent) (
-              subst (λ (k : Option Kept). IsFine rules WasNow GoodNow k after.link answered.frame) (sym answered.keeps) fine,
+            kept = subst (λ (k : Option Kept). KeepsFine rules GoodNow k after.link k) (sym answered.keeps) fine;
+            new = subst (λ (fs : List (List ℕ)). AreFine rules GoodNow after.kept after.link fs) (sym answered.sent) (
+              subst (λ (k : Option Kept). IsFine rules GoodNow k after.link answered.frame) (sym answered.keeps) fine,
               readies_fine after answered.others (good_behind after answered.frame answered.others behind) answered.readies,
             );
-            confirmed = confirmed_by ask answered.positive before.link after.link does confirmed;
+            unconfirmed = unconfirmed_by ask answered.positive before.link after.link does unconfirmed;
           }
 
       -- nothing changed, and what is sent was fine
-      same_leaves : after ≡ before → AreFine rules Was Good before.kept before.link frames → Leaves before after frames
+      same_leaves : after ≡ before → AreFine rules Good before.kept before.link frames → Leaves before after frames
       same_leaves same fine = subst (λ (d : Device T Q). Leaves before d frames) (sym same) (record {
         grows = same_grows before.kept before.link;
         held = held;
-        kept = keeps_on before.kept before.kept before.link before.link (same_grows before.kept before.link) rules Was WasNow Good GoodNow was_on good_on before.kept kept;
-        new = are_fine_on before.kept before.kept before.link before.link (same_grows before.kept before.link) rules Was WasNow Good GoodNow was_on good_on frames fine;
-        confirmed = still_confirmed before.link before.link (inl refl) confirmed;
+        kept = keeps_on before.kept before.kept before.link before.link (same_grows before.kept before.link) rules Good GoodNow good_on before.kept kept;
+        new = are_fine_on before.kept before.kept before.link before.link (same_grows before.kept before.link) rules Good GoodNow good_on frames fine;
+        unconfirmed = unconfirmed;
       })
 
       again_leaves : (sequence : ℕ) → IsAgain sequence before after frames → Leaves before after frames
-      again_leaves sequence again = same_leaves again.unchanged (subst (λ (fs : List (List ℕ)). AreFine rules Was Good before.kept before.link fs) (sym again.sent) (
-        subst (λ (k : Option Kept). KeepsFine rules Was Good before.kept before.link k) again.has kept,
+      again_leaves sequence again = same_leaves again.unchanged (subst (λ (fs : List (List ℕ)). AreFine rules Good before.kept before.link fs) (sym again.sent) (
+        subst (λ (k : Option Kept). KeepsFine rules Good before.kept before.link k) again.has kept,
         tt,
       ))
 
       rests_leaves : Rests before after frames → Leaves before after frames
-      rests_leaves rests = same_leaves rests.0 (subst (λ (fs : List (List ℕ)). AreFine rules Was Good before.kept before.link fs) (sym rests.1) tt)
+      rests_leaves rests = same_leaves rests.0 (subst (λ (fs : List (List ℕ)). AreFine rules Good before.kept before.link fs) (sym rests.1) tt)
 
       call_leaves : (sequence : ℕ) (ask : Ask) → IsCall rules sequence ask before.kept before.link → AreGood after frames
           → IsAnswered rules sequence ask before after frames ⊎ (IsAgain sequence before after frames ⊎ Rests before after frames) → Leaves before after frames
@@ -321,47 +304,14 @@ module _ {T Q : Type 0} (rules : Rules T Q) where
           record {
             grows = grows;
             held = subst (λ (k : Option Kept). HoldsAt rules k after.link) (sym goes.keeps) (held_same before.kept before.link after.link goes.link held);
-            kept = subst (λ (k : Option Kept). KeepsFine rules WasNow GoodNow after.kept after.link k) (sym goes.keeps)
-                (keeps_on before.kept after.kept before.link after.link grows rules Was WasNow Good GoodNow was_on good_on before.kept kept);
+            kept = subst (λ (k : Option Kept). KeepsFine rules GoodNow after.kept after.link k) (sym goes.keeps)
+                (keeps_on before.kept after.kept before.link after.link grows rules Good GoodNow good_on before.kept kept);
             new = all_dull_fine after frames good goes.sent;
-            confirmed = still_confirmed before.link after.link goes.link confirmed;
+            unconfirmed = still_unconfirmed before.link after.link goes.link unconfirmed;
           }
 
-      past_exchanging : (sequence : ℕ) (link : RelationState T Q) → IsHeld rules sequence link → link.phase ≡ Awaiting → IsHeld rules sequence (record link { phase = Exchanging })
-      past_exchanging sequence link there awaits = record {
-        few = there.few;
-        made = there.made;
-        begins = there.begins;
-        past = inr (is_past sequence link awaits there.past);
-      }
-        where
-          is_past : (sequence : ℕ) (link : RelationState T Q) → link.phase ≡ Awaiting → IsPast rules sequence link
-              → (length rules.records < sequence) × (rules.skips ≡ false → link.taken ≡ rules.records)
-          is_past sequence link awaits (inl started) = absurd cc
-          is_past sequence link awaits (inr past) = past
-
-      confirmed_leaves : PastNow → IsConfirmed before after frames → Leaves before after frames
-      confirmed_leaves past confirms =
-          let there = is_held before.kept before.link confirms.link confirms.was held in
-          let now : Option (RelationState T Q) = Some (record confirms.link { phase = Exchanging }) in
-          let grows : Grows before.kept before.link before.kept now = λ count took. record {
-            called = took.called;
-            taken = subst (λ (l : Option (RelationState T Q)). TookIn count l) confirms.was took.taken;
-          } in
-          subst (λ (d : Device T Q). Leaves before d frames) (sym confirms.becomes) (record {
-            grows = grows;
-            held = subst (λ (k : Option Kept). HoldsAt rules k now) (sym there.1) (past_exchanging there.0.sequence confirms.link there.2 confirms.awaits);
-            kept = keeps_on before.kept before.kept before.link now grows rules Was WasNow Good GoodNow was_on good_on before.kept kept;
-            new = subst (λ (fs : List (List ℕ)). AreFine rules WasNow GoodNow before.kept now fs) (sym confirms.silent) tt;
-            confirmed = λ exchanges. past;
-          })
-
-      confirms_leave : PastNow → IsConfirmed before after frames ⊎ Rests before after frames → Leaves before after frames
-      confirms_leave past (inl confirms) = confirmed_leaves past confirms
-      confirms_leave past (inr rests) = rests_leaves rests
-
-      pub device_leaves : (heard : ToDevice) → TellsDevice rules PastNow before.kept before.link heard → AreGood after frames → DeviceSteps rules heard before after frames
+      pub device_leaves : (heard : ToDevice) → TellsDevice rules before.kept before.link heard → AreGood after frames → DeviceSteps rules heard before after frames
           → Leaves before after frames
       device_leaves (Call sequence ask) tells good steps = call_leaves sequence ask tells good steps
-      device_leaves Confirms tells good steps = confirms_leave tells steps
+      device_leaves Confirms tells good steps = absurd tells
       device_leaves Idle tells good steps = by_leaves good steps

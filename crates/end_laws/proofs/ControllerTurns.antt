@@ -11,10 +11,18 @@ use Rattle.rpc_core.specs.Response.{Answered as Response, is_done}
 use Rattle.connect_blocks.specs.declared.control.ControlBlock.{ControlBlock}
 use Rattle.record_blocks.specs.declared.alarm_ack.AlarmAck.{AlarmAck}
 use Rattle.record_blocks.specs.declared.alarm_notification.AlarmNotification.{AlarmNotification}
+use Rattle.pn_alarms.specs.declared.priority.Priority.{Priority}
+use Rattle.pn_alarms.specs.declared.priority.Priority.TheVariants.{High, Low}
+use Rattle.pn_alarms.specs.declared.report.Report.{Report}
 use Rattle.pn_alarms.specs.declared.receiver.Taken.{Taken}
 use Rattle.pn_alarms.specs.declared.receiver.Taken.TheVariants.{New, Again, Refused}
+use Rattle.pn_alarms.specs.Controller.{confirmed, with_ack, with_data}
+use Rattle.pn_alarms.specs.Ends.{ControllerEnd}
 use Rattle.pn_alarms.specs.Receiver.{taken_as}
+use Rattle.pn_alarms.specs.Sending.{due}
+use Rattle.pn_alarms.specs.Sending.{is_again as is_repeated}
 use Rattle.plans.specs.declared.parts.Parts.{Parts}
+use Rattle.controller_frames.specs.declared.record_request.RecordRequest.{RecordRequest}
 use Rattle.controller_frames.specs.declared.setup.Setup.{Setup}
 use Rattle.controller_frames.specs.declared.request.Request.{Request}
 use Rattle.controller_frames.specs.declared.request.Request.TheVariants as asks
@@ -23,18 +31,19 @@ use Rattle.controller_frames.specs.Requests.{sequence_of, writing_from}
 use Rattle.controller_frames.specs.Sent.{Sent}
 use Rattle.controller_core.specs.declared.state.Cause.{Cause}
 use Rattle.controller_core.specs.declared.state.State.{State}
-use Rattle.controller_core.specs.declared.state.State.TheVariants.{Looking, Addressing, Connecting, Writing, Ending, Ended}
+use Rattle.controller_core.specs.declared.state.State.TheVariants.{Looking, Addressing, Connecting, Writing, Ending, Waiting, Exchanging, Ended}
 use Rattle.controller_core.specs.declared.event.Event.{Event}
 use Rattle.controller_core.specs.declared.event.Event.TheVariants.{Frame}
 use Rattle.controller_core.specs.State.{Live}
+use Rattle.controller_core.specs.Alarms.{ack_of, kept_alarm}
 use Rattle.controller_core.specs.Answers.{is_answer, is_call}
-use Rattle.controller_core.specs.Machine.{Turn, stays, over, next_sequence, noted, released, writing, standing, behind_data, confirming, taken, is_again, where_due, requests_of, acks_in, acks_of, outputs_of, flow_later, due_frames, brought, turn_of}
+use Rattle.controller_core.specs.Machine.{Turn, stays, next_sequence, noted, released, writing, standing, end_of, with_end, keeping, acking, behind_data, behind_ack, confirming, taken, is_again, later, where_due, requests_of, accesses_by, pending_by, pending_of, acks_in, acks_of, outputs_of, flow_later, due_frames, brought, turn_of}
 use Rattle.end_laws.specs.turns.Ended.{IsReleased}
-use Rattle.end_laws.specs.turns.Turns.{Came, Hears, IsGranted, IsKind, IsReadied, IsSkipped, IsTurn, Kind, Rests, Connects, Addresses, Ends, Releases, Relates, Writes, Skips, Waits, Forgets, Begins, Repeats, Takes, Flows, Breaks, Idles, came_by, turn_by}
+use Rattle.end_laws.specs.turns.Turns.{Came, Hears, IsGranted, IsKind, IsReadied, IsSkipped, IsTurn, Kind, Rests, Connects, Addresses, Ends, Releases, Relates, Writes, Skips, Waits, Forgets, Begins, Repeats, Takes, IsAcked, Asks, IsReplied, Flows, Breaks, Idles, came_by, turn_by}
 use Rattle.end_laws.specs.both.Small as small
 use Rattle.end_laws.specs.both.Small.{Controller, ToController, ToDevice}
 use Rattle.end_laws.specs.both.Steps.{SaysToDevice}
-use Rattle.end_laws.specs.controller.Small.{asking_of, state_of, small_of, IsInStep, readied_by, said_to, asked_by, said_by, said_in, GoesOn}
+use Rattle.end_laws.specs.controller.Small.{asking_of, state_of, small_of, IsInStep, MayWait, IsSteady, readied_by, said_to, asked_by, said_by, said_in, GoesOn}
 
 some_is : {A : Type 0} (x y : A) → Some x ≡ Some y → x ≡ y
 some_is x y e = cc
@@ -56,20 +65,53 @@ module _ (plan : Parts) where
 
   -- ---- the cases in which nothing moves
 
-  same_goes : (heard : ToController) (live after : Live) (sent : List Sent) → IsInStep plan live.phase live.asked → after.phase ≡ live.phase → after.asked ≡ live.asked
+  still_waits : (phase : State) (before after : Option RecordRequest) → (after ≡ before) ⊎ (after ≡ None) → MayWait phase before → MayWait phase after
+  still_waits phase before after (inl same) waits = subst (λ (w : Option RecordRequest). MayWait phase w) (sym same) waits
+  still_waits Exchanging before after (inr none) waits = tt
+  still_waits Looking before after (inr none) waits = none
+  still_waits Addressing before after (inr none) waits = none
+  still_waits Connecting before after (inr none) waits = none
+  still_waits Writing before after (inr none) waits = none
+  still_waits Ending before after (inr none) waits = none
+  still_waits Waiting before after (inr none) waits = none
+  still_waits (Ended cause) before after (inr none) waits = none
+
+  steady_on : (live after : Live) → IsSteady plan live → after.phase ≡ live.phase → after.asked ≡ live.asked
+      → (after.access.waiting ≡ live.access.waiting) ⊎ (after.access.waiting ≡ None) → IsSteady plan after
+  steady_on live after steady phase asked waits = record {
+    asked = subst (λ (p : State). IsInStep plan p after.asked) (sym phase) (subst (λ (a : Option Request). IsInStep plan live.phase a) (sym asked) steady.asked);
+    waiting = subst (λ (p : State). MayWait p after.access.waiting) (sym phase) (still_waits live.phase live.access.waiting after.access.waiting waits steady.waiting);
+  }
+
+  same_goes : (heard : ToController) (live after : Live) (sent : List Sent) → IsSteady plan live → after.phase ≡ live.phase → after.asked ≡ live.asked
+      → (after.access.waiting ≡ live.access.waiting) ⊎ (after.access.waiting ≡ None)
       → AllByRecursion IsInactive sent → GoesOn plan heard live (record { live = after; sent = sent })
-  same_goes heard live after sent in_step phase asked inactive = record {
-    in_step = subst (λ (p : State). IsInStep plan p after.asked) (sym phase) (subst (λ (a : Option Request). IsInStep plan live.phase a) (sym asked) in_step);
+  same_goes heard live after sent steady phase asked waits inactive = record {
+    in_step = steady_on live after steady phase asked waits;
     moves = inl (ap (λ (p : State). state_of plan p after.asked) phase ∙ ap (λ (a : Option Request). state_of plan live.phase a) asked);
     says = all_inactive (small_of plan after) sent inactive;
   }
 
-  stays_goes : (heard : ToController) (live : Live) → IsInStep plan live.phase live.asked → GoesOn plan heard live (stays live)
-  stays_goes heard live in_step = same_goes heard live live [] in_step refl refl tt
+  stays_goes : (heard : ToController) (live : Live) → IsSteady plan live → GoesOn plan heard live (stays live)
+  stays_goes heard live steady = same_goes heard live live [] steady refl refl (inl refl) tt
+
+  -- while a request of the start-up is active, and before, none of the application waits
+  none_asked : (request : Request) → None ≡ Some request → ⊥
+  none_asked request e = absurd cc
+
+  none_waits : (phase : State) (asked : Option Request) (request : Request) (waiting : Option RecordRequest) → IsInStep plan phase asked → asked ≡ Some request → MayWait phase waiting → waiting ≡ None
+  none_waits Exchanging asked request waiting in_step stands waits = absurd (none_asked request (sym in_step ∙ stands))
+  none_waits Looking asked request waiting in_step stands waits = waits
+  none_waits Addressing asked request waiting in_step stands waits = waits
+  none_waits Connecting asked request waiting in_step stands waits = waits
+  none_waits Writing asked request waiting in_step stands waits = waits
+  none_waits Ending asked request waiting in_step stands waits = waits
+  none_waits Waiting asked request waiting in_step stands waits = waits
+  none_waits (Ended cause) asked request waiting in_step stands waits = waits
 
 module _ (setup : Setup) where
   released_goes : (heard : ToController) (reason : Cause) (live : Live) → GoesOn setup.plan heard live (released setup reason live)
-  released_goes heard reason live = record { in_step = inr (next_sequence setup.plan live.asked, refl); moves = inr (inl refl); says = (inl refl, tt) }
+  released_goes heard reason live = record { in_step = record { asked = inr (next_sequence setup.plan live.access.calls live.asked, refl); waiting = refl }; moves = inr (inl refl); says = (inl refl, tt) }
 
   -- what a pending request says of the state: the call that makes it, that its record exists, or that the relation has
   -- ended
@@ -86,6 +128,9 @@ module _ (setup : Setup) where
 
   none_stands : (request : Request) → None ≡ Some request → ⊥
   none_stands request e = absurd cc
+
+  none_some : (request : RecordRequest) → Some request ≡ None → ⊥
+  none_some request e = absurd cc
 
   -- the request that belongs to each state
   tells : (phase : State) (asked : Option Request) → IsInStep setup.plan phase asked → (request : Request) → asked ≡ Some request → Tells phase asked request
@@ -104,20 +149,20 @@ module _ (setup : Setup) where
   -- the next request is made by the next call
   module _ (live after : Live) (number : ℕ) (heard : ToController) (positive : Bool) (before : small_of setup.plan live ≡ small.Asking number)
       (answers : heard ≡ small.Answers number positive) (granted : (positive ≡ true) ⊎ (setup.plan.continue_on_refused_record ≡ true))
-      (few : number ≤ length setup.plan.records.items) where
+      (few : number ≤ length setup.plan.records.items) (idle : after.access.waiting ≡ None) where
     writing_by : (b : Bool) → nat_lt number (length setup.plan.records.items) ≡ b
         → GoesOn setup.plan heard live (writing (cond b (asks.Write number) asks.PrmEnd) after)
     writing_by true below = record {
-      in_step = (number, ltb-true number (length setup.plan.records.items) below, refl);
+      in_step = record { asked = (number, ltb-true number (length setup.plan.records.items) below, refl); waiting = idle };
       moves = inr (inr (inr (inl (record { sequence = number; positive = positive; asked = before; answered = answers; granted = granted; becomes = inl (few, refl) }))));
-      says = (inr (refl, (ltb-true number (length setup.plan.records.items) below, refl)), tt);
+      says = (inr (inl (refl, (ltb-true number (length setup.plan.records.items) below, refl))), tt);
     }
     writing_by false above =
         let last : length setup.plan.records.items ≡ number = omega (arith, few, ltb-false number (length setup.plan.records.items) above) in
         record {
-          in_step = refl;
+          in_step = record { asked = refl; waiting = idle };
           moves = inr (inr (inr (inl (record { sequence = number; positive = positive; asked = before; answered = answers; granted = granted; becomes = inl (few, ap (λ (n : ℕ). small.Asking (n + 1)) last) }))));
-          says = (inr (refl, refl), tt);
+          says = (inr (inl (refl, refl)), tt);
         }
 
     writing_goes : GoesOn setup.plan heard live (writing (writing_from setup.plan number) after)
@@ -137,20 +182,51 @@ module _ (setup : Setup) where
       heard_answer true s d own = refl
       heard_answer false s d own = absurd cc
 
-  taken_goes : (heard : ToController) (live after : Live) (alarm : AlarmNotification) (came : Taken) → IsInStep setup.plan live.phase live.asked → after.phase ≡ live.phase → after.asked ≡ live.asked
-      → GoesOn setup.plan heard live (taken after alarm came)
-  taken_goes heard live after alarm New in_step phase asked = same_goes setup.plan heard live (confirming after alarm) _ in_step phase asked (refl, (refl, tt))
-  taken_goes heard live after alarm Again in_step phase asked = same_goes setup.plan heard live after _ in_step phase asked (refl, tt)
-  taken_goes heard live after alarm Refused in_step phase asked = same_goes setup.plan heard live after _ in_step phase asked (refl, tt)
+  -- an end of alarms, and an alarm that is stored, change nothing of a start-up
+  record IsAlike (live after : Live) : Type 0 where
+    phase : after.phase ≡ live.phase
+    asked : after.asked ≡ live.asked
+    waits : after.access.waiting ≡ live.access.waiting
+
+  alike : (live : Live) → IsAlike live live
+  alike live = record { phase = refl; asked = refl; waits = refl }
+
+  end_alike : (live : Live) (priority : Priority) (end : ControllerEnd) → IsAlike live (with_end live priority end)
+  end_alike live High end = record { phase = refl; asked = refl; waits = refl }
+  end_alike live Low end = record { phase = refl; asked = refl; waits = refl }
+
+  keeping_alike : (live : Live) (priority : Priority) (alarm : AlarmNotification) (user_structure : Option ℕ) → IsAlike live (keeping live priority alarm user_structure)
+  keeping_alike live High alarm user_structure = record { phase = refl; asked = refl; waits = refl }
+  keeping_alike live Low alarm user_structure = record { phase = refl; asked = refl; waits = refl }
+
+  alike_on : (live next after : Live) → IsAlike live next → IsAlike next after → IsAlike live after
+  alike_on live next after one other = record { phase = other.phase ∙ one.phase; asked = other.asked ∙ one.asked; waits = other.waits ∙ one.waits }
+
+  confirming_alike : (live after : Live) (report : Report) → IsAlike live after → IsAlike live (confirming after report)
+  confirming_alike live after report is =
+      let acked = acking after report.priority (ack_of report.notification) in
+      alike_on live acked (confirming after report)
+      (alike_on live after acked is (end_alike after report.priority (confirmed (end_of after report.priority) (ack_of report.notification))))
+      (keeping_alike acked report.priority (kept_alarm report.notification) report.user_structure)
+
+  alike_goes : (heard : ToController) (live after : Live) (sent : List Sent) → IsSteady setup.plan live → IsAlike live after → AllByRecursion (IsInactive setup.plan) sent
+      → GoesOn setup.plan heard live (record { live = after; sent = sent })
+  alike_goes heard live after sent steady is inactive = same_goes setup.plan heard live after sent steady is.phase is.asked (inl is.waits) inactive
+
+  taken_goes : (heard : ToController) (live after : Live) (report : Report) (came : Taken) → IsSteady setup.plan live → IsAlike live after
+      → GoesOn setup.plan heard live (taken after report came)
+  taken_goes heard live after report New steady is = alike_goes heard live (confirming after report) _ steady (confirming_alike live after report is) (refl, (refl, tt))
+  taken_goes heard live after report Again steady is = alike_goes heard live after _ steady is (refl, tt)
+  taken_goes heard live after report Refused steady is = alike_goes heard live after _ steady is (refl, tt)
 
   -- the pending request says what it may
   request_says : (phase : State) (asked : Option Request) (request : Request) → Tells phase asked request
       → SaysToDevice (length setup.plan.records.items) (state_of setup.plan phase asked) (asked_by setup.plan request)
   request_says phase asked asks.Identify reported = tt
   request_says phase asked asks.Address reported = tt
-  request_says phase asked asks.Connect reported = inr (reported, refl)
-  request_says phase asked (asks.Write number) reported = inr (reported.1, (reported.0, refl))
-  request_says phase asked asks.PrmEnd reported = inr (reported, refl)
+  request_says phase asked asks.Connect reported = inr (inl (reported, refl))
+  request_says phase asked (asks.Write number) reported = inr (inl (reported.1, (reported.0, refl)))
+  request_says phase asked asks.PrmEnd reported = inr (inl (reported, refl))
   request_says phase asked (asks.Release sequence) reported = inl refl
 
   abbrev AreSaid : Controller → List Sent → Type 0
@@ -168,17 +244,35 @@ module _ (setup : Setup) where
   both_say now [] more all others = others
   both_say now (message ∷ sent) more all others = (all.0, both_say now sent more all.1 others)
 
-  acks_say : (now : Controller) (live : Live) (ack : Option AlarmAck) → AreSaid now (acks_in live ack)
-  acks_say now live (Some ack) = (tt, tt)
-  acks_say now live None = tt
+  -- a request of the application that waits says what it may
+  accesses_say : (device : Mac) (octets : List ℕ) (phase : State) (asked : Option Request) (waiting : Option RecordRequest) → MayWait phase waiting
+      → AreSaid (state_of setup.plan phase asked) (accesses_by device octets waiting)
+  accesses_say device octets phase asked None waits = tt
+  accesses_say device octets Exchanging asked (Some request) waits = (inr (inr (refl, refl)), tt)
+  accesses_say device octets Looking asked (Some request) waits = absurd (none_some request waits)
+  accesses_say device octets Addressing asked (Some request) waits = absurd (none_some request waits)
+  accesses_say device octets Connecting asked (Some request) waits = absurd (none_some request waits)
+  accesses_say device octets Writing asked (Some request) waits = absurd (none_some request waits)
+  accesses_say device octets Ending asked (Some request) waits = absurd (none_some request waits)
+  accesses_say device octets Waiting asked (Some request) waits = absurd (none_some request waits)
+  accesses_say device octets (Ended cause) asked (Some request) waits = absurd (none_some request waits)
 
-  due_frames_say : (live : Live) (is_ack is_request is_cyclic : Bool) → IsInStep setup.plan live.phase live.asked → AreSaid (small_of setup.plan live) (due_frames live is_ack is_request is_cyclic)
-  due_frames_say live is_ack is_request is_cyclic in_step =
+  pending_say : (live : Live) (asked : Option Request) → asked ≡ live.asked → IsSteady setup.plan live → AreSaid (small_of setup.plan live) (pending_by live asked)
+  pending_say live (Some request) is steady = requests_say live.device live.phase live.asked (Some request) is steady.asked
+  pending_say live None is steady = accesses_say live.device live.access.octets live.phase live.asked live.access.waiting steady.waiting
+
+  acks_say : (now : Controller) (live : Live) (priority : Priority) (ack : Option AlarmAck) → AreSaid now (acks_in live priority ack)
+  acks_say now live priority (Some ack) = (tt, tt)
+  acks_say now live priority None = tt
+
+  due_frames_say : (live : Live) (is_high is_low is_request is_cyclic : Bool) → IsSteady setup.plan live → AreSaid (small_of setup.plan live) (due_frames live is_high is_low is_request is_cyclic)
+  due_frames_say live is_high is_low is_request is_cyclic steady =
       let now = small_of setup.plan live in
-      both_say now (where_due is_ack (acks_of live)) _ (due_say now is_ack (acks_of live) (acks_say now live live.alarms.confirming))
-      (both_say now (where_due is_request (requests_of live.device live.asked)) _
-      (due_say now is_request (requests_of live.device live.asked) (requests_say live.device live.phase live.asked live.asked refl in_step))
-      (due_say now is_cyclic (outputs_of live) (tt, tt)))
+      both_say now (where_due is_high (acks_of live High)) _ (due_say now is_high (acks_of live High) (acks_say now live High live.alarms.confirming))
+      (both_say now (where_due is_low (acks_of live Low)) _ (due_say now is_low (acks_of live Low) (acks_say now live Low live.low_alarms.confirming))
+      (both_say now (where_due is_request (pending_of live)) _
+      (due_say now is_request (pending_of live) (pending_say live live.asked refl steady))
+      (due_say now is_cyclic (outputs_of live) (tt, tt))))
 
   -- ---- each kind
 
@@ -190,13 +284,24 @@ module _ (setup : Setup) where
   said_is (Frame bytes) = refl
   said_is event = refl
 
-  module _ (live : Live) (came : Came) (in_step : IsInStep setup.plan live.phase live.asked) where
+  module _ (live : Live) (came : Came) (steady : IsSteady setup.plan live) where
+    abbrev in_step : IsInStep setup.plan live.phase live.asked
+    in_step = steady.asked
+
     abbrev heard : ToController
     heard = said_of came
 
     seeking : (live.phase ≡ Looking) ⊎ (live.phase ≡ Addressing) → small_of setup.plan live ≡ small.Seeking
     seeking (inl is) = ap (λ (p : State). state_of setup.plan p live.asked) is
     seeking (inr is) = ap (λ (p : State). state_of setup.plan p live.asked) is
+
+    -- no request of the application waits before data is exchanged
+    idle_seeking : (live.phase ≡ Looking) ⊎ (live.phase ≡ Addressing) → live.access.waiting ≡ None
+    idle_seeking (inl is) = subst (λ (p : State). MayWait p live.access.waiting) is steady.waiting
+    idle_seeking (inr is) = subst (λ (p : State). MayWait p live.access.waiting) is steady.waiting
+
+    idle_asked : (request : Request) → live.asked ≡ Some request → live.access.waiting ≡ None
+    idle_asked request stood = none_waits setup.plan live.phase live.asked request live.access.waiting in_step stood steady.waiting
 
     granted_said : (request : Request) → (g : IsGranted setup live came request) → heard ≡ small.Answers (sequence_of setup.plan request) true
     granted_said request g =
@@ -216,22 +321,26 @@ module _ (setup : Setup) where
     release_in came_so (inr refused) = (refused.sequence, refused.stood)
 
     kind_goes : (kind : Kind) → IsKind setup live came kind → GoesOn setup.plan heard live (turn_by setup live kind)
-    kind_goes Rests holds = stays_goes setup.plan heard live in_step
-    kind_goes (Connects source) holds = record { in_step = refl; moves = inr (inr (inl refl)); says = (inr (refl, refl), tt) }
-    kind_goes (Addresses source) holds = record { in_step = refl; moves = inl (sym (seeking holds.seeking)); says = (tt, tt) }
-    kind_goes (Ends reason refusal refused) holds = record { in_step = inl refl; moves = inr (inl refl); says = tt }
+    kind_goes Rests holds = stays_goes setup.plan heard live steady
+    kind_goes (Connects source) holds =
+        record { in_step = record { asked = refl; waiting = idle_seeking holds.seeking }; moves = inr (inr (inl refl)); says = (inr (inl (refl, refl)), tt) }
+    kind_goes (Addresses source) holds =
+        record { in_step = record { asked = refl; waiting = idle_seeking holds.seeking }; moves = inl (sym (seeking holds.seeking)); says = (tt, tt) }
+    kind_goes (Ends reason refusal refused) holds = record { in_step = record { asked = inl refl; waiting = refl }; moves = inr (inl refl); says = tt }
     kind_goes (Releases reason) holds = released_goes heard reason live
     kind_goes (Relates chosen) holds =
         let granted = holds.0 in
         writing_goes live (standing setup live chosen) 0 heard true (tells live.phase live.asked in_step asks.Connect granted.stood) (granted_said asks.Connect granted) (inl refl) (omega arith)
+        (idle_asked asks.Connect granted.stood)
     kind_goes (Writes number) holds =
         let there = tells live.phase live.asked in_step (asks.Write number) holds.stood in
-        writing_goes live live (number + 1) heard true there.1 (granted_said (asks.Write number) holds) (inl refl) (omega (arith, there.0))
+        writing_goes live live (number + 1) heard true there.1 (granted_said (asks.Write number) holds) (inl refl) (omega (arith, there.0)) (idle_asked (asks.Write number) holds.stood)
     kind_goes (Skips number status) holds =
         let there = tells live.phase live.asked in_step (asks.Write number) holds.stood in
         writing_goes live (noted status number live) (number + 1) heard false there.1 (skipped_said number holds) (inr holds.goes_on) (omega (arith, there.0))
+        (idle_asked (asks.Write number) holds.stood)
     kind_goes Waits holds = record {
-      in_step = refl;
+      in_step = record { asked = refl; waiting = idle_asked asks.PrmEnd holds.stood };
       moves = inr (inr (inr (inl (record {
         sequence = length setup.plan.records.items + 1;
         positive = true;
@@ -245,27 +354,43 @@ module _ (setup : Setup) where
     kind_goes Forgets holds =
         let there = release_in holds.0 holds.2 in
         let ends = tells live.phase live.asked in_step (asks.Release there.0) there.1 in
-        record { in_step = ends.0; moves = inr (inl ends.1); says = tt }
-    kind_goes (Begins caller call block) holds =
-        record { in_step = refl; moves = inr (inr (inr (inr (readied_said caller call block holds.1, refl)))); says = (refl, tt) }
-    kind_goes (Repeats caller call block) holds =
-        record { in_step = in_step; moves = inl refl; says = (ap (λ (p : State). state_of setup.plan p live.asked) holds.0, tt) }
-    kind_goes (Takes number alarm) holds = taken_goes heard live (behind_data live number) alarm (taken_as live.alarms.seen number) in_step refl refl
-    kind_goes Flows holds = record {
-      in_step = in_step;
-      moves = inl refl;
-      says = due_frames_say (flow_later live) (brought live).is_alarm (is_again live) (brought live).is_cyclic in_step;
+        record { in_step = record { asked = ends.0; waiting = steady.waiting }; moves = inr (inl ends.1); says = tt }
+    kind_goes (Begins caller call block) holds = record {
+      in_step = record { asked = refl; waiting = tt };
+      moves = inr (inr (inr (inr (readied_said caller call block holds.1, refl))));
+      says = (refl, tt);
     }
-    kind_goes (Breaks reason) holds = record { in_step = inl refl; moves = inr (inl refl); says = (tt, tt) }
+    kind_goes (Repeats caller call block) holds =
+        record { in_step = steady; moves = inl refl; says = (ap (λ (p : State). state_of setup.plan p live.asked) holds.0, tt) }
+    kind_goes (Takes number report) holds =
+        taken_goes heard live (behind_data live report.priority number) report (taken_as (end_of live report.priority).seen number) steady
+        (end_alike live report.priority (with_data (end_of live report.priority) number))
+    kind_goes (IsAcked priority number) holds =
+        alike_goes heard live (behind_ack live priority number) [] steady (end_alike live priority (with_ack (end_of live priority) number)) tt
+    kind_goes (Asks request octets) holds =
+        let now = ap (λ (p : State). state_of setup.plan p live.asked) holds.0 in
+        record {
+          in_step = record { asked = in_step; waiting = subst (λ (p : State). MayWait p (Some request)) (sym holds.0) tt };
+          moves = inl refl;
+          says = (inr (inr (refl, now)), tt);
+        }
+    kind_goes (IsReplied refusal access) holds = same_goes setup.plan heard live _ [] steady refl refl (inr holds.1) tt
+    kind_goes Flows holds = record {
+      in_step = steady_on setup.plan live (flow_later live) steady refl refl (inl refl);
+      moves = inl refl;
+      says = due_frames_say (flow_later live) (is_repeated (due live.alarms.sending)) (is_repeated (due live.low_alarms.sending)) (is_again live) (brought live).is_cyclic
+          (steady_on setup.plan live (flow_later live) steady refl refl (inl refl));
+    }
+    kind_goes (Breaks reason) holds = record { in_step = record { asked = inl refl; waiting = refl }; moves = inr (inl refl); says = (tt, tt) }
     kind_goes Idles holds = record {
-      in_step = in_step;
+      in_step = steady_on setup.plan live (later live) steady refl refl (inl refl);
       moves = inl refl;
       says = due_say (small_of setup.plan live) (is_again live) (requests_of live.device live.asked) (requests_say live.device live.phase live.asked live.asked refl in_step);
     }
-    kind_goes other holds = same_goes setup.plan heard live _ [] in_step refl refl tt
+    kind_goes other holds = same_goes setup.plan heard live _ [] steady refl refl (inl refl) tt
 
-  pub event_goes : (live : Live) (event : Event) → IsTurn setup live (came_by setup event) (turn_of setup live event) → IsInStep setup.plan live.phase live.asked
+  pub event_goes : (live : Live) (event : Event) → IsTurn setup live (came_by setup event) (turn_of setup live event) → IsSteady setup.plan live
       → GoesOn setup.plan (said_in setup (heard_of setup.plan.controller) event) live (turn_of setup live event)
-  event_goes live event turn in_step =
+  event_goes live event turn steady =
       subst (λ (h : ToController). GoesOn setup.plan h live (turn_of setup live event)) (said_is event)
-      (subst (λ (t : Turn). GoesOn setup.plan (said_of (came_by setup event)) live t) (sym turn.is) (kind_goes live (came_by setup event) in_step turn.kind turn.holds))
+      (subst (λ (t : Turn). GoesOn setup.plan (said_of (came_by setup event)) live t) (sym turn.is) (kind_goes live (came_by setup event) steady turn.kind turn.holds))

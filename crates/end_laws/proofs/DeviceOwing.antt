@@ -1,6 +1,6 @@
 -- The status of each response in a start-up has four octets.
-use Rattle.std.proofs.Common.{◌≡◌, ◌<◌, ℕ, Bool, true, false, not, cond, List, [], ◌∷◌, ◌++◌, length, take, Option, Some, None, Result, Ok, Err, refl, sym, subst, arith}
-use Rattle.std.specs.Prelude.{◌==◌, ◌||◌, nat_lt, nat_eq}
+use Rattle.std.proofs.Common.{◌≡◌, ◌<◌, ℕ, Bool, true, false, not, cond, List, [], ◌∷◌, ◌++◌, length, take, Option, Some, None, Result, Ok, Err, refl, sym, subst, ◌∙◌, arith}
+use Rattle.std.specs.Prelude.{◌==◌, ◌||◌, ◌&&◌, is_some, nat_lt, nat_eq}
 use Rattle.std.specs.List.{AllByRecursion}
 use Rattle.std.specs.Cmp.Lexicographic.{pointwise}
 use Rattle.wire.specs.Codec.{◌>>=◌}
@@ -13,7 +13,7 @@ use Rattle.connect_blocks.specs.declared.control.ControlBlock.{ControlBlock}
 use Rattle.block_codec.specs.declared.block_type.BlockType.{BlockType}
 use Rattle.block_codec.specs.declared.block_type.BlockType.TheVariants as kind
 use Rattle.block_codec.specs.Kinds.{number_of}
-use Rattle.block_codec.specs.Block.{block_of, in_iod_write_req}
+use Rattle.block_codec.specs.Block.{block_of, in_iod_read_req, in_iod_write_req}
 use Rattle.records.specs.declared.status.call_fault.CallFault.{CallFault}
 use Rattle.records.specs.declared.status.call_fault.CallFault.TheVariants as fault
 use Rattle.records.specs.declared.status.operation.Operation.{Operation}
@@ -30,15 +30,28 @@ use Rattle.connect_requests.specs.Handled.{admitted, any_short, ar_in, conflict,
 use Rattle.record_blocks.specs.declared.write_record.IodWriteReq.{IodWriteReq}
 use Rattle.im_records.specs.Indices.{is_anywhere, is_read_only, record_with}
 use Rattle.im_records.specs.Records.{is_real}
-use Rattle.records.specs.reads.Handled.{placed}
+use Rattle.record_blocks.specs.declared.read_record.IodReadReq.{IodReadReq}
+use Rattle.records.specs.declared.reads.listing.Level.{Level}
+use Rattle.records.specs.declared.reads.listing.Listing.{Listing}
+use Rattle.records.specs.reads.Answer.{answer_of as read_answer_of}
+use Rattle.records.specs.reads.Handled.{found, has_parameter, placed, read_of, request_of as read_request_of}
+use Rattle.records.specs.reads.Listing.{is_of_relation, is_there, listed_at, listing_of, octets_of, served as read_served, served_by}
+use Rattle.records.specs.reads.Within.{record_within, request_within as read_within}
+use Rattle.relation_records.specs.Own.{own_of}
+use Rattle.relation_records.specs.Reading.{relation_read}
 use Rattle.records.specs.declared.writes.taken.TakenRecord.{TakenRecord}
 use Rattle.records.specs.writes.Handled.{effect_of, is_known, handled_request as write_handled, targeted, write_of, written}
 use Rattle.records.specs.writes.Taken.{keep_of}
-use Rattle.relations.specs.RelationState.{RelationState, is_named, is_session, is_started, phase_of, uuid_of}
+use Rattle.relations.specs.RelationState.{RelationState, differing_in, is_named, is_session, is_started, phase_of, uuid_of}
 use Rattle.relations.specs.Phases.{keeping}
 use Rattle.relations.specs.Calls.{control_block, in_control, in_started, named_of, prm_end_of, release_of}
 use Rattle.relations.specs.Connect.{connect_within}
 use Rattle.device_core.specs.Handled.{outcome_of, kept_answer}
+use Rattle.device_core.specs.Machine.{written_as}
+use Rattle.pn_values.specs.declared.identity.Identity.{Identity}
+use Rattle.pn_values.specs.declared.settings.Settings.{Settings}
+use Rattle.pn_values.specs.declared.set_item.BlockError.{BlockError}
+use Rattle.pn_values.specs.declared.set_item.BlockError.TheVariants as error
 
 pub bind_ok : {A B : Type 0} (r : Result A CallFault) (f : A → Result B CallFault) (y : B) → (r >>= f) ≡ Ok y → (x : A) × (r ≡ Ok x) × (f x ≡ Ok y)
 bind_ok (Ok x) f y e = (x, refl, e)
@@ -195,7 +208,94 @@ pub kept_plain : (header : IodWriteReq) (kept : Result (List TakenRecord) CallFa
 kept_plain header (Ok taken) plain = tt
 kept_plain header (Err why) plain = plain
 
+-- ---- a Read
+
+read_request_plain : (blocks : List ℕ) → IsPlainIn (read_request_of blocks)
+unfolding read_request_of
+read_request_plain blocks =
+    bind_plain (single_of kind.IodReadReq blocks) (λ x. or_fault fault.BlockForm (in_iod_read_req x.0)) (single_plain kind.IodReadReq blocks)
+    (λ x. fault_plain fault.BlockForm (in_iod_read_req x.0) tt)
+
+within_request_plain : (standing : Option (List ℕ)) (blocks : List ℕ) → IsPlainIn (read_within standing blocks)
+unfolding read_within
+within_request_plain standing blocks =
+    bind_plain (read_request_of blocks) (λ request. in_relation standing request.header.ar_uuid >>= λ _. Ok request) (read_request_plain blocks)
+    (λ request. bind_plain (in_relation standing request.header.ar_uuid) (λ _. Ok request) (related_plain standing request.header.ar_uuid) (λ _. tt))
+
+found_plain : (real : Real) (request : IodReadReq) (readable : Option (List ℕ)) → IsPlainIn (found real request readable)
+found_plain real request readable = handled_plain
+    ((not (is_some readable || has_parameter real request.header.slot_number request.header.subslot_number request.header.index), fault.Index)
+    ∷ [])
+    (or_fault fault.Access readable) (tt, tt) (fault_plain fault.Access readable tt)
+
+record_plain : (real : Real) (request : IodReadReq) (readable : Option (List ℕ)) → IsPlainIn (read_of real request readable)
+unfolding read_of
+record_plain real request readable =
+    bind_plain (placed real request.header.api request.header.slot_number request.header.subslot_number request.header.index)
+    (λ _. found real request readable >>= λ octets. Ok (read_answer_of request octets))
+    (placed_plain real request.header.api request.header.slot_number request.header.subslot_number request.header.index)
+    (λ _. bind_plain (found real request readable) (λ octets. Ok (read_answer_of request octets)) (found_plain real request readable) (λ octets. tt))
+
+listed_plain : (is_within : Bool) (real : Real) (own : Option (List ℕ)) (request : IodReadReq) (level : Level) (listing : Listing)
+    → IsPlainIn (listed_at is_within real own request level listing)
+unfolding listed_at
+listed_plain is_within real own request level listing =
+    let checks =
+    (not (request.header.api == 0), fault.Api)
+    ∷ (not (is_there real level request.header.slot_number request.header.subslot_number), fault.Place)
+    ∷ (is_of_relation level && not is_within, fault.Index)
+    ∷ [] in
+    let octets = octets_of real own level request.header.slot_number request.header.subslot_number listing in
+    bind_plain (in_order checks (or_fault fault.Index octets)) (λ found. Ok (read_answer_of request found))
+    (handled_plain checks (or_fault fault.Index octets) (tt, (tt, (tt, tt))) (fault_plain fault.Index octets tt)) (λ found. tt)
+
+served_plain : (is_within : Bool) (real : Real) (own : Option (List ℕ)) (request : IodReadReq) (readable : Option (List ℕ)) → IsPlainIn (read_served is_within real own request readable)
+unfolding read_served
+served_plain is_within real own request readable = by_listing (listing_of real request)
+  where
+    by_listing : (x : Option (Level × Listing)) → IsPlainIn (served_by is_within real own request x readable)
+    by_listing (Some x) = listed_plain is_within real own request x.0 x.1
+    by_listing None = record_plain real request readable
+
+pub read_plain : (link : Option RelationState) (identity : Identity) (real : Real) (running : Settings) (blocks : List ℕ) → IsPlainIn (relation_read link identity real running blocks)
+unfolding relation_read
+read_plain link identity real running blocks =
+    bind_plain (read_within (uuid_of link) blocks)
+    (λ request. read_served true real (own_of link real request) request (record_within (differing_in link) request identity real running)) (within_request_plain (uuid_of link) blocks)
+    (λ request. served_plain true real (own_of link real request) request (record_within (differing_in link) request identity real running))
+
+-- ---- a Write whose record the settings store
+
+pub stored_plain : (header : IodWriteReq) (answer : BlockError) → IsPlainIn (written_as header answer)
+stored_plain header error.Done = tt
+stored_plain header error.Exhausted = tt
+stored_plain header error.Local = tt
+stored_plain header error.Option = tt
+stored_plain header error.Suboption = tt
+stored_plain header error.Value = tt
+stored_plain header error.InOperation = tt
+
 -- ---- a Connect that is accepted if there is no relation
+
+err_ok : {A B : Type 0} (why : B) (value : A) → ◌≡◌ {A = Result A B} (Err why) (Ok value) → ⊥
+err_ok why value e = absurd cc
+
+same_ok : {A B : Type 0} (x y : A) → ◌≡◌ {A = Result A B} (Ok x) (Ok y) → x ≡ y
+same_ok x y e = cc
+
+-- one that is accepted asks for what its blocks say, and there was no relation
+same_pieces : (standing : Option (List ℕ)) (pieces : List Piece) (one other : Request) → request_in standing pieces ≡ Ok one → request_in None pieces ≡ Ok other → one ≡ other
+unfolding request_in
+same_pieces None pieces one other e f = same_ok one other (sym e ∙ f)
+same_pieces (Some standing) [] one other e f = absurd cc
+same_pieces (Some standing) (piece ∷ pieces) one other e f =
+    let there = bind_ok (ar_in piece) (λ ar. admitted None ar >>= λ _. request_behind ar pieces) other f in
+    absurd (err_ok (conflict standing there.0.uuid) one
+    (subst (λ (r : Result Ar CallFault). (r >>= λ ar. admitted (Some standing) ar >>= λ _. request_behind ar pieces) ≡ Ok one) there.1 e))
+
+pub same_request : (standing : Option (List ℕ)) (blocks : List ℕ) (one other : Request) → request_of standing blocks ≡ Ok one → request_of None blocks ≡ Ok other → one ≡ other
+unfolding request_of
+same_request standing blocks one other e f = same_pieces standing (pieces_of blocks) one other e f
 
 conflict_plain : (standing asked : List ℕ) → IsPlain (conflict standing asked)
 conflict_plain standing asked = by_name (pointwise nat_eq asked standing)

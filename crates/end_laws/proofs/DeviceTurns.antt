@@ -1,6 +1,6 @@
 -- Each turn of a device, as far as a start-up is concerned: drawn from what the turn does.
 use Rattle.std.proofs.Common.{◌≡◌, ◌⊎◌, inl, inr, ◌-◌, ◌<◌, ◌==◌, ℕ, Bool, true, false, cond, List, [], ◌∷◌, map, take, Option, Some, None, option_map, Result, Ok, Err, refl, sym, ap, subst, ◌∙◌, arith}
-use Rattle.std.specs.Prelude.{nat_lt, nat_eq, slice_get}
+use Rattle.std.specs.Prelude.{nat_lt, nat_eq, slice_get, unwrap_or}
 use Rattle.std.specs.List.{AllByRecursion}
 use Rattle.std.specs.Cmp.Lexicographic.{pointwise, other_text}
 use Rattle.std.proofs.lemmas.Bool.{false≢true, eq-eqb, ltb-true, ltb-false}
@@ -15,10 +15,10 @@ use Rattle.records.specs.status.Operation.{operation_of}
 use Rattle.records.specs.status.Status.{status_of}
 use Rattle.connect_requests.specs.Request.{Request}
 use Rattle.records.specs.declared.writes.taken.TakenRecord.{TakenRecord}
-use Rattle.records.specs.declared.writes.write.Effect.TheVariants.{Keeps}
+use Rattle.records.specs.declared.writes.write.Effect.TheVariants.{Stores, Keeps}
 use Rattle.relations.specs.declared.ready.Ready.{Ready}
-use Rattle.relations.specs.RelationState.{RelationState}
-use Rattle.relations.specs.Connect.{connect_of}
+use Rattle.relations.specs.RelationState.{RelationState, uuid_of}
+use Rattle.pn_values.specs.declared.im_value.ImValue.{ImValue}
 use Rattle.device_frames.specs.Heard.{Heard, Reported, Calls}
 use Rattle.device_frames.specs.Sent.{Sent, CallAnswer, Again, ReadyCall, bytes_of}
 use Rattle.settings_store.specs.Machine.{Outcome}
@@ -28,9 +28,10 @@ use Rattle.device_core.specs.Handled.{outcome_of, answer_from, kept_for}
 use Rattle.end_laws.specs.both.Small as small
 use Rattle.end_laws.specs.both.Small.{Rules, ToDevice, ToController}
 use Rattle.end_laws.specs.both.Steps.{IsNew, Comes, SaysAtMost, IsReady, IsDull, DeviceSteps}
-use Rattle.relations.specs.Phases.{parameterized_from}
-use Rattle.end_laws.specs.device.Small.{phase_in, link_of, kept_in, small_of, asked_by, heard_as, IsPlannedAs, IsPlannedCall, IsPlanned, IsHeardAs}
-use Rattle.end_laws.specs.device.Does.{AreReadied, Confirms, Does, GoesBy, IsEffect, IsOther, IsReadied, Repeats, Rests, Serves, readied_from}
+use Rattle.relations.specs.Phases.{parameterized_from, restarted}
+use Rattle.end_laws.specs.device.Small.{Planned, phase_in, link_of, kept_in, small_of, written_by, asked_by, heard_as, IsPlannedAs, IsPlannedCall, IsPlanned, IsHeardAs}
+use Rattle.end_laws.specs.device.Does.{AreReadied, Confirms, Does, GoesBy, IsEffect, IsOther, IsReadied, Repeats, Rests, Serves, Stored, Written, readied_from}
+use Rattle.end_laws.proofs.DeviceOwing.{same_request}
 
 some_is : {A : Type 0} (x y : A) → Some x ≡ Some y → x ≡ y
 some_is x y e = cc
@@ -72,12 +73,22 @@ RefusalsAreNotDone = (operation : Operation) (fault : CallFault) → is_done (st
 
 -- ---- the calls of a start-up
 
--- the request of a call, if it is one of the start-up
-abbrev ask_of : ℕ → Option Operation → small.Ask
-ask_of sequence (Some operation.Connect) = small.Connects
-ask_of sequence (Some operation.Write) = small.Writes (sequence - 1)
-ask_of sequence (Some operation.Control) = small.Parameterized
-ask_of sequence _ = small.Releases
+-- the request of a Write, by whether it is one of the start-up
+abbrev written_ask : Bool → ℕ → small.Ask
+written_ask true sequence = small.Writes (sequence - 1)
+written_ask false sequence = small.Accesses
+
+written_call : (b : Bool) (sequence : ℕ) → written_by b sequence ≡ small.Call sequence (written_ask b sequence)
+written_call true sequence = refl
+written_call false sequence = refl
+
+-- the request of a call, if it is one of the start-up or of the application
+abbrev ask_of : Planned → ℕ → List ℕ → Option Operation → small.Ask
+ask_of planned sequence blocks (Some operation.Connect) = small.Connects
+ask_of planned sequence blocks (Some operation.Write) = written_ask (planned sequence blocks) sequence
+ask_of planned sequence blocks (Some operation.Control) = small.Parameterized
+ask_of planned sequence blocks (Some operation.Read) = small.Accesses
+ask_of planned sequence blocks _ = small.Releases
 
 -- ---- turns
 
@@ -145,25 +156,27 @@ module _ (refusals_are_not_done : RefusalsAreNotDone) (rules : Rules TakenRecord
     planned_call : (caller : Caller) (address : List ℕ) (call : Call) → heard ≡ Reported caller address (Calls call) → IsPlannedCall rules activity station.real call
     planned_call caller address call is = subst (λ (h : Heard). IsPlanned rules activity station.real h) is planned
 
-    call_heard : (sequence : ℕ) (blocks : List ℕ) (which : Option Operation) → IsPlannedAs rules station.real sequence blocks which → asked_by sequence which ≡ small.Call sequence (ask_of sequence which)
-    call_heard sequence blocks (Some operation.Read) plan = absurd plan
+    call_heard : (sequence : ℕ) (blocks : List ℕ) (which : Option Operation) → IsPlannedAs rules station.real sequence blocks which
+        → asked_by rules.is_planned sequence blocks which ≡ small.Call sequence (ask_of rules.is_planned sequence blocks which)
     call_heard sequence blocks (Some operation.ReadImplicit) plan = absurd plan
     call_heard sequence blocks None plan = absurd plan
-    call_heard sequence blocks which plan = refl
+    call_heard sequence blocks (Some operation.Write) plan = written_call (rules.is_planned sequence blocks) sequence
+    call_heard sequence blocks (Some operation.Connect) plan = refl
+    call_heard sequence blocks (Some operation.Control) plan = refl
+    call_heard sequence blocks (Some operation.Read) plan = refl
+    call_heard sequence blocks (Some operation.Release) plan = refl
 
     -- a step that hears a call
-    hears_call : (caller : Caller) (address : List ℕ) (call : Call) → heard ≡ Reported caller address (Calls call)
-        → Goes (small.Call call.header.sequence (ask_of call.header.sequence (operation_of call.header.operation))) after sent → Goes (heard_as heard) after sent
-    hears_call caller address call is goes =
+    hears_call : (caller : Caller) (address : List ℕ) (call : Call) (blocks : List ℕ) → heard ≡ Reported caller address (Calls call) → call.blocks ≡ Some blocks
+        → Goes (small.Call call.header.sequence (ask_of rules.is_planned call.header.sequence blocks (operation_of call.header.operation))) after sent → Goes (heard_as rules.is_planned heard) after sent
+    hears_call caller address call blocks is counted goes =
         let plan = planned_call caller address call is in
-        subst (λ (h : ToDevice). Goes h after sent) (sym (ap heard_as is ∙ call_heard call.header.sequence plan.blocks (operation_of call.header.operation) plan.asks)) goes
-
-    unmapped : (link : Option RelationState) → option_map link_of link ≡ None → link ≡ None
-    unmapped None e = refl
-    unmapped (Some link) e = absurd cc
-
-    same_ok : {A B : Type 0} (x y : A) → ◌≡◌ {A = Result A B} (Ok x) (Ok y) → x ≡ y
-    same_ok x y e = cc
+        let same : plan.blocks ≡ blocks = some_is plan.blocks blocks (sym plan.counted ∙ counted) in
+        let asks : IsPlannedAs rules station.real call.header.sequence blocks (operation_of call.header.operation) =
+        subst (λ (b : List ℕ). IsPlannedAs rules station.real call.header.sequence b (operation_of call.header.operation)) same plan.asks in
+        let now : heard_as rules.is_planned heard ≡ asked_by rules.is_planned call.header.sequence blocks (operation_of call.header.operation) =
+        ap (heard_as rules.is_planned) is ∙ ap (λ (b : Option (List ℕ)). asked_by rules.is_planned call.header.sequence (unwrap_or b []) (operation_of call.header.operation)) counted in
+        subst (λ (h : ToDevice). Goes h after sent) (sym (now ∙ call_heard call.header.sequence blocks (operation_of call.header.operation) asks)) goes
 
     same_kept : (x y : TakenRecord) → Keeps x ≡ Keeps y → x ≡ y
     same_kept x y e = cc
@@ -174,25 +187,51 @@ module _ (refusals_are_not_done : RefusalsAreNotDone) (rules : Rules TakenRecord
     parameterized_small link true = refl
     parameterized_small link false = refl
 
-    -- what a call does to the relation, as the small machine does it
-    comes : (caller : Caller) (sequence : ℕ) (blocks : List ℕ) (outcome : Result (List ℕ) CallFault) (which : Operation) → IsPlannedAs rules station.real sequence blocks (Some which)
-        → IsEffect station caller blocks outcome which live.rest.link after.link
-        → Comes rules (is_well outcome) (ask_of sequence (Some which)) (option_map link_of live.rest.link) (option_map link_of after.link)
-    comes caller sequence blocks (Err why) which plan same = ap (λ (l : Option RelationState). option_map link_of l) same
-    comes caller sequence blocks (Ok octets) operation.Connect plan it = λ none.
-        ap (λ (l : Option RelationState). option_map link_of l) it.made
-        ∙ ap (λ (r : Request). Some (record { phase = small.Started; request = r; taken = [] }))
-        (same_ok it.request rules.request (sym it.read ∙ (ap (λ (l : Option RelationState). connect_of l blocks) (unmapped live.rest.link none) ∙ plan)))
-    comes caller sequence blocks (Ok octets) operation.Write plan it = record {
+    -- a call that names the relation changes nothing of a start-up
+    restarted_small : (link : Option RelationState) → option_map link_of (option_map restarted link) ≡ option_map link_of link
+    restarted_small None = refl
+    restarted_small (Some link) = refl
+
+    stores_none : (value : ImValue) (planned : TakenRecord) → Stores value ≡ Keeps planned → ⊥
+    stores_none value planned e = absurd cc
+
+    -- what a Write does, which is one of the start-up or not
+    writes : (sequence : ℕ) (blocks : List ℕ) (b : Bool) → rules.is_planned sequence blocks ≡ b → IsPlannedAs rules station.real sequence blocks (Some operation.Write)
+        → Written station blocks live.rest.link after.link ⊎ Stored station blocks live.rest.link after.link
+        → Comes rules true (written_ask b sequence) (option_map link_of live.rest.link) (option_map link_of after.link)
+    writes sequence blocks true e asks (inl it) =
+        let plan = asks e in
+        record {
+          link = link_of it.link;
+          value = it.value;
+          was = ap (λ (l : Option RelationState). option_map link_of l) it.was;
+          is =
+              let number : sequence - 1 ≡ plan.number = omega (arith, plan.is) in
+              ap (λ (n : ℕ). slice_get rules.records n) number
+              ∙ (plan.there ∙ ap (λ (v : TakenRecord). Some v) (same_kept plan.value it.value (sym (plan.keeps _ it.write it.judged) ∙ it.keeps)));
+          becomes = ap (λ (l : Option RelationState). option_map link_of l) it.becomes;
+        }
+    writes sequence blocks true e asks (inr it) =
+        let plan = asks e in
+        absurd (stores_none it.value plan.value (sym it.stores ∙ plan.keeps _ it.write it.judged))
+    writes sequence blocks false e asks (inl it) = inr (record {
       link = link_of it.link;
       value = it.value;
       was = ap (λ (l : Option RelationState). option_map link_of l) it.was;
-      is =
-          let number : sequence - 1 ≡ plan.number = omega (arith, plan.is) in
-          ap (λ (n : ℕ). slice_get rules.records n) number
-          ∙ (plan.there ∙ ap (λ (v : TakenRecord). Some v) (same_kept plan.value it.value (sym (plan.keeps _ it.write it.judged) ∙ it.keeps)));
       becomes = ap (λ (l : Option RelationState). option_map link_of l) it.becomes;
-    }
+    })
+    writes sequence blocks false e asks (inr it) = inl (ap (λ (l : Option RelationState). option_map link_of l) it.same ∙ restarted_small live.rest.link)
+
+    -- what a call does to the relation, as the small machine does it
+    comes : (caller : Caller) (sequence : ℕ) (blocks : List ℕ) (outcome : Result (List ℕ) CallFault) (which : Operation) → IsPlannedAs rules station.real sequence blocks (Some which)
+        → IsEffect station caller blocks outcome which live.rest.link after.link
+        → Comes rules (is_well outcome) (ask_of rules.is_planned sequence blocks (Some which)) (option_map link_of live.rest.link) (option_map link_of after.link)
+    comes caller sequence blocks (Err why) which plan same = ap (λ (l : Option RelationState). option_map link_of l) same
+    comes caller sequence blocks (Ok octets) operation.Connect plan it =
+        ap (λ (l : Option RelationState). option_map link_of l) it.made
+        ∙ ap (λ (r : Request). Some (record { phase = small.Started; request = r; taken = [] }))
+        (same_request (uuid_of live.rest.link) blocks it.request rules.request it.read plan)
+    comes caller sequence blocks (Ok octets) operation.Write plan it = writes sequence blocks (rules.is_planned sequence blocks) refl plan it
     comes caller sequence blocks (Ok octets) operation.Control plan it = record {
       link = link_of it.link;
       was = ap (λ (l : Option RelationState). option_map link_of l) it.was;
@@ -200,7 +239,8 @@ module _ (refusals_are_not_done : RefusalsAreNotDone) (rules : Rules TakenRecord
       becomes = ap (λ (l : Option RelationState). option_map link_of l) it.becomes ∙ parameterized_small it.link it.by_application;
     }
     comes caller sequence blocks (Ok octets) operation.Release plan it = ap (λ (l : Option RelationState). option_map link_of l) it.gone
-    comes caller sequence blocks (Ok octets) which plan it = absurd plan
+    comes caller sequence blocks (Ok octets) operation.Read plan it = inl (ap (λ (l : Option RelationState). option_map link_of l) it ∙ restarted_small live.rest.link)
+    comes caller sequence blocks (Ok octets) operation.ReadImplicit plan it = absurd plan
 
     module _ (it : Serves station live heard after sent) where
       abbrev sequence : ℕ
@@ -222,13 +262,13 @@ module _ (refusals_are_not_done : RefusalsAreNotDone) (rules : Rules TakenRecord
       all_heard : AreHeard (answer ∷ readied_from from it.ready)
       all_heard = subst (λ (messages : List Sent). AreHeard messages) it.sends all
 
-      serves : Goes (heard_as heard) after sent
-      serves = hears_call it.caller it.address it.call it.is (inl (record {
+      serves : Goes (heard_as rules.is_planned heard) after sent
+      serves = hears_call it.caller it.address it.call it.blocks it.is it.counted (inl (record {
         new = new_is sequence (kept_of activity live.rest.calls) (sym (ap (λ (a : List ℕ). looked a sequence live.rest.calls) plan.own) ∙ it.fresh);
         positive = is_well it.outcome;
         frame = bytes_of station.identity answer;
         keeps = ap (λ (k : Option Answer). option_map kept_in k) (ap (λ (c : List Answer). kept_of activity c) it.keeps ∙ kept_last activity (kept_for station.identity it.call answer) live.rest.calls plan.own);
-        does = subst (λ (o : Option Operation). Comes rules (is_well it.outcome) (ask_of sequence o) (option_map link_of live.rest.link) (option_map link_of after.link)) (sym it.asks)
+        does = subst (λ (o : Option Operation). Comes rules (is_well it.outcome) (ask_of rules.is_planned sequence it.blocks o) (option_map link_of live.rest.link) (option_map link_of after.link)) (sym it.asks)
             (comes it.caller sequence it.blocks it.outcome it.which asks it.effect);
         to_device = all_heard.0.0;
         to_controller = subst (λ (b : Bool). SaysAtMost rules (small.Answers sequence b) (bytes_of station.identity answer)) (says_done it.which it.outcome) all_heard.0.1;
@@ -237,8 +277,8 @@ module _ (refusals_are_not_done : RefusalsAreNotDone) (rules : Rules TakenRecord
         readies = all_ready after from it.ready it.readied all_heard.1;
       }))
 
-    repeats : Repeats live heard after sent → Goes (heard_as heard) after sent
-    repeats it = hears_call it.caller it.address it.call it.is (inr (inl (record {
+    repeats : Repeats live heard after sent → Goes (heard_as rules.is_planned heard) after sent
+    repeats it = hears_call it.caller it.address it.call (planned_call it.caller it.address it.call it.is).blocks it.is (planned_call it.caller it.address it.call it.is).counted (inr (inl (record {
       kept = kept_in it.kept;
       has = ap (λ (k : Option Answer). option_map kept_in k) (ap (λ (a : List ℕ). kept_of a live.rest.calls) (sym (planned_call it.caller it.address it.call it.is).own) ∙ it.there);
       same = it.number;
@@ -248,18 +288,18 @@ module _ (refusals_are_not_done : RefusalsAreNotDone) (rules : Rules TakenRecord
 
     -- ---- without a call
 
-    rests : Rests live after sent → Goes (heard_as heard) after sent
-    rests it = subst (λ (r : Rest). Goes (heard_as heard) r sent) (sym it.same) (subst (λ (s : List Sent). Goes (heard_as heard) live.rest s) (sym it.silent) (rests_steps (heard_as heard)))
+    rests : Rests live after sent → Goes (heard_as rules.is_planned heard) after sent
+    rests it = subst (λ (r : Rest). Goes (heard_as rules.is_planned heard) r sent) (sym it.same) (subst (λ (s : List Sent). Goes (heard_as rules.is_planned heard) live.rest s) (sym it.silent) (rests_steps (heard_as rules.is_planned heard)))
 
-    goes_by : GoesBy live heard after sent → Goes (heard_as heard) after sent
-    goes_by it = subst (λ (h : ToDevice). Goes h after sent) (sym it.idle) (record {
+    goes_by : GoesBy live heard after sent → Goes (heard_as rules.is_planned heard) after sent
+    goes_by it = subst (λ (h : ToDevice). Goes h after sent) (sym (it.idle rules.is_planned)) (record {
       keeps = ap (λ (c : List Answer). option_map kept_in (kept_of activity c)) it.calls;
       link = it.link;
       sent = all_other after sent it.others all;
     })
 
-    confirms : Confirms live heard after sent → Goes (heard_as heard) after sent
-    confirms it = subst (λ (h : ToDevice). Goes h after sent) (sym it.confirms) (inl (record {
+    confirms : Confirms live heard after sent → Goes (heard_as rules.is_planned heard) after sent
+    confirms it = subst (λ (h : ToDevice). Goes h after sent) (sym (it.confirms rules.is_planned)) (inl (record {
       link = link_of it.link;
       was = ap (λ (l : Option RelationState). option_map link_of l) it.was;
       awaits = ap phase_in it.awaits;
@@ -267,7 +307,7 @@ module _ (refusals_are_not_done : RefusalsAreNotDone) (rules : Rules TakenRecord
       silent = ap frames_of it.silent;
     }))
 
-    pub turn_goes : Does station live heard after sent → DeviceSteps rules (heard_as heard) (small_in live.rest) (small_in after) (frames_of sent)
+    pub turn_goes : Does station live heard after sent → DeviceSteps rules (heard_as rules.is_planned heard) (small_in live.rest) (small_in after) (frames_of sent)
     turn_goes (inl it) = rests it
     turn_goes (inr (inl it)) = goes_by it
     turn_goes (inr (inr (inl it))) = confirms it
@@ -277,7 +317,7 @@ module _ (refusals_are_not_done : RefusalsAreNotDone) (rules : Rules TakenRecord
 pub step_goes : RefusalsAreNotDone → (rules : Rules TakenRecord Request) (activity : List ℕ) (outcomes : List Outcome) (station : Station) (live : Live) (heard : Heard)
     → Does station live heard (heard_step outcomes station live heard).live.rest (heard_step outcomes station live heard).sent
     → IsPlanned rules activity station.real heard → AllByRecursion (IsHeardAs rules station.identity) (heard_step outcomes station live heard).sent
-    → DeviceSteps rules (heard_as heard) (small_of activity live) (small_of activity (heard_step outcomes station live heard).live) (heard_step outcomes station live heard).frames
+    → DeviceSteps rules (heard_as rules.is_planned heard) (small_of activity live) (small_of activity (heard_step outcomes station live heard).live) (heard_step outcomes station live heard).frames
 unfolding heard_step handled_step
 step_goes refusals_are_not_done rules activity outcomes station live heard does planned sent =
     turn_goes refusals_are_not_done rules activity station live heard planned _ _ sent does

@@ -29,6 +29,8 @@ use Rattle.records.specs.declared.writes.write.Effect.{Effect}
 use Rattle.records.specs.declared.writes.write.Effect.TheVariants.{Stores, Keeps}
 use Rattle.records.specs.declared.writes.write.Write.{Write}
 use Rattle.records.specs.writes.Handled.{write_of}
+use Rattle.relation_records.specs.Reading.{relation_read}
+use Rattle.pn_values.specs.declared.im_value.ImValue.{ImValue}
 use Rattle.pn_alarms.specs.declared.abort.Abort.{Abort}
 use Rattle.pn_alarms.specs.declared.device.PduFate.TheVariants as fate
 use Rattle.pn_alarms.specs.Message.{ToDevice as Message}
@@ -54,15 +56,15 @@ use Rattle.device_frames.specs.declared.note.Note.TheVariants as note
 use Rattle.settings_store.specs.Machine.{Outcome, carried}
 use Rattle.device_core.specs.State.{Station, Live, Rest}
 use Rattle.device_core.specs.Handled.{Handled, Refuses, Sets, Moves, is_running, is_request, outcome_of, served, ready_behind, partner_of, kept_answer, handled_effect, handled_write, handled_new, handled_looked, handled_blocks, handled_call, handled_answer, handled_said, handled_received, handled_input, handled_notice, handled_pdu, handled_message, handled_request, goes_on_with, kept_status, starting_of, handled}
-use Rattle.device_core.specs.Machine.{resets, farewells_at, finished, items_in, handled_step, heard_step, link_after}
+use Rattle.device_core.specs.Machine.{first_answer, resets, farewells_at, finished, items_in, handled_step, heard_step, link_after, written_as}
 use Rattle.end_laws.specs.both.Small.{Rules}
 use Rattle.end_laws.specs.device.Owed.{IsOwed}
 use Rattle.end_laws.proofs.DeviceConnects.{unlimited}
-use Rattle.end_laws.proofs.DeviceOwing.{IsPlainIn, connect_plain, keeping_plain, outcome_sized, prm_plain, release_plain, write_plain, IsPlain, bind_ok}
+use Rattle.end_laws.proofs.DeviceOwing.{IsPlainIn, connect_plain, keeping_plain, outcome_sized, prm_plain, read_plain, release_plain, stored_plain, write_plain, IsPlain, bind_ok}
 use Rattle.rpc_core.specs.Response.{Answered as Response, answer_to, is_done}
 use Rattle.relations.specs.Farewells.{farewell_of}
 use Rattle.relations.specs.exchange.Notices.{behind_message}
-use Rattle.relations.specs.exchange.Process.{with_cyclic, with_input}
+use Rattle.relations.specs.exchange.Process.{with_input}
 use Rattle.relations.specs.exchange.Marks.{awaits}
 use Rattle.relations.specs.Statuses.{statuses_at}
 use Rattle.relations.specs.declared.statuses.InputStatus.{InputStatus}
@@ -86,8 +88,8 @@ use Rattle.relations.specs.declared.phase.Phase.{Phase}
 use Rattle.relations.specs.declared.phase.Phase.TheVariants.{Started, Preparing, Awaiting, Exchanging}
 use Rattle.relations.specs.declared.ready.Ready.{Ready}
 use Rattle.end_laws.specs.both.Small as small
-use Rattle.end_laws.specs.device.Small.{IsPlanned, IsPlannedAs, IsPlannedIn, IsPlannedWrite, confirms, heard_as, link_of, names_own, phase_in}
-use Rattle.end_laws.specs.device.Does.{AreReadied, GoesBy, IsEffect, IsOther, readied_from}
+use Rattle.end_laws.specs.device.Small.{IsPlanned, IsPlannedAs, IsPlannedIn, Planned, confirms, heard_as, link_of, names_own, phase_in}
+use Rattle.end_laws.specs.device.Does.{AreReadied, GoesBy, IsEffect, IsOther, IsRestarted, readied_from}
 use Rattle.end_laws.specs.device.Turn.{AreCalm, IsCalm, IsRaise, IsSameOr, IsTurn, Raises, Standing, Turn, standing_of}
 
 -- ---- what is sent
@@ -353,7 +355,7 @@ module _ (rules : Rules TakenRecord Request) (activity : List ℕ) (station : St
     refuses : (why : Note) → Comes_to heard (Refuses why)
     refuses why answers = record { does = inl (record { same = refl; silent = refl }); is = inl (record { link = inl refl; calm = tt }); answers = inl refl; owed = tt }
 
-    module _ (idle : heard_as heard ≡ small.Idle) where
+    module _ (idle : (planned : Planned) → heard_as planned heard ≡ small.Idle) where
       stays : (after : Rest) (sent : List Sent) → after.calls ≡ live.rest.calls → IsKept before after.link → AreCalm before sent → AreOthers after.link sent → Turn station live heard after sent
       stays after sent calls kept calm others =
           goes after sent (inl (record { link = kept.0; calm = calm })) (record { idle = idle; calls = calls; link = kept.1; others = others })
@@ -377,22 +379,22 @@ module _ (rules : Rules TakenRecord Request) (activity : List ℕ) (station : St
       let end = finished station.identity live.rest (Sets asker request in_operation) answers in
       let reset = resets (plan_of in_operation request) answers in
       let answer = SetAnswer asker request answers ∷ [] in
-      stays (Asks asker asked) refl end.rest end.sent refl (reset_keeps reset before)
+      stays (Asks asker asked) (λ planned. refl) end.rest end.sent refl (reset_keeps reset before)
       (each_behind (IsCalm before) (farewells_at reset before) answer (farewells_calm reset before) (tt, tt))
       (each_behind (IsOther live end.rest.link) (farewells_at reset before) answer (farewells_other end.rest.link reset before) (tt, tt))
 
   identifies : (asker : Mac) (request : Asked) (b : Bool)
       → Comes_to (Asks asker request) (cond b (Moves live.rest (IdentifyAnswer asker live.values.running request.xid ∷ [])) (Refuses note.Filter))
-  identifies asker request true = tells (Asks asker request) refl (IdentifyAnswer asker live.values.running request.xid) tt tt
+  identifies asker request true = tells (Asks asker request) (λ planned. refl) (IdentifyAnswer asker live.values.running request.xid) tt tt
   identifies asker request false = refuses (Asks asker request) note.Filter
 
   requests : (asker : Mac) (which : Service) (request : Asked) → Comes_to (Asks asker request) (handled_request station live asker which request)
   requests asker service.Identify request = identifies asker request (matches station.identity live.values.running request)
-  requests asker service.Get request = tells (Asks asker request) refl (GetAnswer asker live.values.running request) tt tt
+  requests asker service.Get request = tells (Asks asker request) (λ planned. refl) (GetAnswer asker live.values.running request) tt tt
   requests asker service.Set request = sets asker request request (is_some before)
 
   resolves : (asker : Mac) (packet : Arp) (b : Bool) → Comes_to (Resolves asker packet) (cond b (Moves live.rest (ArpReply asker from packet.sender ∷ [])) (Refuses note.NotMine))
-  resolves asker packet true = tells (Resolves asker packet) refl (ArpReply asker from packet.sender) tt tt
+  resolves asker packet true = tells (Resolves asker packet) (λ planned. refl) (ArpReply asker from packet.sender) tt tt
   resolves asker packet false = refuses (Resolves asker packet) note.NotMine
 
   -- ---- what is exchanged
@@ -411,18 +413,18 @@ module _ (rules : Rules TakenRecord Request) (activity : List ℕ) (station : St
       by_fate received.Foreign e = refuses (Cyclic source frame_id body) note.NoRelation
       by_fate received.Short e = refuses (Cyclic source frame_id body) note.Fault
       by_fate received.Stale e = refuses (Cyclic source frame_id body) note.StaleCycle
-      by_fate received.Taken e = becomes (Cyclic source frame_id body) refl (Some (with_flow (behind_frame link.flow source frame_id body) link)) []
+      by_fate received.Taken e = becomes (Cyclic source frame_id body) (λ planned. refl) (Some (with_flow (behind_frame link.flow source frame_id body) link)) []
           (inr (inr (inr (inr (inr (inr (record { source = source; frame_id = frame_id; body = body; is = refl; link = link; was = was; taken = e; becomes = refl; silent = refl })))))))
           (flows link (behind_frame link.flow source frame_id body) was) tt
 
   gives : (slot subslot : ℕ) (value : List ℕ) (flow : Option Flow) → given_to slot subslot value before ≡ flow → Comes_to (Given slot subslot value) (handled_input live flow)
   gives slot subslot value (Some flow) is = λ answers.
-      stays (Given slot subslot value) refl (record live.rest { link = updated (Exchanged flow) before }) [] refl (given_keeps slot subslot value before flow is) tt tt
+      stays (Given slot subslot value) (λ planned. refl) (record live.rest { link = updated (Exchanged flow) before }) [] refl (given_keeps slot subslot value before flow is) tt tt
   gives slot subslot value None is = refuses (Given slot subslot value) note.Refused
 
   rates : (slot subslot : ℕ) (is_good : Bool) (statuses : Option (List InputStatus)) → Comes_to (Rated slot subslot is_good) (kept_status live slot subslot is_good statuses)
   rates slot subslot is_good (Some statuses) = λ answers.
-      stays (Rated slot subslot is_good) refl (record live.rest { link = updated (rating slot subslot is_good before) before; statuses = statuses }) [] refl (rated_keeps slot subslot is_good before) tt tt
+      stays (Rated slot subslot is_good) (λ planned. refl) (record live.rest { link = updated (rating slot subslot is_good before) before; statuses = statuses }) [] refl (rated_keeps slot subslot is_good before) tt tt
   rates slot subslot is_good None = refuses (Rated slot subslot is_good) note.Refused
 
   -- ---- the application is ready
@@ -434,7 +436,7 @@ module _ (rules : Rules TakenRecord Request) (activity : List ℕ) (station : St
     where
       by_test : (b : Bool) → is_preparing (Some link.phase) ≡ b
           → Comes_to Readied (cond b (goes_on_with live (Some (cond b (readied link) link)) (ready_calls from (Some (cond b (readied link) link)))) (Refuses note.Refused))
-      by_test true is = becomes Readied refl (Some (readied link)) (ready_calls from (Some (readied link)))
+      by_test true is = becomes Readied (λ planned. refl) (Some (readied link)) (ready_calls from (Some (readied link)))
           (inl (record { link = inl (sym (ap (λ (l : Option RelationState). option_map standing_of l) was)); calm = (tt, tt) }))
           (
           ap (λ (p : small.Phase). let o : Option (small.RelationState TakenRecord Request) = Some (record { phase = p; request = link.request; taken = link.taken }) in o)
@@ -450,7 +452,7 @@ module _ (rules : Rules TakenRecord Request) (activity : List ℕ) (station : St
       → Comes_to (Raised slot subslot octets) (handled_notice live flow)
   raises slot subslot octets (Some flow) raised =
       let link = updated (Exchanged flow) before in
-      becomes (Raised slot subslot octets) refl link (alarms_of (flow_of link)) (inr (inr (inl (raise_is station.real.modules.items slot subslot octets before flow raised))))
+      becomes (Raised slot subslot octets) (λ planned. refl) link (alarms_of (flow_of link)) (inr (inr (inl (raise_is station.real.modules.items slot subslot octets before flow raised))))
       (exchanged_same before flow) (alarms_other link (flow_of link))
   raises slot subslot octets None raised = refuses (Raised slot subslot octets) note.Refused
 
@@ -458,7 +460,7 @@ module _ (rules : Rules TakenRecord Request) (activity : List ℕ) (station : St
       → Comes_to (Alarms source header (notice.Ack number)) (handled_pdu live (cond b fate.Done fate.Ignored) (updated (hearing_as (cond b fate.Done fate.Ignored) (behind_message link.flow (notice.Ack number))) (Some link)))
   acks source header number link true was =
       let flow = behind_message link.flow (notice.Ack number) in
-      becomes (Alarms source header (notice.Ack number)) refl (Some (with_flow flow link)) []
+      becomes (Alarms source header (notice.Ack number)) (λ planned. refl) (Some (with_flow flow link)) []
       (inr (inr (inr (inl (record { source = source; header = header; number = number; is = refl; link = link; was = was; becomes = refl; silent = refl }))))) (flows link flow was) tt
   acks source header number link false was = refuses (Alarms source header (notice.Ack number)) note.Filter
 
@@ -467,11 +469,11 @@ module _ (rules : Rules TakenRecord Request) (activity : List ℕ) (station : St
   pdus source header message None was = refuses (Alarms source header message) note.Filter
   pdus source header (notice.Data number ack) (Some link) was =
       let flow = behind_message link.flow (notice.Data number ack) in
-      becomes (Alarms source header (notice.Data number ack)) refl (Some (with_flow flow link)) (replies_of (taken_as link.flow.alarms.seen number) (Some flow))
+      becomes (Alarms source header (notice.Data number ack)) (λ planned. refl) (Some (with_flow flow link)) (replies_of (taken_as link.flow.alarms.seen number) (Some flow))
       (inr (inr (inr (inr (inl (record { source = source; header = header; number = number; ack = ack; is = refl; link = link; was = was; becomes = refl; sends = refl })))))) (flows link flow was) (tt, tt)
   pdus source header (notice.Ack number) (Some link) was = acks source header number link (is_last link.flow.alarms.sender.sending.last number) was
   pdus source header notice.Nack (Some link) was = refuses (Alarms source header notice.Nack) note.Filter
-  pdus source header notice.Abort (Some link) was = ends (Alarms source header notice.Abort) refl live.rest.lamp live.rest.units [] tt tt
+  pdus source header notice.Abort (Some link) was = ends (Alarms source header notice.Abort) (λ planned. refl) live.rest.lamp live.rest.units [] tt tt
 
   alarms : (source : Mac) (header : Header) (message : Message) (b : Bool) → Comes_to (Alarms source header message) (cond b (handled_message live message) (Refuses note.NoRelation))
   alarms source header message true = pdus source header message before refl
@@ -481,7 +483,7 @@ module _ (rules : Rules TakenRecord Request) (activity : List ℕ) (station : St
 
   ticks_as : (lamp units : ℕ) (link : RelationState) (ending : Option Abort) → before ≡ Some link
       → Comes_to Ticks (Moves (record live.rest { lamp = lamp; link = updated (passing_by ending) (Some link); units = units }) (due_frames from units (due_by link ending) (updated (passing_by ending) (Some link))))
-  ticks_as lamp units link (Some reason) was = ends Ticks refl lamp units _ ((reason, link, was, refl), tt) (tt, tt)
+  ticks_as lamp units link (Some reason) was = ends Ticks (λ planned. refl) lamp units _ ((reason, link, was, refl), tt) (tt, tt)
   ticks_as lamp units link None was = λ answers.
       let tick = tick_of link.flow in
       let later = Some (unit_later link) in
@@ -499,7 +501,7 @@ module _ (rules : Rules TakenRecord Request) (activity : List ℕ) (station : St
         calm = each_behind (IsCalm before) readies inputs (due_each (IsCalm before) (is_again link) _ (tt, tt)) (due_each (IsCalm before) tick.is_cyclic _ ((link, was, refl), tt));
       })))))))
       (record {
-        idle = refl;
+        idle = λ planned. refl;
         calls = refl;
         link = inl (sym (ap (λ (l : Option RelationState). option_map link_of l) was));
         others = each_behind (IsOther live later) alarm (readies ++ inputs) (due_each (IsOther live later) tick.is_alarm _ (alarms_other later (Some (flow_later link.flow))))
@@ -508,7 +510,7 @@ module _ (rules : Rules TakenRecord Request) (activity : List ℕ) (station : St
 
   ticks_with : (lamp units : ℕ) (link : Option RelationState) → before ≡ link
       → Comes_to Ticks (Moves (record live.rest { lamp = lamp; link = updated (passing link) link; units = units }) (due_frames from units (due_of link) (updated (passing link) link)))
-  ticks_with lamp units None was = ends Ticks refl lamp units [] tt tt
+  ticks_with lamp units None was = ends Ticks (λ planned. refl) lamp units [] tt tt
   ticks_with lamp units (Some link) was = ticks_as lamp units link (ending_of link) was
 
   -- ---- the response to ApplicationReady
@@ -519,7 +521,7 @@ module _ (rules : Rules TakenRecord Request) (activity : List ℕ) (station : St
   answers_as caller address response to_ready.Garbled is = refuses (Reported caller address (Responds response)) note.Filter
   answers_as caller address response to_ready.Confirmed is = λ answers. record {
     does = inr (inr (inl (record {
-      confirms = ap (λ (b : Bool). cond b small.Confirms small.Idle) is.3;
+      confirms = λ planned. ap (λ (b : Bool). cond b small.Confirms small.Idle) is.3;
       link = is.0;
       was = is.1;
       awaits = is.2;
@@ -535,7 +537,7 @@ module _ (rules : Rules TakenRecord Request) (activity : List ℕ) (station : St
       confirmed_same None = refl
       confirmed_same (Some link) = refl
   answers_as caller address response (to_ready.Refused farewell) is =
-      ends (Reported caller address (Responds response)) (ap (λ (b : Bool). cond b small.Confirms small.Idle) is.3) live.rest.lamp live.rest.units (Ends farewell ∷ [])
+      ends (Reported caller address (Responds response)) (λ planned. ap (λ (b : Bool). cond b small.Confirms small.Idle) is.3) live.rest.lamp live.rest.units (Ends farewell ∷ [])
       ((Other, is.0, is.1, is.2), tt) (tt, tt)
 
   -- ---- calls
@@ -543,6 +545,14 @@ module _ (rules : Rules TakenRecord Request) (activity : List ℕ) (station : St
   module _ (caller : Caller) (address : List ℕ) (call : Call) where
     abbrev heard : Heard
     heard = Reported caller address (Calls call)
+
+    restarted_same : (link : Option RelationState) → option_map standing_of (option_map restarted link) ≡ option_map standing_of link
+    restarted_same None = refl
+    restarted_same (Some link) = refl
+
+    restarted_turns : (link : Option RelationState) (sent : List Sent) → IsRestarted before link → AreCalm before sent
+        → IsTurn station.real.modules.items live.rest.calls before heard link sent
+    restarted_turns link sent same calm = inl (record { link = inl (ap (λ (l : Option RelationState). option_map standing_of l) same ∙ restarted_same before); calm = calm })
 
     -- what a call does, for outputs and alarms
     effect_turns : (blocks : List ℕ) (outcome : Result (List ℕ) CallFault) (which : Operation) (link : Option RelationState) (sent : List Sent) → operation_of call.header.operation ≡ Some which
@@ -567,9 +577,12 @@ module _ (rules : Rules TakenRecord Request) (activity : List ℕ) (station : St
       calm = calm;
     }))
     effect_turns blocks (Ok octets) operation.Release link sent asks counted fresh it calm = inl (record { link = inr it.gone; calm = calm })
-    effect_turns blocks (Ok octets) operation.Read link sent asks counted fresh it calm = absurd it
+    effect_turns blocks (Ok octets) operation.Read link sent asks counted fresh it calm = restarted_turns link sent it calm
     effect_turns blocks (Ok octets) operation.ReadImplicit link sent asks counted fresh it calm = absurd it
-    effect_turns blocks (Ok octets) which link sent asks counted fresh it calm =
+    effect_turns blocks (Ok octets) operation.Write link sent asks counted fresh (inr it) calm = restarted_turns link sent it.same calm
+    effect_turns blocks (Ok octets) operation.Write link sent asks counted fresh (inl it) calm =
+        inl (record { link = inl (ap (λ (l : Option RelationState). option_map standing_of l) it.becomes ∙ sym (ap (λ (l : Option RelationState). option_map standing_of l) it.was)); calm = calm })
+    effect_turns blocks (Ok octets) operation.Control link sent asks counted fresh it calm =
         inl (record { link = inl (ap (λ (l : Option RelationState). option_map standing_of l) it.becomes ∙ sym (ap (λ (l : Option RelationState). option_map standing_of l) it.was)); calm = calm })
 
     readied_owed : (after : Option RelationState) (ready : Option Ready) → AreReadied live after ready → AllByRecursion (IsOwed heard live) (readied_from from ready)
@@ -630,7 +643,7 @@ module _ (rules : Rules TakenRecord Request) (activity : List ℕ) (station : St
       keeps_as header write value link (Err why) asks judged keeps was is plain = fails operation.Write why link asks plain was
       keeps_as header write value None (Ok taken) asks judged keeps was is plain = absurd cc
       keeps_as header write value (Some link) (Ok taken) asks judged keeps was is plain = serves operation.Write (Ok (answer_of header)) (Some (restarted (with_taken taken link))) None asks tt
-          (record {
+          (inl (record {
             link = link;
             was = was;
             write = write;
@@ -638,21 +651,32 @@ module _ (rules : Rules TakenRecord Request) (activity : List ℕ) (station : St
             value = value;
             keeps = keeps;
             becomes = ap (λ (records : List TakenRecord). Some (restarted (with_taken records link))) (kept_is value link.taken taken is);
-          }) tt
+          })) tt
 
-      effect_as : (write : Write) (effect : Effect) (planned : TakenRecord) → operation_of call.header.operation ≡ Some operation.Write → write_of (uuid_of before) station.real blocks ≡ Ok write
-          → write.effect ≡ effect → write.effect ≡ Keeps planned → Comes_to heard (handled_effect station live caller call write.request effect)
-      effect_as write (Stores text) planned asks judged is keeps = absurd (stores_none (sym is ∙ keeps))
-        where
-          stores_none : Stores text ≡ Keeps planned → ⊥
-          stores_none e = absurd cc
-      effect_as write (Keeps value) planned asks judged is keeps =
+      -- a record that the settings store, or do not
+      stores_as : (write : Write) (value : ImValue) (outcome : Result (List ℕ) CallFault) → operation_of call.header.operation ≡ Some operation.Write
+          → write_of (uuid_of before) station.real blocks ≡ Ok write → write.effect ≡ Stores value → IsPlainIn outcome
+          → Comes_to heard (served station live caller call operation.Write outcome (updated (answered Named outcome) before) [])
+      stores_as write value (Ok octets) asks judged is plain =
+          serves operation.Write (Ok octets) (updated Named before) None asks tt (inr (record { write = write; judged = judged; value = value; stores = is; same = refl })) tt
+      stores_as write value (Err why) asks judged is plain = fails operation.Write why before asks plain refl
+
+      effect_as : (write : Write) (effect : Effect) → operation_of call.header.operation ≡ Some operation.Write → write_of (uuid_of before) station.real blocks ≡ Ok write
+          → write.effect ≡ effect → Comes_to heard (handled_effect station live caller call write.request effect)
+      effect_as write (Stores value) asks judged is = λ answers.
+          stores_as write value (written_as write.request (first_answer answers)) asks judged is (stored_plain write.request (first_answer answers)) answers
+      effect_as write (Keeps value) asks judged is =
           keeps_as write.request write value before (keeping value before) asks judged is refl refl (keeping_plain value before)
 
       writes_as : (write : Result Write CallFault) → operation_of call.header.operation ≡ Some operation.Write → write_of (uuid_of before) station.real blocks ≡ write → IsPlainIn write
-          → IsPlannedWrite rules station.real call.header.sequence blocks → Comes_to heard (handled_write station live caller call write)
-      writes_as (Ok write) asks judged plain plan = effect_as write write.effect plan.value asks judged refl (plan.keeps (uuid_of before) write judged)
-      writes_as (Err why) asks judged plain plan = fails operation.Write why before asks plain refl
+          → Comes_to heard (handled_write station live caller call write)
+      writes_as (Ok write) asks judged plain = effect_as write write.effect asks judged refl
+      writes_as (Err why) asks judged plain = fails operation.Write why before asks plain refl
+
+      reads_as : (read : Result (List ℕ) CallFault) → operation_of call.header.operation ≡ Some operation.Read → IsPlainIn read
+          → Comes_to heard (served station live caller call operation.Read read (updated (answered Named read) before) [])
+      reads_as (Ok octets) asks plain = serves operation.Read (Ok octets) (updated Named before) None asks tt refl tt
+      reads_as (Err why) asks plain = fails operation.Read why before asks plain refl
 
       controls_as : (by_application : Bool) (link : Option RelationState) (ended : Result ControlBlock CallFault) → operation_of call.header.operation ≡ Some operation.Control → before ≡ link → prm_end_of link blocks ≡ ended → IsPlainIn ended
           → Comes_to heard (served station live caller call operation.Control (ended >>= λ block. Ok (block_bytes (variant.PrmEndRes (done_of block)))) (updated (answered (Parameterized by_application) ended) link)
@@ -680,9 +704,12 @@ module _ (rules : Rules TakenRecord Request) (activity : List ℕ) (station : St
       new_call operation.Connect asks plan = connects_as (connect_within station.options.smallest_interval before blocks) asks refl
           (connect_plain station.options.smallest_interval before blocks rules.request plan)
       new_call operation.Release asks plan = releases_as before (release_of before blocks) asks refl refl (release_plain before blocks)
-      new_call operation.Write asks plan = writes_as (write_of (uuid_of before) station.real blocks) asks refl (write_plain (uuid_of before) station.real blocks) plan
+      new_call operation.Write asks plan = writes_as (write_of (uuid_of before) station.real blocks) asks refl (write_plain (uuid_of before) station.real blocks)
       new_call operation.Control asks plan = controls_as station.options.ready_by_application before (prm_end_of before blocks) asks refl refl (prm_plain before blocks)
-      new_call which asks plan = absurd plan
+      new_call operation.Read asks plan =
+          reads_as (relation_read before station.identity station.real live.values.running blocks) asks
+          (read_plain before station.identity station.real live.values.running blocks)
+      new_call operation.ReadImplicit asks plan = absurd plan
 
     repeats : (frame : List ℕ) → looked call.header.activity call.header.sequence live.rest.calls ≡ again frame → Comes_to heard (Moves live.rest (Again frame ∷ []))
     repeats frame reported = λ answers.

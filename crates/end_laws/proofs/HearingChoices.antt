@@ -6,7 +6,9 @@ use Rattle.std.proofs.lemmas.List.{append-nil}
 use Rattle.frame_codec.specs.FrameId.{is_alarm, is_cyclic}
 use Rattle.pn_alarms.specs.declared.pdu.PduType.{PduType}
 use Rattle.pn_alarms.specs.declared.pdu.PduType.TheVariants.{Data, Nack, Ack, Error}
-use Rattle.pn_alarms.specs.Format.{frame_id_of}
+use Rattle.pn_alarms.specs.declared.priority.Priority.{Priority}
+use Rattle.pn_alarms.specs.declared.priority.Priority.TheVariants.{High, Low}
+use Rattle.pn_alarms.specs.Priority.{frame_id_at}
 
 -- ---- of a device, which tests for DCP first, then for alarms, then for cyclic frames
 
@@ -86,20 +88,23 @@ no_alarm frame_id e =
     neither (frame_id == 0xFC01) (frame_id == 0xFE01) (ne_eqb frame_id 0xFC01 (λ same. omega (arith, most, same))) (ne_eqb frame_id 0xFE01 (λ same. omega (arith, most, same)))
 
 -- the FrameID of an alarm frame is not one of DCP or of cyclic frames
-pub alarm_is : (kind : PduType) → is_alarm (frame_id_of kind) ≡ true
-alarm_is Data = refl
-alarm_is Nack = refl
-alarm_is Ack = refl
-alarm_is Error = refl
+pub alarm_is : (priority : Priority) (kind : PduType) → is_alarm (frame_id_at priority kind) ≡ true
+alarm_is Low kind = refl
+alarm_is High Data = refl
+alarm_is High Nack = refl
+alarm_is High Ack = refl
+alarm_is High Error = refl
 
-pub alarm_no_get_set : (kind : PduType) → (frame_id_of kind == 0xFEFD) ≡ false
-alarm_no_get_set Data = refl
-alarm_no_get_set Nack = refl
-alarm_no_get_set Ack = refl
-alarm_no_get_set Error = refl
+pub alarm_no_get_set : (priority : Priority) (kind : PduType) → (frame_id_at priority kind == 0xFEFD) ≡ false
+alarm_no_get_set Low kind = refl
+alarm_no_get_set High Data = refl
+alarm_no_get_set High Nack = refl
+alarm_no_get_set High Ack = refl
+alarm_no_get_set High Error = refl
 
-pub alarm_no_identify : (kind : PduType) → (frame_id_of kind == 0xFEFE) ≡ false
-alarm_no_identify Data = refl
-alarm_no_identify Nack = refl
-alarm_no_identify Ack = refl
-alarm_no_identify Error = refl
+pub alarm_no_identify : (priority : Priority) (kind : PduType) → (frame_id_at priority kind == 0xFEFE) ≡ false
+alarm_no_identify Low kind = refl
+alarm_no_identify High Data = refl
+alarm_no_identify High Nack = refl
+alarm_no_identify High Ack = refl
+alarm_no_identify High Error = refl

@@ -8,7 +8,7 @@ use Rattle.frame_codec.specs.declared.udp.Caller.{Caller}
 use Rattle.frame_codec.specs.declared.udp.Endpoint.{Endpoint}
 use Rattle.frame_codec.specs.FrameId.{is_alarm, is_cyclic}
 use Rattle.frame_codec.specs.Meaning.{ArpPacket, Content, Meaning, RealTime, UdpDatagram}
-use Rattle.frame_codec.specs.Frame.{frame_bytes, frame_of, padding_of}
+use Rattle.frame_codec.specs.Frame.{frame_bytes, padding_of}
 use Rattle.dcp_core.specs.declared.request.DcpFault.{DcpFault}
 use Rattle.dcp_core.specs.Answer.{answer_of}
 use Rattle.dcp_core.specs.Response.{Answered as Reported}
@@ -22,6 +22,7 @@ use Rattle.pn_alarms.specs.declared.pdu.PduType.{PduType}
 use Rattle.pn_alarms.specs.declared.pdu.PduType.TheVariants.{Data, Nack, Ack, Error}
 use Rattle.pn_alarms.specs.Format.{frame_id_of}
 use Rattle.pn_alarms.specs.Message.{ToController, alarm_of}
+use Rattle.pn_alarms.specs.Priority.{priority_of}
 use Rattle.plans.specs.declared.parts.Controller.{Controller}
 use Rattle.controller_frames.specs.Heard.{Alarms, Answers, Calls, Cyclic, Heard, Nothing, Responds, heard_alarm, heard_answer, heard_body, heard_call, heard_content, heard_first, heard_of, heard_read, heard_real_time, heard_refusal, heard_response, is_to}
 use Rattle.controller_frames.specs.Refusal.{refusal_of}
@@ -52,7 +53,7 @@ cyclic_heard reads mine destination source tag frame_id body is cyclic =
     data_heard reads mine destination source tag frame_id body is
     ∙ ap (λ (h : Heard). mine_hears mine destination h) (cyclic_is source frame_id (padded source destination tag frame_id body) cyclic)
 
-alarm_is : (source : Mac) (kind : PduType) (body : List ℕ) → heard_real_time source (frame_id_of kind) body ≡ heard_alarm source (alarm_of body)
+alarm_is : (source : Mac) (kind : PduType) (body : List ℕ) → heard_real_time source (frame_id_of kind) body ≡ heard_alarm source (frame_id_of kind) (alarm_of body)
 unfolding heard_real_time
 alarm_is source Data body = refl
 alarm_is source Nack body = refl
@@ -61,11 +62,11 @@ alarm_is source Error body = refl
 
 pub alarm_heard : DataIsRead → (mine : Controller) (destination source : Mac) (tag : Option ℕ) (kind : PduType) (body : List ℕ) (header : Header) (reported : ToController)
     → CanBeSent (carrying destination source tag (RealTime (frame_id_of kind) body)) → ((more : List ℕ) → alarm_of (body ++ more) ≡ Ok (header, reported))
-    → heard_of mine (frame_bytes (carrying destination source tag (RealTime (frame_id_of kind) body))) ≡ mine_hears mine destination (Alarms source header reported)
+    → heard_of mine (frame_bytes (carrying destination source tag (RealTime (frame_id_of kind) body))) ≡ mine_hears mine destination (Alarms source (priority_of (frame_id_of kind)) header reported)
 alarm_heard reads mine destination source tag kind body header reported is says =
     data_heard reads mine destination source tag (frame_id_of kind) body is
     ∙ ap (λ (h : Heard). mine_hears mine destination h)
-    (alarm_is source kind (padded source destination tag (frame_id_of kind) body) ∙ ap (λ (r : Result (Header × ToController) AlarmFault). heard_alarm source r) (says (padding_of (carrying destination source tag (RealTime (frame_id_of kind) body)))))
+    (alarm_is source kind (padded source destination tag (frame_id_of kind) body) ∙ ap (λ (r : Result (Header × ToController) AlarmFault). heard_alarm source (frame_id_of kind) r) (says (padding_of (carrying destination source tag (RealTime (frame_id_of kind) body)))))
 
 -- responses of DCP: to an Identify, and to a Get or a Set
 pub identify_is : (source : Mac) (body : List ℕ) → heard_real_time source 65279 body ≡ heard_answer source (answer_of 65279 body)
@@ -144,14 +145,14 @@ uncalled_answer : (source : Mac) (read : Result Reported DcpFault) → IsUncalle
 uncalled_answer source (Ok answer) = tt
 uncalled_answer source (Err fault) = tt
 
-uncalled_alarm : (source : Mac) (read : Result (Header × ToController) AlarmFault) → IsUncalled (heard_alarm source read)
-uncalled_alarm source (Ok x) = tt
-uncalled_alarm source (Err fault) = tt
+uncalled_alarm : (source : Mac) (frame_id : ℕ) (read : Result (Header × ToController) AlarmFault) → IsUncalled (heard_alarm source frame_id read)
+uncalled_alarm source frame_id (Ok x) = tt
+uncalled_alarm source frame_id (Err fault) = tt
 
 uncalled_data : (source : Mac) (frame_id : ℕ) (body : List ℕ) → IsUncalled (heard_real_time source frame_id body)
 unfolding heard_real_time
 uncalled_data source frame_id body =
-    holds_if IsUncalled (is_cyclic frame_id) (Cyclic source frame_id body) _ tt (holds_if IsUncalled (is_alarm frame_id) _ _ (uncalled_alarm source (alarm_of body))
+    holds_if IsUncalled (is_cyclic frame_id) (Cyclic source frame_id body) _ tt (holds_if IsUncalled (is_alarm frame_id) _ _ (uncalled_alarm source frame_id (alarm_of body))
     (holds_if IsUncalled (frame_id == 0xFEFD) _ _ (uncalled_answer source (answer_of frame_id body)) (holds_if IsUncalled (frame_id == 0xFEFF) _ Nothing (uncalled_answer source (answer_of frame_id body)) tt)))
 
 uncalled_content : (address : List ℕ) (source : Mac) (content : Content) → IsRealTime content → IsUncalled (heard_content address source content)

@@ -8,7 +8,7 @@ use Rattle.frame_codec.specs.declared.udp.Endpoint.{Endpoint}
 use Rattle.frame_codec.specs.FrameId.{is_alarm, is_cyclic}
 use Rattle.frame_codec.specs.Meaning.{ArpPacket, Content, Meaning, RealTime, UdpDatagram}
 use Rattle.frame_codec.specs.declared.arp.Arp.{Arp}
-use Rattle.frame_codec.specs.Frame.{frame_bytes, frame_of, padding_of}
+use Rattle.frame_codec.specs.Frame.{frame_bytes, padding_of}
 use Rattle.dcp_core.specs.declared.request.DcpFault.{DcpFault}
 use Rattle.dcp_core.specs.Reading.{request_of}
 use Rattle.dcp_core.specs.Request.{Asked}
@@ -19,9 +19,10 @@ use Rattle.rpc_core.specs.Response.{Answered, response_bytes, response_of}
 use Rattle.pn_alarms.specs.declared.fault.AlarmFault.{AlarmFault}
 use Rattle.pn_alarms.specs.declared.pdu.Header.{Header}
 use Rattle.pn_alarms.specs.declared.pdu.PduType.{PduType}
-use Rattle.pn_alarms.specs.Format.{frame_id_of}
+use Rattle.pn_alarms.specs.declared.priority.Priority.{Priority}
+use Rattle.pn_alarms.specs.Priority.{frame_id_at}
 use Rattle.pn_alarms.specs.Message.{ToDevice, message_of}
-use Rattle.device_frames.specs.Heard.{Alarms, Asks, Calls, Cyclic, Elsewhere, Garbled, Resolves, Responds, Said, heard_alarm, heard_content, heard_frame, heard_of, heard_request, identify_multicast, is_own, is_taken, said_by, said_else, said_first}
+use Rattle.device_frames.specs.Heard.{Calls, Cyclic, Elsewhere, Garbled, Heard, Resolves, Responds, Said, heard_alarm, heard_content, heard_frame, heard_of, heard_request, identify_multicast, is_own, is_taken, said_by, said_else, said_first}
 use Rattle.codec_laws.specs.frames.Sendable.{CanBeSent, IsMac, IsRealTime, IsRealTimeOrNone, IsTag, carrying}
 use Rattle.rpc_core.specs.Sendable.{CanBeAnswered, CanBeCalled}
 use Rattle.end_laws.specs.hearing.Hearing.{IsUnreported, all_hears, comes, own_hears, own_reported, padded}
@@ -48,17 +49,18 @@ cyclic_heard reads identity destination source tag frame_id body is cyclic =
     (heard_request source (request_of frame_id all)) (heard_alarm source (message_of all)) (Cyclic source frame_id all) Elsewhere
     (no_get_set frame_id cyclic) (no_identify frame_id cyclic) (no_alarm frame_id cyclic) cyclic
 
-pub alarm_heard : DataIsRead → (identity : Identity) (destination source : Mac) (tag : Option ℕ) (kind : PduType) (body : List ℕ) (header : Header) (reported : ToDevice)
-    → CanBeSent (carrying destination source tag (RealTime (frame_id_of kind) body)) → ((more : List ℕ) → message_of (body ++ more) ≡ Ok (header, reported))
-    → heard_of identity (comes (frame_bytes (carrying destination source tag (RealTime (frame_id_of kind) body)))) ≡ own_hears identity destination (Alarms source header reported)
-alarm_heard reads identity destination source tag kind body header reported is says =
-    let frame_id = frame_id_of kind in
+-- an alarm frame, of which something is read whatever follows it
+pub alarm_heard : DataIsRead → (identity : Identity) (destination source : Mac) (tag : Option ℕ) (priority : Priority) (kind : PduType) (body : List ℕ) (heard : Heard)
+    → CanBeSent (carrying destination source tag (RealTime (frame_id_at priority kind) body)) → ((more : List ℕ) → heard_alarm source (message_of (body ++ more)) ≡ heard)
+    → heard_of identity (comes (frame_bytes (carrying destination source tag (RealTime (frame_id_at priority kind) body)))) ≡ own_hears identity destination heard
+alarm_heard reads identity destination source tag priority kind body heard is says =
+    let frame_id = frame_id_at priority kind in
     let all = padded source destination tag frame_id body in
     data_heard reads identity destination source tag frame_id body is
     ∙ alarm_chosen (is_own identity destination) (pointwise nat_eq destination.octets identify_multicast) (frame_id == 65277) (frame_id == 65278) (is_alarm frame_id) (is_cyclic frame_id)
     (heard_request source (request_of frame_id all)) (heard_alarm source (message_of all)) (Cyclic source frame_id all) Elsewhere
-    (alarm_no_get_set kind) (alarm_no_identify kind) (alarm_is kind)
-    ∙ ap (λ (r : Result (Header × ToDevice) AlarmFault). own_hears identity destination (heard_alarm source r)) (says (padding_of (carrying destination source tag (RealTime frame_id body))))
+    (alarm_no_get_set priority kind) (alarm_no_identify priority kind) (alarm_is priority kind)
+    ∙ ap (λ (h : Heard). own_hears identity destination h) (says (padding_of (carrying destination source tag (RealTime frame_id body))))
 
 -- ---- ARP
 

@@ -1,40 +1,33 @@
 -- What a relation exchanges, from one end to the other.
-use Rattle.std.proofs.Common.{◌≡◌, ◌≤◌, ◌<◌, ◌+◌, ℕ, List, [], ◌++◌, length, Option, Some, Ok, refl, ◌∙◌, arith}
+use Rattle.std.proofs.Common.{◌≡◌, ◌≤◌, ◌<◌, ℕ, Bool, false, cond, nat_eq, List, ◌++◌, length, Some, Result, Ok, refl, ap, ◌∙◌, arith}
 use Rattle.pn_values.specs.declared.identity.Identity.{Identity}
 use Rattle.pn_values.specs.declared.mac.Mac.{Mac}
 use Rattle.frame_codec.specs.Meaning.{RealTime}
-use Rattle.record_blocks.specs.declared.alarm_ack.AlarmAck.{AlarmAck}
-use Rattle.record_blocks.specs.declared.alarm_notification.AlarmNotification.{AlarmNotification}
-use Rattle.block_codec.specs.declared.block.Block.TheVariants as is
-use Rattle.block_codec.specs.Block.{block_bytes}
 use Rattle.cyclic_data.specs.Image.{Shown}
-use Rattle.pn_alarms.specs.declared.abort.Abort.{Abort}
-use Rattle.pn_alarms.specs.declared.message.Notice.TheVariants as notice
 use Rattle.pn_alarms.specs.declared.pdu.Header.{Header}
 use Rattle.pn_alarms.specs.declared.pdu.PduType.{PduType}
 use Rattle.pn_alarms.specs.declared.pdu.PduType.TheVariants as pdu
-use Rattle.pn_alarms.specs.Carried.{alarm_pdu}
 use Rattle.pn_alarms.specs.Format.{Said, frame_id_of, pdu_bytes}
+use Rattle.pn_alarms.specs.declared.fault.AlarmFault.{AlarmFault}
+use Rattle.pn_alarms.specs.declared.priority.Priority.{Priority}
+use Rattle.pn_alarms.specs.declared.priority.Priority.TheVariants.{High, Low}
 use Rattle.pn_alarms.specs.Message.{ToController, ToDevice, alarm_of, message_of}
+use Rattle.pn_alarms.specs.Priority.{frame_id_at, priority_of}
 use Rattle.cyclic_exchange.specs.declared.route.Route.{Route}
 use Rattle.cyclic_exchange.specs.Frames.{cyclic_body, tagged_frame}
-use Rattle.relations.specs.exchange.Frames.{Inputs, Notifies, Replies as Answers}
+use Rattle.relations.specs.exchange.Frames.{Inputs}
 use Rattle.plans.specs.declared.parts.Controller.{Controller}
-use Rattle.plans.specs.Connect.{alarm_block}
-use Rattle.relations.specs.declared.farewell.Farewell.{Farewell}
-use Rattle.relations.specs.Farewells.{said_by}
-use Rattle.device_frames.specs.Heard.{Alarms, Cyclic, heard_of as device_hears}
-use Rattle.device_frames.specs.Sent.{Ends as Farewells, Exchanges, bytes_of as device_bytes}
-use Rattle.controller_frames.specs.declared.setup.Setup.{Setup}
-use Rattle.controller_frames.specs.Heard.{Alarms as Alarmed, Cyclic as Comes, heard_of as controller_hears}
-use Rattle.controller_frames.specs.Sent.{Confirms, Ends, Replies, bytes_of as controller_bytes, end_pdu}
+use Rattle.device_frames.specs.Heard.{Alarms, Cyclic, Unreadable, heard_alarm, heard_of as device_hears}
+use Rattle.device_frames.specs.Sent.{Exchanges, bytes_of as device_bytes}
+use Rattle.std.specs.Cmp.Lexicographic.{pointwise}
+use Rattle.controller_frames.specs.Heard.{Alarms as Alarmed, Cyclic as Comes, Nothing, heard_of as controller_hears, heard_real_time}
+use Rattle.controller_frames.specs.Sent.{tag_of}
 use Rattle.codec_laws.specs.frames.Sendable.{CanBeSent, IsMac, carrying}
-use Rattle.codec_laws.specs.alarms.Sendable.{IsHeader, ack_pdu, empty_pdu}
-use Rattle.codec_laws.specs.blocks.Writable.{IsAck, IsAlarm}
 use Rattle.end_laws.specs.hearing.Hearing.{comes, mine_hears, own_hears, padded}
-use Rattle.end_laws.specs.hearing.Stations.{IsDevice, IsRoute, IsSetup}
+use Rattle.end_laws.specs.hearing.Stations.{IsDevice, IsRoute}
 use Rattle.end_laws.proofs.HearingGiven.{DataIsRead, PdusAreLong}
-use Rattle.end_laws.proofs.HearingChoices.{cyclic_small}
+use Rattle.std.specs.Prelude.{IsErr}
+use Rattle.end_laws.proofs.HearingChoices.{cyclic_small, faulty}
 use Rattle.end_laws.proofs.HearingController as controller
 use Rattle.end_laws.proofs.HearingDevice as device
 
@@ -66,27 +59,49 @@ inputs_at_device reads other identity route inputs counter good is few =
 
 -- ---- alarm frames
 
-kind_small : (kind : PduType) → frame_id_of kind < 65536
-kind_small pdu.Data = omega arith
-kind_small pdu.Nack = omega arith
-kind_small pdu.Ack = omega arith
-kind_small pdu.Error = omega arith
+pub tag_small : (route : Route) (priority : Priority) → IsRoute route → tag_of route priority < 65536
+tag_small route High is = is.alarm_tag
+tag_small route Low is = omega arith
+
+kind_small : (priority : Priority) (kind : PduType) → frame_id_at priority kind < 65536
+kind_small Low kind = omega arith
+kind_small High pdu.Data = omega arith
+kind_small High pdu.Nack = omega arith
+kind_small High pdu.Ack = omega arith
+kind_small High pdu.Error = omega arith
 
 module _ (reads : DataIsRead) (long : PdusAreLong) where
-  pdu_sent : (destination source : Mac) (tag : ℕ) (kind : PduType) (said : Said) → IsMac destination → IsMac source → tag < 65536 → length said.body ≤ 1486
-      → CanBeSent (carrying destination source (Some tag) (RealTime (frame_id_of kind) (pdu_bytes said)))
-  pdu_sent destination source tag kind said one other tagged few =
-      record { destination = one; source = other; tag = tagged; content = (kind_small kind, omega (arith, long said, few)) }
+  pdu_sent : (destination source : Mac) (tag : ℕ) (priority : Priority) (kind : PduType) (said : Said) → IsMac destination → IsMac source → tag < 65536 → length said.body ≤ 1486
+      → CanBeSent (carrying destination source (Some tag) (RealTime (frame_id_at priority kind) (pdu_bytes said)))
+  pdu_sent destination source tag priority kind said one other tagged few =
+      record { destination = one; source = other; tag = tagged; content = (kind_small priority kind, omega (arith, long said, few)) }
 
   -- a PDU from one station to another
-  pub pdu_at_device : (identity : Identity) (destination source : Mac) (tag : ℕ) (kind : PduType) (said : Said) (header : Header) (reported : ToDevice)
+  pub pdu_at_device : (identity : Identity) (destination source : Mac) (tag : ℕ) (priority : Priority) (kind : PduType) (said : Said) (header : Header) (reported : ToDevice)
       → IsMac destination → IsMac source → tag < 65536 → length said.body ≤ 1486 → ((more : List ℕ) → message_of (pdu_bytes said ++ more) ≡ Ok (header, reported))
-      → device_hears identity (comes (tagged_frame source destination tag (RealTime (frame_id_of kind) (pdu_bytes said)))) ≡ own_hears identity destination (Alarms source header reported)
-  pdu_at_device identity destination source tag kind said header reported one other tagged few says =
-      device.alarm_heard reads identity destination source (Some tag) kind (pdu_bytes said) header reported (pdu_sent destination source tag kind said one other tagged few) says
+      → device_hears identity (comes (tagged_frame source destination tag (RealTime (frame_id_at priority kind) (pdu_bytes said)))) ≡ own_hears identity destination (Alarms source header reported)
+  pdu_at_device identity destination source tag priority kind said header reported one other tagged few says =
+      device.alarm_heard reads identity destination source (Some tag) priority kind (pdu_bytes said) (Alarms source header reported) (pdu_sent destination source tag priority kind said one other tagged few)
+      (λ more. ap (λ (r : Result (Header × ToDevice) AlarmFault). heard_alarm source r) (says more))
+
+  -- a PDU that the device cannot read
+  pub pdu_unread : (identity : Identity) (destination source : Mac) (tag : ℕ) (priority : Priority) (kind : PduType) (said : Said)
+      → IsMac destination → IsMac source → tag < 65536 → length said.body ≤ 1486 → ((more : List ℕ) → IsErr (message_of (pdu_bytes said ++ more)))
+      → device_hears identity (comes (tagged_frame source destination tag (RealTime (frame_id_at priority kind) (pdu_bytes said)))) ≡ own_hears identity destination Unreadable
+  pdu_unread identity destination source tag priority kind said one other tagged few fails =
+      device.alarm_heard reads identity destination source (Some tag) priority kind (pdu_bytes said) Unreadable (pdu_sent destination source tag priority kind said one other tagged few)
+      (λ more. faulty (λ (r : Result (Header × ToDevice) AlarmFault). heard_alarm source r) Unreadable (message_of (pdu_bytes said ++ more)) (λ fault. refl) (fails more))
+
+  -- a PDU to another station than this controller
+  pub pdu_unheard : (mine : Controller) (destination source : Mac) (tag : ℕ) (priority : Priority) (kind : PduType) (said : Said)
+      → IsMac destination → IsMac source → tag < 65536 → length said.body ≤ 1486 → pointwise nat_eq destination.octets mine.mac.octets ≡ false
+      → controller_hears mine (tagged_frame source destination tag (RealTime (frame_id_at priority kind) (pdu_bytes said))) ≡ Nothing
+  pdu_unheard mine destination source tag priority kind said one other tagged few apart =
+      controller.data_heard reads mine destination source (Some tag) (frame_id_at priority kind) (pdu_bytes said) (pdu_sent destination source tag priority kind said one other tagged few)
+      ∙ ap (λ (b : Bool). cond b (heard_real_time source (frame_id_at priority kind) (padded source destination (Some tag) (frame_id_at priority kind) (pdu_bytes said))) Nothing) apart
 
   pub pdu_at_controller : (mine : Controller) (destination source : Mac) (tag : ℕ) (kind : PduType) (said : Said) (header : Header) (reported : ToController)
       → IsMac destination → IsMac source → tag < 65536 → length said.body ≤ 1486 → ((more : List ℕ) → alarm_of (pdu_bytes said ++ more) ≡ Ok (header, reported))
-      → controller_hears mine (tagged_frame source destination tag (RealTime (frame_id_of kind) (pdu_bytes said))) ≡ mine_hears mine destination (Alarmed source header reported)
+      → controller_hears mine (tagged_frame source destination tag (RealTime (frame_id_of kind) (pdu_bytes said))) ≡ mine_hears mine destination (Alarmed source (priority_of (frame_id_of kind)) header reported)
   pdu_at_controller mine destination source tag kind said header reported one other tagged few says =
-      controller.alarm_heard reads mine destination source (Some tag) kind (pdu_bytes said) header reported (pdu_sent destination source tag kind said one other tagged few) says
+      controller.alarm_heard reads mine destination source (Some tag) kind (pdu_bytes said) header reported (pdu_sent destination source tag High kind said one other tagged few) says

@@ -1,5 +1,5 @@
 -- DCP and ARP, from one end to the other.
-use Rattle.std.proofs.Common.{◌≡◌, ◌≤◌, ◌<◌, ◌+◌, ◌%◌, ◌||◌, ◌&&◌, nat_eq, ℕ, Bool, true, false, if◌then◌else◌, List, [], ◌∷◌, ◌++◌, length, Option, None, Result, Ok, refl, sym, ap, ◌∙◌, arith}
+use Rattle.std.proofs.Common.{◌≡◌, ◌≤◌, ◌<◌, ◌+◌, ◌%◌, ◌||◌, ◌&&◌, nat_eq, ℕ, true, false, if◌then◌else◌, List, ◌++◌, length, None, Result, Ok, refl, ap, ◌∙◌, arith}
 use Rattle.std.specs.Cmp.Lexicographic.{pointwise}
 use Rattle.std.specs.Int.{to_be_bytes, w16}
 use Rattle.std.proofs.lemmas.List.{length-append}
@@ -7,7 +7,7 @@ use Rattle.std.proofs.Math.Nat.{mod-lt}
 use Rattle.pn_values.specs.declared.identity.Identity.{Identity}
 use Rattle.pn_values.specs.declared.mac.Mac.{Mac}
 use Rattle.pn_values.specs.IpSuite.{Suite}
-use Rattle.frame_codec.specs.Meaning.{ArpPacket, RealTime}
+use Rattle.frame_codec.specs.Meaning.{RealTime}
 use Rattle.frame_codec.specs.Frame.{padding_of}
 use Rattle.dcp_core.specs.declared.request.DcpFault.{DcpFault}
 use Rattle.dcp_core.specs.declared.kind.Kind.TheVariants.{NameOfStation}
@@ -17,17 +17,16 @@ use Rattle.dcp_core.specs.Format.{block, block_of, frame_id_of, kind}
 use Rattle.dcp_core.specs.Reading.{request_of}
 use Rattle.dcp_core.specs.Request.{Asked}
 use Rattle.dcp_core.specs.Writing.{request_bytes}
-use Rattle.cyclic_exchange.specs.Frames.{plain_frame}
 use Rattle.plans.specs.declared.parts.Parts.{Parts}
 use Rattle.plans.specs.Plan.{IsPlan}
-use Rattle.device_frames.specs.Heard.{Asks, Elsewhere, Heard, heard_alarm, heard_request, heard_of as device_hears, identify_multicast as cast, is_own}
+use Rattle.device_frames.specs.Heard.{Asks, Elsewhere, Heard, heard_request, heard_of as device_hears, identify_multicast as cast, is_own}
 use Rattle.controller_frames.specs.declared.request.Request.TheVariants as asks
 use Rattle.controller_frames.specs.declared.setup.Setup.{Setup}
 use Rattle.controller_frames.specs.Requests.{address_asked, identify_asked}
 use Rattle.controller_frames.specs.Sent.{Requests, bytes_of as controller_bytes, identify_multicast}
 use Rattle.codec_laws.specs.frames.Sendable.{CanBeSent, IsMac, carrying}
 use Rattle.dcp_core.specs.Sendable.{CanBeAsked}
-use Rattle.end_laws.specs.hearing.Hearing.{comes, own_hears, padded}
+use Rattle.end_laws.specs.hearing.Hearing.{comes, own_hears}
 use Rattle.end_laws.specs.hearing.Stations.{IsSetup}
 use Rattle.end_laws.proofs.HearingGiven.{DataIsRead}
 use Rattle.end_laws.proofs.HearingChoices.{cast_chosen, own_chosen}

@@ -1,5 +1,5 @@
 -- Each call of a controller for its plan can be sent.
-use Rattle.std.proofs.Common.{◌≡◌, ◌≤◌, ◌<◌, ◌+◌, ℕ, zero, suc, List, [], ◌∷◌, ◌++◌, length, Option, Some, None, true, refl, ap, ◌∙◌, arith}
+use Rattle.std.proofs.Common.{◌≡◌, ◌≤◌, ◌<◌, ℕ, zero, suc, List, [], ◌∷◌, length, refl, arith}
 use Rattle.std.specs.List.{slice_get}
 use Rattle.std.proofs.lemmas.Bool.{leb-true}
 use Rattle.std.proofs.lemmas.List.{length-append}
@@ -8,7 +8,9 @@ use Rattle.connect_blocks.specs.Control.{command, control}
 use Rattle.connect_blocks.specs.ArBlock.{ar_block_req, ar_uuid, initiator_mac}
 use Rattle.connect_blocks.specs.declared.control.ControlBlock.{ControlBlock}
 use Rattle.record_blocks.specs.declared.write_record.IodWriteReq.{IodWriteReq}
-use Rattle.record_blocks.specs.RecordHeader.{record_header}
+use Rattle.record_blocks.specs.declared.read_record.IodReadReq.{IodReadReq}
+use Rattle.record_blocks.specs.ReadRecord.{iod_read_req}
+use Rattle.record_blocks.specs.RecordHeader.{record_header as place_of}
 use Rattle.record_blocks.specs.WriteRecord.{iod_write_req}
 use Rattle.block_codec.specs.declared.block.Block.{Block}
 use Rattle.block_codec.specs.declared.block.Block.TheVariants as is
@@ -18,17 +20,21 @@ use Rattle.rpc_core.specs.Interface.{interface_uuid}
 use Rattle.plans.specs.declared.parts.Parts.{Parts}
 use Rattle.plans.specs.declared.parts.PlanRecord.{PlanRecord}
 use Rattle.plans.specs.declared.parts.Station.{Station}
-use Rattle.plans.specs.Connect.{ar_block, blocks_of, bytes_of, connect_of, does_connect_fit, size_of, some_uuid}
+use Rattle.plans.specs.Connect.{ar_block, blocks_of, bytes_of, connect_of, size_of, some_uuid}
 use Rattle.plans.specs.Plan.{AreShort, IsPlan}
+use Rattle.controller_frames.specs.declared.record_request.RecordRequest.{RecordRequest}
+use Rattle.controller_frames.specs.declared.record_request.RecordService.{RecordService}
+use Rattle.controller_frames.specs.declared.record_request.RecordService.TheVariants as service
 use Rattle.controller_frames.specs.declared.request.Request.{Request}
 use Rattle.controller_frames.specs.declared.request.Request.TheVariants as asks
 use Rattle.controller_frames.specs.declared.setup.Setup.{Setup}
+use Rattle.controller_frames.specs.RecordRequests.{read_of, record_blocks, record_call, service_operation, written_of}
 use Rattle.controller_frames.specs.Requests.{blocks_of as blocks_for, call_for, control_of, header_of, object_of, operation_of, sequence_of, write_blocks, write_of}
 use Rattle.relations.specs.declared.ready.Ready.{Ready}
 use Rattle.rpc_core.specs.Call.{Asked as Call}
 use Rattle.controller_frames.specs.Sent.{ready_answer, ready_done}
 use Rattle.rpc_core.specs.Sendable.{CanBeAnswered, CanBeCalled, IsHeader, IsUuid}
-use Rattle.end_laws.specs.hearing.Stations.{IsCalled, IsNumbered, IsSetup, ready_call}
+use Rattle.end_laws.specs.hearing.Stations.{IsCalled, IsNumbered, IsRecordCall, IsSetup, ready_call}
 use Rattle.end_laws.proofs.HearingGiven.{BlocksAreLong}
 
 -- ---- the header
@@ -86,8 +92,16 @@ unfolding block_size fields_of body version control command
 done_size block sixteen = omega (arith, sixteen)
 
 write_size : (block : IodWriteReq) → length block.header.ar_uuid ≡ 16 → block_size (is.IodWriteReq block) ≤ 100
-unfolding block_size fields_of body version iod_write_req record_header
+unfolding block_size fields_of body version iod_write_req place_of
 write_size block sixteen = omega (arith, sixteen)
+
+written_size : (block : IodWriteReq) → length block.header.ar_uuid ≡ 16 → block_size (is.IodWriteReq block) ≤ 64
+unfolding block_size fields_of body version iod_write_req place_of
+written_size block sixteen = omega (arith, sixteen)
+
+read_size : (block : IodReadReq) → length block.header.ar_uuid ≡ 16 → length block.target_ar_uuid ≡ 16 → block_size (is.IodReadReq block) ≤ 64
+unfolding block_size fields_of body version iod_read_req place_of
+read_size block sixteen other = omega (arith, sixteen, other)
 
 module _ (long : BlocksAreLong) where
   bytes_long : (blocks : List Block) → length (bytes_of blocks) ≡ size_of blocks
@@ -121,6 +135,36 @@ module _ (long : BlocksAreLong) where
     blocks = blocks_for setup request;
     whole = refl;
     few = blocks_few setup request good;
+  }
+
+  -- ---- a request of the application
+
+  asked_few : (setup : Setup) (request : RecordRequest) (octets : List ℕ) (asked : RecordService) → IsSetup setup → length octets ≤ 1308
+      → length (record_blocks setup request octets asked) ≤ 1372
+  asked_few setup request octets service.Read good few =
+      omega (arith, long (is.IodReadReq (read_of setup request)), read_size (read_of setup request) good.ar refl)
+  asked_few setup request octets service.Write good few =
+      let block = written_of setup request (length octets) in
+      omega (arith, length-append (block_bytes (is.IodWriteReq block)) octets, long (is.IodWriteReq block), written_size block good.ar, few)
+
+  service_small : (asked : RecordService) → service_operation asked < 65536
+  service_small service.Read = omega arith
+  service_small service.Write = omega arith
+
+  pub record_can : (setup : Setup) (request : RecordRequest) (octets : List ℕ) → IsSetup setup → IsRecordCall request octets → CanBeCalled Device (record_call setup request octets)
+  record_can setup request octets good can = record {
+    header = record {
+      object = object_long setup.plan.station;
+      interface = refl;
+      activity = good.activity;
+      sequence = can.0;
+      operation = service_small request.service;
+    };
+    named = refl;
+    maximum = omega arith;
+    blocks = record_blocks setup request octets request.service;
+    whole = refl;
+    few = asked_few setup request octets request.service good can.1;
   }
 
   ready_few : (block : ControlBlock) → length block.ar_uuid ≡ 16 → length (block_bytes (is.ApplicationReady block)) ≤ 1372

@@ -5,6 +5,7 @@ pub mod HearingController
 pub mod HearingDatagrams
 pub mod HearingSendings
 pub mod HearingExchanges
+pub mod HearingLow
 pub mod HearingRequests
 pub mod TurnsOneTurn
 pub mod TurnsWhole

@@ -1,5 +1,5 @@
 -- A controller keeps a valid address of the station that it sends to.
-use Rattle.std.proofs.Common.{◌≡◌, ◌⊎◌, inl, inr, ◌+◌, ◌==◌, ℕ, Option, Some, None, refl, sym, subst, arith}
+use Rattle.std.proofs.Common.{◌≡◌, ◌⊎◌, inl, inr, ◌+◌, ◌<◌, ◌==◌, ℕ, Bool, List, Option, Some, None, refl, sym, subst, arith}
 use Rattle.std.specs.List.{AllByRecursion}
 use Rattle.pn_values.specs.declared.mac.Mac.{Mac}
 use Rattle.dcp_core.specs.Response.{Answered}
@@ -11,9 +11,14 @@ use Rattle.record_blocks.specs.declared.alarm_notification.AlarmNotification.{Al
 use Rattle.pn_alarms.specs.declared.receiver.Taken.{Taken}
 use Rattle.pn_alarms.specs.declared.receiver.Taken.TheVariants.{New, Again, Refused}
 use Rattle.pn_alarms.specs.Receiver.{taken_as}
+use Rattle.pn_alarms.specs.Ends.{ControllerEnd}
+use Rattle.pn_alarms.specs.declared.priority.Priority.{Priority}
+use Rattle.pn_alarms.specs.declared.priority.Priority.TheVariants.{High, Low}
+use Rattle.pn_alarms.specs.declared.report.Report.{Report}
 use Rattle.cyclic_exchange.specs.Cyclic.{Cyclic}
 use Rattle.cyclic_exchange.specs.Opening.{begun_of}
 use Rattle.cyclic_exchange.specs.Received.{behind_frame}
+use Rattle.controller_frames.specs.declared.record_request.RecordRequest.{RecordRequest}
 use Rattle.controller_frames.specs.declared.request.Request.{Request}
 use Rattle.controller_frames.specs.declared.request.Request.TheVariants as asks
 use Rattle.controller_frames.specs.declared.setup.Setup.{Setup}
@@ -21,19 +26,20 @@ use Rattle.controller_frames.specs.Heard.{Answers, Calls}
 use Rattle.controller_frames.specs.Requests.{writing_from}
 use Rattle.controller_frames.specs.Sent.{Agrees, ready_answer}
 use Rattle.controller_core.specs.declared.event.Event.{Event}
-use Rattle.controller_core.specs.declared.event.Event.TheVariants.{Frame, Give, Status, Stop, Tick}
+use Rattle.controller_core.specs.declared.event.Event.TheVariants.{Frame, Give, Read, Status, Stop, Tick, Write}
 use Rattle.controller_core.specs.declared.state.Cause.{Cause}
 use Rattle.controller_core.specs.declared.state.State.{State}
 use Rattle.controller_core.specs.declared.state.State.TheVariants.{Addressing, Connecting, Ended, Exchanging, Waiting}
 use Rattle.controller_core.specs.State.{Live}
-use Rattle.end_laws.specs.turns.Turns.{Came, Hears, IsKind, IsReadied, IsTurn, Kind, Rests, Connects, Addresses, Ends, Releases, Relates, Writes, Skips, Waits, Forgets, Begins, Repeats, Follows, Takes, IsAcked, Gives, GivesStatus, Flows, Breaks, Idles, came_by, turn_by}
+use Rattle.end_laws.specs.turns.Turns.{Came, Hears, IsKind, IsReadied, IsTurn, Kind, Rests, Connects, Addresses, Ends, Releases, Relates, Writes, Skips, Waits, Forgets, Begins, Repeats, Follows, Takes, IsAcked, Asks, IsReplied, Gives, GivesStatus, Flows, Breaks, Idles, came_by, turn_by}
 use Rattle.codec_laws.specs.frames.Sendable.{IsMac}
 use Rattle.controller_core.specs.Connect.{Chosen}
-use Rattle.controller_core.specs.Machine.{Turn, acks_in, asking, behind_data, brought, first, flow_later, is_again, next_sequence, noted, over, phase_for, released, requests_of, standing, stays, taken, turn_of, where_due, writing}
-use Rattle.end_laws.specs.hearing.Stations.{IsSetup}
+use Rattle.controller_core.specs.Machine.{Turn, accesses_by, acking, acks_in, acks_of, asking, behind_data, brought, confirming, due_frames, end_of, first, flow_later, is_again, keeping, next_sequence, noted, over, pending_by, pending_of, phase_for, released, requests_of, standing, stays, taken, turn_of, where_due, with_end, writing}
+use Rattle.controller_core.specs.Alarms.{ack_of}
+use Rattle.end_laws.specs.hearing.Stations.{IsRecordCall, IsSetup}
 use Rattle.end_laws.specs.sending.Addressed.{IsAimed, IsAimedAt, IsDirection, IsEventFrom, IsHeardFrom}
-use Rattle.end_laws.specs.sending.Sized.{AreFew, IsFew}
-use Rattle.end_laws.proofs.SendingSizes.{BlocksAreLong, CameSo, Stays, all_append, answer_can, due_all, frame_stays, named_so, numbered, sequence_few, writing_few}
+use Rattle.end_laws.specs.sending.Sized.{AreFew, IsFew, IsWaiting}
+use Rattle.end_laws.proofs.SendingSizes.{BlocksAreLong, CameSo, Stays, all_append, answer_can, due_all, frame_stays, named_so, number_few, numbered, sequence_few, writing_few}
 
 -- a turn after which this address is valid, and each message of which goes to a station
 pub record IsSent (mac : Mac) (turn : Turn) : Type 0 where
@@ -45,50 +51,80 @@ came_from mac setup (Frame bytes) from = from
 came_from mac setup Tick from = tt
 came_from mac setup (Give slot subslot value) from = tt
 came_from mac setup (Status slot subslot is_good) from = tt
+came_from mac setup (Read slot subslot index) from = tt
+came_from mac setup (Write slot subslot index octets) from = tt
 came_from mac setup Stop from = tt
 
 module _ (mac : Mac) where
   asking_sent : (phase : State) (request : Request) (live : Live) → IsAimed live → IsFew request → IsSent mac (asking phase request live)
-  asking_sent phase request live is few = record { live = record { device = is.device; asked = few; way = is.way }; sent = ((is.device, numbered request few), tt) }
+  asking_sent phase request live is few = record { live = record { device = is.device; asked = few; way = is.way; access = is.access }; sent = ((is.device, numbered request few), tt) }
 
   over_aimed : (why : Cause) (live : Live) → IsAimed live → IsAimed (over why live)
-  over_aimed why live is = record { device = is.device; asked = tt; way = record { partner = is.way.partner; sent_tag = is.way.sent_tag; alarm_tag = is.way.alarm_tag } }
+  over_aimed why live is = record { device = is.device; asked = tt; way = record { partner = is.way.partner; sent_tag = is.way.sent_tag; alarm_tag = is.way.alarm_tag }; access = tt }
 
   released_sent : (setup : Setup) (why : Cause) (live : Live) → IsSetup setup → IsAimed live → IsSent mac (released setup why live)
   released_sent setup why live good is =
-      asking_sent (Ended why) (asks.Release (next_sequence setup.plan live.asked)) (over why live) (over_aimed why live is) (sequence_few setup.plan live.asked good.plan is.asked)
+      asking_sent (Ended why) (asks.Release (next_sequence setup.plan live.access.calls live.asked)) (over why live) (over_aimed why live is) (sequence_few setup.plan live.access.calls live.asked is.asked)
 
   writing_sent : (setup : Setup) (number : ℕ) (live : Live) → IsSetup setup → IsAimed live → IsSent mac (writing (writing_from setup.plan number) live)
   writing_sent setup number live good is =
       asking_sent (phase_for (writing_from setup.plan number)) (writing_from setup.plan number) live is (writing_few setup.plan number good.plan)
 
   stands_aimed : (setup : Setup) (live : Live) (chosen : Chosen) → IsAimed live → IsAimed (standing setup live chosen)
-  stands_aimed setup live chosen is = record { device = is.device; asked = is.asked; way = record { partner = is.device; sent_tag = omega arith; alarm_tag = omega arith } }
+  stands_aimed setup live chosen is = record { device = is.device; asked = is.asked; way = record { partner = is.device; sent_tag = omega arith; alarm_tag = omega arith }; access = is.access }
 
   unasked : (live : Live) (phase : State) → IsAimed live → IsAimed (record live { phase = phase; asked = None })
-  unasked live phase is = record { device = is.device; asked = tt; way = is.way }
+  unasked live phase is = record { device = is.device; asked = tt; way = is.way; access = is.access }
 
   begun_aimed : (live : Live) → IsAimed live → IsAimed (record live { phase = Exchanging; asked = None; cyclic = begun_of live.cyclic })
-  begun_aimed live is = record { device = is.device; asked = tt; way = record { partner = is.way.partner; sent_tag = is.way.sent_tag; alarm_tag = is.way.alarm_tag } }
+  begun_aimed live is = record { device = is.device; asked = tt; way = record { partner = is.way.partner; sent_tag = is.way.sent_tag; alarm_tag = is.way.alarm_tag }; access = is.access }
 
-  taken_sent : (live : Live) (alarm : AlarmNotification) (as_is : Taken) → IsAimed live → IsSent mac (taken live alarm as_is)
-  taken_sent live alarm New is = record { live = record { device = is.device; asked = is.asked; way = is.way }; sent = (is.way, (is.way, tt)) }
-  taken_sent live alarm Again is = record { live = is; sent = (is.way, tt) }
-  taken_sent live alarm Refused is = record { live = is; sent = (is.way, tt) }
+  with_end_aimed : (live : Live) (priority : Priority) (end : ControllerEnd) → IsAimed live → IsAimed (with_end live priority end)
+  with_end_aimed live High end is = record { device = is.device; asked = is.asked; way = is.way; access = is.access }
+  with_end_aimed live Low end is = record { device = is.device; asked = is.asked; way = is.way; access = is.access }
+
+  keeping_aimed : (live : Live) (priority : Priority) (alarm : AlarmNotification) (structure : Option ℕ) → IsAimed live → IsAimed (keeping live priority alarm structure)
+  keeping_aimed live High alarm structure is = record { device = is.device; asked = is.asked; way = is.way; access = is.access }
+  keeping_aimed live Low alarm structure is = record { device = is.device; asked = is.asked; way = is.way; access = is.access }
+
+  confirming_aimed : (live : Live) (report : Report) → IsAimed live → IsAimed (confirming live report)
+  confirming_aimed live report is =
+      keeping_aimed (acking live report.priority (ack_of report.notification)) report.priority _ report.user_structure
+      (with_end_aimed live report.priority _ is)
+
+  taken_sent : (live : Live) (report : Report) (as_is : Taken) → IsAimed live → IsSent mac (taken live report as_is)
+  taken_sent live report New is = let confirms = confirming_aimed live report is in record { live = confirms; sent = (is.way, (confirms.way, tt)) }
+  taken_sent live report Again is = record { live = is; sent = (is.way, tt) }
+  taken_sent live report Refused is = record { live = is; sent = (is.way, tt) }
 
   kept_aimed : (live : Live) (cyclic : Cyclic) → IsAimed live → Stays live.cyclic cyclic → IsAimed (record live { cyclic = cyclic })
-  kept_aimed live cyclic is stays = record { device = is.device; asked = is.asked; way = subst IsDirection (sym stays.route) is.way }
+  kept_aimed live cyclic is stays = record { device = is.device; asked = is.asked; way = subst IsDirection (sym stays.route) is.way; access = is.access }
 
   request_all : (device : Mac) (asked : Option Request) → IsMac device → AreFew asked → AllByRecursion (IsAimedAt mac) (requests_of device asked)
   request_all device (Some request) six few = ((six, numbered request few), tt)
   request_all device None six few = tt
 
-  acks_all : (live : Live) (ack : Option AlarmAck) → IsAimed live → AllByRecursion (IsAimedAt mac) (acks_in live ack)
-  acks_all live (Some ack) is = (is.way, tt)
-  acks_all live None is = tt
+  access_all : (device : Mac) (octets : List ℕ) (waiting : Option RecordRequest) → IsMac device → IsWaiting waiting octets → AllByRecursion (IsAimedAt mac) (accesses_by device octets waiting)
+  access_all device octets (Some request) six can = ((six, can), tt)
+  access_all device octets None six can = tt
+
+  pending_all : (live : Live) (asked : Option Request) → IsAimed live → AreFew asked → AllByRecursion (IsAimedAt mac) (pending_by live asked)
+  pending_all live (Some request) is few = ((is.device, numbered request few), tt)
+  pending_all live None is few = access_all live.device live.access.octets live.access.waiting is.device is.access
+
+  acks_all : (live : Live) (priority : Priority) (ack : Option AlarmAck) → IsAimed live → AllByRecursion (IsAimedAt mac) (acks_in live priority ack)
+  acks_all live priority (Some ack) is = (is.way, tt)
+  acks_all live priority None is = tt
+
+  due_sent : (live : Live) (is_high is_low is_request is_cyclic : Bool) → IsAimed live → AllByRecursion (IsAimedAt mac) (due_frames live is_high is_low is_request is_cyclic)
+  due_sent live is_high is_low is_request is_cyclic is =
+      all_append (IsAimedAt mac) (where_due is_high (acks_of live High)) _ (due_all (IsAimedAt mac) is_high _ (acks_all live High live.alarms.confirming is))
+      (all_append (IsAimedAt mac) (where_due is_low (acks_of live Low)) _ (due_all (IsAimedAt mac) is_low _ (acks_all live Low live.low_alarms.confirming is))
+      (all_append (IsAimedAt mac) (where_due is_request (pending_of live)) _ (due_all (IsAimedAt mac) is_request _ (pending_all live live.asked is is.asked))
+      (due_all (IsAimedAt mac) is_cyclic _ (is.way, tt))))
 
   flow_aimed : (live : Live) → IsAimed live → IsAimed (flow_later live)
-  flow_aimed live is = record { device = is.device; asked = is.asked; way = record { partner = is.way.partner; sent_tag = is.way.sent_tag; alarm_tag = is.way.alarm_tag } }
+  flow_aimed live is = record { device = is.device; asked = is.asked; way = record { partner = is.way.partner; sent_tag = is.way.sent_tag; alarm_tag = is.way.alarm_tag }; access = is.access }
 
   -- ---- each kind
 
@@ -97,8 +133,8 @@ module _ (mac : Mac) where
     reported other e = subst (λ (c : Came). CameSo (IsHeardFrom mac) c) e from
 
     at_station : (source : Mac) → (source ≡ live.device) ⊎ ((answer : Answered) × (came ≡ Hears (Answers source answer))) → IsAimed (record live { device = source })
-    at_station source (inl same) = record { device = subst IsMac (sym same) is.device; asked = is.asked; way = is.way }
-    at_station source (inr heard) = record { device = reported (Hears (Answers source heard.0)) heard.1; asked = is.asked; way = is.way }
+    at_station source (inl same) = record { device = subst IsMac (sym same) is.device; asked = is.asked; way = is.way; access = is.access }
+    at_station source (inr heard) = record { device = reported (Hears (Answers source heard.0)) heard.1; asked = is.asked; way = is.way; access = is.access }
 
     agrees : (caller : Caller) (call : Call) (block : ControlBlock) → IsReadied setup came caller call block → IsAimedAt mac (Agrees caller (ready_answer call block))
     agrees caller call block ready =
@@ -110,41 +146,36 @@ module _ (mac : Mac) where
     kind_sent (Connects source) holds = asking_sent Connecting asks.Connect _ (at_station source holds.known) tt
     kind_sent (Addresses source) holds = asking_sent Addressing asks.Address _ (at_station source holds.known) tt
     kind_sent (Ends why refusal refused) holds = record {
-      live = record { device = is.device; asked = tt; way = record { partner = is.way.partner; sent_tag = is.way.sent_tag; alarm_tag = is.way.alarm_tag } };
+      live = record { device = is.device; asked = tt; way = record { partner = is.way.partner; sent_tag = is.way.sent_tag; alarm_tag = is.way.alarm_tag }; access = tt };
       sent = tt;
     }
     kind_sent (Releases why) holds = released_sent setup why live good is
     kind_sent (Relates chosen) holds = writing_sent setup 0 (standing setup live chosen) good (stands_aimed setup live chosen is)
     kind_sent (Writes number) holds = writing_sent setup (number + 1) live good is
-    kind_sent (Skips number status) holds = writing_sent setup (number + 1) (noted status number live) good (record { device = is.device; asked = is.asked; way = is.way })
+    kind_sent (Skips number status) holds = writing_sent setup (number + 1) (noted status number live) good (record { device = is.device; asked = is.asked; way = is.way; access = is.access })
     kind_sent Waits holds = record { live = unasked live Waiting is; sent = tt }
     kind_sent Forgets holds = record { live = unasked live live.phase is; sent = tt }
     kind_sent (Begins caller call block) holds = record { live = begun_aimed live is; sent = (agrees caller call block holds.1, tt) }
     kind_sent (Repeats caller call block) holds = record { live = is; sent = (agrees caller call block holds.1, tt) }
     kind_sent (Follows source frame_id body) holds =
         record { live = kept_aimed live (behind_frame live.cyclic source frame_id body) is (frame_stays live.cyclic source frame_id body); sent = tt }
-    kind_sent (Takes number alarm) holds =
-        taken_sent (behind_data live number) alarm (taken_as live.alarms.seen number) (record { device = is.device; asked = is.asked; way = is.way })
-    kind_sent (IsAcked number) holds = record { live = record { device = is.device; asked = is.asked; way = is.way }; sent = tt }
+    kind_sent (Takes number report) holds =
+        taken_sent (behind_data live report.priority number) report (taken_as (end_of live report.priority).seen number) (with_end_aimed live report.priority _ is)
+    kind_sent (IsAcked priority number) holds = record { live = with_end_aimed live priority _ is; sent = tt }
+    kind_sent (Asks request octets) holds =
+        let can : IsRecordCall request octets = (subst (λ (n : ℕ). n < 4294967296) (sym holds.2) (number_few setup.plan live.access.calls), holds.3) in
+        record { live = record { device = is.device; asked = is.asked; way = is.way; access = can }; sent = ((is.device, can), tt) }
+    kind_sent (IsReplied refusal access) holds =
+        record { live = record { device = is.device; asked = is.asked; way = is.way; access = subst (λ (w : Option RecordRequest). IsWaiting w access.octets) (sym holds.1) tt }; sent = tt }
     kind_sent (Gives slot subslot value) holds =
-        record { live = record { device = is.device; asked = is.asked; way = is.way }; sent = tt }
-    kind_sent (GivesStatus slot subslot is_good) holds = record { live = record { device = is.device; asked = is.asked; way = is.way }; sent = tt }
+        record { live = record { device = is.device; asked = is.asked; way = is.way; access = is.access }; sent = tt }
+    kind_sent (GivesStatus slot subslot is_good) holds = record { live = record { device = is.device; asked = is.asked; way = is.way; access = is.access }; sent = tt }
     kind_sent Flows holds =
-        let after = flow_later live in
         let flows = flow_aimed live is in
-        let tick = brought live in
-        record {
-          live = flows;
-          sent =
-              all_append (IsAimedAt mac) (where_due tick.is_alarm (acks_in after after.alarms.confirming)) _
-              (due_all (IsAimedAt mac) tick.is_alarm _ (acks_all after after.alarms.confirming flows))
-              (all_append (IsAimedAt mac) (where_due (is_again live) (requests_of after.device after.asked)) _
-              (due_all (IsAimedAt mac) (is_again live) _ (request_all after.device after.asked is.device is.asked))
-              (due_all (IsAimedAt mac) tick.is_cyclic _ (flows.way, tt)));
-        }
+        record { live = flows; sent = due_sent (flow_later live) _ _ (is_again live) (brought live).is_cyclic flows }
     kind_sent (Breaks reason) holds = record { live = over_aimed _ (flow_later live) (flow_aimed live is); sent = ((flow_aimed live is).way, tt) }
     kind_sent Idles holds = record {
-      live = record { device = is.device; asked = is.asked; way = is.way };
+      live = record { device = is.device; asked = is.asked; way = is.way; access = is.access };
       sent = due_all (IsAimedAt mac) (is_again live) _ (request_all live.device live.asked is.device is.asked);
     }
 
@@ -154,4 +185,4 @@ module _ (mac : Mac) where
       subst (λ (t : Turn). IsSent mac t) (sym turn.is) (kind_sent long setup live (came_by setup event) good is (came_from mac setup event from) turn.kind turn.holds)
 
 pub first_aimed : (setup : Setup) → IsSetup setup → IsAimed (first setup.plan)
-first_aimed setup good = record { device = refl; asked = tt; way = record { partner = refl; sent_tag = omega arith; alarm_tag = omega arith } }
+first_aimed setup good = record { device = refl; asked = tt; way = record { partner = refl; sent_tag = omega arith; alarm_tag = omega arith }; access = tt }

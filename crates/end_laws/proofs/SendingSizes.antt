@@ -30,8 +30,9 @@ use Rattle.controller_frames.specs.declared.request.Request.TheVariants as asks
 use Rattle.controller_frames.specs.Heard.{Heard}
 use Rattle.controller_frames.specs.Requests.{writing_from}
 use Rattle.controller_frames.specs.Sent.{Sent, ready_answer, ready_done}
+use Rattle.controller_core.specs.Access.{call_number}
 use Rattle.controller_core.specs.Machine.{next_sequence, where_due}
-use Rattle.end_laws.specs.turns.Turns.{Came, Hears, Passes, Gets, GetsStatus, Halts}
+use Rattle.end_laws.specs.turns.Turns.{Came, Hears, Passes, Gets, GetsStatus, AsksRead, AsksWrite, Halts}
 use Rattle.rpc_core.specs.Sendable.{CanBeAnswered, IsHeader}
 use Rattle.end_laws.specs.hearing.Stations.{IsNumbered}
 use Rattle.end_laws.specs.sending.Sized.{AreFew, IsFew, IsShort}
@@ -94,10 +95,13 @@ pub writing_few : (plan : Parts) (number : ℕ) → IsPlan plan → IsFew (writi
 writing_few plan number is =
     picked_few number (nat_lt number (length plan.records.items)) (λ e. let below = ltb-true number (length plan.records.items) e in omega (arith, below, is.few_records))
 
-pub sequence_few : (plan : Parts) (asked : Option Request) → IsPlan plan → AreFew asked → next_sequence plan asked < 4294967296
-sequence_few plan (Some asks.Connect) is few = omega arith
-sequence_few plan (Some (asks.Write number)) is few = omega (arith, few)
-sequence_few plan asked is few = omega (arith, is.few_records)
+pub number_few : (plan : Parts) (calls : ℕ) → call_number plan calls < 4294967296
+number_few plan calls = mod-lt (length plan.records.items + 2 + calls) (omega arith)
+
+pub sequence_few : (plan : Parts) (calls : ℕ) (asked : Option Request) → AreFew asked → next_sequence plan calls asked < 4294967296
+sequence_few plan calls (Some asks.Connect) few = omega arith
+sequence_few plan calls (Some (asks.Write number)) few = omega (arith, few)
+sequence_few plan calls asked few = number_few plan calls
 
 -- ---- messages
 
@@ -117,6 +121,8 @@ CameSo P (Hears heard) = P heard
 CameSo P Passes = Unit {0}
 CameSo P (Gets slot subslot value) = Unit {0}
 CameSo P (GetsStatus slot subslot is_good) = Unit {0}
+CameSo P (AsksRead slot subslot index) = Unit {0}
+CameSo P (AsksWrite slot subslot index octets) = Unit {0}
 CameSo P Halts = Unit {0}
 
 -- ---- cyclic frames

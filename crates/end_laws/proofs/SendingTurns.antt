@@ -6,7 +6,11 @@ use Rattle.pn_alarms.specs.declared.pdu.PduType.{PduType}
 use Rattle.pn_alarms.specs.declared.pdu.PduType.TheVariants as pdu
 use Rattle.pn_alarms.specs.declared.message.Notice.TheVariants as notice
 use Rattle.pn_alarms.specs.Numbers.{ack_number, is_last, next_number, send_number}
-use Rattle.pn_alarms.specs.Sending.{Sending, acked}
+use Rattle.pn_alarms.specs.Sending.{Sending}
+use Rattle.pn_alarms.specs.Ends.{ControllerEnd}
+use Rattle.pn_alarms.specs.declared.priority.Priority.{Priority}
+use Rattle.pn_alarms.specs.declared.priority.Priority.TheVariants.{High, Low}
+use Rattle.pn_alarms.specs.declared.report.Report.{Report}
 use Rattle.pn_values.specs.declared.mac.Mac.{Mac}
 use Rattle.dcp_core.specs.Response.{Answered}
 use Rattle.rpc_core.specs.Call.{Asked as Call}
@@ -20,6 +24,7 @@ use Rattle.pn_alarms.specs.Receiver.{taken_as}
 use Rattle.cyclic_data.specs.Image.{Cell}
 use Rattle.cyclic_exchange.specs.Cyclic.{Cyclic}
 use Rattle.cyclic_exchange.specs.Received.{behind_frame}
+use Rattle.controller_frames.specs.declared.record_request.RecordRequest.{RecordRequest}
 use Rattle.controller_frames.specs.declared.request.Request.{Request}
 use Rattle.controller_frames.specs.declared.request.Request.TheVariants as asks
 use Rattle.controller_frames.specs.declared.setup.Setup.{Setup}
@@ -27,23 +32,24 @@ use Rattle.controller_frames.specs.Heard.{Alarms, Answers, Calls, Responds}
 use Rattle.controller_frames.specs.Requests.{writing_from}
 use Rattle.controller_frames.specs.Sent.{Agrees, ready_answer}
 use Rattle.controller_core.specs.declared.event.Event.{Event}
-use Rattle.controller_core.specs.declared.event.Event.TheVariants.{Frame, Give, Status, Stop, Tick}
+use Rattle.controller_core.specs.declared.event.Event.TheVariants.{Frame, Give, Read, Status, Stop, Tick, Write}
+use Rattle.controller_core.specs.Access.{Accessing}
 use Rattle.controller_core.specs.declared.outputs.OutputMark.{OutputMark}
 use Rattle.controller_core.specs.declared.state.Cause.{Cause}
 use Rattle.controller_core.specs.declared.state.State.{State}
 use Rattle.controller_core.specs.declared.state.State.TheVariants.{Addressing, Connecting, Ended, Exchanging, Waiting}
 use Rattle.controller_core.specs.State.{Live}
-use Rattle.end_laws.specs.turns.Turns.{Came, Hears, IsKind, IsReadied, IsTurn, Kind, Rests, Connects, Addresses, Ends, Releases, Relates, Writes, Skips, Waits, Forgets, Begins, Repeats, Follows, Takes, IsAcked, Gives, GivesStatus, Flows, Breaks, Idles, came_by, turn_by}
+use Rattle.end_laws.specs.turns.Turns.{Came, Hears, IsKind, IsReadied, IsTurn, Kind, Rests, Connects, Addresses, Ends, Releases, Relates, Writes, Skips, Waits, Forgets, Begins, Repeats, Follows, Takes, IsAcked, Asks, IsReplied, Gives, GivesStatus, Flows, Breaks, Idles, came_by, turn_by}
 use Rattle.codec_laws.specs.frames.Sendable.{IsMac}
 use Rattle.controller_core.specs.Alarms.{ack_of, header_of}
 use Rattle.controller_core.specs.Connect.{Chosen}
-use Rattle.controller_core.specs.Machine.{Turn, acks_in, asking, behind_data, brought, confirming, first, flow_later, given, is_again, later, next_sequence, noted, over, phase_for, rated, released, requests_of, standing, stays, taken, turn_of, where_due, writing}
+use Rattle.controller_core.specs.Machine.{Turn, accesses_by, acking, acks_in, acks_of, asking, behind_ack, behind_data, brought, confirming, due_frames, end_of, first, flow_later, given, is_again, keeping, later, next_sequence, noted, over, pending_by, pending_of, phase_for, rated, released, requests_of, standing, stays, taken, turn_of, where_due, with_end, writing}
 use Rattle.codec_laws.specs.alarms.Sendable.{IsHeader}
 use Rattle.codec_laws.specs.blocks.Writable.{IsAck}
-use Rattle.end_laws.specs.hearing.Stations.{IsSetup}
+use Rattle.end_laws.specs.hearing.Stations.{IsRecordCall, IsSetup}
 use Rattle.end_laws.specs.sending.Messages.{CanBeSent, IsWay}
-use Rattle.end_laws.specs.sending.Sized.{AreFew, IsAckOrNone, IsFew, IsLive, IsNoted, IsShort, IsSized, IsSizedEvent}
-use Rattle.end_laws.proofs.SendingSizes.{BlocksAreLong, CameSo, Stays, all_append, answer_can, body_few, due_all, frame_stays, named_so, next_short, numbered, sequence_few, writing_few}
+use Rattle.end_laws.specs.sending.Sized.{AreFew, IsAccess, IsAckOrNone, IsFew, IsLive, IsNoted, IsShort, IsSized, IsSizedEnd, IsSizedEvent, IsWaiting}
+use Rattle.end_laws.proofs.SendingSizes.{BlocksAreLong, CameSo, Stays, all_append, answer_can, body_few, due_all, frame_stays, named_so, next_short, number_few, numbered, sequence_few, writing_few}
 
 -- a turn after which everything has its size
 pub record IsRight (setup : Setup) (turn : Turn) : Type 0 where
@@ -55,22 +61,24 @@ came_sized setup (Frame bytes) sized = sized
 came_sized setup Tick sized = tt
 came_sized setup (Give slot subslot value) sized = tt
 came_sized setup (Status slot subslot is_good) sized = tt
+came_sized setup (Read slot subslot index) sized = tt
+came_sized setup (Write slot subslot index octets) sized = tt
 came_sized setup Stop sized = tt
 
 -- ---- requests
 
 asking_right : (setup : Setup) (phase : State) (request : Request) (live : Live) → IsLive live → IsFew request → IsRight setup (asking phase request live)
 asking_right setup phase request live is few = record {
-  live = record { device = is.device; asked = few; way = is.way; few = is.few; last = is.last; seen = is.seen; confirming = is.confirming };
+  live = record { device = is.device; asked = few; way = is.way; few = is.few; high = is.high; low = is.low; access = is.access };
   sent = ((is.device, numbered request few), tt);
 }
 
 over_live : (cause_is : Cause) (live : Live) → IsLive live → IsLive (over cause_is live)
-over_live cause_is live is = record { device = is.device; asked = tt; way = is.way; few = is.few; last = is.last; seen = is.seen; confirming = is.confirming }
+over_live cause_is live is = record { device = is.device; asked = tt; way = is.way; few = is.few; high = is.high; low = is.low; access = tt }
 
 released_right : (setup : Setup) (cause_is : Cause) (live : Live) → IsSetup setup → IsLive live → IsRight setup (released setup cause_is live)
 released_right setup cause_is live good is =
-    asking_right setup (Ended cause_is) (asks.Release (next_sequence setup.plan live.asked)) (over cause_is live) (over_live cause_is live is) (sequence_few setup.plan live.asked good.plan is.asked)
+    asking_right setup (Ended cause_is) (asks.Release (next_sequence setup.plan live.access.calls live.asked)) (over cause_is live) (over_live cause_is live is) (sequence_few setup.plan live.access.calls live.asked is.asked)
 
 writing_right : (setup : Setup) (number : ℕ) (live : Live) → IsSetup setup → IsLive live → IsRight setup (writing (writing_from setup.plan number) live)
 writing_right setup number live good is =
@@ -82,18 +90,18 @@ stands_live setup live chosen is small = record {
   asked = is.asked;
   way = record { partner = is.device; sent_id = small.0; sent_tag = omega arith; alarm_tag = omega arith; reference = small.1 };
   few = is.few;
-  last = is.last;
-  seen = is.seen;
-  confirming = is.confirming;
+  high = is.high;
+  low = is.low;
+  access = is.access;
 }
 
 unasked : (live : Live) (phase : State) → IsLive live → IsLive (record live { phase = phase; asked = None })
-unasked live phase is = record { device = is.device; asked = tt; way = is.way; few = is.few; last = is.last; seen = is.seen; confirming = is.confirming }
+unasked live phase is = record { device = is.device; asked = tt; way = is.way; few = is.few; high = is.high; low = is.low; access = is.access }
 
 -- ---- ApplicationReady
 
 begun_live : (live : Live) → IsLive live → IsLive (record live { phase = Exchanging; asked = None; cyclic = record live.cyclic { begun = true; hearing = record live.cyclic.hearing { held = 0 } } })
-begun_live live is = record { device = is.device; asked = tt; way = is.way; few = is.few; last = is.last; seen = is.seen; confirming = is.confirming }
+begun_live live is = record { device = is.device; asked = tt; way = is.way; few = is.few; high = is.high; low = is.low; access = is.access }
 
 -- ---- alarms
 
@@ -105,23 +113,29 @@ seen_short : (last : Option ℕ) → IsShort last → ack_number last < 65536
 seen_short None is = omega arith
 seen_short (Some number) is = is
 
-header_is : (live : Live) (kind : PduType) → IsLive live → IsHeader (header_of live.alarms live.cyclic.route kind)
-header_is live kind is = record { destination = is.way.reference; source = omega arith; send_number = sent_short live.alarms.sending.last is.last; ack_number = seen_short live.alarms.seen is.seen }
+-- the alarms of a priority have their sizes
+end_is : (live : Live) (priority : Priority) → IsLive live → IsSizedEnd (end_of live priority)
+end_is live High is = is.high
+end_is live Low is = is.low
+
+with_end_live : (live : Live) (priority : Priority) (end : ControllerEnd) → IsLive live → IsSizedEnd end → IsLive (with_end live priority end)
+with_end_live live High end is sized = record { device = is.device; asked = is.asked; way = is.way; few = is.few; high = sized; low = is.low; access = is.access }
+with_end_live live Low end is sized = record { device = is.device; asked = is.asked; way = is.way; few = is.few; high = is.high; low = sized; access = is.access }
+
+header_is : (live : Live) (priority : Priority) (kind : PduType) → IsLive live → IsHeader (header_of (end_of live priority) live.cyclic.route kind)
+header_is live priority kind is =
+    let sized = end_is live priority is in
+    record { destination = is.way.reference; source = omega arith; send_number = sent_short (end_of live priority).sending.last sized.last; ack_number = seen_short (end_of live priority).seen sized.seen }
 
 short_if : (test : Bool) (one other : Option ℕ) → IsShort one → IsShort other → IsShort (if test then one else other)
 short_if true one other first second = first
 short_if false one other first second = second
 
-data_live : (live : Live) (number : ℕ) → IsLive live → number < 65536 → IsLive (behind_data live number)
-data_live live number is small = record {
-  device = is.device;
-  asked = is.asked;
-  way = is.way;
-  few = is.few;
-  last = is.last;
-  seen = short_if (number == next_number live.alarms.seen) (Some number) live.alarms.seen small is.seen;
-  confirming = is.confirming;
-}
+data_live : (live : Live) (priority : Priority) (number : ℕ) → IsLive live → number < 65536 → IsLive (behind_data live priority number)
+data_live live priority number is small =
+    let sized = end_is live priority is in
+    let seen = (end_of live priority).seen in
+    with_end_live live priority _ is (record { last = sized.last; seen = short_if (number == next_number seen) (Some number) seen small sized.seen; confirming = sized.confirming })
 
 ack_is : (alarm : AlarmNotification) → IsNoted alarm → IsAck (ack_of alarm)
 ack_is alarm is = record {
@@ -133,34 +147,42 @@ ack_is alarm is = record {
   pnio_status = omega arith;
 }
 
-confirming_live : (live : Live) (alarm : AlarmNotification) → IsLive live → IsNoted alarm → IsLive (confirming live alarm)
-confirming_live live alarm is noted = record {
-  device = is.device;
-  asked = is.asked;
-  way = is.way;
-  few = is.few;
-  last = next_short live.alarms.sending.last is.last;
-  seen = is.seen;
-  confirming = ack_is alarm noted;
-}
+acking_live : (live : Live) (priority : Priority) (ack : AlarmAck) → IsLive live → IsAck ack → IsLive (acking live priority ack)
+acking_live live priority ack is good =
+    let sized = end_is live priority is in
+    with_end_live live priority _ is (record { last = next_short (end_of live priority).sending.last sized.last; seen = sized.seen; confirming = good })
 
-taken_right : (setup : Setup) (live : Live) (alarm : AlarmNotification) (as_is : Taken) → IsLive live → IsNoted alarm → IsRight setup (taken live alarm as_is)
-taken_right setup live alarm New is noted = record {
-  live = confirming_live live alarm is noted;
-  sent = (
-    (is.way, inl refl, header_is live pdu.Ack is),
-    ((is.way, refl, header_is (confirming live alarm) pdu.Data (confirming_live live alarm is noted), ack_is alarm noted), tt),
-  );
-}
-taken_right setup live alarm Again is noted = record { live = is; sent = ((is.way, inl refl, header_is live pdu.Ack is), tt) }
-taken_right setup live alarm Refused is noted = record { live = is; sent = ((is.way, inr refl, header_is live pdu.Nack is), tt) }
+keeping_live : (live : Live) (priority : Priority) (alarm : AlarmNotification) (structure : Option ℕ) → IsLive live → IsLive (keeping live priority alarm structure)
+keeping_live live High alarm structure is = record { device = is.device; asked = is.asked; way = is.way; few = is.few; high = is.high; low = is.low; access = is.access }
+keeping_live live Low alarm structure is = record { device = is.device; asked = is.asked; way = is.way; few = is.few; high = is.high; low = is.low; access = is.access }
+
+confirming_live : (live : Live) (report : Report) → IsLive live → IsNoted report.notification → IsLive (confirming live report)
+confirming_live live report is noted =
+    keeping_live (acking live report.priority (ack_of report.notification)) report.priority _ report.user_structure
+    (acking_live live report.priority (ack_of report.notification) is (ack_is report.notification noted))
+
+taken_right : (setup : Setup) (live : Live) (report : Report) (as_is : Taken) → IsLive live → IsNoted report.notification → IsRight setup (taken live report as_is)
+taken_right setup live report New is noted =
+    let confirms = confirming_live live report is noted in
+    record {
+      live = confirms;
+      sent = (
+        (is.way, inl refl, header_is live report.priority pdu.Ack is),
+        ((confirms.way, refl, header_is (confirming live report) report.priority pdu.Data confirms, ack_is report.notification noted), tt),
+      );
+    }
+taken_right setup live report Again is noted = record { live = is; sent = ((is.way, inl refl, header_is live report.priority pdu.Ack is), tt) }
+taken_right setup live report Refused is noted = record { live = is; sent = ((is.way, inr refl, header_is live report.priority pdu.Nack is), tt) }
 
 last_if : (test : Bool) (one other : Sending) → IsShort one.last → IsShort other.last → IsShort (if test then one else other).last
 last_if true one other first second = first
 last_if false one other first second = second
 
-acked_last : (live : Live) (number : ℕ) → IsLive live → IsShort (acked live.alarms.sending number).last
-acked_last live number is = last_if (is_last live.alarms.sending.last number) _ live.alarms.sending is.last is.last
+acked_live : (live : Live) (priority : Priority) (number : ℕ) → IsLive live → IsLive (behind_ack live priority number)
+acked_live live priority number is =
+    let sized = end_is live priority is in
+    let sending = (end_of live priority).sending in
+    with_end_live live priority _ is (record { last = last_if (is_last sending.last number) _ sending sized.last sized.last; seen = sized.seen; confirming = sized.confirming })
 
 -- ---- cyclic frames
 
@@ -170,32 +192,61 @@ kept_live live cyclic is stays = record {
   asked = is.asked;
   way = subst IsWay (sym stays.route) is.way;
   few = subst (λ (n : ℕ). n ≤ 1440) (sym stays.long) is.few;
-  last = is.last;
-  seen = is.seen;
-  confirming = is.confirming;
+  high = is.high;
+  low = is.low;
+  access = is.access;
 }
 
 -- Outputs that are set.
 same_live : (live : Live) (cells : List Cell) (outputs : List OutputMark) → IsLive live
     → IsLive (record live { cyclic = record live.cyclic { shown = record live.cyclic.shown { cells = cells } }; outputs = outputs })
 same_live live cells outputs is =
-    record { device = is.device; asked = is.asked; way = is.way; few = is.few; last = is.last; seen = is.seen; confirming = is.confirming }
+    record { device = is.device; asked = is.asked; way = is.way; few = is.few; high = is.high; low = is.low; access = is.access }
 
 -- ---- units
 
 later_live : (live : Live) → IsLive live → IsLive (later live)
-later_live live is = record { device = is.device; asked = is.asked; way = is.way; few = is.few; last = is.last; seen = is.seen; confirming = is.confirming }
+later_live live is = record { device = is.device; asked = is.asked; way = is.way; few = is.few; high = is.high; low = is.low; access = is.access }
 
 flow_live : (live : Live) → IsLive live → IsLive (flow_later live)
-flow_live live is = record { device = is.device; asked = is.asked; way = is.way; few = is.few; last = is.last; seen = is.seen; confirming = is.confirming }
+flow_live live is = record {
+  device = is.device;
+  asked = is.asked;
+  way = is.way;
+  few = is.few;
+  high = record { last = is.high.last; seen = is.high.seen; confirming = is.high.confirming };
+  low = record { last = is.low.last; seen = is.low.seen; confirming = is.low.confirming };
+  access = is.access;
+}
 
 request_all : (setup : Setup) (device : Mac) (asked : Option Request) → length device.octets ≡ 6 → AreFew asked → AllByRecursion (CanBeSent setup) (requests_of device asked)
 request_all setup device (Some request) mac few = ((mac, numbered request few), tt)
 request_all setup device None mac few = tt
 
-acks_all : (setup : Setup) (live : Live) (ack : Option AlarmAck) → IsLive live → IsAckOrNone ack → AllByRecursion (CanBeSent setup) (acks_in live ack)
-acks_all setup live (Some ack) is good = ((is.way, refl, header_is live pdu.Data is, good), tt)
-acks_all setup live None is good = tt
+access_all : (setup : Setup) (device : Mac) (octets : List ℕ) (waiting : Option RecordRequest) → length device.octets ≡ 6 → IsWaiting waiting octets
+    → AllByRecursion (CanBeSent setup) (accesses_by device octets waiting)
+access_all setup device octets (Some request) mac can = ((mac, can), tt)
+access_all setup device octets None mac can = tt
+
+pending_all : (setup : Setup) (live : Live) (asked : Option Request) → IsLive live → AreFew asked → AllByRecursion (CanBeSent setup) (pending_by live asked)
+pending_all setup live (Some request) is few = ((is.device, numbered request few), tt)
+pending_all setup live None is few = access_all setup live.device live.access.octets live.access.waiting is.device is.access
+
+acks_all : (setup : Setup) (live : Live) (priority : Priority) (ack : Option AlarmAck) → IsLive live → IsAckOrNone ack → AllByRecursion (CanBeSent setup) (acks_in live priority ack)
+acks_all setup live priority (Some ack) is good = ((is.way, refl, header_is live priority pdu.Data is, good), tt)
+acks_all setup live priority None is good = tt
+
+due_right : (setup : Setup) (live : Live) (is_high is_low is_request is_cyclic : Bool) → IsLive live → AllByRecursion (CanBeSent setup) (due_frames live is_high is_low is_request is_cyclic)
+due_right setup live is_high is_low is_request is_cyclic is =
+    all_append (CanBeSent setup) (where_due is_high (acks_of live High)) _ (due_all (CanBeSent setup) is_high _ (acks_all setup live High live.alarms.confirming is is.high.confirming))
+    (all_append (CanBeSent setup) (where_due is_low (acks_of live Low)) _ (due_all (CanBeSent setup) is_low _ (acks_all setup live Low live.low_alarms.confirming is is.low.confirming))
+    (all_append (CanBeSent setup) (where_due is_request (pending_of live)) _ (due_all (CanBeSent setup) is_request _ (pending_all setup live live.asked is is.asked))
+    (due_all (CanBeSent setup) is_cyclic _ ((is.way, body_few live.cyclic.shown live.units is.few), tt))))
+
+-- ---- requests of the application
+
+none_waits : (access : Accessing) → access.waiting ≡ None → IsAccess access
+none_waits access e = subst (λ (w : Option RecordRequest). IsWaiting w access.octets) (sym e) tt
 
 -- ---- each kind
 
@@ -204,7 +255,7 @@ module _ (long : BlocksAreLong) (setup : Setup) (live : Live) (came : Came) (goo
   reported other e = subst (λ (c : Came). CameSo IsSized c) e sized
 
   with_station : (source : Mac) → IsMac source → IsLive (record live { device = source })
-  with_station source six = record { device = six; asked = is.asked; way = is.way; few = is.few; last = is.last; seen = is.seen; confirming = is.confirming }
+  with_station source six = record { device = six; asked = is.asked; way = is.way; few = is.few; high = is.high; low = is.low; access = is.access }
 
   at_station : (source : Mac) → (source ≡ live.device) ⊎ ((answer : Answered) × (came ≡ Hears (Answers source answer))) → IsLive (record live { device = source })
   at_station source (inl same) = with_station source (subst IsMac (sym same) is.device)
@@ -220,46 +271,43 @@ module _ (long : BlocksAreLong) (setup : Setup) (live : Live) (came : Came) (goo
   kind_right (Connects source) holds = asking_right setup Connecting asks.Connect _ (at_station source holds.known) tt
   kind_right (Addresses source) holds = asking_right setup Addressing asks.Address _ (at_station source holds.known) tt
   kind_right (Ends why refusal refused) holds =
-      record { live = record { device = is.device; asked = tt; way = is.way; few = is.few; last = is.last; seen = is.seen; confirming = is.confirming }; sent = tt }
+      record { live = record { device = is.device; asked = tt; way = is.way; few = is.few; high = is.high; low = is.low; access = tt }; sent = tt }
   kind_right (Releases why) holds = released_right setup why live good is
   kind_right (Relates chosen) holds =
       let sized_so : IsSized (Responds holds.0.response) = reported (Hears (Responds holds.0.response)) holds.0.comes in
       writing_right setup 0 (standing setup live chosen) good (stands_live setup live chosen is (sized_so chosen holds.1))
   kind_right (Writes number) holds = writing_right setup (number + 1) live good is
   kind_right (Skips number status) holds = writing_right setup (number + 1) (noted status number live) good
-      (record { device = is.device; asked = is.asked; way = is.way; few = is.few; last = is.last; seen = is.seen; confirming = is.confirming })
+      (record { device = is.device; asked = is.asked; way = is.way; few = is.few; high = is.high; low = is.low; access = is.access })
   kind_right Waits holds = record { live = unasked live Waiting is; sent = tt }
   kind_right Forgets holds = record { live = unasked live live.phase is; sent = tt }
   kind_right (Begins caller call block) holds = record { live = begun_live live is; sent = (agrees caller call block holds.1, tt) }
   kind_right (Repeats caller call block) holds = record { live = is; sent = (agrees caller call block holds.1, tt) }
   kind_right (Follows source frame_id body) holds =
       record { live = kept_live live (behind_frame live.cyclic source frame_id body) is (frame_stays live.cyclic source frame_id body); sent = tt }
-  kind_right (Takes number alarm) holds =
-      let noted : IsSized (Alarms holds.1 holds.2 (notice.Data number alarm)) = reported (Hears (Alarms holds.1 holds.2 (notice.Data number alarm))) holds.3 in
-      taken_right setup (behind_data live number) alarm (taken_as live.alarms.seen number) (data_live live number is noted.0) noted.1
-  kind_right (IsAcked number) holds = record {
-    live = record { device = is.device; asked = is.asked; way = is.way; few = is.few; last = acked_last live number is; seen = is.seen; confirming = is.confirming };
+  kind_right (Takes number report) holds =
+      let noted : IsSized (Alarms holds.1 holds.2 holds.3 (notice.Data number report)) = reported (Hears (Alarms holds.1 holds.2 holds.3 (notice.Data number report))) holds.4 in
+      taken_right setup (behind_data live report.priority number) report (taken_as (end_of live report.priority).seen number) (data_live live report.priority number is noted.0) noted.1
+  kind_right (IsAcked priority number) holds = record { live = acked_live live priority number is; sent = tt }
+  kind_right (Asks request octets) holds =
+      let can : IsRecordCall request octets = (subst (λ (n : ℕ). n < 4294967296) (sym holds.2) (number_few setup.plan live.access.calls), holds.3) in
+      record {
+        live = record { device = is.device; asked = is.asked; way = is.way; few = is.few; high = is.high; low = is.low; access = can };
+        sent = ((is.device, can), tt);
+      }
+  kind_right (IsReplied refusal access) holds = record {
+    live = record { device = is.device; asked = is.asked; way = is.way; few = is.few; high = is.high; low = is.low; access = none_waits access holds.1 };
     sent = tt;
   }
   kind_right (Gives slot subslot value) holds = record { live = same_live live (given live slot subslot value).cyclic.shown.cells (given live slot subslot value).outputs is; sent = tt }
   kind_right (GivesStatus slot subslot is_good) holds =
       record { live = same_live live (rated live slot subslot is_good).cyclic.shown.cells (rated live slot subslot is_good).outputs is; sent = tt }
   kind_right Flows holds =
-      let after = flow_later live in
       let flows = flow_live live is in
-      let tick = brought live in
-      record {
-        live = flows;
-        sent =
-            all_append (CanBeSent setup) (where_due tick.is_alarm (acks_in after after.alarms.confirming)) _
-            (due_all (CanBeSent setup) tick.is_alarm _ (acks_all setup after after.alarms.confirming flows flows.confirming))
-            (all_append (CanBeSent setup) (where_due (is_again live) (requests_of after.device after.asked)) _
-            (due_all (CanBeSent setup) (is_again live) _ (request_all setup after.device after.asked is.device is.asked))
-            (due_all (CanBeSent setup) tick.is_cyclic _ ((flows.way, body_few after.cyclic.shown after.units flows.few), tt)));
-      }
+      record { live = flows; sent = due_right setup (flow_later live) _ _ (is_again live) (brought live).is_cyclic flows }
   kind_right (Breaks reason) holds =
       let flows = flow_live live is in
-      record { live = over_live _ (flow_later live) flows; sent = ((flows.way, header_is (flow_later live) pdu.Error flows), tt) }
+      record { live = over_live _ (flow_later live) flows; sent = ((flows.way, header_is (flow_later live) High pdu.Error flows), tt) }
   kind_right Idles holds =
       record { live = later_live live is; sent = due_all (CanBeSent setup) (is_again live) _ (request_all setup live.device live.asked is.device is.asked) }
 
@@ -274,7 +322,7 @@ first_live setup good = record {
   asked = tt;
   way = record { partner = refl; sent_id = omega arith; sent_tag = omega arith; alarm_tag = omega arith; reference = omega arith };
   few = max-le {a = 40} (omega arith) good.plan.output;
-  last = tt;
-  seen = tt;
-  confirming = tt;
+  high = record { last = tt; seen = tt; confirming = tt };
+  low = record { last = tt; seen = tt; confirming = tt };
+  access = tt;
 }

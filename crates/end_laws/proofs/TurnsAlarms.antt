@@ -13,6 +13,7 @@ use Rattle.pn_alarms.specs.declared.message.Notice.TheVariants as notice
 use Rattle.pn_alarms.specs.declared.pdu.Header.{Header}
 use Rattle.pn_alarms.specs.declared.pdu.PduType.{PduType}
 use Rattle.pn_alarms.specs.declared.pdu.PduType.TheVariants as pdu
+use Rattle.pn_alarms.specs.declared.priority.Priority.TheVariants.{High, Low}
 use Rattle.pn_alarms.specs.declared.receiver.Taken.{Taken}
 use Rattle.pn_alarms.specs.declared.receiver.Taken.TheVariants.{New, Again, Refused}
 use Rattle.pn_alarms.specs.declared.repeats.Due.{Due}
@@ -24,24 +25,27 @@ use Rattle.pn_alarms.specs.Device.{end_raised}
 use Rattle.pn_alarms.specs.Numbers.{ack_number, is_last, next_number, send_number}
 use Rattle.pn_alarms.specs.Receiver.{last_behind, taken_as}
 use Rattle.pn_alarms.specs.Sender.{notified}
-use Rattle.pn_alarms.specs.Sending.{due}
+use Rattle.pn_alarms.specs.Report.{ours}
+use Rattle.pn_alarms.specs.Sending.{due, either_due}
+use Rattle.pn_alarms.specs.Sending.{is_again as is_again_due}
 use Rattle.cyclic_exchange.specs.declared.route.Route.{Route}
-use Rattle.cyclic_exchange.specs.Units.{ending_of, is_again as is_again_due, tick_by}
+use Rattle.cyclic_exchange.specs.Units.{ending_of, tick_by}
 use Rattle.codec_laws.specs.alarms.World.{Move as Happening}
 use Rattle.codec_laws.specs.alarms.World as happening
 use Rattle.codec_laws.specs.alarms.Taken.{AreTakenInOrder as AreExchangedInOrder, LackAtMostTheLast as LackAtMostOne}
 use Rattle.codec_laws.specs.alarms.Line.{Line, empty, more_taken, with_come, with_sent}
 use Rattle.codec_laws.specs.alarms.World.{IsPrefixOf, World, acks_after, after_ack_to_controller, after_ack_to_device, after_alarm, after_confirm, after_confirms, after_nack_to_device, after_raise, behind_all, happens, line_after, nacks_after}
 use Rattle.codec_laws.specs.alarms.World.{start as nothing_happened}
+use Rattle.controller_frames.specs.declared.record_request.RecordService.TheVariants as service
 use Rattle.controller_frames.specs.declared.setup.Setup.{Setup}
 use Rattle.controller_frames.specs.Heard.{Heard, Alarms}
 use Rattle.controller_frames.specs.Sent.{Sent, Confirms, Replies}
 use Rattle.controller_core.specs.Alarms.{ack_of, kept_alarm}
-use Rattle.controller_core.specs.Machine.{Turn, acks_in, brought, due_frames, flow_later, flowed, given, is_again, later, noticed, outputs_of, rated, requests_of, stays, stopped, taken, turned, where_due}
+use Rattle.controller_core.specs.Machine.{Turn, acks_in, brought, due_frames, flow_later, flowed, given, is_again, later, noticed, outputs_of, pending_by, rated, requested, requests_of, stays, stopped, taken, turned, where_due, written}
 use Rattle.controller_core.specs.State.{Live}
-use Rattle.end_laws.specs.turns.Alarms.{AreTakenInOrder, LackAtMostTheLast, Move, Relation, Raises, PassesAtDevice, ComesToDevice, AlarmComes, AckComes, Hears, PassesAtController, Gives, GivesStatus, Stops, ShowsTheLast, ack_comes, alarm_comes, behind, behind_one, comes_to_device, hears, is_looked_at, last_of, passed_at_device, raised_by, replied_by, start, turns}
+use Rattle.end_laws.specs.turns.Alarms.{AreTakenInOrder, LackAtMostTheLast, Move, Relation, Raises, PassesAtDevice, ComesToDevice, AlarmComes, AckComes, Hears, PassesAtController, Gives, GivesStatus, Reads, Writes, Stops, ShowsTheLast, ack_comes, alarm_comes, behind, behind_one, comes_to_device, hears, is_looked_at, last_of, passed_at_device, raised_by, replied_by, start, turns}
 use Rattle.end_laws.specs.turns.Turns as came
-use Rattle.end_laws.proofs.TurnsInactive.{IsInactive, IsReply, IsThere, inactive_stays, requests_inactive, turn_inactive}
+use Rattle.end_laws.proofs.TurnsInactive.{IsInactive, IsReply, IsThere, inactive_stays, pending_inactive, requests_inactive, turn_inactive}
 
 -- ---- lists
 
@@ -87,8 +91,9 @@ module _ (pdus more_pdus : List (ℕ × AlarmAck)) (acks more_acks nacks more_na
   reply_stays header kind there = tt
 
   stays_there : (message : Sent) → IsThere pdus acks nacks message → IsThere more_pdus more_acks more_nacks message
-  stays_there (Confirms route header ack) there = (there.0, p there.0 (header.send_number, ack) there.1)
-  stays_there (Replies route header) there = reply_stays header header.kind there
+  stays_there (Confirms route High header ack) there = (there.0, p there.0 (header.send_number, ack) there.1)
+  stays_there (Replies route High header) there = reply_stays header header.kind there
+  stays_there (Replies route Low header) there = there
   stays_there message there = tt
 
   all_stay : (messages : List Sent) → AllByRecursion (IsThere pdus acks nacks) messages → AllByRecursion (IsThere more_pdus more_acks more_nacks) messages
@@ -210,9 +215,9 @@ replies_on r p header pdu.Nack there =
 replies_on r p header kind there = p
 
 confirms_on : (r : Relation) (p : IsPlayed r) (route : Route) (header : Header) (ack : AlarmAck)
-    → IsThere p.rest.confirms.pdus p.rest.acks p.rest.nacks (Confirms route header ack) → IsPlayed (comes_to_device r (Some (Confirms route header ack)))
+    → IsThere p.rest.confirms.pdus p.rest.acks p.rest.nacks (Confirms route High header ack) → IsPlayed (comes_to_device r (Some (Confirms route High header ack)))
 confirms_on r p route header ack there =
-    goes_on r p (happening.ConfirmComes there.0 ∷ []) (comes_to_device r (Some (Confirms route header ack)))
+    goes_on r p (happening.ConfirmComes there.0 ∷ []) (comes_to_device r (Some (Confirms route High header ack)))
     (record p.rest {
       confirms = with_come p.rest.confirms r.device.seen (header.send_number, ack);
       others = nacks_after p.rest.others header.send_number (taken_as r.device.seen header.send_number);
@@ -220,8 +225,9 @@ confirms_on r p route header ack there =
     (ap (after_confirms (world_of r p.rest)) there.1) p.reported p.same p.shown
 
 message_on : (r : Relation) (p : IsPlayed r) (message : Sent) → IsThere p.rest.confirms.pdus p.rest.acks p.rest.nacks message → IsPlayed (comes_to_device r (Some message))
-message_on r p (Confirms route header ack) there = confirms_on r p route header ack there
-message_on r p (Replies route header) there = replies_on r p header header.kind there
+message_on r p (Confirms route High header ack) there = confirms_on r p route header ack there
+message_on r p (Replies route High header) there = replies_on r p header header.kind there
+message_on r p (Replies route Low header) there = absurd there
 message_on r p message there = p
 
 comes_on : (r : Relation) (p : IsPlayed r) (place : ℕ) (message : Option Sent) → slice_get r.reported place ≡ message → IsPlayed (comes_to_device r message)
@@ -255,7 +261,7 @@ abbrev seeing : Live → Option ℕ → Live
 seeing live seen = record live { alarms = record live.alarms { seen = seen } }
 
 abbrev taken_now : Relation → AlarmNotification → Taken → Option ℕ → Relation
-taken_now r alarm as_what seen = record (turns r (taken (seeing r.live seen) alarm as_what)) {
+taken_now r alarm as_what seen = record (turns r (taken (seeing r.live seen) (ours alarm) as_what)) {
   alarms = record r.alarms { taken = more_taken r.alarms.taken alarm as_what };
 }
 
@@ -291,7 +297,7 @@ takes_on r p place number alarm New seen e fit =
     let longer = one_longer r.alarms.taken alarm in
     goes_on r p (happening.AlarmComes place ∷ happening.Confirm ack ∷ []) (taken_now r alarm New seen) rest
     (ap (λ (w : World). after_confirm w ack) e ∙ confirm_now (arrived r p.rest number alarm New seen) ack (omega (arith, longer, p.same)))
-    (all_behind (IsThere rest.confirms.pdus rest.acks rest.nacks) r.reported (taken (seeing r.live seen) alarm New).sent
+    (all_behind (IsThere rest.confirms.pdus rest.acks rest.nacks) r.reported (taken (seeing r.live seen) (ours alarm) New).sent
     (all_stay p.rest.confirms.pdus rest.confirms.pdus p.rest.acks rest.acks p.rest.nacks rest.nacks
     (one_more p.rest.confirms.pdus (sent_as, ack)) (one_more p.rest.acks number) (unchanged p.rest.nacks) r.reported p.reported)
     ((length p.rest.acks, at_end p.rest.acks number ∙ ap (λ (n : ℕ). Some n) (sym fit)), ((length p.rest.confirms.pdus, at_end p.rest.confirms.pdus (sent_as, ack)), tt)))
@@ -300,7 +306,7 @@ takes_on r p place number alarm New seen e fit =
 takes_on r p place number alarm Again seen e fit =
     let rest = record p.rest { acks = p.rest.acks ++ number ∷ [] } in
     goes_on r p (happening.AlarmComes place ∷ []) (taken_now r alarm Again seen) rest e
-    (all_behind (IsThere rest.confirms.pdus rest.acks rest.nacks) r.reported (taken (seeing r.live seen) alarm Again).sent
+    (all_behind (IsThere rest.confirms.pdus rest.acks rest.nacks) r.reported (taken (seeing r.live seen) (ours alarm) Again).sent
     (all_stay p.rest.confirms.pdus rest.confirms.pdus p.rest.acks rest.acks p.rest.nacks rest.nacks
     (unchanged p.rest.confirms.pdus) (one_more p.rest.acks number) (unchanged p.rest.nacks) r.reported p.reported)
     ((length p.rest.acks, at_end p.rest.acks number ∙ ap (λ (n : ℕ). Some n) (sym fit)), tt))
@@ -308,7 +314,7 @@ takes_on r p place number alarm Again seen e fit =
 takes_on r p place number alarm Refused seen e fit =
     let rest = record p.rest { nacks = p.rest.nacks ++ number ∷ [] } in
     goes_on r p (happening.AlarmComes place ∷ []) (taken_now r alarm Refused seen) rest e
-    (all_behind (IsThere rest.confirms.pdus rest.acks rest.nacks) r.reported (taken (seeing r.live seen) alarm Refused).sent
+    (all_behind (IsThere rest.confirms.pdus rest.acks rest.nacks) r.reported (taken (seeing r.live seen) (ours alarm) Refused).sent
     (all_stay p.rest.confirms.pdus rest.confirms.pdus p.rest.acks rest.acks p.rest.nacks rest.nacks
     (unchanged p.rest.confirms.pdus) (unchanged p.rest.acks) (one_more p.rest.nacks number) r.reported p.reported)
     ((length p.rest.nacks, number, at_end p.rest.nacks number), tt))
@@ -316,7 +322,7 @@ takes_on r p place number alarm Refused seen e fit =
 
 -- It is handled, or not.
 looks_on : (r : Relation) (p : IsPlayed r) (place : ℕ) (data_is : ℕ × AlarmNotification) (is : Bool) → slice_get r.alarms.pdus place ≡ Some data_is
-    → IsPlayed (record (turns r (if is then noticed r.live (notice.Data data_is.0 data_is.1) else stays r.live)) {
+    → IsPlayed (record (turns r (if is then noticed r.live High (notice.Data data_is.0 (ours data_is.1)) else stays r.live)) {
       alarms = if is then with_come r.alarms r.live.alarms.seen data_is else r.alarms;
     })
 looks_on r p place data_is true there =
@@ -332,9 +338,9 @@ alarm_on r p source header place (Some data_is) there = looks_on r p place data_
 -- ---- an ACK arrives at the controller, or anything else
 
 acks_on : (r : Relation) (p : IsPlayed r) (place number : ℕ) (is : Bool) → slice_get r.acks place ≡ Some number
-    → IsPlayed (turns r (if is then noticed r.live (notice.Ack number) else stays r.live))
+    → IsPlayed (turns r (if is then noticed r.live High (notice.Ack number) else stays r.live))
 acks_on r p place number true there =
-    goes_on r p (happening.AckComesToController place ∷ []) (turns r (noticed r.live (notice.Ack number))) p.rest
+    goes_on r p (happening.AckComesToController place ∷ []) (turns r (noticed r.live High (notice.Ack number))) p.rest
     (ap (after_ack_to_controller (world_of r p.rest)) there)
     (all_behind (IsThere p.rest.confirms.pdus p.rest.acks p.rest.nacks) r.reported [] p.reported tt) p.same p.shown
 acks_on r p place number false there = inactive_on r (stays r.live) p (inactive_stays r.live)
@@ -345,68 +351,82 @@ ack_on r p source header place None there = p
 ack_on r p source header place (Some number) there = acks_on r p place number (is_looked_at r source header) there
 
 hears_on : (setup : Setup) (r : Relation) (p : IsPlayed r) (heard : Heard) → IsPlayed (hears setup r heard)
-hears_on setup r p (Alarms source header (notice.Data number alarm)) = p
-hears_on setup r p (Alarms source header (notice.Ack number)) = p
+hears_on setup r p (Alarms source under header (notice.Data number report)) = p
+hears_on setup r p (Alarms source under header (notice.Ack number)) = p
 hears_on setup r p heard = inactive_on r (turned setup r.live heard) p (turn_inactive setup r.live (came.Hears heard) tt)
 
 -- ---- a unit passes at the controller
 
 acks_part : (line : Line AlarmAck) (acks nacks : List ℕ) (live : Live) (ack : Option AlarmAck) (due_now : Due)
-    → AllByRecursion (IsThere (line_after line (send_number live.alarms.sending.last) ack due_now).pdus acks nacks) (where_due (is_again_due due_now) (acks_in live ack))
+    → AllByRecursion (IsThere (line_after line (send_number live.alarms.sending.last) ack due_now).pdus acks nacks) (where_due (is_again_due due_now) (acks_in live High ack))
 acks_part line acks nacks live ack due_is.Nothing = tt
 acks_part line acks nacks live None due_is.Again = tt
 acks_part line acks nacks live (Some ack) due_is.Again = ((length line.pdus, at_end line.pdus (send_number live.alarms.sending.last, ack)), tt)
 acks_part line acks nacks live ack due_is.Spent = tt
 
+low_part : (pdus : List (ℕ × AlarmAck)) (acks nacks : List ℕ) (live : Live) (ack : Option AlarmAck) (is : Bool) → AllByRecursion (IsThere pdus acks nacks) (where_due is (acks_in live Low ack))
+low_part pdus acks nacks live None true = tt
+low_part pdus acks nacks live (Some ack) true = (tt, tt)
+low_part pdus acks nacks live ack false = tt
+
 outputs_part : (pdus : List (ℕ × AlarmAck)) (acks nacks : List ℕ) (live : Live) (is : Bool) → AllByRecursion (IsThere pdus acks nacks) (where_due is (outputs_of live))
 outputs_part pdus acks nacks live true = (tt, tt)
 outputs_part pdus acks nacks live false = tt
 
-flows_on : (r : Relation) (p : IsPlayed r) (is_request : Bool) (due_now : Due) (reason : Option Abort)
+-- `due_now` is due of the alarms of high priority, `low` of those of low priority, and `either` of any.
+flows_on : (r : Relation) (p : IsPlayed r) (is_request : Bool) (due_now low either : Due) (reason : Option Abort)
     → happens (world_of r p.rest) happening.ControllerTick ≡ record (world_of r p.rest) {
       controller = controller_later r.live.alarms;
       confirms = line_after p.rest.confirms (send_number r.live.alarms.sending.last) r.live.alarms.confirming due_now;
     }
-    → IsPlayed (turns r (flowed (flow_later r.live) is_request (tick_by r.live.cyclic due_now reason) reason))
-flows_on r p is_request due_now (Some reason) e =
+    → IsPlayed (turns r (flowed (flow_later r.live) due_now low is_request (tick_by r.live.cyclic either reason) reason))
+flows_on r p is_request due_now low either (Some reason) e =
     let line = line_after p.rest.confirms (send_number r.live.alarms.sending.last) r.live.alarms.confirming due_now in
     let rest = record p.rest { confirms = line } in
-    goes_on r p (happening.ControllerTick ∷ []) (turns r (flowed (flow_later r.live) is_request (tick_by r.live.cyclic due_now (Some reason)) (Some reason))) rest e
-    (all_behind (IsThere line.pdus rest.acks rest.nacks) r.reported (flowed (flow_later r.live) is_request (tick_by r.live.cyclic due_now (Some reason)) (Some reason)).sent
+    goes_on r p (happening.ControllerTick ∷ []) (turns r (flowed (flow_later r.live) due_now low is_request (tick_by r.live.cyclic either (Some reason)) (Some reason))) rest e
+    (all_behind (IsThere line.pdus rest.acks rest.nacks) r.reported (flowed (flow_later r.live) due_now low is_request (tick_by r.live.cyclic either (Some reason)) (Some reason)).sent
     (all_stay p.rest.confirms.pdus line.pdus p.rest.acks rest.acks p.rest.nacks rest.nacks
     (lines_extend p.rest.confirms (send_number r.live.alarms.sending.last) r.live.alarms.confirming due_now) (unchanged p.rest.acks) (unchanged p.rest.nacks) r.reported p.reported)
     (tt, tt))
     (ap length (lines_same p.rest.confirms (send_number r.live.alarms.sending.last) r.live.alarms.confirming due_now) ∙ p.same) p.shown
-flows_on r p is_request due_now None e =
+flows_on r p is_request due_now low either None e =
     let line = line_after p.rest.confirms (send_number r.live.alarms.sending.last) r.live.alarms.confirming due_now in
     let rest = record p.rest { confirms = line } in
     let live = flow_later r.live in
-    let tick = tick_by r.live.cyclic due_now None in
-    goes_on r p (happening.ControllerTick ∷ []) (turns r (flowed live is_request tick None)) rest e
-    (all_behind (IsThere line.pdus rest.acks rest.nacks) r.reported (due_frames live tick.is_alarm is_request tick.is_cyclic)
+    let tick = tick_by r.live.cyclic either None in
+    let There = IsThere line.pdus rest.acks rest.nacks in
+    let high_acks = where_due (is_again_due due_now) (acks_in live High live.alarms.confirming) in
+    let low_acks = where_due (is_again_due low) (acks_in live Low live.low_alarms.confirming) in
+    let request = where_due is_request (pending_by live live.asked) in
+    let outputs = where_due tick.is_cyclic (outputs_of live) in
+    goes_on r p (happening.ControllerTick ∷ []) (turns r (flowed live due_now low is_request tick None)) rest e
+    (all_behind There r.reported (due_frames live (is_again_due due_now) (is_again_due low) is_request tick.is_cyclic)
     (all_stay p.rest.confirms.pdus line.pdus p.rest.acks rest.acks p.rest.nacks rest.nacks
     (lines_extend p.rest.confirms (send_number r.live.alarms.sending.last) r.live.alarms.confirming due_now) (unchanged p.rest.acks) (unchanged p.rest.nacks) r.reported p.reported)
-    (all_behind (IsThere line.pdus rest.acks rest.nacks) (where_due tick.is_alarm (acks_in live live.alarms.confirming))
-    (where_due is_request (requests_of live.device live.asked) ++ where_due tick.is_cyclic (outputs_of live))
+    (all_behind There high_acks (low_acks ++ (request ++ outputs))
     (acks_part p.rest.confirms rest.acks rest.nacks live r.live.alarms.confirming due_now)
-    (all_behind (IsThere line.pdus rest.acks rest.nacks) (where_due is_request (requests_of live.device live.asked)) (where_due tick.is_cyclic (outputs_of live))
-    (requests_inactive line.pdus rest.acks rest.nacks live.device live.asked is_request)
-    (outputs_part line.pdus rest.acks rest.nacks live tick.is_cyclic))))
+    (all_behind There low_acks (request ++ outputs)
+    (low_part line.pdus rest.acks rest.nacks live live.low_alarms.confirming (is_again_due low))
+    (all_behind There request outputs
+    (pending_inactive line.pdus rest.acks rest.nacks live live.asked is_request)
+    (outputs_part line.pdus rest.acks rest.nacks live tick.is_cyclic)))))
     (ap length (lines_same p.rest.confirms (send_number r.live.alarms.sending.last) r.live.alarms.confirming due_now) ∙ p.same) p.shown
 
 -- The reason of a tick is the one from which it was made.
-reason_is : (r : Relation) (due_now : Due) (reason : Option Abort) → (tick_by r.live.cyclic due_now reason).ending ≡ reason
-reason_is r due_now (Some reason) = refl
-reason_is r due_now None = refl
+reason_is : (r : Relation) (either : Due) (reason : Option Abort) → (tick_by r.live.cyclic either reason).ending ≡ reason
+reason_is r either (Some reason) = refl
+reason_is r either None = refl
 
 stands_on : (r : Relation) (p : IsPlayed r) (is : Bool)
-    → IsPlayed (turns r (if is then flowed (flow_later r.live) (is_again r.live) (brought r.live) (brought r.live).ending
+    → IsPlayed (turns r (if is then flowed (flow_later r.live) (due r.live.alarms.sending) (due r.live.low_alarms.sending) (is_again r.live) (brought r.live) (brought r.live).ending
     else record { live = later r.live; sent = where_due (is_again r.live) (requests_of r.live.device r.live.asked) }))
 stands_on r p true =
-    let due_now = due r.live.alarms.sending in
-    let reason = ending_of r.live.cyclic due_now in
-    subst (λ (o : Option Abort). IsPlayed (turns r (flowed (flow_later r.live) (is_again r.live) (tick_by r.live.cyclic due_now reason) o))) (sym (reason_is r due_now reason))
-    (flows_on r p (is_again r.live) due_now reason refl)
+    let high = due r.live.alarms.sending in
+    let low = due r.live.low_alarms.sending in
+    let either = either_due high low in
+    let reason = ending_of r.live.cyclic either in
+    subst (λ (o : Option Abort). IsPlayed (turns r (flowed (flow_later r.live) high low (is_again r.live) (tick_by r.live.cyclic either reason) o))) (sym (reason_is r either reason))
+    (flows_on r p (is_again r.live) high low either reason refl)
 stands_on r p false =
     inactive_on r (record { live = later r.live; sent = where_due (is_again r.live) (requests_of r.live.device r.live.asked) }) p
     (record { alarms = refl; alarm = refl; sent = λ pdus acks nacks. requests_inactive pdus acks nacks r.live.device r.live.asked (is_again r.live) })
@@ -425,6 +445,10 @@ one_on setup r (Gives slot subslot value) p =
     inactive_on r (stays (given r.live slot subslot value)) p (record { alarms = refl; alarm = refl; sent = λ pdus acks nacks. tt })
 one_on setup r (GivesStatus slot subslot is_good) p =
     inactive_on r (stays (rated r.live slot subslot is_good)) p (record { alarms = refl; alarm = refl; sent = λ pdus acks nacks. tt })
+one_on setup r (Reads slot subslot index) p =
+    inactive_on r (requested setup r.live service.Read slot subslot index []) p (turn_inactive setup r.live (came.AsksRead slot subslot index) tt)
+one_on setup r (Writes slot subslot index octets) p =
+    inactive_on r (written setup r.live slot subslot index octets) p (turn_inactive setup r.live (came.AsksWrite slot subslot index octets) tt)
 one_on setup r Stops p = inactive_on r (stopped setup r.live r.live.phase) p (turn_inactive setup r.live came.Halts tt)
 
 all_on : (setup : Setup) (moves : List Move) (r : Relation) → IsPlayed r → IsPlayed (behind setup moves r)

@@ -1,25 +1,30 @@
 -- What a controller that ended receives, and what it sends.
-use Rattle.std.proofs.Common.{◌≡◌, ◌⊎◌, inl, inr, ◌++◌, ℕ, Bool, true, false, List, [], ◌∷◌, map, Option, Some, None, refl, sym, ap, subst, ◌∙◌}
-use Rattle.std.specs.Prelude.{if◌then◌else◌}
+use Rattle.std.proofs.Common.{◌≡◌, ◌⊎◌, inl, inr, ◌&&◌, ◌++◌, ℕ, Bool, true, false, not, List, [], ◌∷◌, length, map, Option, Some, None, refl, sym, ap, subst, ◌∙◌}
+use Rattle.std.specs.Prelude.{if◌then◌else◌, is_some, nat_lt}
 use Rattle.std.proofs.lemmas.Bool.{false≢true}
 use Rattle.std.specs.List.{AllByRecursion}
 use Rattle.pn_values.specs.declared.mac.Mac.{Mac}
+use Rattle.controller_frames.specs.declared.record_request.RecordRequest.{RecordRequest}
+use Rattle.controller_frames.specs.declared.record_request.RecordService.{RecordService}
+use Rattle.controller_frames.specs.declared.record_request.RecordService.TheVariants as service
 use Rattle.controller_frames.specs.declared.setup.Setup.{Setup}
 use Rattle.controller_frames.specs.declared.request.Request.{Request}
 use Rattle.controller_frames.specs.declared.request.Request.TheVariants as asks
 use Rattle.controller_frames.specs.Heard.{Heard, heard_of}
+use Rattle.controller_frames.specs.RecordRequests.{most_record_octets}
 use Rattle.controller_frames.specs.Sent.{bytes_of}
+use Rattle.pn_alarms.specs.Sending.{due}
 use Rattle.controller_core.specs.declared.event.Event.{Event}
-use Rattle.controller_core.specs.declared.event.Event.TheVariants.{Frame, Tick, Give, Status, Stop}
+use Rattle.controller_core.specs.declared.event.Event.TheVariants.{Frame, Tick, Give, Status, Read, Write, Stop}
 use Rattle.controller_core.specs.declared.state.Cause.{Cause}
 use Rattle.controller_core.specs.declared.state.State.{State}
 use Rattle.controller_core.specs.declared.state.State.TheVariants.{Looking, Addressing, Ending, Waiting, Exchanging, Ended}
 use Rattle.controller_core.specs.State.{Controlling, Live, with_live}
-use Rattle.controller_core.specs.Machine.{Turn, flow_later, flowed, brought, is_again, later, requests_of, stays, step_of, stopped, ticked, turned}
+use Rattle.controller_core.specs.Machine.{Turn, accessing, flow_later, flowed, brought, is_again, is_exchanging, later, request_for, requested, requests_of, stays, step_of, stopped, ticked, turned, written}
 use Rattle.controller_core.specs.Machine.{where_due as sent_where_due}
 use Rattle.end_laws.specs.turns.Runs.{frames_of}
 use Rattle.end_laws.specs.turns.Ended.{CountsUnits, DropsWhatComes, HasEnded, IsReleased, IsDropped, IsOnlySet, IsSilent, KeepsItsCause, RepeatsItsRelease, is_unit, may_release, release_in, release_of, where_due}
-use Rattle.end_laws.specs.turns.Turns.{Hears, Passes, Gets, GetsStatus, IsEnd, IsKind, IsReported, Kind, Rests, Connects, Addresses, Ends, Releases, Relates, Writes, Skips, Waits, Forgets, Begins, Repeats, Follows, Takes, IsAcked, Gives, GivesStatus, Flows, Breaks, Idles, turn_by}
+use Rattle.end_laws.specs.turns.Turns.{Hears, Passes, Gets, GetsStatus, IsEnd, IsKind, IsReported, Kind, Rests, Connects, Addresses, Ends, Releases, Relates, Writes, Skips, Waits, Forgets, Begins, Repeats, Follows, Takes, IsAcked, Gives, GivesStatus, Asks, IsReplied, Flows, Breaks, Idles, turn_by}
 use Rattle.end_laws.proofs.TurnsOneTurn.{is_over, is_release, not_over, turn_is, unreported}
 use Rattle.end_laws.proofs.TurnsWhole.{reached_on, whole_end}
 
@@ -54,6 +59,9 @@ module _ (setup : Setup) (live : Live) (heard : Heard) (cause : Cause) (h : IsEn
   not_status : (slot subslot : ℕ) (is_good : Bool) → Hears heard ≡ GetsStatus slot subslot is_good → ⊥
   not_status slot subslot is_good e = cc
 
+  none_waits : (request : RecordRequest) → None ≡ Some request → ⊥
+  none_waits request e = cc
+
   not_passes : Hears heard ≡ Passes → ⊥
   not_passes e = cc
 
@@ -71,10 +79,12 @@ module _ (setup : Setup) (live : Live) (heard : Heard) (cause : Cause) (h : IsEn
   unmoved_by (Begins caller call block) holds = absurd (either_phase Ending Waiting refl refl holds.0)
   unmoved_by (Repeats caller call block) holds = absurd (other_phase Exchanging refl holds.0)
   unmoved_by (Follows source frame_id body) holds = absurd (up_not holds)
-  unmoved_by (Takes number alarm) holds = absurd (up_not holds.0)
-  unmoved_by (IsAcked number) holds = absurd (up_not holds.0)
+  unmoved_by (Takes number report) holds = absurd (up_not holds.0)
+  unmoved_by (IsAcked priority number) holds = absurd (up_not holds.0)
   unmoved_by (Gives slot subslot value) holds = absurd (not_gets slot subslot value holds)
   unmoved_by (GivesStatus slot subslot is_good) holds = absurd (not_status slot subslot is_good holds)
+  unmoved_by (Asks request octets) holds = absurd (other_phase Exchanging refl holds.0)
+  unmoved_by (IsReplied refusal access) holds = absurd (none_waits holds.3 (sym h.idle ∙ holds.4))
   unmoved_by Flows holds = absurd (not_passes holds.0)
   unmoved_by (Breaks reason) holds = absurd (not_passes holds.0)
   unmoved_by Idles holds = absurd (not_passes holds.0)
@@ -89,13 +99,28 @@ heard_as setup live heard cause h =
 stopped_as : (setup : Setup) (live : Live) (cause : Cause) → live.phase ≡ Ended cause → stopped setup live live.phase ≡ stays live
 stopped_as setup live cause e = ap (λ (phase : State). stopped setup live phase) e
 
+-- A request of the application is dropped.
+requested_as : (setup : Setup) (live : Live) (cause : Cause) (kind : RecordService) (slot subslot index : ℕ) (octets : List ℕ) → live.phase ≡ Ended cause
+    → requested setup live kind slot subslot index octets ≡ stays live
+requested_as setup live cause kind slot subslot index octets e =
+    ap (λ (phase : State). if is_exchanging phase && not (is_some live.access.waiting)
+    then accessing (request_for setup live kind slot subslot index) octets live else stays live) e
+
+written_as : (setup : Setup) (live : Live) (cause : Cause) (slot subslot index : ℕ) (octets : List ℕ) → live.phase ≡ Ended cause
+    → written setup live slot subslot index octets ≡ stays live
+written_as setup live cause slot subslot index octets e = by_length (nat_lt most_record_octets (length octets))
+  where
+    by_length : (is : Bool) → (if is then stays live else requested setup live service.Write slot subslot index octets) ≡ stays live
+    by_length true = refl
+    by_length false = requested_as setup live cause service.Write slot subslot index octets e
+
 -- A unit of a controller that has no relation.
 abbrev unit_of : Live → Turn
 unit_of live = record { live = later live; sent = sent_where_due (is_again live) (requests_of live.device live.asked) }
 
 ticked_as : (live : Live) → live.stands ≡ false → ticked live ≡ unit_of live
 ticked_as live down =
-    ap (λ (is : Bool). if is then flowed (flow_later live) (is_again live) (brought live) (brought live).ending else unit_of live) down
+    ap (λ (is : Bool). if is then flowed (flow_later live) (due live.alarms.sending) (due live.low_alarms.sending) (is_again live) (brought live) (brought live).ending else unit_of live) down
 
 unit_frames : (setup : Setup) (device : Mac) (asked : Option Request) (is : Bool) (cause : Cause) → IsReported cause asked
     → map (bytes_of setup) (sent_where_due is (requests_of device asked)) ≡ where_due is (release_in setup device asked)
@@ -129,6 +154,16 @@ drops controller cause (Frame bytes) h other =
 drops controller cause Tick h other = absurd (no_unit other)
 drops controller cause (Give slot subslot value) h other = (refl, refl)
 drops controller cause (Status slot subslot is_good) h other = (refl, refl)
+drops controller cause (Read slot subslot index) h other =
+    let stays_so = requested_as controller.setup controller.live cause service.Read slot subslot index [] h.phase in (
+      ap (λ (t : Turn). map (bytes_of controller.setup) t.sent) stays_so,
+      ap (λ (t : Turn). t.live) stays_so,
+    )
+drops controller cause (Write slot subslot index octets) h other =
+    let stays_so = written_as controller.setup controller.live cause slot subslot index octets.items h.phase in (
+      ap (λ (t : Turn). map (bytes_of controller.setup) t.sent) stays_so,
+      ap (λ (t : Turn). t.live) stays_so,
+    )
 drops controller cause Stop h other =
     let stays_so = stopped_as controller.setup controller.live cause h.phase in (
       ap (λ (t : Turn). map (bytes_of controller.setup) t.sent) stays_so,
@@ -181,6 +216,10 @@ left controller cause (Give slot subslot value) h =
     given_left controller.setup controller.live (step_of controller (Give slot subslot value)).controller.live (drops controller cause (Give slot subslot value) h refl).1
 left controller cause (Status slot subslot is_good) h =
     given_left controller.setup controller.live (step_of controller (Status slot subslot is_good)).controller.live (drops controller cause (Status slot subslot is_good) h refl).1
+left controller cause (Read slot subslot index) h =
+    same_left controller.setup controller.live (step_of controller (Read slot subslot index)).controller.live (drops controller cause (Read slot subslot index) h refl).1
+left controller cause (Write slot subslot index octets) h =
+    same_left controller.setup controller.live (step_of controller (Write slot subslot index octets)).controller.live (drops controller cause (Write slot subslot index octets) h refl).1
 left controller cause Stop h = same_left controller.setup controller.live (step_of controller Stop).controller.live (drops controller cause Stop h refl).1
 
 ended_on : (controller : Controlling) (cause : Cause) (event : Event) → HasEnded cause controller → HasEnded cause (step_of controller event).controller
@@ -209,6 +248,10 @@ sent_are controller cause (Give slot subslot value) h =
     none_are (release_of controller) (step_of controller (Give slot subslot value)).frames (drops controller cause (Give slot subslot value) h refl).0
 sent_are controller cause (Status slot subslot is_good) h =
     none_are (release_of controller) (step_of controller (Status slot subslot is_good)).frames (drops controller cause (Status slot subslot is_good) h refl).0
+sent_are controller cause (Read slot subslot index) h =
+    none_are (release_of controller) (step_of controller (Read slot subslot index)).frames (drops controller cause (Read slot subslot index) h refl).0
+sent_are controller cause (Write slot subslot index octets) h =
+    none_are (release_of controller) (step_of controller (Write slot subslot index octets)).frames (drops controller cause (Write slot subslot index octets) h refl).0
 sent_are controller cause Stop h = none_are (release_of controller) (step_of controller Stop).frames (drops controller cause Stop h refl).0
 
 some_none : (frame : List ℕ) → Some frame ≡ None → ⊥

@@ -8,13 +8,15 @@ use Rattle.pn_alarms.specs.declared.message.Notice.TheVariants as notice
 use Rattle.pn_alarms.specs.declared.pdu.Header.{Header}
 use Rattle.pn_alarms.specs.declared.pdu.PduType.{PduType}
 use Rattle.pn_alarms.specs.declared.pdu.PduType.TheVariants as pdu
+use Rattle.pn_alarms.specs.declared.priority.Priority.TheVariants.{High, Low}
+use Rattle.controller_frames.specs.declared.record_request.RecordRequest.{RecordRequest}
 use Rattle.controller_frames.specs.declared.setup.Setup.{Setup}
 use Rattle.controller_frames.specs.declared.request.Request.{Request}
 use Rattle.controller_frames.specs.Heard.{Alarms}
 use Rattle.controller_frames.specs.Sent.{Sent, Confirms, Replies}
 use Rattle.controller_core.specs.State.{Live}
-use Rattle.controller_core.specs.Machine.{Turn, requests_of, stays, where_due}
-use Rattle.end_laws.specs.turns.Turns.{Came, Hears, Passes, IsKind, Kind, Rests, Connects, Addresses, Ends, Releases, Relates, Writes, Skips, Waits, Forgets, Begins, Repeats, Follows, Takes, IsAcked, Gives, GivesStatus, Flows, Breaks, Idles, turn_by, turn_for}
+use Rattle.controller_core.specs.Machine.{Turn, accesses_by, pending_by, requests_of, stays, where_due}
+use Rattle.end_laws.specs.turns.Turns.{Came, Hears, Passes, IsKind, Kind, Rests, Connects, Addresses, Ends, Releases, Relates, Writes, Skips, Waits, Forgets, Begins, Repeats, Follows, Takes, IsAcked, Gives, GivesStatus, Asks, IsReplied, Flows, Breaks, Idles, turn_by, turn_for}
 use Rattle.end_laws.proofs.TurnsOneTurn.{turn_is}
 
 -- ---- whether a message is of what either end of an exchange sent
@@ -24,10 +26,12 @@ IsReply acks nacks header pdu.Ack = (k : ℕ) × (slice_get acks k ≡ Some head
 IsReply acks nacks header pdu.Nack = (k : ℕ) × (number : ℕ) × (slice_get nacks k ≡ Some number)
 IsReply acks nacks header kind = Unit {0}
 
--- An AlarmAck is among these PDUs, an ACK and a NACK among these. Any other message does not concern alarms.
+-- An AlarmAck of high priority is among these PDUs, an ACK and a NACK among these, and none is of low priority, since the
+-- device sends no alarm of low priority. Any other message does not concern alarms.
 abbrev pub IsThere : List (ℕ × AlarmAck) → List ℕ → List ℕ → Sent → Type 0
-IsThere pdus acks nacks (Confirms route header ack) = (k : ℕ) × (slice_get pdus k ≡ Some (header.send_number, ack))
-IsThere pdus acks nacks (Replies route header) = IsReply acks nacks header header.kind
+IsThere pdus acks nacks (Confirms route High header ack) = (k : ℕ) × (slice_get pdus k ≡ Some (header.send_number, ack))
+IsThere pdus acks nacks (Replies route High header) = IsReply acks nacks header header.kind
+IsThere pdus acks nacks (Replies route Low header) = ⊥
 IsThere pdus acks nacks message = Unit {0}
 
 -- ---- a turn
@@ -42,8 +46,8 @@ inactive_stays live = record { alarms = refl; alarm = refl; sent = λ pdus acks 
 
 -- What does not concern the active alarms: neither an alarm, nor an ACK, nor a unit.
 abbrev pub IsPlain : Came → Type 0
-IsPlain (Hears (Alarms source header (notice.Data number alarm))) = ⊥
-IsPlain (Hears (Alarms source header (notice.Ack number))) = ⊥
+IsPlain (Hears (Alarms source under header (notice.Data number report))) = ⊥
+IsPlain (Hears (Alarms source under header (notice.Ack number))) = ⊥
 IsPlain Passes = ⊥
 IsPlain _ = Unit {0}
 
@@ -66,10 +70,12 @@ module _ (setup : Setup) (live : Live) (came : Came) (plain : IsPlain came) wher
   inactive_by (Begins caller call block) holds = record { alarms = refl; alarm = refl; sent = λ pdus acks nacks. (tt, tt) }
   inactive_by (Repeats caller call block) holds = record { alarms = refl; alarm = refl; sent = λ pdus acks nacks. (tt, tt) }
   inactive_by (Follows source frame_id body) holds = record { alarms = refl; alarm = refl; sent = λ pdus acks nacks. tt }
-  inactive_by (Takes number alarm) holds = absurd (not_so (Hears (Alarms holds.1 holds.2 (notice.Data number alarm))) (λ none. none) holds.3)
-  inactive_by (IsAcked number) holds = absurd (not_so (Hears (Alarms holds.1 holds.2 (notice.Ack number))) (λ none. none) holds.3)
+  inactive_by (Takes number report) holds = absurd (not_so (Hears (Alarms holds.1 holds.2 holds.3 (notice.Data number report))) (λ none. none) holds.4)
+  inactive_by (IsAcked priority number) holds = absurd (not_so (Hears (Alarms holds.1 holds.2 holds.3 (notice.Ack number))) (λ none. none) holds.4)
   inactive_by (Gives slot subslot value) holds = record { alarms = refl; alarm = refl; sent = λ pdus acks nacks. tt }
   inactive_by (GivesStatus slot subslot is_good) holds = record { alarms = refl; alarm = refl; sent = λ pdus acks nacks. tt }
+  inactive_by (Asks request octets) holds = record { alarms = refl; alarm = refl; sent = λ pdus acks nacks. (tt, tt) }
+  inactive_by (IsReplied refusal access) holds = record { alarms = refl; alarm = refl; sent = λ pdus acks nacks. tt }
   inactive_by Flows holds = absurd (not_so Passes (λ none. none) holds.0)
   inactive_by (Breaks reason) holds = absurd (not_so Passes (λ none. none) holds.0)
   inactive_by Idles holds = absurd (not_so Passes (λ none. none) holds.0)
@@ -87,3 +93,14 @@ requests_inactive pdus acks nacks device None true = tt
 requests_inactive pdus acks nacks device None false = tt
 requests_inactive pdus acks nacks device (Some request) true = (tt, tt)
 requests_inactive pdus acks nacks device (Some request) false = tt
+
+accesses_inactive : (pdus : List (ℕ × AlarmAck)) (acks nacks : List ℕ) (device : Mac) (octets : List ℕ) (waiting : Option RecordRequest)
+    → AllByRecursion (IsThere pdus acks nacks) (accesses_by device octets waiting)
+accesses_inactive pdus acks nacks device octets None = tt
+accesses_inactive pdus acks nacks device octets (Some request) = (tt, tt)
+
+pub pending_inactive : (pdus : List (ℕ × AlarmAck)) (acks nacks : List ℕ) (live : Live) (asked : Option Request) (is : Bool)
+    → AllByRecursion (IsThere pdus acks nacks) (where_due is (pending_by live asked))
+pending_inactive pdus acks nacks live asked false = tt
+pending_inactive pdus acks nacks live (Some request) true = (tt, tt)
+pending_inactive pdus acks nacks live None true = accesses_inactive pdus acks nacks live.device live.access.octets live.access.waiting

@@ -1,37 +1,47 @@
 -- Each turn of a controller is of one of the kinds.
-use Rattle.std.proofs.Common.{◌≡◌, inl, inr, ◌&&◌, ℕ, Bool, true, false, List, Option, Some, None, refl, sym, ap, subst, ◌∙◌}
-use Rattle.std.specs.Prelude.{if◌then◌else◌, option_and_then}
-use Rattle.std.proofs.lemmas.Bool.{and_parts, false≢true}
+use Rattle.std.proofs.Common.{◌≡◌, inl, inr, ◌≤◌, ◌&&◌, ℕ, Bool, true, false, not, List, [], length, Option, Some, None, refl, sym, ap, subst, ◌∙◌, arith}
+use Rattle.std.specs.Prelude.{if◌then◌else◌, is_some, nat_lt, option_and_then}
+use Rattle.std.proofs.lemmas.Bool.{and_parts, false≢true, ltb-false}
 use Rattle.pn_values.specs.declared.mac.Mac.{Mac}
 use Rattle.frame_codec.specs.declared.udp.Caller.{Caller}
 use Rattle.dcp_core.specs.Response.{Answered}
 use Rattle.dcp_core.specs.Answered.{is_agreed}
+use Rattle.rpc_core.specs.declared.response.Status.{Status as Code}
 use Rattle.rpc_core.specs.Call.{Asked as Call}
 use Rattle.rpc_core.specs.Response.{Answered as Response, is_done}
 use Rattle.connect_blocks.specs.declared.control.ControlBlock.{ControlBlock}
+use Rattle.block_codec.specs.Block.{block_of}
 use Rattle.pn_alarms.specs.declared.abort.Abort.{Abort}
 use Rattle.pn_alarms.specs.declared.message.Notice.TheVariants as notice
 use Rattle.pn_alarms.specs.declared.pdu.Header.{Header}
+use Rattle.pn_alarms.specs.declared.priority.Priority.{Priority}
 use Rattle.pn_alarms.specs.Message.{ToController}
+use Rattle.pn_alarms.specs.Sending.{due}
 use Rattle.cyclic_exchange.specs.Received.{behind_frame}
+use Rattle.controller_frames.specs.declared.record_request.RecordRequest.{RecordRequest}
+use Rattle.controller_frames.specs.declared.record_request.RecordService.{RecordService}
+use Rattle.controller_frames.specs.declared.record_request.RecordService.TheVariants as service
 use Rattle.controller_frames.specs.declared.refusal.Refusal.{Refusal}
 use Rattle.controller_frames.specs.declared.setup.Setup.{Setup}
 use Rattle.controller_frames.specs.declared.request.Request.{Request}
 use Rattle.controller_frames.specs.declared.request.Request.TheVariants as asks
 use Rattle.controller_frames.specs.Heard.{Heard, Nothing, Answers, Responds, Refuses, Calls, Alarms, heard_of}
 use Rattle.controller_frames.specs.Heard.{Cyclic as Comes}
+use Rattle.controller_frames.specs.RecordRequests.{most_record_octets}
+use Rattle.controller_frames.specs.Sent.{done as no_error}
 use Rattle.controller_core.specs.declared.event.Event.{Event}
-use Rattle.controller_core.specs.declared.event.Event.TheVariants.{Frame, Tick, Give, Status, Stop}
+use Rattle.controller_core.specs.declared.event.Event.TheVariants.{Frame, Tick, Give, Status, Read, Write, Stop}
 use Rattle.controller_core.specs.declared.state.Cause.{Cause}
 use Rattle.controller_core.specs.declared.state.Cause.TheVariants as why
 use Rattle.controller_core.specs.declared.state.State.{State}
 use Rattle.controller_core.specs.declared.state.State.TheVariants.{Looking, Addressing, Ending, Waiting, Exchanging, Ended}
 use Rattle.controller_core.specs.State.{Live}
+use Rattle.controller_core.specs.Access.{answered_with, is_rejected, is_reply, record_in}
 use Rattle.controller_core.specs.Alarms.{is_alarm}
 use Rattle.controller_core.specs.Answers.{is_addressed, is_answer, is_found, is_ready, is_refused, is_right, is_set_answer}
 use Rattle.controller_core.specs.Connect.{Chosen, chosen_of, found_in, is_whole, nothing}
-use Rattle.controller_core.specs.Machine.{Turn, answered, brought, called, connected, decided, done, flow_later, flowed, is_again, handled, later, noticed, readied, ready_in, past_record, refused, refused_by, related_by, requests_of, responded, stays, stopped, turn_of, turned, undone, noted, over, where_due, writing}
-use Rattle.end_laws.specs.turns.Turns.{Came, Hears, Passes, Gets, GetsStatus, Halts, Found, IsGoing, IsGranted, IsKind, IsReadied, IsSought, IsReported, IsTurn, Kind, Rests, Connects, Addresses, Ends, Releases, Relates, Writes, Skips, Waits, Forgets, Begins, Repeats, Follows, Takes, IsAcked, Gives, GivesStatus, Flows, Breaks, Idles, came_by, chosen_in, turn_by, turn_for}
+use Rattle.controller_core.specs.Machine.{Turn, acked_under, answered, brings, brought, called, can_request, connected, decided, done, failed, flow_later, flowed, granted, is_again, is_exchanging, handled, later, noticed, readied, ready_in, past_record, refused, refused_by, rejected, related_by, replied, replied_by, request_for, requested, requests_of, responded, stays, stopped, turn_of, turned, undone, noted, where_due, written}
+use Rattle.end_laws.specs.turns.Turns.{Came, Hears, Passes, Gets, GetsStatus, AsksRead, AsksWrite, Halts, Found, IsGoing, IsGranted, IsKind, IsReadied, IsSought, IsReported, IsTurn, Kind, Rests, Connects, Addresses, Ends, Releases, Relates, Writes, Skips, Waits, Forgets, Begins, Repeats, Follows, Takes, IsAcked, Gives, GivesStatus, Asks, IsReplied, Flows, Breaks, Idles, came_by, chosen_in, turn_by, turn_for}
 
 -- No other phase is an end.
 abbrev pub is_over : State → Bool
@@ -163,9 +173,35 @@ module _ (setup : Setup) (live : Live) where
     decided_is (asks.Release sequence) stood right = forgets sequence stood right
     decided_is request stood right = handled_is request stood right refl
 
+    -- of a request of the application
+    module _ (stood : live.asked ≡ None) (request : RecordRequest) (waits : live.access.waiting ≡ Some request) where
+      replies : (refusal : Option Code) (code : Code) (octets : List ℕ)
+          → IsTurn setup live heard_now (stays (record live { refusal = refusal; access = answered_with request code octets live.access }))
+      replies refusal code octets = as_kind heard_now (IsReplied refusal (answered_with request code octets live.access)) (stood, refl, refl, request, waits)
+
+      brings_is : (octets : Option (List ℕ)) → IsTurn setup live heard_now (stays (brings request octets live))
+      brings_is (Some octets) = replies live.refusal no_error octets
+      brings_is None = rests heard_now
+
+      granted_is : (kind : RecordService) → IsTurn setup live heard_now (stays (granted request response.blocks kind live))
+      granted_is service.Read = brings_is (record_in (block_of response.blocks))
+      granted_is service.Write = replies live.refusal no_error []
+
+      by_status : (is : Bool) → IsTurn setup live heard_now (stays (if is then granted request response.blocks request.service live else failed response.status request live))
+      by_status true = granted_is request.service
+      by_status false = replies (Some response.status) response.status []
+
+      by_header : (is : Bool) → IsTurn setup live heard_now (stays (if is then replied_by live response request else live))
+      by_header true = by_status (is_done response.status)
+      by_header false = rests heard_now
+
+    replied_is : (waiting : Option RecordRequest) → live.asked ≡ None → live.access.waiting ≡ waiting → IsTurn setup live heard_now (stays (replied setup live response waiting))
+    replied_is (Some request) stood waits = by_header stood request waits (is_reply setup request response.header)
+    replied_is None stood waits = rests heard_now
+
     responded_is : (asked : Option Request) → live.asked ≡ asked → IsTurn setup live heard_now (responded setup live response asked)
     responded_is (Some request) stood = if_so (is_answer setup request response.header) (λ right. decided_is request stood right) (rests heard_now)
-    responded_is None stood = rests heard_now
+    responded_is None stood = replied_is live.access.waiting stood refl
 
   -- ---- rejects and faults
 
@@ -176,10 +212,20 @@ module _ (setup : Setup) (live : Live) where
       (Refuses refusal, refl, inr (record { refusal = refusal; sequence = sequence; stood = stood; comes = refl; right = right }))
   refused_by_is refusal request stood right = as_kind (Hears (Refuses refusal)) (Ends why.Refused (Some refusal.status) live.refused_record) (asked_going request stood refl)
 
+  rejected_is : (refusal : Refusal) (waiting : Option RecordRequest) → live.asked ≡ None → live.access.waiting ≡ waiting
+      → IsTurn setup live (Hears (Refuses refusal)) (stays (rejected setup live refusal waiting))
+  rejected_is refusal None stood waits = rests (Hears (Refuses refusal))
+  rejected_is refusal (Some request) stood waits = by_header (is_rejected setup request refusal)
+    where
+      by_header : (is : Bool) → IsTurn setup live (Hears (Refuses refusal)) (stays (if is then failed refusal.status request live else live))
+      by_header true =
+          as_kind (Hears (Refuses refusal)) (IsReplied (Some refusal.status) (answered_with request refusal.status [] live.access)) (stood, refl, refl, request, waits)
+      by_header false = rests (Hears (Refuses refusal))
+
   refused_is : (refusal : Refusal) (asked : Option Request) → live.asked ≡ asked → IsTurn setup live (Hears (Refuses refusal)) (refused setup live refusal asked)
   refused_is refusal (Some request) stood =
       if_so (is_refused setup request refusal) (λ right. refused_by_is refusal request stood right) (rests (Hears (Refuses refusal)))
-  refused_is refusal None stood = rests (Hears (Refuses refusal))
+  refused_is refusal None stood = rejected_is refusal live.access.waiting stood refl
 
   -- ---- ApplicationReady
 
@@ -198,11 +244,12 @@ module _ (setup : Setup) (live : Live) where
 
   -- ---- alarms, and cyclic frames
 
-  noticed_is : (source : Mac) (header : Header) (reported : ToController) → live.stands ≡ true → IsTurn setup live (Hears (Alarms source header reported)) (noticed live reported)
-  noticed_is source header (notice.Data number alarm) up = as_kind _ (Takes number alarm) (up, source, header, refl)
-  noticed_is source header (notice.Ack number) up = as_kind _ (IsAcked number) (up, source, header, refl)
-  noticed_is source header notice.Nack up = rests _
-  noticed_is source header notice.Abort up = as_kind _ (Ends why.Aborted live.refusal live.refused_record) (up_going up)
+  noticed_is : (source : Mac) (under : Priority) (header : Header) (reported : ToController) → live.stands ≡ true
+      → IsTurn setup live (Hears (Alarms source under header reported)) (noticed live under reported)
+  noticed_is source under header (notice.Data number report) up = as_kind _ (Takes number report) (up, source, under, header, refl)
+  noticed_is source under header (notice.Ack number) up = as_kind _ (IsAcked (acked_under live under) number) (up, source, under, header, refl, refl)
+  noticed_is source under header notice.Nack up = rests _
+  noticed_is source under header notice.Abort up = as_kind _ (Ends why.Aborted live.refusal live.refused_record) (up_going up)
 
   come_is : (source : Mac) (frame_id : ℕ) (body : List ℕ) (is : Bool) → live.stands ≡ is
       → IsTurn setup live (Hears (Comes source frame_id body)) (stays (if is then record live { cyclic = behind_frame live.cyclic source frame_id body } else live))
@@ -216,20 +263,20 @@ module _ (setup : Setup) (live : Live) where
   turned_is (Refuses refusal) = refused_is refusal live.asked refl
   turned_is (Calls caller call) = called_is caller call (ready_in call) refl
   turned_is (Comes source frame_id body) = come_is source frame_id body live.stands refl
-  turned_is (Alarms source header reported) =
+  turned_is (Alarms source under header reported) =
       if_so (live.stands && is_alarm live.cyclic.route source header)
-      (λ e. noticed_is source header reported (and_parts live.stands (is_alarm live.cyclic.route source header) e).0)
-      (rests (Hears (Alarms source header reported)))
+      (λ e. noticed_is source under header reported (and_parts live.stands (is_alarm live.cyclic.route source header) e).0)
+      (rests (Hears (Alarms source under header reported)))
 
   -- ---- units, and the application
 
   flowed_is : (ending : Option Abort) → live.stands ≡ true → (brought live).ending ≡ ending
-      → IsTurn setup live Passes (flowed (flow_later live) (is_again live) (brought live) ending)
+      → IsTurn setup live Passes (flowed (flow_later live) (due live.alarms.sending) (due live.low_alarms.sending) (is_again live) (brought live) ending)
   flowed_is (Some reason) up e = as_kind Passes (Breaks reason) (refl, up, e)
   flowed_is None up e = as_kind Passes Flows (refl, up, e)
 
   ticked_is : (is : Bool) → live.stands ≡ is
-      → IsTurn setup live Passes (if is then flowed (flow_later live) (is_again live) (brought live) (brought live).ending
+      → IsTurn setup live Passes (if is then flowed (flow_later live) (due live.alarms.sending) (due live.low_alarms.sending) (is_again live) (brought live) (brought live).ending
       else record { live = later live; sent = where_due (is_again live) (requests_of live.device live.asked) })
   ticked_is true up = flowed_is (brought live).ending up refl
   ticked_is false down = as_kind Passes Idles (refl, down)
@@ -240,11 +287,36 @@ module _ (setup : Setup) (live : Live) where
   stopped_is (Ended cause) is = rests Halts
   stopped_is phase is = as_kind Halts (Releases why.Stopped) (going phase is refl, refl)
 
+  exchanging_is : (phase : State) → is_exchanging phase ≡ true → phase ≡ Exchanging
+  exchanging_is Exchanging e = refl
+  exchanging_is phase e = absurd cc
+
+  none_is : (waiting : Option RecordRequest) → not (is_some waiting) ≡ true → waiting ≡ None
+  none_is None e = refl
+  none_is (Some request) e = absurd cc
+
+  requested_is : (came : Came) (kind : RecordService) (slot subslot index : ℕ) (octets : List ℕ) → length octets ≤ most_record_octets
+      → IsTurn setup live came (requested setup live kind slot subslot index octets)
+  requested_is came kind slot subslot index octets few =
+      if_so (can_request live)
+      (λ e.
+      let parts = and_parts (is_exchanging live.phase) (not (is_some live.access.waiting)) e in
+      as_kind came (Asks (request_for setup live kind slot subslot index) octets)
+      (exchanging_is live.phase parts.0, none_is live.access.waiting parts.1, refl, few))
+      (rests came)
+
+  written_is : (came : Came) (slot subslot index : ℕ) (octets : List ℕ) → IsTurn setup live came (written setup live slot subslot index octets)
+  written_is came slot subslot index octets =
+      by_cases (nat_lt most_record_octets (length octets)) (λ e. rests came)
+      (λ e. requested_is came service.Write slot subslot index octets (ltb-false most_record_octets (length octets) e))
+
   pub turn_is : (came : Came) → IsTurn setup live came (turn_for setup live came)
   turn_is (Hears heard) = turned_is heard
   turn_is Passes = ticked_is live.stands refl
   turn_is (Gets slot subslot value) = as_kind (Gets slot subslot value) (Gives slot subslot value) refl
   turn_is (GetsStatus slot subslot is_good) = as_kind (GetsStatus slot subslot is_good) (GivesStatus slot subslot is_good) refl
+  turn_is (AsksRead slot subslot index) = requested_is (AsksRead slot subslot index) service.Read slot subslot index [] (omega arith)
+  turn_is (AsksWrite slot subslot index octets) = written_is (AsksWrite slot subslot index octets) slot subslot index octets
   turn_is Halts = stopped_is live.phase refl
 
   pub event_is : (event : Event) → IsTurn setup live (came_by setup event) (turn_of setup live event)
@@ -252,4 +324,6 @@ module _ (setup : Setup) (live : Live) where
   event_is Tick = turn_is Passes
   event_is (Give slot subslot value) = turn_is (Gets slot subslot value.items)
   event_is (Status slot subslot is_good) = turn_is (GetsStatus slot subslot is_good)
+  event_is (Read slot subslot index) = turn_is (AsksRead slot subslot index)
+  event_is (Write slot subslot index octets) = turn_is (AsksWrite slot subslot index octets.items)
   event_is Stop = turn_is Halts

@@ -1,6 +1,6 @@
 -- The blocks of a device's response to the Connect of a plan choose a FrameID for outputs that is not one of alarms, and
 -- the alarm endpoint 1, also if they say that modules differ.
-use Rattle.std.proofs.Common.{◌≡◌, ◌<◌, ◌==◌, ◌++◌, ℕ, suc, true, false, List, [], ◌∷◌, length, Option, Some, append_assoc, refl, sym, ap, subst, ◌∙◌, arith}
+use Rattle.std.proofs.Common.{◌≡◌, ◌<◌, ◌==◌, ◌++◌, ℕ, suc, true, false, List, ◌∷◌, length, Option, Some, append_assoc, refl, sym, ap, subst, ◌∙◌, arith}
 use Rattle.std.proofs.lemmas.Bool.{eqb-true, false_from_ne_true}
 use Rattle.pn_values.specs.declared.identity.Identity.{Identity}
 use Rattle.pn_values.specs.declared.real.Real.{Real}

@@ -1,6 +1,6 @@
 -- Both ends of a network, as the alarms of a relation that some moves led to.
 use Rattle.std.proofs.Common.{◌≡◌, ◌⊎◌, inl, inr, ◌==◌, ◌++◌, ℕ, Bool, true, false, cond, List, [], ◌∷◌, map, length, Option, Some, None, option_map, Result, Ok, refl, sym, ap, subst, ◌∙◌, append-nil, append_assoc, arith}
-use Rattle.std.specs.Prelude.{nat_lt, slice_get}
+use Rattle.std.specs.Prelude.{nat_lt, slice_get, unwrap_or}
 use Rattle.std.specs.List.{AllByRecursion}
 use Rattle.std.proofs.lemmas.Bool.{eq-eqb, false≢true, ltb-false}
 use Rattle.settings_store.specs.Machine.{Outcome}
@@ -13,6 +13,10 @@ use Rattle.rpc_core.specs.Cache.{Kept as Answer, again, kept_of, looked, new, ol
 use Rattle.rpc_core.specs.Call.{Asked as Call}
 use Rattle.records.specs.declared.status.operation.Operation.{Operation}
 use Rattle.records.specs.declared.status.operation.Operation.TheVariants as operation
+use Rattle.records.specs.status.Operation.{operation_of}
+use Rattle.controller_frames.specs.declared.record_request.RecordService.{RecordService}
+use Rattle.controller_frames.specs.declared.record_request.RecordService.TheVariants as service
+use Rattle.controller_frames.specs.RecordRequests.{record_blocks, service_operation}
 use Rattle.connect_requests.specs.Request.{Request}
 use Rattle.records.specs.declared.writes.taken.TakenRecord.{TakenRecord}
 use Rattle.pn_alarms.specs.declared.message.Notice.{Notice}
@@ -24,13 +28,17 @@ use Rattle.pn_alarms.specs.declared.receiver.Taken.{Taken}
 use Rattle.pn_alarms.specs.declared.receiver.Taken.TheVariants.{New, Again as Once_more, Refused as Not_taken}
 use Rattle.pn_alarms.specs.Device.{idle}
 use Rattle.pn_alarms.specs.Receiver.{taken_as}
+use Rattle.pn_alarms.specs.declared.priority.Priority.{Priority}
+use Rattle.pn_alarms.specs.declared.priority.Priority.TheVariants.{High}
+use Rattle.pn_alarms.specs.declared.report.Report.{Report}
+use Rattle.pn_alarms.specs.Report.{ours}
 use Rattle.cyclic_exchange.specs.declared.route.Route.{Route}
 use Rattle.relations.specs.Connect.{connect_of}
 use Rattle.relations.specs.RelationState.{RelationState}
 use Rattle.codec_laws.specs.alarms.Line.{more_taken, with_come}
 use Rattle.device_frames.specs.declared.event.Event.TheVariants.{Frame}
 use Rattle.device_frames.specs.Heard.{Heard, Reported, Calls, heard_of}
-use Rattle.device_frames.specs.Sent.{Sent, Again, Ends, Exchanges, bytes_of}
+use Rattle.device_frames.specs.Sent.{Sent, Again, Ends, Exchanges, ReadyCall, bytes_of}
 use Rattle.device_core.specs.State.{Station, Live}
 use Rattle.device_core.specs.Machine.{heard_step, handled_step}
 use Rattle.controller_frames.specs.declared.request.Request.TheVariants as asks
@@ -42,15 +50,16 @@ use Rattle.controller_core.specs.declared.event.Event.{Event}
 use Rattle.controller_core.specs.declared.event.Event.TheVariants as event
 use Rattle.controller_core.specs.Machine.{Turn, alarmed, turn_of, turned}
 use Rattle.controller_core.specs.State.{Live as ControllerLive}
-use Rattle.end_laws.specs.turns.Alarms.{Relation, Move, AlarmComes, AckComes, Hears, PassesAtController, Gives, GivesStatus, Stops, ack_comes, alarm_comes, behind, behind_one, is_looked_at, start, turns}
+use Rattle.end_laws.specs.turns.Alarms.{Relation, Move, AlarmComes, AckComes, Hears, PassesAtController, Gives, GivesStatus, Reads, Stops, Writes, ack_comes, alarm_comes, behind, behind_one, is_looked_at, start, turns}
 use Rattle.end_laws.specs.both.Small as small
 use Rattle.end_laws.specs.both.Small.{Rules, ToDevice}
 use Rattle.end_laws.specs.both.Steps.{DeviceSteps}
-use Rattle.end_laws.specs.controller.Small.{said_by}
 use Rattle.end_laws.specs.device.Owed.{IsOfKept, IsOwed}
 use Rattle.end_laws.specs.device.Small.{IsHeardAs, IsPlanned, IsPlannedAs, IsPlannedCall, heard_as, kept_in, link_of, small_of}
 use Rattle.end_laws.specs.device.Small as ends
-use Rattle.startup_law.specs.View.{IsSaidAs, rules_of}
+use Rattle.startup_law.specs.View.{IsSaidAs, is_planned, rules_of, says_to_device}
+use Rattle.exchange_laws.proofs.Early.{EarlyTurn, IsEarlyAt, IsEarlyFrame, IsUnreadyAt, messages_early, turn_early}
+use Rattle.exchange_laws.proofs.OutputsTurns.{KindsSo}
 use Rattle.exchange_laws.proofs.Reported.{IsCallIn, IsCalledAs, IsGood, IsNotedAs, IsNotedBy, IsReportedAs, IsWell, IsWellSent, noted_at, noted_by, noted_in, noted_of, reply_of, reported_in, reported_of}
 use Rattle.exchange_laws.specs.Over.{taken_by, taken_of}
 use Rattle.exchange_laws.proofs.Lists.{Extends, each_behind, each_on, more_extends, none_some, some_is, unchanged}
@@ -71,8 +80,8 @@ use Rattle.exchange_laws.proofs.Tied.{Goes, IsFresh, IsHeard, IsSaid, IsTied, he
 pub record IsIn (setup : Setup) (identity : Identity) (r : Relation) (frame : List ℕ) : Type 0 where
   pub noted : IsSaid r.alarms.pdus r.acks (noted_of setup frame)
   pub reported : IsHeard r.reported (reported_of identity frame)
-  pub first : (sequence : ℕ) → heard_as (heard_of identity (Frame (record { items = frame }))) ≡ small.Call sequence small.Connects → sequence ≡ 0
-  pub called : IsCallIn (heard_of identity (Frame (record { items = frame })))
+  pub first : (sequence : ℕ) → heard_as (is_planned setup) (heard_of identity (Frame (record { items = frame }))) ≡ small.Call sequence small.Connects → sequence ≡ 0
+  pub called : IsCallIn setup (heard_of identity (Frame (record { items = frame })))
   pub good : IsGood identity.mac (heard_by setup.plan.controller frame)
   pub well : IsWell setup (heard_by setup.plan.controller frame)
 
@@ -104,6 +113,8 @@ pub record Follows (setup : Setup) (station : Station) (live : Live) (controllin
   pub linked : (link : small.RelationState TakenRecord Request) → (small_of setup.activity live).link ≡ Some link → kept_at setup live ≡ None → ⊥
   pub again : (answer : small.Kept) → kept_at setup live ≡ Some answer → IsIn setup station.identity relation answer.frame
   pub frames : AllByRecursion (IsIn setup station.identity relation) sent
+  -- until the device answered a call, no data is exchanged, and the application makes no request
+  pub early : kept_at setup live ≡ None → IsEarlyAt controlling × AllByRecursion (IsEarlyFrame setup station) sent
   -- the addresses differ, and the numbers have their sizes
   pub good : IsSetup setup
   pub apart : station.identity.mac ≡ setup.plan.controller.mac → ⊥
@@ -179,32 +190,51 @@ new_none (Some kept) e = absurd (reported_zero kept.sequence kept.frame e)
 same_ok : {A B : Type 0} (x y : A) → ◌≡◌ {A = Result A B} (Ok x) (Ok y) → x ≡ y
 same_ok x y e = cc
 
+-- octets of the device that say no ApplicationReady
+early_by : (setup : Setup) (station : Station) (frame : List ℕ) (says : small.ToController) → (rules_of setup station).to_device frame ≡ small.Idle
+    → ((rules_of setup station).to_controller frame ≡ small.Nothing) ⊎ ((rules_of setup station).to_controller frame ≡ says) → (says ≡ small.Readies → ⊥) → IsEarlyFrame setup station frame
+early_by setup station frame says is_idle at_most other = (λ sequence e. idle_call sequence (sym is_idle ∙ e), λ e. by_saying e at_most)
+  where
+    idle_call : (sequence : ℕ) → small.Idle ≡ small.Call sequence small.Accesses → ⊥
+    idle_call sequence e = absurd cc
+
+    nothing_readies : small.Nothing ≡ small.Readies → ⊥
+    nothing_readies e = absurd cc
+
+    by_saying : (rules_of setup station).to_controller frame ≡ small.Readies
+        → ((rules_of setup station).to_controller frame ≡ small.Nothing) ⊎ ((rules_of setup station).to_controller frame ≡ says) → ⊥
+    by_saying e (inl none) = nothing_readies (sym none ∙ e)
+    by_saying e (inr same) = other (sym same ∙ e)
+
 module _ (setup : Setup) (station : Station) (live : Live) (controlling : ControllerLive) (sent : List (List ℕ)) (raised taken : List AlarmNotification)
     (follows : Follows setup station live controlling sent raised taken) where
   abbrev rules : Rules TakenRecord Request
   rules = rules_of setup station
 
   module _ (heard : Heard) (planned : IsPlanned rules setup.activity station.real heard)
-      (first : (sequence : ℕ) → heard_as heard ≡ small.Call sequence small.Connects → sequence ≡ 0) where
+      (first : (sequence : ℕ) → heard_as (is_planned setup) heard ≡ small.Call sequence small.Connects → sequence ≡ 0)
+      (late : (sequence : ℕ) → heard_as (is_planned setup) heard ≡ small.Call sequence small.Accesses → kept_at setup live ≡ None → ⊥) where
     unlinked : (link : Option RelationState) → live.rest.link ≡ link → kept_at setup live ≡ None → live.rest.link ≡ None
     unlinked None e none = e
     unlinked (Some link) e none = absurd (follows.linked (link_of link) (ap (λ (l : Option RelationState). option_map link_of l) e) none)
 
-    -- if a call of number 0 is new, there is no relation
+    -- if a call of number 0 is new, there is no relation, and it is no call of the application
     pub unlinked_new : (caller : Caller) (address : List ℕ) (call : Call) → heard ≡ Reported caller address (Calls call) → call.header.sequence ≡ 0
-        → looked call.header.activity call.header.sequence live.rest.calls ≡ new → live.rest.link ≡ None
+        → looked call.header.activity call.header.sequence live.rest.calls ≡ new
+        → (live.rest.link ≡ None) × (heard_as (is_planned setup) heard ≡ small.Call call.header.sequence small.Accesses → ⊥)
     unlinked_new caller address call is zero_is fresh =
         let plan : IsPlannedCall rules setup.activity station.real call = subst (λ (h : Heard). IsPlanned rules setup.activity station.real h) is planned in
         let reported : reported_by 0 (kept_of setup.activity live.rest.calls) ≡ new =
         ap (λ (n : ℕ). reported_by n (kept_of setup.activity live.rest.calls)) (sym zero_is)
         ∙ (ap (λ (a : List ℕ). reported_by call.header.sequence (kept_of a live.rest.calls)) (sym plan.own) ∙ fresh) in
-        unlinked live.rest.link refl (ap (λ (k : Option Answer). option_map kept_in k) (new_none (kept_of setup.activity live.rest.calls) reported))
+        let none : kept_at setup live ≡ None = ap (λ (k : Option Answer). option_map kept_in k) (new_none (kept_of setup.activity live.rest.calls) reported) in
+        (unlinked live.rest.link refl none, λ e. late call.header.sequence e none)
 
     -- a relation that is made now is the first one, and that of the plan
     pub makes_planned : (after : Option RelationState) (messages : List Sent) (makes : Makes live.rest.calls live.rest.link heard after messages) → (kept_at setup live ≡ None) × (makes.request ≡ rules.request)
     makes_planned after messages makes =
         let plan : IsPlannedCall rules setup.activity station.real makes.call = subst (λ (h : Heard). IsPlanned rules setup.activity station.real h) makes.is planned in
-        let zero_is : makes.call.header.sequence ≡ 0 = first makes.call.header.sequence (ap heard_as makes.is ∙ ap (λ (o : Option Operation). ends.asked_by makes.call.header.sequence o) makes.connects) in
+        let zero_is : makes.call.header.sequence ≡ 0 = first makes.call.header.sequence (ap (heard_as (is_planned setup)) makes.is ∙ ap (λ (o : Option Operation). ends.asked_by (is_planned setup) makes.call.header.sequence (unwrap_or makes.call.blocks []) o) makes.connects) in
         let fresh : reported_by 0 (kept_of setup.activity live.rest.calls) ≡ new =
         ap (λ (n : ℕ). reported_by n (kept_of setup.activity live.rest.calls)) (sym zero_is)
         ∙ (ap (λ (a : List ℕ). reported_by makes.call.header.sequence (kept_of a live.rest.calls)) (sym plan.own) ∙ makes.fresh) in
@@ -222,7 +252,7 @@ module _ (setup : Setup) (station : Station) (live : Live) (controlling : Contro
         ap (λ (r : Request). idle r.alarm.timeout_factor r.alarm.retries) so.1 ∙ sym (follows.unmade so.0)
 
     module _ (outcomes : List Outcome) (now : List AlarmNotification)
-        (steps : DeviceSteps rules (heard_as heard) (small_of setup.activity live) (small_of setup.activity (heard_step outcomes station live heard).live) (heard_step outcomes station live heard).frames)
+        (steps : DeviceSteps rules (heard_as (is_planned setup) heard) (small_of setup.activity live) (small_of setup.activity (heard_step outcomes station live heard).live) (heard_step outcomes station live heard).frames)
         (owed : AllByRecursion (IsOwed heard live) (heard_step outcomes station live heard).sent)
         (meant : AllByRecursion (IsHeardAs rules station.identity) (heard_step outcomes station live heard).sent)
         (noted : AllByRecursion (IsNotedAs setup station.identity) (heard_step outcomes station live heard).sent)
@@ -277,6 +307,26 @@ module _ (setup : Setup) (station : Station) (live : Live) (controlling : Contro
       messages_in (message ∷ messages) owed_so heard_so noted_so well_so is =
           (message_in message owed_so.0 heard_so.0 noted_so.0 well_so.0 is.0, messages_in messages owed_so.1 heard_so.1 noted_so.1 well_so.1 is.1)
 
+      -- while no response is stored, the frames of the device are early ones
+      message_early : kept_at setup live ≡ None → (message : Sent) → IsOwed heard live message → IsHeardAs rules station.identity message → IsEarlyFrame setup station (bytes_of station.identity message)
+      message_early none (Again frame) owed_so heard_so =
+          let plan : IsPlannedCall rules setup.activity station.real owed_so.call = subst (λ (h : Heard). IsPlanned rules setup.activity station.real h) owed_so.is planned in
+          let kept : kept_of setup.activity live.rest.calls ≡ Some owed_so.kept = ap (λ (a : List ℕ). kept_of a live.rest.calls) (sym plan.own) ∙ owed_so.there in
+          absurd (none_some (kept_in owed_so.kept) (kept_at setup live) none (ap (λ (k : Option Answer). option_map kept_in k) kept))
+      message_early none (ReadyCall address ready) owed_so heard_so =
+          absurd (follows.linked (link_of owed_so.link) (ap (λ (l : Option RelationState). option_map link_of l) owed_so.is) none)
+      message_early none other owed_so heard_so = early_by setup station (bytes_of station.identity other) _ heard_so.0 heard_so.1 (λ e. absurd cc)
+
+      messages_early_so : kept_at setup live ≡ None → (messages : List Sent) → AllByRecursion (IsOwed heard live) messages → AllByRecursion (IsHeardAs rules station.identity) messages
+          → AllByRecursion (IsEarlyFrame setup station) (map (bytes_of station.identity) messages)
+      messages_early_so none [] owed_so heard_so = tt
+      messages_early_so none (message ∷ messages) owed_so heard_so =
+          (message_early none message owed_so.0 heard_so.0, messages_early_so none messages owed_so.1 heard_so.1)
+
+      frames_early : kept_at setup live ≡ None → AllByRecursion (IsEarlyFrame setup station) (heard_step outcomes station live heard).frames
+      unfolding heard_step handled_step
+      frames_early none = messages_early_so none (heard_step outcomes station live heard).sent owed meant
+
       frames_in : AllByRecursion (IsIn setup station.identity next) (heard_step outcomes station live heard).frames
       unfolding heard_step handled_step
       frames_in = messages_in (heard_step outcomes station live heard).sent owed meant noted well goes.said
@@ -294,13 +344,16 @@ module _ (setup : Setup) (station : Station) (live : Live) (controlling : Contro
             raises = goes.raised ∙ ap (λ (xs : List AlarmNotification). xs ++ now) follows.raises;
             takes = goes.taken ∙ follows.takes;
             tied = goes.tied;
-            unmade = λ none. let was = none_kept rules (heard_as heard) before after step.frames steps none in
+            unmade = λ none. let was = none_kept rules (heard_as (is_planned setup) heard) before after step.frames steps none in
                 ap (λ (x : Relation). x.device) (goes.still (unlinked live.rest.link refl was)) ∙ follows.unmade was;
-            linked = linked_on rules (heard_as heard) before after step.frames steps follows.linked;
-            again = kept_is rules (IsIn setup station.identity next) (heard_as heard) before after step.frames steps
+            linked = linked_on rules (heard_as (is_planned setup) heard) before after step.frames steps follows.linked;
+            again = kept_is rules (IsIn setup station.identity next) (heard_as (is_planned setup) heard) before after step.frames steps
                 (λ answer is. stays answer.frame (follows.again answer is)) frames_in;
             frames = each_behind (IsIn setup station.identity next) sent step.frames
                 (each_on (IsIn setup station.identity r) (IsIn setup station.identity next) sent stays follows.frames) frames_in;
+            early = λ none. let was = none_kept rules (heard_as (is_planned setup) heard) before after step.frames steps none in
+                let until = follows.early was in
+                (until.0, each_behind (IsEarlyFrame setup station) sent step.frames until.1 (frames_early was));
             good = follows.good;
             apart = follows.apart;
             real = follows.real;
@@ -344,11 +397,11 @@ module _ (setup : Setup) (station : Station) (live : Live) (controlling : Contro
   more_is taken_so_far alarm Once_more = sym (append-nil taken_so_far)
   more_is taken_so_far alarm Not_taken = sym (append-nil taken_so_far)
 
-  data_turned : (source : Mac) (header : Header) (number : ℕ) (alarm : AlarmNotification) → IsSaid follows.relation.alarms.pdus follows.relation.acks (Some (notice.Data number alarm))
-      → Turned (alarmed follows.relation.live source header (notice.Data number alarm)) (taken_of follows.relation.live source header (notice.Data number alarm))
-  data_turned source header number alarm is =
+  data_turned : (source : Mac) (under : Priority) (header : Header) (number : ℕ) (alarm : AlarmNotification) → IsSaid follows.relation.alarms.pdus follows.relation.acks (Some (notice.Data number alarm))
+      → Turned (alarmed follows.relation.live source under header (notice.Data number (ours alarm))) (taken_of follows.relation.live source header (notice.Data number (ours alarm)))
+  data_turned source under header number alarm is =
       let r = follows.relation in
-      let turn = alarmed r.live source header (notice.Data number alarm) in
+      let turn = alarmed r.live source High header (notice.Data number (ours alarm)) in
       let next : Relation = record (turns r turn) { alarms = cond (is_looked_at r source header) (with_come r.alarms r.live.alarms.seen (number, alarm)) r.alarms } in
       record {
         next = next;
@@ -376,26 +429,38 @@ module _ (setup : Setup) (station : Station) (live : Live) (controlling : Contro
       more_or true = more_is follows.relation.alarms.taken alarm (taken_as follows.relation.live.alarms.seen number)
       more_or false = sym (append-nil follows.relation.alarms.taken)
 
-  ack_turned : (source : Mac) (header : Header) (number : ℕ) → IsSaid follows.relation.alarms.pdus follows.relation.acks (Some (notice.Ack number))
-      → Turned (alarmed follows.relation.live source header (notice.Ack number)) []
-  ack_turned source header number is =
-      turned_by (AckComes source header is.0) (alarmed follows.relation.live source header (notice.Ack number)) (ap (λ (o : Option ℕ). ack_comes follows.relation source header o) is.1)
+  report_turned : (source : Mac) (under : Priority) (header : Header) (number : ℕ) (report : Report) → IsSaid follows.relation.alarms.pdus follows.relation.acks (Some (notice.Data number report.notification))
+      → report ≡ ours report.notification
+      → Turned (alarmed follows.relation.live source under header (notice.Data number report)) (taken_of follows.relation.live source header (notice.Data number report))
+  report_turned source under header number report is own =
+      subst (λ (one : Report). Turned (alarmed follows.relation.live source under header (notice.Data number one)) (taken_of follows.relation.live source header (notice.Data number one))) (sym own)
+      (data_turned source under header number report.notification is)
 
-  heard_turned : (reported : controller.Heard) → IsSaid follows.relation.alarms.pdus follows.relation.acks (noted_at reported) → Turned (turned setup follows.relation.live reported) (taken_by follows.relation.live reported)
-  heard_turned (controller.Alarms source header (notice.Data number alarm)) is = data_turned source header number alarm is
-  heard_turned (controller.Alarms source header (notice.Ack number)) is = ack_turned source header number is
-  heard_turned (controller.Alarms source header notice.Nack) is = turned_by (Hears (controller.Alarms source header notice.Nack)) _ refl
-  heard_turned (controller.Alarms source header notice.Abort) is = turned_by (Hears (controller.Alarms source header notice.Abort)) _ refl
-  heard_turned controller.Nothing is = turned_by (Hears controller.Nothing) _ refl
-  heard_turned (controller.Answers source answer) is = turned_by (Hears (controller.Answers source answer)) _ refl
-  heard_turned (controller.Responds response) is = turned_by (Hears (controller.Responds response)) _ refl
-  heard_turned (controller.Refuses refusal) is = turned_by (Hears (controller.Refuses refusal)) _ refl
-  heard_turned (controller.Calls caller call) is = turned_by (Hears (controller.Calls caller call)) _ refl
-  heard_turned (controller.Cyclic source frame_id body) is = turned_by (Hears (controller.Cyclic source frame_id body)) _ refl
+  ack_turned : (source : Mac) (under : Priority) (header : Header) (number : ℕ) → IsSaid follows.relation.alarms.pdus follows.relation.acks (Some (notice.Ack number)) → under ≡ High
+      → Turned (alarmed follows.relation.live source under header (notice.Ack number)) []
+  ack_turned source under header number is high =
+      subst (λ (p : Priority). Turned (alarmed follows.relation.live source p header (notice.Ack number)) []) (sym high)
+      (turned_by (AckComes source header is.0) (alarmed follows.relation.live source High header (notice.Ack number)) (ap (λ (o : Option ℕ). ack_comes follows.relation source header o) is.1))
 
-  -- what is delivered is among what was said, and the alarms accepted with it
+  heard_turned : (reported : controller.Heard) → IsSaid follows.relation.alarms.pdus follows.relation.acks (noted_at reported) → IsGood station.identity.mac reported
+      → Turned (turned setup follows.relation.live reported) (taken_by follows.relation.live reported)
+  heard_turned (controller.Alarms source under header (notice.Data number report)) is own = report_turned source under header number report is own.1
+  heard_turned (controller.Alarms source under header (notice.Ack number)) is own = ack_turned source under header number is own.1
+  heard_turned (controller.Alarms source under header notice.Nack) is own = turned_by (Hears (controller.Alarms source under header notice.Nack)) _ refl
+  heard_turned (controller.Alarms source under header notice.Abort) is own = turned_by (Hears (controller.Alarms source under header notice.Abort)) _ refl
+  heard_turned controller.Nothing is own = turned_by (Hears controller.Nothing) _ refl
+  heard_turned (controller.Answers source answer) is own = turned_by (Hears (controller.Answers source answer)) _ refl
+  heard_turned (controller.Responds response) is own = turned_by (Hears (controller.Responds response)) _ refl
+  heard_turned (controller.Refuses refusal) is own = turned_by (Hears (controller.Refuses refusal)) _ refl
+  heard_turned (controller.Calls caller call) is own = turned_by (Hears (controller.Calls caller call)) _ refl
+  heard_turned (controller.Cyclic source frame_id body) is own = turned_by (Hears (controller.Cyclic source frame_id body)) _ refl
+
+  -- what is delivered is among what was said, and comes from the device, and the alarms accepted with it; until the device
+  -- answered a call it is no ApplicationReady
   abbrev pub IsEventIn : Event → Type 0
-  IsEventIn (event.Frame bytes) = IsSaid follows.relation.alarms.pdus follows.relation.acks (noted_of setup bytes.items)
+  IsEventIn (event.Frame bytes) =
+      IsSaid follows.relation.alarms.pdus follows.relation.acks (noted_of setup bytes.items) × IsGood station.identity.mac (heard_by setup.plan.controller bytes.items)
+      × (kept_at setup live ≡ None → IsEarlyFrame setup station bytes.items)
   IsEventIn other = Unit {0}
 
   abbrev pub taken_at : Event → List AlarmNotification
@@ -403,11 +468,22 @@ module _ (setup : Setup) (station : Station) (live : Live) (controlling : Contro
   taken_at other = []
 
   event_turned : (one : Event) → IsEventIn one → Turned (turn_of setup follows.relation.live one) (taken_at one)
-  event_turned (event.Frame bytes) is = heard_turned (heard_by setup.plan.controller bytes.items) is
+  event_turned (event.Frame bytes) is = heard_turned (heard_by setup.plan.controller bytes.items) is.0 is.1
   event_turned event.Tick is = turned_by PassesAtController _ refl
   event_turned (event.Give slot subslot value) is = turned_by (Gives slot subslot value.items) _ refl
   event_turned (event.Status slot subslot is_good) is = turned_by (GivesStatus slot subslot is_good) _ refl
+  event_turned (event.Read slot subslot index) is = turned_by (Reads slot subslot index) _ refl
+  event_turned (event.Write slot subslot index octets) is = turned_by (Writes slot subslot index octets.items) _ refl
   event_turned event.Stop is = turned_by Stops _ refl
+
+  event_unready : (one : Event) → IsEventIn one → kept_at setup live ≡ None → IsUnreadyAt setup one
+  event_unready (event.Frame bytes) is none = (is.2 none).1
+  event_unready event.Tick is none = tt
+  event_unready (event.Give slot subslot value) is none = tt
+  event_unready (event.Status slot subslot is_good) is none = tt
+  event_unready (event.Read slot subslot index) is none = tt
+  event_unready (event.Write slot subslot index octets) is none = tt
+  event_unready event.Stop is none = tt
 
   -- ---- what the controller says
 
@@ -423,19 +499,34 @@ module _ (setup : Setup) (station : Station) (live : Live) (controlling : Contro
     subst (λ (all : List said.Sent). AllByRecursion (λ one. (k : ℕ) × (slice_get all k ≡ Some one)) messages) (append_assoc front (message ∷ []) messages) (placed (front ++ message ∷ []) messages),
   )
 
-  reply_heard : (reported : List said.Sent) (route : Route) (header : Header) (kind : PduType) (k : ℕ) → header.kind ≡ kind → slice_get reported k ≡ Some (said.Replies route header)
+  reply_heard : (reported : List said.Sent) (route : Route) (priority : Priority) (header : Header) (kind : PduType) (k : ℕ) → header.kind ≡ kind → slice_get reported k ≡ Some (said.Replies route priority header)
       → IsHeard reported (reply_of header.ack_number kind)
-  reply_heard reported route header pdu.Ack k is there = record { place = k; route = route; header = header; there = there; kind = is; same = refl }
-  reply_heard reported route header other k is there = tt
+  reply_heard reported route priority header pdu.Ack k is there = record { place = k; route = route; priority = priority; header = header; there = there; kind = is; same = refl }
+  reply_heard reported route priority header other k is there = tt
 
   said_heard : (reported : List said.Sent) (message : said.Sent) (k : ℕ) → slice_get reported k ≡ Some message → IsHeard reported (reported_in message)
-  said_heard reported (said.Confirms route header ack) k there = record { place = k; route = route; header = header; there = there; same = refl }
-  said_heard reported (said.Replies route header) k there = reply_heard reported route header header.kind k refl there
+  said_heard reported (said.Confirms route High header ack) k there = record { place = k; route = route; header = header; there = there; same = refl }
+  said_heard reported (said.Replies route priority header) k there = reply_heard reported route priority header header.kind k refl there
   said_heard reported other k there = tt
 
   -- the Connect of the controller is the call of number 0
-  first_said : (message : said.Sent) (sequence : ℕ) → said_by setup.plan message ≡ small.Call sequence small.Connects → sequence ≡ 0
+  written_first : (b : Bool) (number sequence : ℕ) → ends.written_by b number ≡ small.Call sequence small.Connects → ⊥
+  written_first true number sequence e = absurd cc
+  written_first false number sequence e = absurd cc
+
+  read_first : (number sequence : ℕ) → small.Call number small.Accesses ≡ small.Call sequence small.Connects → ⊥
+  read_first number sequence e = absurd cc
+
+  -- a request of the application is no Connect
+  access_first : (asked : RecordService) (number : ℕ) (blocks : List ℕ) (sequence : ℕ)
+      → ends.asked_by (is_planned setup) number blocks (operation_of (service_operation asked)) ≡ small.Call sequence small.Connects → ⊥
+  unfolding operation_of
+  access_first service.Read number blocks sequence e = read_first number sequence e
+  access_first service.Write number blocks sequence e = written_first (is_planned setup number blocks) number sequence e
+
+  first_said : (message : said.Sent) (sequence : ℕ) → says_to_device setup message ≡ small.Call sequence small.Connects → sequence ≡ 0
   first_said (said.Requests to asks.Connect) sequence e = cc
+  first_said (said.Accesses to request octets) sequence e = absurd (access_first request.service request.sequence (record_blocks setup request octets request.service) sequence e)
   first_said other sequence e = absurd cc
 
   said_in : (next : Relation) (message : said.Sent) → (k : ℕ) × (slice_get next.reported k ≡ Some message) → IsSaidAs setup station message → IsReportedAs setup station.identity message
@@ -458,7 +549,7 @@ module _ (setup : Setup) (station : Station) (live : Live) (controlling : Contro
       idle_call sequence e = absurd cc
 
       as_first : (sequence : ℕ) → rules.to_device (said.bytes_of setup message) ≡ small.Call sequence small.Connects
-          → (rules.to_device (said.bytes_of setup message) ≡ said_by setup.plan message) ⊎ (rules.to_device (said.bytes_of setup message) ≡ small.Idle) → sequence ≡ 0
+          → (rules.to_device (said.bytes_of setup message) ≡ says_to_device setup message) ⊎ (rules.to_device (said.bytes_of setup message) ≡ small.Idle) → sequence ≡ 0
       as_first sequence e (inl same) = first_said message sequence (sym same ∙ e)
       as_first sequence e (inr idle_is) = absurd (idle_call sequence (sym idle_is ∙ e))
 
@@ -470,8 +561,9 @@ module _ (setup : Setup) (station : Station) (live : Live) (controlling : Contro
       (said_in then message there.0 meant.0 reported.0 called.0, all_said_in then messages there.1 meant.1 reported.1 called.1)
 
   turn_follows : (turn : Turn) (now : List AlarmNotification) → Turned turn now → AllByRecursion (IsSaidAs setup station) turn.sent → AllByRecursion (IsReportedAs setup station.identity) turn.sent
-      → AllByRecursion (IsCalledAs setup station.identity) turn.sent → IsLive turn.live → IsPlaced station.identity.mac turn.live → Follows setup station live turn.live (sent ++ map (said.bytes_of setup) turn.sent) raised (taken ++ now)
-  turn_follows turn now turned_so meant reported called lives placed_so =
+      → AllByRecursion (IsCalledAs setup station.identity) turn.sent → IsLive turn.live → IsPlaced station.identity.mac turn.live → (kept_at setup live ≡ None → EarlyTurn turn)
+      → Follows setup station live turn.live (sent ++ map (said.bytes_of setup) turn.sent) raised (taken ++ now)
+  turn_follows turn now turned_so meant reported called lives placed_so early_so =
       let r = follows.relation in
       let next = turned_so.next in
       let pdus : Extends r.alarms.pdus next.alarms.pdus = subst (λ (xs : List (ℕ × AlarmNotification)). Extends r.alarms.pdus xs) (sym turned_so.pdus_are) (unchanged r.alarms.pdus) in
@@ -494,6 +586,8 @@ module _ (setup : Setup) (station : Station) (live : Live) (controlling : Contro
         frames = each_behind (IsIn setup station.identity next) sent (map (said.bytes_of setup) turn.sent)
             (each_on (IsIn setup station.identity r) (IsIn setup station.identity next) sent stays follows.frames)
             (all_said_in next turn.sent places meant reported called);
+        early = λ none. let now_so = early_so none in
+            (now_so.live, each_behind (IsEarlyFrame setup station) sent (map (said.bytes_of setup) turn.sent) (follows.early none).1 (messages_early setup station turn.sent now_so.sent meant));
         good = follows.good;
         apart = follows.apart;
         real = follows.real;
@@ -503,12 +597,14 @@ module _ (setup : Setup) (station : Station) (live : Live) (controlling : Contro
       }
 
   -- an event at the controller
-  pub controller_follows : (one : Event) → IsEventIn one → AllByRecursion (IsSaidAs setup station) (turn_of setup controlling one).sent
+  pub controller_follows : KindsSo → (one : Event) → IsEventIn one → AllByRecursion (IsSaidAs setup station) (turn_of setup controlling one).sent
       → AllByRecursion (IsReportedAs setup station.identity) (turn_of setup controlling one).sent
       → AllByRecursion (IsCalledAs setup station.identity) (turn_of setup controlling one).sent
       → IsLive (turn_of setup controlling one).live → IsPlaced station.identity.mac (turn_of setup controlling one).live → Follows setup station live (turn_of setup controlling one).live (sent ++ map (said.bytes_of setup) (turn_of setup controlling one).sent) raised (taken ++ taken_at one)
-  controller_follows one is =
+  controller_follows kinds one is meant reported called lives placed_so =
       subst (λ (l : ControllerLive). AllByRecursion (IsSaidAs setup station) (turn_of setup l one).sent → AllByRecursion (IsReportedAs setup station.identity) (turn_of setup l one).sent
       → AllByRecursion (IsCalledAs setup station.identity) (turn_of setup l one).sent
-      → IsLive (turn_of setup l one).live → IsPlaced station.identity.mac (turn_of setup l one).live → Follows setup station live (turn_of setup l one).live (sent ++ map (said.bytes_of setup) (turn_of setup l one).sent) raised (taken ++ taken_at one)) follows.same
-      (turn_follows (turn_of setup follows.relation.live one) (taken_at one) (event_turned one is))
+      → IsLive (turn_of setup l one).live → IsPlaced station.identity.mac (turn_of setup l one).live → (kept_at setup live ≡ None → EarlyTurn (turn_of setup l one))
+      → Follows setup station live (turn_of setup l one).live (sent ++ map (said.bytes_of setup) (turn_of setup l one).sent) raised (taken ++ taken_at one)) follows.same
+      (turn_follows (turn_of setup follows.relation.live one) (taken_at one) (event_turned one is)) meant reported called lives placed_so
+      (λ none. turn_early kinds setup controlling one (follows.early none).0 (event_unready one is none))

@@ -78,7 +78,7 @@ unnoted_real_time : (source : Mac) (frame_id : ℕ) (body : List ℕ) → is_ala
 unfolding heard_real_time
 unnoted_real_time source frame_id body e =
     holds_if IsUnnoted (is_cyclic frame_id) (controller.Cyclic source frame_id body) _ refl
-    (subst (λ (b : Bool). IsUnnoted (cond b (controller.heard_alarm source (alarm_of body))
+    (subst (λ (b : Bool). IsUnnoted (cond b (controller.heard_alarm source frame_id (alarm_of body))
     (cond (frame_id == 0xFEFD) (heard_answer source (answer_of frame_id body)) (cond (frame_id == 0xFEFF) (heard_answer source (answer_of frame_id body)) controller.Nothing)))) (sym e)
     (holds_if IsUnnoted (frame_id == 0xFEFD) (heard_answer source (answer_of frame_id body)) _ (unnoted_answer source (answer_of frame_id body))
     (holds_if IsUnnoted (frame_id == 0xFEFF) (heard_answer source (answer_of frame_id body)) controller.Nothing (unnoted_answer source (answer_of frame_id body)) refl)))
@@ -162,7 +162,7 @@ good_real_time : (source : Mac) (frame_id : ℕ) (body : List ℕ) → is_alarm 
 unfolding heard_real_time
 good_real_time source frame_id body e six =
     holds_if (IsGood source) (is_cyclic frame_id) (controller.Cyclic source frame_id body) _ tt
-    (subst (λ (b : Bool). IsGood source (cond b (controller.heard_alarm source (alarm_of body))
+    (subst (λ (b : Bool). IsGood source (cond b (controller.heard_alarm source frame_id (alarm_of body))
     (cond (frame_id == 0xFEFD) (heard_answer source (answer_of frame_id body)) (cond (frame_id == 0xFEFF) (heard_answer source (answer_of frame_id body)) controller.Nothing)))) (sym e)
     (holds_if (IsGood source) (frame_id == 0xFEFD) (heard_answer source (answer_of frame_id body)) _ (good_answer source (answer_of frame_id body) six)
     (holds_if (IsGood source) (frame_id == 0xFEFF) (heard_answer source (answer_of frame_id body)) controller.Nothing (good_answer source (answer_of frame_id body) six) tt)))

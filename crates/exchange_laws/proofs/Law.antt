@@ -52,7 +52,10 @@ use Rattle.end_laws.specs.both.Steps.{DeviceSteps}
 use Rattle.end_laws.specs.device.Turn.{IsRaise, Turn}
 use Rattle.end_laws.specs.device.Small.{IsHeardAs, IsPlanned, heard_as, kept_in, link_of, small_of}
 use Rattle.startup_law.specs.Played.{AreMade, AreMeant, Begins, CanMeet, last_world}
-use Rattle.startup_law.specs.View.{IsMeant, IsMeantAtController, IsMeantAtDevice, rules_of}
+use Rattle.end_laws.specs.controller.Small.{said_to}
+use Rattle.startup_law.specs.View.{IsMeant, IsMeantAtController, IsMeantAtDevice, is_planned, rules_of}
+use Rattle.exchange_laws.proofs.Early.{IsEarlyAt, IsEarlyFrame}
+use Rattle.exchange_laws.proofs.OutputsTurns.{KindsSo}
 use Rattle.end_laws.specs.sending.Messages.{CanBeSent as CanBeSaid}
 use Rattle.end_laws.specs.sending.Sized.{IsLive, IsSized, IsSizedEvent}
 use Rattle.exchange_laws.specs.Sized.{AreSizedModules}
@@ -92,7 +95,7 @@ module _ (goes_sized : (setup : Setup) (live : ControllerLive) (one : Event) →
   heard_right octets (controller.Responds response) e is fit = responded_right setup good live response live.asked lives fit
   heard_right octets (controller.Refuses refusal) e is fit = right_by octets (controller.Refuses refusal) e tt
   heard_right octets (controller.Calls caller call) e is fit = right_by octets (controller.Calls caller call) e (is.1, is.2, is.3)
-  heard_right octets (controller.Alarms source header reported) e is fit = right_by octets (controller.Alarms source header reported) e is
+  heard_right octets (controller.Alarms source under header reported) e is fit = right_by octets (controller.Alarms source under header reported) e is.0
   heard_right octets controller.Nothing e is fit = right_by octets controller.Nothing e tt
   heard_right octets (controller.Cyclic source frame_id body) e is fit = right_by octets (controller.Cyclic source frame_id body) e tt
 
@@ -133,7 +136,8 @@ pub record DeviceSo : Type 0 where
   pub goes_on : (rules : Rules TakenRecord Request) (activity : List ℕ) (outcomes : List Outcome) (station : Station) (live : Live) (heard : Heard)
       → IsPlanned rules activity station.real heard
       → AllByRecursion (IsHeardAs rules station.identity) (heard_step outcomes station live heard).sent
-      → DeviceSteps rules (heard_as heard) (small_of activity live) (small_of activity (heard_step outcomes station live heard).live) (heard_step outcomes station live heard).frames
+      → DeviceSteps rules (heard_as rules.is_planned heard) (small_of activity live) (small_of activity (heard_step outcomes station live heard).live) (heard_step outcomes station live heard).frames
+  pub kinds : KindsSo
   pub turns : (rules : Rules TakenRecord Request) (activity : List ℕ) (outcomes : List Outcome) (station : Station) (live : Live) (heard : Heard)
       → IsPlanned rules activity station.real heard
       → Turn station live heard (heard_step outcomes station live heard).live.rest (heard_step outcomes station live heard).sent
@@ -182,7 +186,8 @@ module _ {F : Type 0} where
     turn_at heard outcomes meant =
         as_alarms station.real.modules.items live.rest.calls live.rest.link heard _ _ (so.turns (rules_of setup station) setup.activity outcomes station live heard meant.planned).is
 
-    module _ (heard : Heard) (now : List AlarmNotification) (first : (sequence : ℕ) → heard_as heard ≡ small.Call sequence small.Connects → sequence ≡ 0) (called : IsCallIn heard)
+    module _ (heard : Heard) (now : List AlarmNotification) (first : (sequence : ℕ) → heard_as (is_planned setup) heard ≡ small.Call sequence small.Connects → sequence ≡ 0)
+        (late : (sequence : ℕ) → heard_as (is_planned setup) heard ≡ small.Call sequence small.Accesses → kept_at setup live ≡ None → ⊥) (called : IsCallIn setup heard)
         (made : AtDevice as_flash before heard after) (meant : IsMeantAtDevice before heard) where
       device_on : ((outcomes : List Outcome) → Goes setup follows.relation live.rest.link (heard_step outcomes station live heard).live.rest.link (heard_step outcomes station live heard).sent now)
           → FollowsAt after (raised ++ now) taken
@@ -192,15 +197,15 @@ module _ {F : Type 0} where
           let step = heard_step outcomes station live heard in
           let rules = rules_of setup station in
           let turn = turn_sized station.identity setup.plan setup.ar follows.apart station.real.modules.items live.rest.calls live.rest.link heard step.live.rest.link step.sent follows.real follows.sized
-          (λ makes. (makes_planned setup station live before.controller.live before.sent raised taken follows heard meant.planned first step.live.rest.link step.sent makes).1)
+          (λ makes. (makes_planned setup station live before.controller.live before.sent raised taken follows heard meant.planned first late step.live.rest.link step.sent makes).1)
           (turn_at heard outcomes meant) in
           let heard_so = meant.sent outcomes heard_it.steps.sendable in
           let acts = so.turns rules setup.activity outcomes station live heard meant.planned in
           let owes = acts.owed in
           let serves = all_served setup station live heard step.live.rest step.sent meant.planned
-          (unlinked_new setup station live before.controller.live before.sent raised taken follows heard meant.planned first) acts.does in
+          (unlinked_new setup station live before.controller.live before.sent raised taken follows heard meant.planned first late) acts.does in
           let all : Follows setup station step.live before.controller.live (before.sent ++ step.frames) (raised ++ now) taken =
-          device_follows setup station live before.controller.live before.sent raised taken follows heard meant.planned first outcomes now
+          device_follows setup station live before.controller.live before.sent raised taken follows heard meant.planned first late outcomes now
           (so.goes_on rules setup.activity outcomes station live heard meant.planned heard_so) owes
           heard_so (all_noted hears setup station.identity step.sent heard_it.steps.sendable turn.messages
           (all_ready hears setup station.identity follows.good heard live step.sent follows.sized owes))
@@ -213,19 +218,23 @@ module _ {F : Type 0} where
           (sym (heard_it.behind ∙ ap (λ (frames : List (List ℕ)). before.sent ++ frames) heard_it.steps.frames)) all)))
 
     -- anything but an alarm that is raised
-    device_inactive : (heard : Heard) → IsUnraised heard → IsHeard follows.relation.reported (reported_at heard) → ((sequence : ℕ) → heard_as heard ≡ small.Call sequence small.Connects → sequence ≡ 0) → IsCallIn heard
+    device_inactive : (heard : Heard) → IsUnraised heard → IsHeard follows.relation.reported (reported_at heard) → ((sequence : ℕ) → heard_as (is_planned setup) heard ≡ small.Call sequence small.Connects → sequence ≡ 0)
+        → ((sequence : ℕ) → heard_as (is_planned setup) heard ≡ small.Call sequence small.Accesses → kept_at setup live ≡ None → ⊥) → IsCallIn setup heard
         → AtDevice as_flash before heard after → IsMeantAtDevice before heard → FollowsAt after (raised ++ []) taken
-    device_inactive heard unraised is first called made meant =
-        device_on heard [] first called made meant (λ outcomes.
+    device_inactive heard unraised is first late called made meant =
+        device_on heard [] first late called made meant (λ outcomes.
         turn_on setup follows.relation station.real.modules.items live.rest.calls live.rest.link heard (heard_step outcomes station live heard).live.rest.link (heard_step outcomes station live heard).sent
         follows.tied is unraised
-        (makes_fresh setup station live before.controller.live before.sent raised taken follows heard meant.planned first (heard_step outcomes station live heard).live.rest.link (heard_step outcomes station live heard).sent)
+        (makes_fresh setup station live before.controller.live before.sent raised taken follows heard meant.planned first late (heard_step outcomes station live heard).live.rest.link (heard_step outcomes station live heard).sent)
         (turn_at heard outcomes meant))
+
+    never_late : (sequence : ℕ) → small.Idle ≡ small.Call sequence small.Accesses → kept_at setup live ≡ None → ⊥
+    never_late sequence e none = absurd cc
 
     device_raises : (slot subslot : ℕ) (octets : List ℕ) → AtDevice as_flash before (Raised slot subslot octets) after → IsMeantAtDevice before (Raised slot subslot octets)
         → FollowsAt after (raised ++ raised_in (raised_to station.real.modules.items slot subslot octets live.rest.link)) taken
     device_raises slot subslot octets made meant =
-        device_on (Raised slot subslot octets) _ (λ sequence e. absurd (idle_call sequence e)) (λ caller address call e other. absurd (other refl)) made meant (λ outcomes.
+        device_on (Raised slot subslot octets) _ (λ sequence e. absurd (idle_call sequence e)) never_late (λ caller address call e other. absurd (other refl)) made meant (λ outcomes.
         raise_on setup follows.relation station.real.modules.items live.rest.link slot subslot octets (heard_step outcomes station live (Raised slot subslot octets)).live.rest.link
         (heard_step outcomes station live (Raised slot subslot octets)).sent follows.tied (so.raises outcomes station live slot subslot octets))
       where
@@ -235,22 +244,26 @@ module _ {F : Type 0} where
     never_first : (sequence : ℕ) → small.Idle ≡ small.Call sequence small.Connects → sequence ≡ 0
     never_first sequence e = absurd cc
 
+    early_at : (number : ℕ) (octets : List ℕ) → slice_get before.sent number ≡ Some octets → kept_at setup live ≡ None → IsEarlyFrame setup station octets
+    early_at number octets there none = each_at (IsEarlyFrame setup station) before.sent number octets (follows.early none).1 there
+
     in_at : (number : ℕ) (octets : List ℕ) → slice_get before.sent number ≡ Some octets → IsIn setup station.identity follows.relation octets
     in_at number octets there = each_at (IsIn setup station.identity follows.relation) before.sent number octets follows.frames there
 
-    comes_to_device : (octets : List ℕ) (skipped : Bool) → IsIn setup station.identity follows.relation octets
+    comes_to_device : (octets : List ℕ) (skipped : Bool) → IsIn setup station.identity follows.relation octets → (kept_at setup live ≡ None → IsEarlyFrame setup station octets)
         → IsMeantAtDevice before (heard_of station.identity (Frame (record { items = octets }))) → Comes as_flash skipped before Device octets after → FollowsAt after (raised ++ []) taken
-    comes_to_device octets true is meant comes = raised_none after raised taken (same_follows comes)
-    comes_to_device octets false is meant comes =
-        device_inactive (heard_of station.identity (Frame (record { items = octets }))) (unraised_frame station.identity octets) is.reported is.first is.called comes meant
+    comes_to_device octets true is early meant comes = raised_none after raised taken (same_follows comes)
+    comes_to_device octets false is early meant comes =
+        device_inactive (heard_of station.identity (Frame (record { items = octets }))) (unraised_frame station.identity octets) is.reported is.first (λ sequence e none. (early none).0 sequence e) is.called comes meant
 
     delivered_to_device : (octets : Option (List ℕ))
         → ((frame : List ℕ) → octets ≡ Some frame → IsIn setup station.identity follows.relation frame)
+        → ((frame : List ℕ) → octets ≡ Some frame → kept_at setup live ≡ None → IsEarlyFrame setup station frame)
         → ((frame : List ℕ) → octets ≡ Some frame → IsMeantAtDevice before (heard_of station.identity (Frame (record { items = frame }))))
         → Delivers as_flash octets before Device after → FollowsAt after (raised ++ []) taken
-    delivered_to_device None is meant comes = raised_none after raised taken (same_follows comes)
-    delivered_to_device (Some octets) is meant comes =
-        comes_to_device octets (is_skipped before.device before.controller Device octets) (is octets refl) (meant octets refl) comes
+    delivered_to_device None is early meant comes = raised_none after raised taken (same_follows comes)
+    delivered_to_device (Some octets) is early meant comes =
+        comes_to_device octets (is_skipped before.device before.controller Device octets) (is octets refl) (early octets refl) (meant octets refl) comes
 
     -- ---- the controller
 
@@ -267,16 +280,16 @@ module _ {F : Type 0} where
         ∙ ap (λ (frames : List (List ℕ)). record { device = before.device; controller = with_live before.controller turn.live; sent = before.sent ++ frames }) (frames_are before.controller one)) in
         let sayable = both_sized setup turn.sent sized.1 placed.sent in
         let all : FollowsAt there raised (taken ++ taken_at setup station live before.controller.live before.sent raised taken follows one) =
-        controller_follows setup station live before.controller.live before.sent raised taken follows one is meant (all_reported hears setup station.identity follows.good follows.apart turn.sent sayable)
+        controller_follows setup station live before.controller.live before.sent raised taken follows so.kinds one is meant (all_reported hears setup station.identity follows.good follows.apart turn.sent sayable)
         (all_called hears setup station follows.good turn.sent sayable meant) sized.0 placed.live in
         subst (λ (w : World F). FollowsAt w raised (taken ++ now)) (sym same) (subst (λ (xs : List AlarmNotification). FollowsAt there raised (taken ++ xs)) takes all)
 
-    comes_to_controller : (octets : List ℕ) (skipped : Bool) → IsIn setup station.identity follows.relation octets
+    comes_to_controller : (octets : List ℕ) (skipped : Bool) → IsIn setup station.identity follows.relation octets → (kept_at setup live ≡ None → IsEarlyFrame setup station octets)
         → IsMeantAtController before (event.Frame (record { items = octets }))
         → Comes as_flash skipped before Controller octets after → FollowsAt after raised (taken ++ taken_in skipped before.controller octets)
-    comes_to_controller octets true is meant comes = taken_none after raised taken (same_follows comes)
-    comes_to_controller octets false is meant comes =
-        controller_on (event.Frame (record { items = octets })) (taken_by before.controller.live (heard_by setup.plan.controller octets)) is.noted
+    comes_to_controller octets true is early meant comes = taken_none after raised taken (same_follows comes)
+    comes_to_controller octets false is early meant comes =
+        controller_on (event.Frame (record { items = octets })) (taken_by before.controller.live (heard_by setup.plan.controller octets)) (is.noted, is.good, early)
         (ap (λ (l : ControllerLive). taken_by l (heard_by setup.plan.controller octets)) follows.same) meant (
           heard_right so.goes_sized setup before.controller.live station.identity.mac follows.good follows.lives octets (heard_by setup.plan.controller octets) refl is.good is.well,
           of_device setup station.identity.mac (heard_by setup.plan.controller octets) is.good is.well,
@@ -284,32 +297,37 @@ module _ {F : Type 0} where
 
     delivered_to_controller : (octets : Option (List ℕ))
         → ((frame : List ℕ) → octets ≡ Some frame → IsIn setup station.identity follows.relation frame)
+        → ((frame : List ℕ) → octets ≡ Some frame → kept_at setup live ≡ None → IsEarlyFrame setup station frame)
         → ((frame : List ℕ) → octets ≡ Some frame → IsMeantAtController before (event.Frame (record { items = frame })))
         → Delivers as_flash octets before Controller after → FollowsAt after raised (taken ++ taken_from before octets)
-    delivered_to_controller None is meant comes = taken_none after raised taken (same_follows comes)
-    delivered_to_controller (Some octets) is meant comes =
-        comes_to_controller octets (is_skipped before.device before.controller Controller octets) (is octets refl) (meant octets refl) comes
+    delivered_to_controller None is early meant comes = taken_none after raised taken (same_follows comes)
+    delivered_to_controller (Some octets) is early meant comes =
+        comes_to_controller octets (is_skipped before.device before.controller Controller octets) (is octets refl) (early octets refl) (meant octets refl) comes
 
     -- ---- any move
 
     one_follows : (one : Move) → Happens as_flash before one after → IsMeant before one
         → FollowsAt after (raised ++ raised_with before one) (taken ++ taken_with before one)
     one_follows (move.Deliver Device number) happens meant =
-        taken_none after (raised ++ []) taken (delivered_to_device (slice_get before.sent number) (λ frame there. in_at number frame there) meant happens)
+        taken_none after (raised ++ []) taken (delivered_to_device (slice_get before.sent number) (λ frame there. in_at number frame there) (λ frame there. early_at number frame there) meant happens)
     one_follows (move.Deliver Controller number) happens meant =
         raised_none after raised (taken ++ taken_from before (slice_get before.sent number))
-        (delivered_to_controller (slice_get before.sent number) (λ frame there. in_at number frame there) meant happens)
-    one_follows (move.Tick Device) happens meant = taken_none after (raised ++ []) taken (device_inactive Ticks tt tt never_first (λ caller address call e other. absurd (other refl)) happens meant)
+        (delivered_to_controller (slice_get before.sent number) (λ frame there. in_at number frame there) (λ frame there. early_at number frame there) meant happens)
+    one_follows (move.Tick Device) happens meant = taken_none after (raised ++ []) taken (device_inactive Ticks tt tt never_first never_late (λ caller address call e other. absurd (other refl)) happens meant)
     one_follows (move.Tick Controller) happens meant = raised_none after raised (taken ++ []) (controller_on event.Tick [] tt refl meant (so.goes_sized setup before.controller.live event.Tick follows.good follows.lives tt, tt) happens)
-    one_follows (move.Input slot subslot value) happens meant = taken_none after (raised ++ []) taken (device_inactive (Given slot subslot value.items) tt tt never_first (λ caller address call e other. absurd (other refl)) happens meant)
+    one_follows (move.Input slot subslot value) happens meant = taken_none after (raised ++ []) taken (device_inactive (Given slot subslot value.items) tt tt never_first never_late (λ caller address call e other. absurd (other refl)) happens meant)
     one_follows (move.Alarm slot subslot octets) happens meant = taken_none after _ taken (device_raises slot subslot octets.items happens meant)
     one_follows (move.Status slot subslot is_good) happens meant =
-        taken_none after (raised ++ []) taken (device_inactive (Rated slot subslot is_good) tt tt never_first (λ caller address call e other. absurd (other refl)) happens meant)
-    one_follows move.Ready happens meant = taken_none after (raised ++ []) taken (device_inactive Readied tt tt never_first (λ caller address call e other. absurd (other refl)) happens meant)
+        taken_none after (raised ++ []) taken (device_inactive (Rated slot subslot is_good) tt tt never_first never_late (λ caller address call e other. absurd (other refl)) happens meant)
+    one_follows move.Ready happens meant = taken_none after (raised ++ []) taken (device_inactive Readied tt tt never_first never_late (λ caller address call e other. absurd (other refl)) happens meant)
     one_follows (move.Give slot subslot value) happens meant = raised_none after raised (taken ++ []) (controller_on (event.Give slot subslot value) [] tt refl meant
         (so.goes_sized setup before.controller.live (event.Give slot subslot value) follows.good follows.lives tt, tt) happens)
     one_follows (move.OutputStatus slot subslot is_good) happens meant = raised_none after raised (taken ++ []) (controller_on (event.Status slot subslot is_good) [] tt refl meant
         (so.goes_sized setup before.controller.live (event.Status slot subslot is_good) follows.good follows.lives tt, tt) happens)
+    one_follows (move.Read slot subslot index) happens meant = raised_none after raised (taken ++ []) (controller_on (event.Read slot subslot index) [] tt refl meant
+        (so.goes_sized setup before.controller.live (event.Read slot subslot index) follows.good follows.lives tt, tt) happens)
+    one_follows (move.Write slot subslot index octets) happens meant = raised_none after raised (taken ++ []) (controller_on (event.Write slot subslot index octets) [] tt refl meant
+        (so.goes_sized setup before.controller.live (event.Write slot subslot index octets) follows.good follows.lives tt, tt) happens)
     one_follows move.Stop happens meant = raised_none after raised (taken ++ []) (controller_on event.Stop [] tt refl meant (so.goes_sized setup before.controller.live event.Stop follows.good follows.lives tt, tt) happens)
 
   -- ---- any run
@@ -347,13 +365,23 @@ module _ {F : Type 0} where
     unmade = λ none. refl;
     linked = λ l is. absurd (none_some l (small_of first.controller.setup.activity first.device.live).link (ap (λ (o : Option RelationState). option_map link_of o) begins.unrelated) is);
     again = λ answer is. absurd (none_some answer (kept_at first.controller.setup first.device.live) (ap (λ (calls : List Answer). option_map kept_in (kept_of first.controller.setup.activity calls)) begins.uncalled) is);
+    early = λ none. (
+      subst (λ (l : ControllerLive). IsEarlyAt l) (sym (begins.made ∙ ap (λ (s : Setup). first_live s.plan) (sym begins.of_setup))) (record { phase = refl; waiting = refl }),
+      subst (λ (frames : List (List ℕ)). AllByRecursion (IsEarlyFrame first.controller.setup first.device.station) frames) (sym begins.opened) (
+        (
+          λ sequence e. idle_access sequence (ap (heard_as (is_planned first.controller.setup)) (sym asks_it) ∙ e),
+          λ e. nothing_readies (ap (said_to first.controller.setup) (sym unheard) ∙ e),
+        ),
+        tt,
+      ),
+    );
     frames = subst (λ (frames : List (List ℕ)). AllByRecursion (IsIn first.controller.setup first.device.station.identity (start first.controller.setup)) frames) (sym begins.opened) (
       record {
         noted = subst (λ (h : controller.Heard). IsSaid [] [] (noted_at h)) (sym unheard) tt;
         good = subst (λ (h : controller.Heard). IsGood first.device.station.identity.mac h) (sym unheard) tt;
         reported = subst (λ (h : Heard). IsHeard [] (reported_at h)) (sym asks_it) tt;
-        first = λ sequence e. absurd (idle_call sequence (ap heard_as (sym asks_it) ∙ e));
-        called = λ caller address call e other. absurd (other (ap heard_as asks_it));
+        first = λ sequence e. absurd (idle_call sequence (ap (heard_as (is_planned first.controller.setup)) (sym asks_it) ∙ e));
+        called = λ caller address call e other. absurd (other (ap (heard_as (is_planned first.controller.setup)) asks_it));
         well = subst (λ (h : controller.Heard). IsWell first.controller.setup h) (sym unheard) tt;
       },
       tt,
@@ -362,6 +390,12 @@ module _ {F : Type 0} where
     where
       idle_call : (sequence : ℕ) → small.Idle ≡ small.Call sequence small.Connects → ⊥
       idle_call sequence e = absurd cc
+
+      idle_access : (sequence : ℕ) → small.Idle ≡ small.Call sequence small.Accesses → ⊥
+      idle_access sequence e = absurd cc
+
+      nothing_readies : small.Nothing ≡ small.Readies → ⊥
+      nothing_readies e = absurd cc
 
       unheard : heard_by first.controller.setup.plan.controller (opening_of first.controller) ≡ controller.Nothing
       unheard = asks_unheard first.device.station.identity first.controller.setup (opening_of first.controller) source request asks_it

@@ -20,6 +20,7 @@ pub mod Hearing
 pub mod Messages
 pub mod Related
 pub mod Placed
+pub mod Early
 pub mod Follows
 pub mod Differs
 pub mod Served

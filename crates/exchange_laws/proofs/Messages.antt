@@ -30,7 +30,10 @@ use Rattle.pn_alarms.specs.declared.message.Notice.TheVariants as notice
 use Rattle.pn_alarms.specs.declared.pdu.Header.{Header}
 use Rattle.pn_alarms.specs.declared.pdu.PduType.{PduType}
 use Rattle.pn_alarms.specs.declared.pdu.PduType.TheVariants as pdu
+use Rattle.pn_alarms.specs.declared.priority.Priority.{Priority}
+use Rattle.pn_alarms.specs.declared.priority.Priority.TheVariants.{High, Low}
 use Rattle.pn_alarms.specs.Format.{frame_id_of}
+use Rattle.pn_alarms.specs.Report.{ours}
 use Rattle.pn_alarms.specs.Message.{ToDevice}
 use Rattle.cyclic_exchange.specs.declared.route.Route.{Route}
 use Rattle.cyclic_exchange.specs.Frames.{cyclic_body}
@@ -47,18 +50,20 @@ use Rattle.device_frames.specs.Sendable.{IsSendable}
 use Rattle.device_frames.specs.Sent as sent
 use Rattle.device_frames.specs.Sent.{bytes_of, ready_frame, response_frame}
 use Rattle.device_core.specs.State.{Live}
+use Rattle.controller_frames.specs.declared.record_request.RecordRequest.{RecordRequest}
 use Rattle.controller_frames.specs.declared.request.Request.{Request}
 use Rattle.controller_frames.specs.declared.request.Request.TheVariants as asks
 use Rattle.controller_frames.specs.declared.setup.Setup.{Setup}
 use Rattle.controller_frames.specs.Heard as controller
 use Rattle.controller_frames.specs.Heard.{heard_of as heard_by, is_to}
+use Rattle.controller_frames.specs.RecordRequests.{record_call}
 use Rattle.controller_frames.specs.Requests.{address_asked, call_for, identify_asked}
 use Rattle.controller_frames.specs.Sent as said
 use Rattle.controller_frames.specs.Sent.{answer_frame, call_frame, calls_at, end_pdu}
 use Rattle.codec_laws.specs.blocks.Writable.{IsAck, IsAlarm}
 use Rattle.codec_laws.specs.alarms.Sendable.{IsHeader}
 use Rattle.end_laws.specs.hearing.Hearing.{comes, mine_hears, mine_reported, own_hears, own_reported}
-use Rattle.end_laws.specs.hearing.Stations.{IsAddress, IsCalled, IsCaller, IsDevice, IsNumbered, IsRoute, IsSetup, ready_call}
+use Rattle.end_laws.specs.hearing.Stations.{IsAddress, IsCalled, IsCaller, IsDevice, IsNumbered, IsRecordCall, IsRoute, IsSetup, ready_call}
 use Rattle.end_laws.specs.sending.Messages.{CanBeSent as CanBeSaid}
 use Rattle.end_laws.specs.sending.Sized.{IsNoted}
 use Rattle.end_laws.specs.device.Owed.{IsOwed}
@@ -75,8 +80,8 @@ use Rattle.exchange_laws.proofs.Opening.{alarms_unheard, asks_unheard}
 -- another station
 abbrev pub IsAimed : Setup → said.Sent → Type 0
 IsAimed setup (said.Cycles route shown counter) = (is_alarm route.sent_id ≡ false) × (route.partner ≡ setup.plan.controller.mac → ⊥)
-IsAimed setup (said.Confirms route header ack) = route.partner ≡ setup.plan.controller.mac → ⊥
-IsAimed setup (said.Replies route header) = route.partner ≡ setup.plan.controller.mac → ⊥
+IsAimed setup (said.Confirms route priority header ack) = route.partner ≡ setup.plan.controller.mac → ⊥
+IsAimed setup (said.Replies route priority header) = route.partner ≡ setup.plan.controller.mac → ⊥
 IsAimed setup (said.Ends route header reason) = route.partner ≡ setup.plan.controller.mac → ⊥
 IsAimed setup (said.Requests to asks.Address) = to ≡ setup.plan.controller.mac → ⊥
 IsAimed setup (said.Agrees caller answer) = caller.mac ≡ setup.plan.controller.mac → ⊥
@@ -102,20 +107,26 @@ pub record HearsSo : Type 0 where
       → frame_of (frame_bytes (carrying destination source tag (UdpDatagram from to body))) ≡ Ok (carrying destination source tag (UdpDatagram from to body))
   pub alarm : (mine : Controller) (identity : Identity) (route : Route) (header : Header) (one : AlarmNotification)
       → IsDevice identity → IsRoute route → header.kind ≡ pdu.Data → IsHeader header → IsAlarm one
-      → heard_by mine (bytes_of identity (sent.Exchanges route (Notifies header one))) ≡ mine_hears mine route.partner (controller.Alarms identity.mac header (notice.Data header.send_number one))
+      → heard_by mine (bytes_of identity (sent.Exchanges route (Notifies header one))) ≡ mine_hears mine route.partner (controller.Alarms identity.mac High header (notice.Data header.send_number (ours one)))
   pub ack : (mine : Controller) (identity : Identity) (route : Route) (header : Header) → IsDevice identity → IsRoute route → header.kind ≡ pdu.Ack → IsHeader header
-      → heard_by mine (bytes_of identity (sent.Exchanges route (Answers header))) ≡ mine_hears mine route.partner (controller.Alarms identity.mac header (notice.Ack header.ack_number))
+      → heard_by mine (bytes_of identity (sent.Exchanges route (Answers header))) ≡ mine_hears mine route.partner (controller.Alarms identity.mac High header (notice.Ack header.ack_number))
   pub nack : (mine : Controller) (identity : Identity) (route : Route) (header : Header) → IsDevice identity → IsRoute route → header.kind ≡ pdu.Nack → IsHeader header
-      → heard_by mine (bytes_of identity (sent.Exchanges route (Answers header))) ≡ mine_hears mine route.partner (controller.Alarms identity.mac header notice.Nack)
+      → heard_by mine (bytes_of identity (sent.Exchanges route (Answers header))) ≡ mine_hears mine route.partner (controller.Alarms identity.mac High header notice.Nack)
   pub end_heard : (mine : Controller) (identity : Identity) (farewell : Farewell) → IsDevice identity → IsMac farewell.initiator → farewell.tag < 65536 → IsHeader (said_by farewell).header
-      → heard_by mine (bytes_of identity (sent.Ends farewell)) ≡ mine_hears mine farewell.initiator (controller.Alarms identity.mac (said_by farewell).header notice.Abort)
+      → heard_by mine (bytes_of identity (sent.Ends farewell)) ≡ mine_hears mine farewell.initiator (controller.Alarms identity.mac Low (said_by farewell).header notice.Abort)
   pub confirms : (identity : Identity) (setup : Setup) (route : Route) (header : Header) (one : AlarmAck)
       → IsSetup setup → IsRoute route → header.kind ≡ pdu.Data → IsHeader header → IsAck one
-      → heard_of identity (comes (said.bytes_of setup (said.Confirms route header one))) ≡ own_hears identity route.partner (device.Alarms setup.plan.controller.mac header (notice.Data header.send_number one))
-  pub acks : (identity : Identity) (setup : Setup) (route : Route) (header : Header) → IsSetup setup → IsRoute route → header.kind ≡ pdu.Ack → IsHeader header
-      → heard_of identity (comes (said.bytes_of setup (said.Replies route header))) ≡ own_hears identity route.partner (device.Alarms setup.plan.controller.mac header (notice.Ack header.ack_number))
-  pub nacks : (identity : Identity) (setup : Setup) (route : Route) (header : Header) → IsSetup setup → IsRoute route → header.kind ≡ pdu.Nack → IsHeader header
-      → heard_of identity (comes (said.bytes_of setup (said.Replies route header))) ≡ own_hears identity route.partner (device.Alarms setup.plan.controller.mac header notice.Nack)
+      → heard_of identity (comes (said.bytes_of setup (said.Confirms route High header one))) ≡ own_hears identity route.partner (device.Alarms setup.plan.controller.mac header (notice.Data header.send_number one))
+  pub low : (identity : Identity) (setup : Setup) (route : Route) (header : Header) (one : AlarmAck)
+      → IsSetup setup → IsRoute route → header.kind ≡ pdu.Data → IsHeader header → IsAck one
+      → heard_of identity (comes (said.bytes_of setup (said.Confirms route Low header one))) ≡ own_hears identity route.partner device.Unreadable
+  pub unheard : (mine : Controller) (setup : Setup) (route : Route) (header : Header) (one : AlarmAck)
+      → IsSetup setup → IsRoute route → header.kind ≡ pdu.Data → pointwise nat_eq route.partner.octets mine.mac.octets ≡ false
+      → heard_by mine (said.bytes_of setup (said.Confirms route Low header one)) ≡ controller.Nothing
+  pub acks : (identity : Identity) (setup : Setup) (route : Route) (priority : Priority) (header : Header) → IsSetup setup → IsRoute route → header.kind ≡ pdu.Ack → IsHeader header
+      → heard_of identity (comes (said.bytes_of setup (said.Replies route priority header))) ≡ own_hears identity route.partner (device.Alarms setup.plan.controller.mac header (notice.Ack header.ack_number))
+  pub nacks : (identity : Identity) (setup : Setup) (route : Route) (priority : Priority) (header : Header) → IsSetup setup → IsRoute route → header.kind ≡ pdu.Nack → IsHeader header
+      → heard_of identity (comes (said.bytes_of setup (said.Replies route priority header))) ≡ own_hears identity route.partner (device.Alarms setup.plan.controller.mac header notice.Nack)
   pub ends : (identity : Identity) (setup : Setup) (route : Route) (header : Header) (reason : Abort) → IsSetup setup → IsRoute route → IsHeader header
       → heard_of identity (comes (said.bytes_of setup (said.Ends route header reason))) ≡ own_hears identity route.partner (device.Alarms setup.plan.controller.mac (end_pdu header reason).header notice.Abort)
   pub identify : (identity : Identity) (setup : Setup) (to : Mac) → IsSetup setup
@@ -123,6 +134,7 @@ pub record HearsSo : Type 0 where
   pub address : (identity : Identity) (setup : Setup) (to : Mac) → IsSetup setup → IsMac to
       → heard_of identity (comes (said.bytes_of setup (said.Requests to asks.Address))) ≡ own_hears identity to (device.Asks setup.plan.controller.mac (address_asked setup.plan))
   pub call_can : (setup : Setup) (request : Request) → IsSetup setup → IsCalled request → IsNumbered request → CanBeCalled devices (call_for setup request)
+  pub record_can : (setup : Setup) (request : RecordRequest) (octets : List ℕ) → IsSetup setup → IsRecordCall request octets → CanBeCalled devices (record_call setup request octets)
   pub call_at_device : (identity : Identity) (setup : Setup) (to : Mac) (call : Call) → IsSetup setup → IsMac to → CanBeCalled devices call
       → heard_of identity (comes (call_frame setup to call))
       ≡ own_reported identity setup.plan.controller.mac to (calls_at setup.plan.controller.address) (calls_at setup.plan.station.suite.address) (device.Calls call)
@@ -283,41 +295,41 @@ module _ (so : HearsSo) (setup : Setup) (identity : Identity) where
       → IsNotedBy setup identity (bytes_of identity (sent.Exchanges route frame)) (noted_by frame)
   frame_noted route (Inputs inputs counter) can sized = plain_noted route.partner (Some route.sent_tag) route.sent_id (cyclic_body inputs counter) sized can
   frame_noted route (Notifies header one) can sized = (
-    noted_by_law (bytes_of identity (sent.Exchanges route (Notifies header one))) route.partner (controller.Alarms identity.mac header (notice.Data header.send_number one))
+    noted_by_law (bytes_of identity (sent.Exchanges route (Notifies header one))) route.partner (controller.Alarms identity.mac High header (notice.Data header.send_number (ours one)))
         (so.alarm mine identity (alarm_route route) header one can.source (route_is route can.destination can.tag) sized.1 sized.2 sized.3),
     alarm_unreported route.partner (Some route.alarm_tag) (frame_id_of pdu.Data) (body_of (Notifies header one)) sized.0 can,
-    good_by_law (bytes_of identity (sent.Exchanges route (Notifies header one))) route.partner (controller.Alarms identity.mac header (notice.Data header.send_number one))
-        (so.alarm mine identity (alarm_route route) header one can.source (route_is route can.destination can.tag) sized.1 sized.2 sized.3) (sized.2.send_number, noted_alarm one sized.3),
+    good_by_law (bytes_of identity (sent.Exchanges route (Notifies header one))) route.partner (controller.Alarms identity.mac High header (notice.Data header.send_number (ours one)))
+        (so.alarm mine identity (alarm_route route) header one can.source (route_is route can.destination can.tag) sized.1 sized.2 sized.3) ((sized.2.send_number, noted_alarm one sized.3), refl),
   )
   frame_noted route (Answers header) can sized =
       (by_kind sized.1, alarm_unreported route.partner (Some route.alarm_tag) (frame_id_of header.kind) (body_of (Answers header)) sized.0 can, good_kind sized.1)
     where
       good_kind : (header.kind ≡ pdu.Ack) ⊎ (header.kind ≡ pdu.Nack) → IsGood identity.mac (heard_by mine (bytes_of identity (sent.Exchanges route (Answers header))))
-      good_kind (inl kind) = good_by_law (bytes_of identity (sent.Exchanges route (Answers header))) route.partner (controller.Alarms identity.mac header (notice.Ack header.ack_number))
-          (so.ack mine identity (alarm_route route) header can.source (route_is route can.destination can.tag) kind sized.2) tt
-      good_kind (inr kind) = good_by_law (bytes_of identity (sent.Exchanges route (Answers header))) route.partner (controller.Alarms identity.mac header notice.Nack)
-          (so.nack mine identity (alarm_route route) header can.source (route_is route can.destination can.tag) kind sized.2) tt
+      good_kind (inl kind) = good_by_law (bytes_of identity (sent.Exchanges route (Answers header))) route.partner (controller.Alarms identity.mac High header (notice.Ack header.ack_number))
+          (so.ack mine identity (alarm_route route) header can.source (route_is route can.destination can.tag) kind sized.2) (tt, refl)
+      good_kind (inr kind) = good_by_law (bytes_of identity (sent.Exchanges route (Answers header))) route.partner (controller.Alarms identity.mac High header notice.Nack)
+          (so.nack mine identity (alarm_route route) header can.source (route_is route can.destination can.tag) kind sized.2) (tt, tt)
 
       by_kind : (header.kind ≡ pdu.Ack) ⊎ (header.kind ≡ pdu.Nack)
           → (noted_of setup (bytes_of identity (sent.Exchanges route (Answers header))) ≡ reply_of header.ack_number header.kind)
           ⊎ (noted_of setup (bytes_of identity (sent.Exchanges route (Answers header))) ≡ None)
       by_kind (inl kind) = subst (λ (k : PduType). (noted_of setup (bytes_of identity (sent.Exchanges route (Answers header))) ≡ reply_of header.ack_number k)
           ⊎ (noted_of setup (bytes_of identity (sent.Exchanges route (Answers header))) ≡ None)) (sym kind)
-          (noted_by_law (bytes_of identity (sent.Exchanges route (Answers header))) route.partner (controller.Alarms identity.mac header (notice.Ack header.ack_number))
+          (noted_by_law (bytes_of identity (sent.Exchanges route (Answers header))) route.partner (controller.Alarms identity.mac High header (notice.Ack header.ack_number))
           (so.ack mine identity (alarm_route route) header can.source (route_is route can.destination can.tag) kind sized.2))
       by_kind (inr kind) = subst (λ (k : PduType). (noted_of setup (bytes_of identity (sent.Exchanges route (Answers header))) ≡ reply_of header.ack_number k)
           ⊎ (noted_of setup (bytes_of identity (sent.Exchanges route (Answers header))) ≡ None)) (sym kind)
-          (noted_by_law (bytes_of identity (sent.Exchanges route (Answers header))) route.partner (controller.Alarms identity.mac header notice.Nack)
+          (noted_by_law (bytes_of identity (sent.Exchanges route (Answers header))) route.partner (controller.Alarms identity.mac High header notice.Nack)
           (so.nack mine identity (alarm_route route) header can.source (route_is route can.destination can.tag) kind sized.2))
 
   message_noted : (message : sent.Sent) → IsSendable identity message → IsSizedSent identity message → IsReady message → IsNotedAs setup identity message
   message_noted (sent.Exchanges route frame) can sized ready_so = frame_noted route frame can sized
   message_noted (sent.Ends farewell) can sized ready_so = (
-    noted_by_law (bytes_of identity (sent.Ends farewell)) farewell.initiator (controller.Alarms identity.mac (said_by farewell).header notice.Abort)
+    noted_by_law (bytes_of identity (sent.Ends farewell)) farewell.initiator (controller.Alarms identity.mac Low (said_by farewell).header notice.Abort)
         (so.end_heard mine identity farewell can.source can.destination can.tag sized.1),
     alarm_unreported farewell.initiator (Some farewell.tag) _ _ sized.0 can,
-    good_by_law (bytes_of identity (sent.Ends farewell)) farewell.initiator (controller.Alarms identity.mac (said_by farewell).header notice.Abort)
-        (so.end_heard mine identity farewell can.source can.destination can.tag sized.1) tt,
+    good_by_law (bytes_of identity (sent.Ends farewell)) farewell.initiator (controller.Alarms identity.mac Low (said_by farewell).header notice.Abort)
+        (so.end_heard mine identity farewell can.source can.destination can.tag sized.1) (tt, tt),
   )
   message_noted (sent.IdentifyAnswer asker running xid) can sized ready_so = plain_noted asker None 65279 _ refl can
   message_noted (sent.GetAnswer asker running request) can sized ready_so = plain_noted asker None 65277 _ refl can
@@ -364,13 +376,15 @@ module _ (so : HearsSo) (setup : Setup) (identity : Identity) where
     alarm_unheard destination octets source header message apart e =
         alarms_unheard (at_partner destination) setup octets source header message (own_heard destination octets (device.Alarms source header message) e) (other_mac destination mine.mac apart)
 
+    called_reported : (to : Mac) (call : Call) → IsMac to → CanBeCalled devices call → IsReportedBy setup identity (call_frame setup to call) None
+    called_reported to call mac can = (
+      inl (ap reported_at (so.call_at_device identity setup to call good mac can)
+          ∙ datagram_reported identity mine.mac to (calls_at mine.address) (calls_at setup.plan.station.suite.address) (device.Calls call)),
+      so.call_at_controller mine setup to call good mac can,
+    )
+
     call_reported : (to : Mac) (request : Request) → IsMac to → IsCalled request → IsNumbered request → IsReportedBy setup identity (call_frame setup to (call_for setup request)) None
-    call_reported to request mac called numbered =
-        let can = so.call_can setup request good called numbered in (
-          inl (ap reported_at (so.call_at_device identity setup to (call_for setup request) good mac can)
-              ∙ datagram_reported identity mine.mac to (calls_at mine.address) (calls_at setup.plan.station.suite.address) (device.Calls (call_for setup request))),
-          so.call_at_controller mine setup to (call_for setup request) good mac can,
-        )
+    call_reported to request mac called numbered = called_reported to (call_for setup request) mac (so.call_can setup request good called numbered)
 
     request_reported : (to : Mac) (request : Request) → IsMac to → IsNumbered request → IsAimed setup (said.Requests to request) → IsReportedBy setup identity (said.bytes_of setup (said.Requests to request)) None
     request_reported to asks.Identify mac numbered aimed =
@@ -384,23 +398,24 @@ module _ (so : HearsSo) (setup : Setup) (identity : Identity) where
     request_reported to asks.PrmEnd mac numbered aimed = call_reported to asks.PrmEnd mac tt numbered
     request_reported to (asks.Release sequence) mac numbered aimed = call_reported to (asks.Release sequence) mac tt numbered
 
-    reply_reported : (route : Route) (header : Header) → IsMac route.partner → route.alarm_tag < 65536 → (route.partner ≡ mine.mac → ⊥) → (header.kind ≡ pdu.Ack) ⊎ (header.kind ≡ pdu.Nack) → IsHeader header
-        → IsReportedBy setup identity (said.bytes_of setup (said.Replies route header)) (reply_of header.ack_number header.kind)
-    reply_reported route header mac tag apart (inl kind) sized =
+    reply_reported : (route : Route) (priority : Priority) (header : Header) → IsMac route.partner → route.alarm_tag < 65536 → (route.partner ≡ mine.mac → ⊥) → (header.kind ≡ pdu.Ack) ⊎ (header.kind ≡ pdu.Nack) → IsHeader header
+        → IsReportedBy setup identity (said.bytes_of setup (said.Replies route priority header)) (reply_of header.ack_number header.kind)
+    reply_reported route priority header mac tag apart (inl kind) sized =
         let way = route_is route mac tag in (
-          subst (λ (k : PduType). (reported_of identity (said.bytes_of setup (said.Replies route header)) ≡ reply_of header.ack_number k) ⊎ (reported_of identity (said.bytes_of setup (said.Replies route header)) ≡ None)) (sym kind)
-              (reported_by_law (said.bytes_of setup (said.Replies route header)) route.partner _ (so.acks identity setup (alarm_route route) header good way kind sized)),
-          alarm_unheard route.partner (said.bytes_of setup (said.Replies route header)) _ _ _ apart (so.acks (at_partner route.partner) setup (alarm_route route) header good way kind sized),
+          subst (λ (k : PduType). (reported_of identity (said.bytes_of setup (said.Replies route priority header)) ≡ reply_of header.ack_number k) ⊎ (reported_of identity (said.bytes_of setup (said.Replies route priority header)) ≡ None)) (sym kind)
+              (reported_by_law (said.bytes_of setup (said.Replies route priority header)) route.partner _ (so.acks identity setup (alarm_route route) priority header good way kind sized)),
+          alarm_unheard route.partner (said.bytes_of setup (said.Replies route priority header)) _ _ _ apart (so.acks (at_partner route.partner) setup (alarm_route route) priority header good way kind sized),
         )
-    reply_reported route header mac tag apart (inr kind) sized =
+    reply_reported route priority header mac tag apart (inr kind) sized =
         let way = route_is route mac tag in (
-          subst (λ (k : PduType). (reported_of identity (said.bytes_of setup (said.Replies route header)) ≡ reply_of header.ack_number k) ⊎ (reported_of identity (said.bytes_of setup (said.Replies route header)) ≡ None)) (sym kind)
-              (reported_by_law (said.bytes_of setup (said.Replies route header)) route.partner _ (so.nacks identity setup (alarm_route route) header good way kind sized)),
-          alarm_unheard route.partner (said.bytes_of setup (said.Replies route header)) _ _ _ apart (so.nacks (at_partner route.partner) setup (alarm_route route) header good way kind sized),
+          subst (λ (k : PduType). (reported_of identity (said.bytes_of setup (said.Replies route priority header)) ≡ reply_of header.ack_number k) ⊎ (reported_of identity (said.bytes_of setup (said.Replies route priority header)) ≡ None)) (sym kind)
+              (reported_by_law (said.bytes_of setup (said.Replies route priority header)) route.partner _ (so.nacks identity setup (alarm_route route) priority header good way kind sized)),
+          alarm_unheard route.partner (said.bytes_of setup (said.Replies route priority header)) _ _ _ apart (so.nacks (at_partner route.partner) setup (alarm_route route) priority header good way kind sized),
         )
 
     message_reported : (message : said.Sent) → IsSizedSaid setup message → IsReportedAs setup identity message
     message_reported (said.Requests to request) sized = request_reported to request sized.0.0 sized.0.1 sized.1
+    message_reported (said.Accesses device_mac request octets) sized = called_reported device_mac (record_call setup request octets) sized.0.0 (so.record_can setup request octets good sized.0.1)
     message_reported (said.Agrees caller answer) sized = (
       inl (ap reported_at (so.agreed_at_device identity setup caller answer good sized.0.0 sized.0.1)
           ∙ datagram_reported identity mine.mac caller.mac (calls_at mine.address) caller.endpoint (device.Responds answer)),
@@ -414,13 +429,18 @@ module _ (so : HearsSo) (setup : Setup) (identity : Identity) where
           inl (data_unreported identity route.partner mine.mac (Some route.sent_tag) route.sent_id (cyclic_body shown counter) _ reads (inr sized.1.0)),
           data_unheard mine route.partner mine.mac (Some route.sent_tag) route.sent_id (cyclic_body shown counter) _ reads (other_mac route.partner mine.mac sized.1.1),
         )
-    message_reported (said.Confirms route header one) sized =
+    message_reported (said.Confirms route Low header one) sized =
         let way = route_is route sized.0.0.partner sized.0.0.alarm_tag in (
-          reported_by_law (said.bytes_of setup (said.Confirms route header one)) route.partner _ (so.confirms identity setup (alarm_route route) header one good way sized.0.1 sized.0.2 sized.0.3),
-          alarm_unheard route.partner (said.bytes_of setup (said.Confirms route header one)) _ _ _ sized.1
+          reported_by_law (said.bytes_of setup (said.Confirms route Low header one)) route.partner _ (so.low identity setup (alarm_route route) header one good way sized.0.1 sized.0.2 sized.0.3),
+          so.unheard mine setup (alarm_route route) header one good way sized.0.1 (other_mac route.partner mine.mac sized.1),
+        )
+    message_reported (said.Confirms route High header one) sized =
+        let way = route_is route sized.0.0.partner sized.0.0.alarm_tag in (
+          reported_by_law (said.bytes_of setup (said.Confirms route High header one)) route.partner _ (so.confirms identity setup (alarm_route route) header one good way sized.0.1 sized.0.2 sized.0.3),
+          alarm_unheard route.partner (said.bytes_of setup (said.Confirms route High header one)) _ _ _ sized.1
               (so.confirms (at_partner route.partner) setup (alarm_route route) header one good way sized.0.1 sized.0.2 sized.0.3),
         )
-    message_reported (said.Replies route header) sized = reply_reported route header sized.0.0.partner sized.0.0.alarm_tag sized.1 sized.0.1 sized.0.2
+    message_reported (said.Replies route priority header) sized = reply_reported route priority header sized.0.0.partner sized.0.0.alarm_tag sized.1 sized.0.1 sized.0.2
     message_reported (said.Ends route header reason) sized =
         let way = route_is route sized.0.0.partner sized.0.0.alarm_tag in (
           reported_by_law (said.bytes_of setup (said.Ends route header reason)) route.partner _ (so.ends identity setup (alarm_route route) header reason good way sized.0.1),

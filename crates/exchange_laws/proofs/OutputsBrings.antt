@@ -46,8 +46,12 @@ use Rattle.device_frames.specs.Sent.{Sent, IdentifyAnswer, GetAnswer, SetAnswer,
 use Rattle.device_frames.specs.Sendable.{IsSendable}
 use Rattle.controller_frames.specs.declared.request.Request.{Request}
 use Rattle.controller_frames.specs.declared.request.Request.TheVariants as asks
+use Rattle.controller_frames.specs.RecordRequests.{record_call}
 use Rattle.controller_frames.specs.Requests.{address_asked, call_for, identify_asked}
-use Rattle.controller_frames.specs.Sent.{Sent as Message, Requests, Agrees, Cycles, Confirms, Replies, Ends as Leaves, ack_pdu, alarm_frame, bytes_of as bytes_said, call_frame, calls_at, end_frame, end_pdu, identify_multicast, reply_pdu, request_frame}
+use Rattle.pn_alarms.specs.declared.priority.Priority.{Priority}
+use Rattle.pn_alarms.specs.declared.priority.Priority.TheVariants.{High, Low}
+use Rattle.pn_alarms.specs.Priority.{frame_id_at}
+use Rattle.controller_frames.specs.Sent.{Sent as Message, Requests, Accesses, Agrees, Cycles, Confirms, Replies, Ends as Leaves, ack_pdu, alarm_frame, bytes_of as bytes_said, call_frame, calls_at, end_frame, end_pdu, identify_multicast, reply_pdu, request_frame, tag_of as tag_at}
 use Rattle.device_frames.specs.Heard.{Heard, Cyclic, Elsewhere, Resolves, Reported, Unreadable, broadcast, heard_alarm, heard_content, heard_frame, heard_of, heard_request, is_own, is_taken, said_by}
 use Rattle.controller_frames.specs.declared.setup.Setup.{Setup}
 use Rattle.end_laws.specs.both.Outputs.{BringsNone, Outputs}
@@ -117,10 +121,11 @@ pub record IsWay (route : Route) : Type 0 where
 -- a message that goes to a station
 abbrev pub IsAddressed : Message → Type 0
 IsAddressed (Requests device request) = IsMac device
+IsAddressed (Accesses device request octets) = IsMac device
 IsAddressed (Agrees caller answer) = IsMac caller.mac
 IsAddressed (Cycles route shown counter) = IsWay route
-IsAddressed (Confirms route header ack) = IsWay route
-IsAddressed (Replies route header) = IsWay route
+IsAddressed (Confirms route priority header ack) = IsWay route
+IsAddressed (Replies route priority header) = IsWay route
 IsAddressed (Leaves route header reason) = IsWay route
 
 -- the outputs that are sent are those of the current image
@@ -304,9 +309,16 @@ module _ (setup : Setup) (identity : Identity) where
     other_id : (frame_id : ℕ) → (big_number 2 (big_bytes 2 frame_id) == 0xC000) ≡ false → is_of_partner (route_for setup) mine (big_number 2 (big_bytes 2 frame_id)) ≡ false
     other_id frame_id e = and_false (pointwise nat_eq mine.octets setup.plan.controller.mac.octets) (big_number 2 (big_bytes 2 frame_id) == 0xC000) e
 
-    alarm_id : (kind : PduType) → (big_number 2 (big_bytes 2 (frame_id_of kind)) == 0xC000) ≡ false
-    alarm_id pdu.Data = refl
-    alarm_id kind = refl
+    alarm_id : (priority : Priority) (kind : PduType) → (big_number 2 (big_bytes 2 (frame_id_at priority kind)) == 0xC000) ≡ false
+    alarm_id Low kind = refl
+    alarm_id High pdu.Data = refl
+    alarm_id High pdu.Nack = refl
+    alarm_id High pdu.Ack = refl
+    alarm_id High pdu.Error = refl
+
+    tag_small : (route : Route) (priority : Priority) → IsWay route → tag_at route priority < 65536
+    tag_small route High way = way.alarm_tag
+    tag_small route Low way = omega arith
 
     multicast_six : IsMac identify_multicast
     unfolding identify_multicast
@@ -325,10 +337,10 @@ module _ (setup : Setup) (identity : Identity) where
     request_silent device asks.PrmEnd one = call_silent device (call_for setup asks.PrmEnd) one
     request_silent device (asks.Release sequence) one = call_silent device (call_for setup (asks.Release sequence)) one
 
-    alarm_silent : (route : Route) (said : Said) → IsWay route → BringsNone rules (alarm_frame setup route said)
-    alarm_silent route said way =
-        data_silent sound route.partner mine (Some route.alarm_tag) (frame_id_of said.header.kind) (pdu_bytes said) way.partner six way.alarm_tag
-        (other_id (frame_id_of said.header.kind) (alarm_id said.header.kind))
+    alarm_silent : (route : Route) (priority : Priority) (said : Said) → IsWay route → BringsNone rules (alarm_frame setup route priority said)
+    alarm_silent route priority said way =
+        data_silent sound route.partner mine (Some (tag_at route priority)) (frame_id_at priority said.header.kind) (pdu_bytes said) way.partner six (tag_small route priority way)
+        (other_id (frame_id_at priority said.header.kind) (alarm_id priority said.header.kind))
 
     end_silent : (route : Route) (said : Said) → IsWay route → BringsNone rules (end_frame setup route said)
     end_silent route said way =
@@ -340,10 +352,11 @@ module _ (setup : Setup) (identity : Identity) where
         subst (λ (image : Image). BringsNow image (bytes_said setup (Cycles route other counter))) now
         (outputs_bring sound mine route other counter way.partner six way.sent_tag (ap (λ (image : Image). image.data_length) now ∙ size))
     message_brings shown size (Requests device request) now one = inl (request_silent device request one)
+    message_brings shown size (Accesses device request octets) now one = inl (call_silent device (record_call setup request octets) one)
     message_brings shown size (Agrees caller answer) now one =
         inl (datagram_silent sound caller.mac mine None (calls_at setup.plan.controller.address) caller.endpoint (response_bytes answer) one six tt)
-    message_brings shown size (Confirms route header ack) now way = inl (alarm_silent route (ack_pdu header ack) way)
-    message_brings shown size (Replies route header) now way = inl (alarm_silent route (reply_pdu header) way)
+    message_brings shown size (Confirms route priority header ack) now way = inl (alarm_silent route priority (ack_pdu priority header ack) way)
+    message_brings shown size (Replies route priority header) now way = inl (alarm_silent route priority (reply_pdu header) way)
     message_brings shown size (Leaves route header reason) now way = inl (end_silent route (end_pdu header reason) way)
 
     pub all_bring : (shown : Image) → shown.data_length ≡ (zeros_for setup).data_length → (sent : List Message) → AllByRecursion (IsNow shown) sent → AllByRecursion IsAddressed sent

@@ -1,5 +1,5 @@
 -- All outputs that are shown come from one frame, which brings the values set before it was sent.
-use Rattle.std.proofs.Common.{◌≡◌, ◌++◌, ℕ, Bool, true, false, List, [], ◌∷◌, map, Option, Some, None, refl, sym, ap, subst, ◌∙◌}
+use Rattle.std.proofs.Common.{◌≡◌, ◌++◌, ℕ, Bool, true, false, List, [], ◌∷◌, map, Option, Some, refl, sym, ap, subst, ◌∙◌}
 use Rattle.std.specs.Prelude.{nat_eq, option_map, slice_get}
 use Rattle.std.specs.Cmp.Lexicographic.{pointwise, same_text}
 use Rattle.wire.specs.Codec.{IsSound, IsSoundWhole}
@@ -74,6 +74,8 @@ by_controller (move.Status slot subslot is_good) by = absurd by
 by_controller move.Ready by = absurd by
 by_controller (move.Give slot subslot value) by = refl
 by_controller (move.OutputStatus slot subslot is_good) by = refl
+by_controller (move.Read slot subslot index) by = refl
+by_controller (move.Write slot subslot index octets) by = refl
 by_controller move.Stop by = refl
 
 came_to : (one : Move) (number : ℕ) → move_of one ≡ small.ComesToDevice number → one ≡ move.Deliver Device number
@@ -90,6 +92,8 @@ came_to (move.Status slot subslot is_good) number is = absurd cc
 came_to move.Ready number is = absurd cc
 came_to (move.Give slot subslot value) number is = absurd cc
 came_to (move.OutputStatus slot subslot is_good) number is = absurd cc
+came_to (move.Read slot subslot index) number is = absurd cc
+came_to (move.Write slot subslot index octets) number is = absurd cc
 came_to move.Stop number is = absurd cc
 
 pub other_mac : (one other : Mac) → (one ≡ other → ⊥) → pointwise nat_eq one.octets other.octets ≡ false

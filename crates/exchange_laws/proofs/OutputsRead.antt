@@ -5,7 +5,7 @@ use Rattle.wire.specs.Codec.{Codec, IsSound, ◌>>=◌}
 use Rattle.wire.specs.Formats.{big_bytes, big_number}
 use Rattle.frame_codec.specs.declared.fault.FrameFault.{FrameFault}
 use Rattle.frame_codec.specs.declared.fault.FrameFault.TheVariants.{TooLong, TooShort}
-use Rattle.frame_codec.specs.Meaning.{Content, RealTime, ArpPacket, UdpDatagram, Meaning, IsOther}
+use Rattle.frame_codec.specs.Meaning.{Content, RealTime, ArpPacket, Meaning, IsOther}
 use Rattle.frame_codec.specs.Frame.{arp, content_under, datagram, datagram_in, ethernet, frame_bytes, frame_of, header_of, layers, longest, mac, padding_of, real_time, tag_and_type, type_of}
 use Rattle.frame_codec.specs.declared.arp.Arp.{Arp}
 use Rattle.frame_codec.specs.Arp.{arp_packet}

@@ -26,7 +26,7 @@ use Rattle.relations.specs.RelationState.{RelationState}
 use Rattle.relations.specs.Exchanged.{hearing}
 use Rattle.startup_law.specs.request.Request.{request_for}
 use Rattle.device_frames.specs.Heard.{Heard, Cyclic as Comes}
-use Rattle.device_frames.specs.Sent.{Sent, IdentifyAnswer, GetAnswer, SetAnswer, ArpReply, CallAnswer, Again, ReadyCall, Ends, Exchanges, bytes_of}
+use Rattle.device_frames.specs.Sent.{Sent, CallAnswer, Again, bytes_of}
 use Rattle.device_frames.specs.Sendable.{AreSendable}
 use Rattle.device_core.specs.State.{Station, Rest, Live}
 use Rattle.settings_store.specs.Machine.{Outcome, carried}

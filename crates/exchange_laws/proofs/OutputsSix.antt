@@ -26,7 +26,7 @@ use Rattle.controller_frames.specs.Heard.{Nothing, Cyclic, heard_alarm, heard_an
 use Rattle.controller_frames.specs.declared.refusal.Refusal.{Refusal}
 use Rattle.controller_frames.specs.Refusal.{refusal_of}
 use Rattle.controller_core.specs.declared.event.Event.{Event}
-use Rattle.controller_core.specs.declared.event.Event.TheVariants.{Frame, Give, Stop, Tick}
+use Rattle.controller_core.specs.declared.event.Event.TheVariants.{Frame}
 use Rattle.exchange_laws.proofs.OutputsRead.{EthernetHeader}
 use Rattle.exchange_laws.proofs.OutputsTurns.{IsSix, IsSixAt}
 
@@ -62,9 +62,9 @@ six_answer : (source : Mac) (read : Result Answered DcpFault) → IsMac source �
 six_answer source (Ok answer) six = six
 six_answer source (Err fault) six = tt
 
-six_alarm : (source : Mac) (read : Result (Header × ToController) AlarmFault) → IsSix (heard_alarm source read)
-six_alarm source (Ok x) = tt
-six_alarm source (Err fault) = tt
+six_alarm : (source : Mac) (frame_id : ℕ) (read : Result (Header × ToController) AlarmFault) → IsSix (heard_alarm source frame_id read)
+six_alarm source frame_id (Ok x) = tt
+six_alarm source frame_id (Err fault) = tt
 
 six_dcp : (source : Mac) (frame_id : ℕ) (body : List ℕ) → IsMac source
     → IsSix (cond (frame_id == 0xFEFD) (heard_answer source (answer_of frame_id body)) (cond (frame_id == 0xFEFF) (heard_answer source (answer_of frame_id body)) Nothing))
@@ -79,10 +79,10 @@ six_real_time : (source : Mac) (frame_id : ℕ) (body : List ℕ) → IsMac sour
 unfolding heard_real_time
 six_real_time source frame_id body six = by_kind (is_cyclic frame_id) (is_alarm frame_id)
   where
-    by_kind : (b c : Bool) → IsSix (cond b (Cyclic source frame_id body) (cond c (heard_alarm source (alarm_of body))
+    by_kind : (b c : Bool) → IsSix (cond b (Cyclic source frame_id body) (cond c (heard_alarm source frame_id (alarm_of body))
         (cond (frame_id == 0xFEFD) (heard_answer source (answer_of frame_id body)) (cond (frame_id == 0xFEFF) (heard_answer source (answer_of frame_id body)) Nothing))))
     by_kind true c = tt
-    by_kind false true = six_alarm source (alarm_of body)
+    by_kind false true = six_alarm source frame_id (alarm_of body)
     by_kind false false = six_dcp source frame_id body six
 
 six_call : (caller : Caller) (call : Call) (blocks : Option (List ℕ)) → IsMac caller.mac → IsSix (heard_call caller call blocks)

@@ -1,13 +1,10 @@
 -- Each turn of a controller, as far as outputs are concerned: it stays a controller of the plan, and its messages go to
 -- stations.
-use Rattle.std.proofs.Common.{◌≡◌, ◌⊎◌, inl, inr, ◌&&◌, ◌+◌, ℕ, Bool, true, false, cond, List, [], ◌∷◌, ◌++◌, Option, Some, None, Result, Ok, Err, refl, subst, ap, ◌∙◌, sym, length, unwrap_or, arith}
-use Rattle.std.specs.Prelude.{if◌then◌else◌}
+use Rattle.std.proofs.Common.{◌≡◌, ◌⊎◌, inl, inr, ◌+◌, ℕ, Bool, true, false, cond, List, [], ◌∷◌, ◌++◌, Option, Some, None, Result, Ok, Err, refl, subst, ap, ◌∙◌, sym, arith}
 use Rattle.std.specs.List.{AllByRecursion}
 use Rattle.pn_values.specs.declared.mac.Mac.{Mac}
-use Rattle.dcp_core.specs.Answered.{is_agreed}
 use Rattle.dcp_core.specs.Response.{Answered}
 use Rattle.rpc_core.specs.Call.{Asked as Call}
-use Rattle.rpc_core.specs.Response.{Answered as Response, is_done}
 use Rattle.frame_codec.specs.declared.udp.Caller.{Caller}
 use Rattle.connect_blocks.specs.declared.control.ControlBlock.{ControlBlock}
 use Rattle.record_blocks.specs.declared.alarm_ack.AlarmAck.{AlarmAck}
@@ -16,37 +13,40 @@ use Rattle.cyclic_data.specs.Image.{Cell, Shown as Image}
 use Rattle.cyclic_exchange.specs.Cyclic.{Cyclic}
 use Rattle.codec_laws.specs.frames.Sendable.{IsMac}
 use Rattle.pn_alarms.specs.declared.abort.Abort.{Abort}
-use Rattle.pn_alarms.specs.declared.message.Notice.TheVariants as notice
 use Rattle.pn_alarms.specs.declared.receiver.Taken.{Taken}
 use Rattle.pn_alarms.specs.declared.receiver.Taken.TheVariants.{New, Again, Refused}
-use Rattle.pn_alarms.specs.Message.{ToController}
 use Rattle.pn_alarms.specs.Receiver.{taken_as}
+use Rattle.pn_alarms.specs.Ends.{ControllerEnd}
+use Rattle.pn_alarms.specs.declared.priority.Priority.{Priority}
+use Rattle.pn_alarms.specs.declared.priority.Priority.TheVariants.{High, Low}
+use Rattle.pn_alarms.specs.declared.repeats.Due.{Due}
+use Rattle.pn_alarms.specs.declared.report.Report.{Report}
+use Rattle.pn_alarms.specs.Sending.{due}
+use Rattle.pn_alarms.specs.Sending.{is_again as is_repeated}
 use Rattle.cyclic_data.specs.declared.tail.CyclicTail.{CyclicTail}
 use Rattle.cyclic_data.specs.declared.tail.ShortFrame.{ShortFrame}
 use Rattle.cyclic_data.specs.Tail.{cyclic_of}
 use Rattle.cyclic_exchange.specs.declared.route.Route.{Route}
 use Rattle.cyclic_exchange.specs.Units.{Brought}
 use Rattle.cyclic_exchange.specs.Received.{behind_frame, behind_read, is_new, is_of_partner, taken_from}
+use Rattle.controller_frames.specs.declared.record_request.RecordRequest.{RecordRequest}
 use Rattle.controller_frames.specs.declared.request.Request.{Request}
 use Rattle.controller_frames.specs.declared.request.Request.TheVariants as asks
 use Rattle.controller_frames.specs.declared.setup.Setup.{Setup}
-use Rattle.controller_frames.specs.Heard.{Alarms, Answers, Calls, Heard, Nothing, Refuses, Responds, heard_of}
-use Rattle.controller_frames.specs.Heard.{Cyclic as Comes}
+use Rattle.controller_frames.specs.Heard.{Answers, Calls, Heard, heard_of}
 use Rattle.controller_frames.specs.Sent.{Sent}
 use Rattle.controller_core.specs.declared.event.Event.{Event}
-use Rattle.controller_core.specs.declared.event.Event.TheVariants.{Frame, Give, Status, Stop, Tick as Ticks}
+use Rattle.controller_core.specs.declared.event.Event.TheVariants.{Frame, Give, Read, Status, Stop, Tick as Ticks, Write}
 use Rattle.controller_core.specs.declared.outputs.OutputMark.{OutputMark}
 use Rattle.controller_core.specs.declared.state.Cause.{Cause}
-use Rattle.controller_core.specs.declared.state.Cause.TheVariants as cause
 use Rattle.controller_core.specs.declared.state.State.{State}
-use Rattle.controller_core.specs.declared.state.State.TheVariants.{Looking, Addressing, Connecting, Writing, Ending, Waiting, Exchanging, Ended}
-use Rattle.controller_core.specs.Alarms.{is_alarm}
-use Rattle.controller_core.specs.Answers.{is_addressed, is_answer, is_found, is_ready, is_right, is_set_answer}
-use Rattle.controller_core.specs.Connect.{Chosen, found_in, is_whole, nothing}
+use Rattle.controller_core.specs.declared.state.State.TheVariants.{Addressing, Connecting, Ended}
+use Rattle.controller_core.specs.Alarms.{ack_of}
+use Rattle.controller_core.specs.Connect.{Chosen}
 use Rattle.controller_frames.specs.Requests.{writing_from}
-use Rattle.controller_core.specs.Machine.{Turn, acks_in, addressed, answered, asking, behind_data, brought, called, come, connected, decided, done, flow_later, flowed, found, given, is_again, handled, next_sequence, noted, noticed, over, phase_for, rated, readied, ready_in, standing, writing, related_by, released, requests_of, responded, stays, stopped, taken, ticked, turn_of, turned, where_due}
+use Rattle.controller_core.specs.Machine.{Turn, accesses_by, acking, acks_in, acks_of, asking, behind_ack, behind_data, brought, confirming, end_of, keeping, pending_by, pending_of, with_end, flow_later, flowed, given, is_again, next_sequence, noted, over, phase_for, rated, readied, standing, writing, released, requests_of, stays, taken, turn_of, where_due}
 use Rattle.controller_core.specs.State.{Live}
-use Rattle.end_laws.specs.turns.Turns.{Came, Hears, Passes, Gets, GetsStatus, Halts, IsKind, IsReadied, IsSought, IsTurn, Kind, Rests, Connects, Addresses, Releases, Relates, Writes, Skips, Waits, Forgets, Begins, Repeats, Follows, Takes, IsAcked, Gives, GivesStatus, Flows, Breaks, Idles, came_by, turn_by}
+use Rattle.end_laws.specs.turns.Turns.{Came, Hears, Passes, Gets, GetsStatus, AsksRead, AsksWrite, Halts, IsKind, IsReadied, IsSought, IsTurn, Kind, Rests, Connects, Addresses, Releases, Relates, Writes, Skips, Waits, Forgets, Begins, Repeats, Follows, Takes, IsAcked, Asks, IsReplied, Gives, GivesStatus, Flows, Breaks, Idles, came_by, turn_by}
 use Rattle.end_laws.specs.turns.Turns as sort
 use Rattle.exchange_laws.proofs.OutputsBrings.{IsAddressed, IsNow, IsWay}
 use Rattle.exchange_laws.proofs.OutputsMoves.{Sets, sets_of}
@@ -84,6 +84,8 @@ shown_behind live other = sets_of live
 abbrev IsSixIn : Came → Type 0
 IsSixIn (Hears heard) = IsSix heard
 IsSixIn Passes = Unit {0}
+IsSixIn (AsksRead slot subslot index) = Unit {0}
+IsSixIn (AsksWrite slot subslot index octets) = Unit {0}
 IsSixIn Halts = Unit {0}
 IsSixIn (Gets slot subslot value) = ⊥
 IsSixIn (GetsStatus slot subslot is_good) = ⊥
@@ -109,7 +111,7 @@ module _ (size : ℕ) where
   over_tells why live k = record { reported = tt; kept = k; same = refl }
 
   released_tells : (setup : Setup) (why : Cause) (live : Live) → IsKept size live → Tells (sets_of live) (released setup why live)
-  released_tells setup why live k = asking_tells (Ended why) (asks.Release (next_sequence setup.plan live.asked)) (over why live) k
+  released_tells setup why live k = asking_tells (Ended why) (asks.Release (next_sequence setup.plan live.access.calls live.asked)) (over why live) k
 
   related_tells : (setup : Setup) (live : Live) (chosen : Chosen) → IsKept size live → Tells (sets_of live) (writing (writing_from setup.plan 0) (standing setup live chosen))
   related_tells setup live chosen k = record {
@@ -118,10 +120,51 @@ module _ (size : ℕ) where
     kept = record { device = k.device; way = record { partner = k.device; sent_tag = omega arith; alarm_tag = omega arith }; size = k.size };
   }
 
-  taken_tells : (live : Live) (alarm : AlarmNotification) (as_is : Taken) → IsKept size live → Tells (sets_of live) (taken live alarm as_is)
-  taken_tells live alarm New k = record { reported = ((tt, k.way), ((tt, k.way), tt)); same = refl; kept = k }
-  taken_tells live alarm Again k = record { reported = ((tt, k.way), tt); same = refl; kept = k }
-  taken_tells live alarm Refused k = record { reported = ((tt, k.way), tt); same = refl; kept = k }
+  -- neither the alarms of a priority nor the alarm that is stored changes the outputs
+  record Alike (before after : Live) : Type 0 where
+    device : after.device ≡ before.device
+    cyclic : after.cyclic ≡ before.cyclic
+    outputs : after.outputs ≡ before.outputs
+
+  with_end_alike : (live : Live) (priority : Priority) (end : ControllerEnd) → Alike live (with_end live priority end)
+  with_end_alike live High end = record { device = refl; cyclic = refl; outputs = refl }
+  with_end_alike live Low end = record { device = refl; cyclic = refl; outputs = refl }
+
+  keeping_alike : (live : Live) (priority : Priority) (alarm : AlarmNotification) (structure : Option ℕ) → Alike live (keeping live priority alarm structure)
+  keeping_alike live High alarm structure = record { device = refl; cyclic = refl; outputs = refl }
+  keeping_alike live Low alarm structure = record { device = refl; cyclic = refl; outputs = refl }
+
+  alike_on : (a b c : Live) → Alike a b → Alike b c → Alike a c
+  alike_on a b c one other = record { device = other.device ∙ one.device; cyclic = other.cyclic ∙ one.cyclic; outputs = other.outputs ∙ one.outputs }
+
+  confirming_alike : (live : Live) (report : Report) → Alike live (confirming live report)
+  confirming_alike live report =
+      alike_on live (acking live report.priority (ack_of report.notification)) (confirming live report) (with_end_alike live report.priority _)
+      (keeping_alike (acking live report.priority (ack_of report.notification)) report.priority _ report.user_structure)
+
+  sets_alike : (before after : Live) → Alike before after → sets_of after ≡ sets_of before
+  sets_alike before after alike =
+      ap (λ (c : Cyclic). let s : Sets = record { shown = c.shown; marks = after.outputs } in s) alike.cyclic
+      ∙ ap (λ (marks : List OutputMark). let s : Sets = record { shown = before.cyclic.shown; marks = marks } in s) alike.outputs
+
+  kept_alike : (before after : Live) → Alike before after → IsKept size before → IsKept size after
+  kept_alike before after alike k = record {
+    device = subst (λ (m : Mac). IsMac m) (sym alike.device) k.device;
+    way = subst (λ (c : Cyclic). IsWay c.route) (sym alike.cyclic) k.way;
+    size = ap (λ (c : Cyclic). c.shown.data_length) alike.cyclic ∙ k.size;
+  }
+
+  taken_tells : (live : Live) (report : Report) (as_is : Taken) → IsKept size live → Tells (sets_of live) (taken live report as_is)
+  taken_tells live report New k =
+      let alike = confirming_alike live report in
+      let kept = kept_alike live (confirming live report) alike k in
+      record { reported = ((tt, k.way), ((tt, kept.way), tt)); same = sets_alike live (confirming live report) alike; kept = kept }
+  taken_tells live report Again k = record { reported = ((tt, k.way), tt); same = refl; kept = k }
+  taken_tells live report Refused k = record { reported = ((tt, k.way), tt); same = refl; kept = k }
+
+  -- the same for a turn after data of a priority
+  alike_tells : (before after : Live) (turn : Turn) → Alike before after → Tells (sets_of after) turn → Tells (sets_of before) turn
+  alike_tells before after turn alike tells = record { reported = tells.reported; kept = tells.kept; same = tells.same ∙ sets_alike before after alike }
 
   -- a cyclic frame changes neither the route nor the outputs
   read_keeps : (cyclic : Cyclic) (read : Result (List ℕ × CyclicTail) ShortFrame)
@@ -164,20 +207,30 @@ module _ (size : ℕ) where
   request_tells shown device (Some request) one = ((tt, one), tt)
   request_tells shown device None one = tt
 
-  acks_tell : (shown : Image) (live : Live) (ack : Option AlarmAck) → IsWay live.cyclic.route → AllByRecursion (IsSaid shown) (acks_in live ack)
-  acks_tell shown live (Some ack) way = ((tt, way), tt)
-  acks_tell shown live None way = tt
+  access_tells : (shown : Image) (device : Mac) (octets : List ℕ) (waiting : Option RecordRequest) → IsMac device → AllByRecursion (IsSaid shown) (accesses_by device octets waiting)
+  access_tells shown device octets (Some request) one = ((tt, one), tt)
+  access_tells shown device octets None one = tt
 
-  flowed_tells : (live : Live) (is_request : Bool) (tick : Brought) (ending : Option Abort) → IsKept size live → Tells (sets_of live) (flowed live is_request tick ending)
-  flowed_tells live is_request tick (Some reason) k = record { reported = ((tt, k.way), tt); same = refl; kept = k }
-  flowed_tells live is_request tick None k =
+  pending_tells : (shown : Image) (live : Live) (asked : Option Request) → IsMac live.device → AllByRecursion (IsSaid shown) (pending_by live asked)
+  pending_tells shown live (Some request) one = ((tt, one), tt)
+  pending_tells shown live None one = access_tells shown live.device live.access.octets live.access.waiting one
+
+  acks_tell : (shown : Image) (live : Live) (priority : Priority) (ack : Option AlarmAck) → IsWay live.cyclic.route → AllByRecursion (IsSaid shown) (acks_in live priority ack)
+  acks_tell shown live priority (Some ack) way = ((tt, way), tt)
+  acks_tell shown live priority None way = tt
+
+  flowed_tells : (live : Live) (high low : Due) (is_request : Bool) (tick : Brought) (ending : Option Abort) → IsKept size live → Tells (sets_of live) (flowed live high low is_request tick ending)
+  flowed_tells live high low is_request tick (Some reason) k = record { reported = ((tt, k.way), tt); same = refl; kept = k }
+  flowed_tells live high low is_request tick None k =
       let shown = live.cyclic.shown in
       record {
-        reported = all_append (IsSaid shown) (where_due tick.is_alarm (acks_in live live.alarms.confirming)) _
-            (due_tells shown tick.is_alarm _ (acks_tell shown live live.alarms.confirming k.way))
-            (all_append (IsSaid shown) (where_due is_request (requests_of live.device live.asked)) _
-            (due_tells shown is_request _ (request_tells shown live.device live.asked k.device))
-            (due_tells shown tick.is_cyclic _ ((refl, k.way), tt)));
+        reported = all_append (IsSaid shown) (where_due (is_repeated high) (acks_of live High)) _
+            (due_tells shown (is_repeated high) _ (acks_tell shown live High live.alarms.confirming k.way))
+            (all_append (IsSaid shown) (where_due (is_repeated low) (acks_of live Low)) _
+            (due_tells shown (is_repeated low) _ (acks_tell shown live Low live.low_alarms.confirming k.way))
+            (all_append (IsSaid shown) (where_due is_request (pending_of live)) _
+            (due_tells shown is_request _ (pending_tells shown live live.asked k.device))
+            (due_tells shown tick.is_cyclic _ ((refl, k.way), tt))));
         same = refl;
         kept = k;
       }
@@ -218,11 +271,19 @@ module _ (size : ℕ) where
     kind_tells (Follows source frame_id body) holds =
         let keeps = frame_keeps live.cyclic source frame_id body in
         record { reported = tt; kept = with_cyclic live (behind_frame live.cyclic source frame_id body) keeps.0 (ap (λ (image : Image). image.data_length) keeps.1) k; same = ap (λ (image : Image). let s : Sets = record { shown = image; marks = live.outputs } in s) keeps.1 }
-    kind_tells (Takes number alarm) holds = taken_tells (behind_data live number) alarm (taken_as live.alarms.seen number) k
+    kind_tells (Takes number report) holds =
+        let behind_it = behind_data live report.priority number in
+        let alike = with_end_alike live report.priority _ in
+        alike_tells live behind_it (taken behind_it report (taken_as (end_of live report.priority).seen number)) alike
+        (taken_tells behind_it report (taken_as (end_of live report.priority).seen number) (kept_alike live behind_it alike k))
+    kind_tells (IsAcked priority number) holds =
+        let alike = with_end_alike live priority _ in
+        record { reported = tt; kept = kept_alike live (behind_ack live priority number) alike k; same = sets_alike live (behind_ack live priority number) alike }
+    kind_tells (Asks request octets) holds = record { reported = ((tt, k.device), tt); kept = record { device = k.device; way = k.way; size = k.size }; same = refl }
     kind_tells (Gives slot subslot value) holds = absurd (subst (λ (c : Came). IsSixIn c) holds six)
     kind_tells (GivesStatus slot subslot is_good) holds = absurd (subst (λ (c : Came). IsSixIn c) holds six)
-    kind_tells Flows holds = flowed_tells (flow_later live) (is_again live) (brought live) None k
-    kind_tells (Breaks reason) holds = flowed_tells (flow_later live) (is_again live) (brought live) (Some reason) k
+    kind_tells Flows holds = flowed_tells (flow_later live) (due live.alarms.sending) (due live.low_alarms.sending) (is_again live) (brought live) None k
+    kind_tells (Breaks reason) holds = flowed_tells (flow_later live) (due live.alarms.sending) (due live.low_alarms.sending) (is_again live) (brought live) (Some reason) k
     kind_tells Idles holds =
         record { reported = due_tells live.cyclic.shown (is_again live) (requests_of live.device live.asked) (request_tells live.cyclic.shown live.device live.asked k.device); same = refl; kept = k }
     kind_tells other holds = record { reported = tt; kept = k; same = refl }
@@ -236,4 +297,7 @@ module _ (size : ℕ) where
   turn_tells kinds setup live (Give slot subslot value) six k = record { reported = tt; same = refl; kept = set_keeps live (given live slot subslot value.items).cyclic.shown.cells (given live slot subslot value.items).outputs k }
   turn_tells kinds setup live (Status slot subslot is_good) six k =
       record { reported = tt; same = refl; kept = set_keeps live (rated live slot subslot is_good).cyclic.shown.cells (rated live slot subslot is_good).outputs k }
+  turn_tells kinds setup live (Read slot subslot index) six k = came_tells setup live (AsksRead slot subslot index) tt k _ (kinds setup live (Read slot subslot index))
+  turn_tells kinds setup live (Write slot subslot index octets) six k =
+      came_tells setup live (AsksWrite slot subslot index octets.items) tt k _ (kinds setup live (Write slot subslot index octets))
   turn_tells kinds setup live Stop six k = came_tells setup live Halts tt k _ (kinds setup live Stop)

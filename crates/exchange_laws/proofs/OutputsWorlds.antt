@@ -233,6 +233,10 @@ module _ (turns : TurnsSo) (kinds : KindsSo) (sound : IsSound ethernet) (whole :
           does before after _ _ _ _ (λ steps. steps) (at_controller_gives before after (controller.Give slot subslot value) holds happens)
       happens_shows (move.OutputStatus slot subslot is_good) meant happens =
           does before after _ _ _ _ (λ steps. steps) (at_controller_gives before after (controller.Status slot subslot is_good) holds happens)
+      happens_shows (move.Read slot subslot index) meant happens =
+          does before after _ _ _ _ (λ steps. steps) (at_controller_gives before after (controller.Read slot subslot index) holds happens)
+      happens_shows (move.Write slot subslot index octets) meant happens =
+          does before after _ _ _ _ (λ steps. steps) (at_controller_gives before after (controller.Write slot subslot index octets) holds happens)
       happens_shows move.Stop meant happens = does before after _ _ _ _ (λ steps. steps) (at_controller_gives before after controller.Stop holds happens)
 
     -- ---- runs

@@ -1,5 +1,5 @@
 -- A controller sends to the station that responded, and its outputs under the FrameID that this station chose.
-use Rattle.std.proofs.Common.{◌≡◌, ◌&&◌, ◌+◌, ℕ, Bool, true, false, cond, List, length, Option, Some, None, refl, sym, ap, ◌∙◌}
+use Rattle.std.proofs.Common.{◌≡◌, ◌&&◌, ◌+◌, ℕ, Bool, true, false, cond, List, [], length, Option, Some, None, refl, sym, ap, ◌∙◌}
 use Rattle.std.specs.Prelude.{nat_lt}
 use Rattle.std.specs.List.{AllByRecursion}
 use Rattle.pn_values.specs.declared.mac.Mac.{Mac}
@@ -24,9 +24,21 @@ use Rattle.pn_alarms.specs.declared.receiver.Taken.{Taken}
 use Rattle.pn_alarms.specs.declared.receiver.Taken.TheVariants.{New, Again, Refused}
 use Rattle.pn_alarms.specs.Message.{ToController}
 use Rattle.pn_alarms.specs.Receiver.{taken_as}
+use Rattle.pn_alarms.specs.Ends.{ControllerEnd}
+use Rattle.pn_alarms.specs.declared.priority.Priority.{Priority}
+use Rattle.pn_alarms.specs.declared.priority.Priority.TheVariants.{High, Low}
+use Rattle.pn_alarms.specs.declared.repeats.Due.{Due}
+use Rattle.pn_alarms.specs.declared.report.Report.{Report}
+use Rattle.pn_alarms.specs.Sending.{due}
+use Rattle.pn_alarms.specs.Sending.{is_again as is_repeated}
 use Rattle.plans.specs.declared.parts.Parts.{Parts}
 use Rattle.controller_frames.specs.declared.refusal.Refusal.{Refusal}
 use Rattle.controller_frames.specs.declared.setup.Setup.{Setup}
+use Rattle.block_codec.specs.Block.{block_of}
+use Rattle.controller_frames.specs.declared.record_request.RecordRequest.{RecordRequest}
+use Rattle.controller_frames.specs.declared.record_request.RecordService.{RecordService}
+use Rattle.controller_frames.specs.declared.record_request.RecordService.TheVariants as service
+use Rattle.controller_frames.specs.RecordRequests.{most_record_octets}
 use Rattle.controller_frames.specs.declared.request.Request.{Request}
 use Rattle.controller_frames.specs.declared.request.Request.TheVariants as asks
 use Rattle.controller_frames.specs.Heard.{Heard, Nothing, Answers, Responds, Refuses, Calls, Alarms, heard_of}
@@ -37,10 +49,11 @@ use Rattle.controller_core.specs.declared.event.Event.TheVariants as event
 use Rattle.controller_core.specs.declared.state.Cause.{Cause}
 use Rattle.controller_core.specs.declared.state.State.{State}
 use Rattle.controller_core.specs.declared.state.State.TheVariants.{Looking, Addressing, Ending, Waiting, Exchanging, Ended}
-use Rattle.controller_core.specs.Alarms.{is_alarm as is_of_relation}
+use Rattle.controller_core.specs.Access.{Accessing, is_rejected, is_reply, record_in}
+use Rattle.controller_core.specs.Alarms.{ack_of, is_alarm as is_of_relation}
 use Rattle.controller_core.specs.Answers.{is_addressed, is_answer, is_found, is_ready, is_refused, is_right, is_set_answer}
 use Rattle.controller_core.specs.Connect.{Chosen, chosen_of, found_in, is_whole, nothing}
-use Rattle.controller_core.specs.Machine.{Turn, acks_in, addressed, answered, behind_data, brought, called, come, connected, decided, denied, done, first, flow_later, flowed, found, given, is_again, handled, later, noted, noticed, outputs_of, over, rated, readied, ready_in, refused, refused_by, related_by, released, requests_of, responded, standing, stays, stopped, taken, turn_of, turned, undone, where_due, writing}
+use Rattle.controller_core.specs.Machine.{Turn, accesses_by, accessing, acked_under, acking, acks_in, acks_of, addressed, answered, behind_ack, behind_data, brings, brought, can_request, confirming, end_of, failed, granted, keeping, pending_by, pending_of, rejected, replied, replied_by, requested, with_end, called, come, connected, decided, denied, done, first, flow_later, flowed, found, given, is_again, handled, later, noted, noticed, outputs_of, over, rated, readied, ready_in, refused, refused_by, related_by, released, requests_of, responded, standing, stays, stopped, taken, turn_of, turned, undone, where_due, writing}
 use Rattle.controller_core.specs.State.{Live}
 use Rattle.end_laws.specs.sending.Sized.{Found}
 use Rattle.exchange_laws.specs.Sized.{IsChosenWell}
@@ -174,6 +187,34 @@ module _ (setup : Setup) (mac : Mac) (apart : mac ≡ setup.plan.controller.mac 
   decided_placed live response (asks.Release sequence) now well p =
       stays_placed (record live { asked = None }) (record { plain = p.plain; partner = p.partner; asking = λ e. absurd cc; giving = p.giving; addressing = λ e. absurd cc })
 
+  -- the answer to a request of the application changes nothing of it
+  reported_so : (live : Live) (refusal : Option Status) (access : Accessing) → IsPlaced mac live → IsPlaced mac (record live { refusal = refusal; access = access })
+  reported_so live refusal access p = record { plain = p.plain; partner = p.partner; asking = p.asking; giving = p.giving; addressing = p.addressing }
+
+  placed_if : (b : Bool) (x y : Live) → IsPlaced mac x → IsPlaced mac y → IsPlaced mac (cond b x y)
+  placed_if true x y one other = one
+  placed_if false x y one other = other
+
+  brings_so : (request : RecordRequest) (read : Option (List ℕ)) (live : Live) → IsPlaced mac live → IsPlaced mac (brings request read live)
+  brings_so request (Some octets) live p = reported_so live live.refusal _ p
+  brings_so request None live p = p
+
+  granted_so : (request : RecordRequest) (blocks : List ℕ) (asked : RecordService) (live : Live) → IsPlaced mac live → IsPlaced mac (granted request blocks asked live)
+  granted_so request blocks service.Read live p = brings_so request (record_in (block_of blocks)) live p
+  granted_so request blocks service.Write live p = reported_so live live.refusal _ p
+
+  replied_so : (live : Live) (response : Response) (waiting : Option RecordRequest) → IsPlaced mac live → IsPlaced mac (replied setup live response waiting)
+  replied_so live response (Some request) p =
+      placed_if (is_reply setup request response.header) (replied_by live response request) live
+      (placed_if (is_done response.status) (granted request response.blocks request.service live) (failed response.status request live)
+      (granted_so request response.blocks request.service live p) (reported_so live (Some response.status) _ p)) p
+  replied_so live response None p = p
+
+  rejected_so : (live : Live) (refusal : Refusal) (waiting : Option RecordRequest) → IsPlaced mac live → IsPlaced mac (rejected setup live refusal waiting)
+  rejected_so live refusal (Some request) p =
+      placed_if (is_rejected setup request refusal) (failed refusal.status request live) live (reported_so live (Some refusal.status) _ p) p
+  rejected_so live refusal None p = p
+
   responded_placed : (live : Live) (response : Response) (asked : Option Request) → live.asked ≡ asked → IsWell setup (Responds response) → IsPlaced mac live
       → PlacedTurn (responded setup live response asked)
   responded_placed live response (Some request) now fit p =
@@ -181,7 +222,7 @@ module _ (setup : Setup) (mac : Mac) (apart : mac ≡ setup.plan.controller.mac 
       (λ answers. decided_placed live response request now
       (λ connects. fit (ap (λ (one : Request). is_answer setup one response.header) (sym connects) ∙ answers)) p)
       (λ other. stays_placed live p)
-  responded_placed live response None now fit p = stays_placed live p
+  responded_placed live response None now fit p = stays_placed (replied setup live response live.access.waiting) (replied_so live response live.access.waiting p)
 
   -- ---- calls, cyclic frames and outputs
 
@@ -213,29 +254,52 @@ module _ (setup : Setup) (mac : Mac) (apart : mac ≡ setup.plan.controller.mac 
   partner_other : (live : Live) → live.stands ≡ true → IsPlaced mac live → live.cyclic.route.partner ≡ setup.plan.controller.mac → ⊥
   partner_other live up p e = apart (sym (p.partner up) ∙ e)
 
-  taken_placed : (live : Live) (alarm : AlarmNotification) (as_what : Taken) → live.stands ≡ true → IsPlaced mac live → PlacedTurn (taken live alarm as_what)
-  taken_placed live alarm New up p = record {
-    live = record { plain = p.plain; partner = p.partner; asking = p.asking; giving = p.giving; addressing = p.addressing };
-    sent = (partner_other live up p, (partner_other live up p, tt));
-  }
-  taken_placed live alarm Again up p = record { live = p; sent = (partner_other live up p, tt) }
-  taken_placed live alarm Refused up p = record { live = p; sent = (partner_other live up p, tt) }
+  with_end_placed : (live : Live) (priority : Priority) (end : ControllerEnd) → IsPlaced mac live → IsPlaced mac (with_end live priority end)
+  with_end_placed live High end p = record { plain = p.plain; partner = p.partner; asking = p.asking; giving = p.giving; addressing = p.addressing }
+  with_end_placed live Low end p = record { plain = p.plain; partner = p.partner; asking = p.asking; giving = p.giving; addressing = p.addressing }
 
-  noticed_placed : (live : Live) (reported : ToController) → live.stands ≡ true → IsPlaced mac live → PlacedTurn (noticed live reported)
-  noticed_placed live (notice.Data number alarm) up p =
-      taken_placed (behind_data live number) alarm (taken_as live.alarms.seen number) up (record { plain = p.plain; partner = p.partner; asking = p.asking; giving = p.giving; addressing = p.addressing })
-  noticed_placed live (notice.Ack number) up p = record { live = record { plain = p.plain; partner = p.partner; asking = p.asking; giving = p.giving; addressing = p.addressing }; sent = tt }
-  noticed_placed live notice.Nack up p = stays_placed live p
-  noticed_placed live notice.Abort up p = ends_placed _ live p
+  with_end_up : (live : Live) (priority : Priority) (end : ControllerEnd) → live.stands ≡ true → (with_end live priority end).stands ≡ true
+  with_end_up live High end up = up
+  with_end_up live Low end up = up
+
+  keeping_placed : (live : Live) (priority : Priority) (alarm : AlarmNotification) (structure : Option ℕ) → IsPlaced mac live → IsPlaced mac (keeping live priority alarm structure)
+  keeping_placed live High alarm structure p = record { plain = p.plain; partner = p.partner; asking = p.asking; giving = p.giving; addressing = p.addressing }
+  keeping_placed live Low alarm structure p = record { plain = p.plain; partner = p.partner; asking = p.asking; giving = p.giving; addressing = p.addressing }
+
+  keeping_up : (live : Live) (priority : Priority) (alarm : AlarmNotification) (structure : Option ℕ) → live.stands ≡ true → (keeping live priority alarm structure).stands ≡ true
+  keeping_up live High alarm structure up = up
+  keeping_up live Low alarm structure up = up
+
+  confirming_placed : (live : Live) (report : Report) → IsPlaced mac live → IsPlaced mac (confirming live report)
+  confirming_placed live report p =
+      keeping_placed (acking live report.priority (ack_of report.notification)) report.priority _ report.user_structure (with_end_placed live report.priority _ p)
+
+  confirming_up : (live : Live) (report : Report) → live.stands ≡ true → (confirming live report).stands ≡ true
+  confirming_up live report up =
+      keeping_up (acking live report.priority (ack_of report.notification)) report.priority _ report.user_structure (with_end_up live report.priority _ up)
+
+  taken_placed : (live : Live) (report : Report) (as_what : Taken) → live.stands ≡ true → IsPlaced mac live → PlacedTurn (taken live report as_what)
+  taken_placed live report New up p =
+      let placed = confirming_placed live report p in
+      record { live = placed; sent = (partner_other live up p, (partner_other (confirming live report) (confirming_up live report up) placed, tt)) }
+  taken_placed live report Again up p = record { live = p; sent = (partner_other live up p, tt) }
+  taken_placed live report Refused up p = record { live = p; sent = (partner_other live up p, tt) }
+
+  noticed_placed : (live : Live) (under : Priority) (reported : ToController) → live.stands ≡ true → IsPlaced mac live → PlacedTurn (noticed live under reported)
+  noticed_placed live under (notice.Data number report) up p =
+      taken_placed (behind_data live report.priority number) report (taken_as (end_of live report.priority).seen number) (with_end_up live report.priority _ up) (with_end_placed live report.priority _ p)
+  noticed_placed live under (notice.Ack number) up p = stays_placed (behind_ack live (acked_under live under) number) (with_end_placed live (acked_under live under) _ p)
+  noticed_placed live under notice.Nack up p = stays_placed live p
+  noticed_placed live under notice.Abort up p = ends_placed _ live p
 
   and_first : (a b : Bool) → (a && b) ≡ true → a ≡ true
   and_first true b e = refl
   and_first false b e = absurd cc
 
-  alarmed_placed : (live : Live) (source : Mac) (header : Header) (reported : ToController) (b : Bool) → (live.stands && is_of_relation live.cyclic.route source header) ≡ b → IsPlaced mac live
-      → PlacedTurn (cond b (noticed live reported) (stays live))
-  alarmed_placed live source header reported true e p = noticed_placed live reported (and_first live.stands (is_of_relation live.cyclic.route source header) e) p
-  alarmed_placed live source header reported false e p = stays_placed live p
+  alarmed_placed : (live : Live) (source : Mac) (under : Priority) (header : Header) (reported : ToController) (b : Bool) → (live.stands && is_of_relation live.cyclic.route source header) ≡ b → IsPlaced mac live
+      → PlacedTurn (cond b (noticed live under reported) (stays live))
+  alarmed_placed live source under header reported true e p = noticed_placed live under reported (and_first live.stands (is_of_relation live.cyclic.route source header) e) p
+  alarmed_placed live source under header reported false e p = stays_placed live p
 
   -- ---- rejects and faults
 
@@ -246,7 +310,7 @@ module _ (setup : Setup) (mac : Mac) (apart : mac ≡ setup.plan.controller.mac 
 
   refused_placed : (live : Live) (refusal : Refusal) (asked : Option Request) → IsPlaced mac live → PlacedTurn (refused setup live refusal asked)
   refused_placed live refusal (Some request) p = either (is_refused setup request refusal) _ _ (refused_by_placed live refusal request p) (stays_placed live p)
-  refused_placed live refusal None p = stays_placed live p
+  refused_placed live refusal None p = stays_placed (rejected setup live refusal live.access.waiting) (rejected_so live refusal live.access.waiting p)
 
   -- ---- what is heard
 
@@ -257,7 +321,7 @@ module _ (setup : Setup) (mac : Mac) (apart : mac ≡ setup.plan.controller.mac 
   heard_placed live (Refuses refusal) is p = refused_placed live refusal live.asked p
   heard_placed live (Calls caller call) is p = called_placed live caller call (ready_in call) is p
   heard_placed live (Comes source frame_id body) is p = stays_placed (come live source frame_id body) (come_placed live source frame_id body live.stands p)
-  heard_placed live (Alarms source header reported) is p = alarmed_placed live source header reported (live.stands && is_of_relation live.cyclic.route source header) refl p
+  heard_placed live (Alarms source under header reported) is p = alarmed_placed live source under header reported (live.stands && is_of_relation live.cyclic.route source header) refl p
 
   -- ---- units
 
@@ -265,32 +329,56 @@ module _ (setup : Setup) (mac : Mac) (apart : mac ≡ setup.plan.controller.mac 
   due_placed true messages all = all
   due_placed false messages all = tt
 
-  acks_placed : (live : Live) (ack : Option AlarmAck) → live.stands ≡ true → IsPlaced mac live → AllByRecursion (IsAimed setup) (acks_in live ack)
-  acks_placed live (Some ack) up p = (partner_other live up p, tt)
-  acks_placed live None up p = tt
+  acks_placed : (live : Live) (priority : Priority) (ack : Option AlarmAck) → live.stands ≡ true → IsPlaced mac live → AllByRecursion (IsAimed setup) (acks_in live priority ack)
+  acks_placed live priority (Some ack) up p = (partner_other live up p, tt)
+  acks_placed live priority None up p = tt
 
   requests_placed : (device : Mac) (asked : Option Request) → (asked ≡ Some asks.Address → device ≡ mac) → AllByRecursion (IsAimed setup) (requests_of device asked)
   requests_placed device (Some asks.Address) own = (λ e. apart (sym (own refl) ∙ e), tt)
   requests_placed device None own = tt
   requests_placed device other own = (tt, tt)
 
-  flowed_placed : (live : Live) (is_request : Bool) (tick : Brought) (reason : Option Abort) → live.stands ≡ true → IsPlaced mac live → PlacedTurn (flowed live is_request tick reason)
-  flowed_placed live is_request tick (Some reason) up p = record { live = over_placed _ live p; sent = (partner_other live up p, tt) }
-  flowed_placed live is_request tick None up p = record {
+  accesses_placed : (device : Mac) (octets : List ℕ) (waiting : Option RecordRequest) → AllByRecursion (IsAimed setup) (accesses_by device octets waiting)
+  accesses_placed device octets (Some request) = (tt, tt)
+  accesses_placed device octets None = tt
+
+  pending_placed : (live : Live) (asked : Option Request) → (asked ≡ Some asks.Address → live.device ≡ mac) → AllByRecursion (IsAimed setup) (pending_by live asked)
+  pending_placed live (Some asks.Address) own = (λ e. apart (sym (own refl) ∙ e), tt)
+  pending_placed live None own = accesses_placed live.device live.access.octets live.access.waiting
+  pending_placed live (Some asks.Identify) own = (tt, tt)
+  pending_placed live (Some asks.Connect) own = (tt, tt)
+  pending_placed live (Some (asks.Write number)) own = (tt, tt)
+  pending_placed live (Some asks.PrmEnd) own = (tt, tt)
+  pending_placed live (Some (asks.Release sequence)) own = (tt, tt)
+
+  flowed_placed : (live : Live) (high low : Due) (is_request : Bool) (tick : Brought) (reason : Option Abort) → live.stands ≡ true → IsPlaced mac live → PlacedTurn (flowed live high low is_request tick reason)
+  flowed_placed live high low is_request tick (Some reason) up p = record { live = over_placed _ live p; sent = (partner_other live up p, tt) }
+  flowed_placed live high low is_request tick None up p = record {
     live = p;
-    sent = each_behind (IsAimed setup) (where_due tick.is_alarm (acks_in live live.alarms.confirming)) _ (due_placed tick.is_alarm _ (acks_placed live live.alarms.confirming up p))
-        (each_behind (IsAimed setup) (where_due is_request (requests_of live.device live.asked)) _ (due_placed is_request _ (requests_placed live.device live.asked p.addressing))
-        (due_placed tick.is_cyclic (outputs_of live) ((p.plain, partner_other live up p), tt)));
+    sent = each_behind (IsAimed setup) (where_due (is_repeated high) (acks_of live High)) _ (due_placed (is_repeated high) _ (acks_placed live High live.alarms.confirming up p))
+        (each_behind (IsAimed setup) (where_due (is_repeated low) (acks_of live Low)) _ (due_placed (is_repeated low) _ (acks_placed live Low live.low_alarms.confirming up p))
+        (each_behind (IsAimed setup) (where_due is_request (pending_of live)) _ (due_placed is_request _ (pending_placed live live.asked p.addressing))
+        (due_placed tick.is_cyclic (outputs_of live) ((p.plain, partner_other live up p), tt))));
   }
 
   ticked_placed : (live : Live) (b : Bool) → live.stands ≡ b → IsPlaced mac live
-      → PlacedTurn (cond b (flowed (flow_later live) (is_again live) (brought live) (brought live).ending) (record { live = later live; sent = where_due (is_again live) (requests_of live.device live.asked) }))
+      → PlacedTurn (cond b (flowed (flow_later live) (due live.alarms.sending) (due live.low_alarms.sending) (is_again live) (brought live) (brought live).ending)
+      (record { live = later live; sent = where_due (is_again live) (requests_of live.device live.asked) }))
   ticked_placed live true up p =
-      flowed_placed (flow_later live) (is_again live) (brought live) (brought live).ending up (record { plain = p.plain; partner = p.partner; asking = p.asking; giving = p.giving; addressing = p.addressing })
+      flowed_placed (flow_later live) (due live.alarms.sending) (due live.low_alarms.sending) (is_again live) (brought live) (brought live).ending up (record { plain = p.plain; partner = p.partner; asking = p.asking; giving = p.giving; addressing = p.addressing })
   ticked_placed live false up p = record {
     live = record { plain = p.plain; partner = p.partner; asking = p.asking; giving = p.giving; addressing = p.addressing };
     sent = due_placed (is_again live) _ (requests_placed live.device live.asked p.addressing);
   }
+
+  -- ---- requests of the application
+
+  accessing_placed : (live : Live) (request : RecordRequest) (octets : List ℕ) → IsPlaced mac live → PlacedTurn (accessing request octets live)
+  accessing_placed live request octets p =
+      record { live = record { plain = p.plain; partner = p.partner; asking = p.asking; giving = p.giving; addressing = p.addressing }; sent = (tt, tt) }
+
+  requested_placed : (live : Live) (kind : RecordService) (slot subslot index : ℕ) (octets : List ℕ) → IsPlaced mac live → PlacedTurn (requested setup live kind slot subslot index octets)
+  requested_placed live kind slot subslot index octets p = either (can_request live) _ _ (accessing_placed live _ octets p) (stays_placed live p)
 
   stopped_placed : (live : Live) (phase : State) → IsPlaced mac live → PlacedTurn (stopped setup live phase)
   stopped_placed live Looking p = ends_placed _ live p
@@ -311,6 +399,9 @@ module _ (setup : Setup) (mac : Mac) (apart : mac ≡ setup.plan.controller.mac 
       stays_placed (given live slot subslot value.items) (record { plain = p.plain; partner = p.partner; asking = p.asking; giving = p.giving; addressing = p.addressing })
   event_placed live (event.Status slot subslot is_good) is p =
       stays_placed (rated live slot subslot is_good) (record { plain = p.plain; partner = p.partner; asking = p.asking; giving = p.giving; addressing = p.addressing })
+  event_placed live (event.Read slot subslot index) is p = requested_placed live service.Read slot subslot index [] p
+  event_placed live (event.Write slot subslot index octets) is p =
+      either (nat_lt most_record_octets (length octets.items)) _ _ (stays_placed live p) (requested_placed live service.Write slot subslot index octets.items p)
   event_placed live event.Stop is p = stopped_placed live live.phase p
 
   -- a controller that was just made

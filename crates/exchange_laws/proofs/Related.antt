@@ -1,5 +1,6 @@
 -- The effect of a response on a controller; its FrameID counts if it is the response to a Connect.
-use Rattle.std.proofs.Common.{◌≡◌, ◌<◌, ◌+◌, ℕ, Bool, true, false, cond, List, length, Option, Some, None, refl, sym, ap, ◌∙◌, arith}
+use Rattle.std.proofs.Common.{◌≡◌, ◌<◌, ◌+◌, ℕ, Bool, true, false, cond, List, length, Option, Some, None, refl, sym, ap, subst, ◌∙◌, arith}
+use Rattle.std.proofs.Math.Nat.{mod-lt}
 use Rattle.std.specs.Prelude.{nat_lt}
 use Rattle.std.specs.List.{AllByRecursion}
 use Rattle.std.proofs.lemmas.Bool.{ltb-true}
@@ -7,6 +8,10 @@ use Rattle.rpc_core.specs.declared.response.Status.{Status}
 use Rattle.rpc_core.specs.Response.{Answered as Response, is_done}
 use Rattle.plans.specs.Plan.{IsPlan}
 use Rattle.plans.specs.declared.parts.Parts.{Parts}
+use Rattle.block_codec.specs.Block.{block_of}
+use Rattle.controller_frames.specs.declared.record_request.RecordRequest.{RecordRequest}
+use Rattle.controller_frames.specs.declared.record_request.RecordService.{RecordService}
+use Rattle.controller_frames.specs.declared.record_request.RecordService.TheVariants as service
 use Rattle.controller_frames.specs.declared.request.Request.{Request}
 use Rattle.controller_frames.specs.declared.request.Request.TheVariants as asks
 use Rattle.controller_frames.specs.declared.setup.Setup.{Setup}
@@ -16,13 +21,14 @@ use Rattle.controller_core.specs.declared.state.Cause.{Cause}
 use Rattle.controller_core.specs.declared.state.Cause.TheVariants as cause
 use Rattle.controller_core.specs.declared.state.State.{State}
 use Rattle.controller_core.specs.declared.state.State.TheVariants.{Ended, Waiting}
+use Rattle.controller_core.specs.Access.{Accessing, is_reply, record_in}
 use Rattle.controller_core.specs.Answers.{is_answer}
 use Rattle.controller_core.specs.Connect.{Chosen, chosen_of, found_in, is_whole, nothing}
-use Rattle.controller_core.specs.Machine.{Turn, asking, connected, decided, denied, done, handled, next_sequence, noted, over, phase_for, related_by, released, responded, standing, stays, undone, writing}
+use Rattle.controller_core.specs.Machine.{Turn, asking, brings, connected, decided, denied, done, failed, granted, handled, next_sequence, noted, over, phase_for, related_by, released, replied, replied_by, responded, standing, stays, undone, writing}
 use Rattle.controller_core.specs.State.{Live}
 use Rattle.end_laws.specs.hearing.Stations.{IsNumbered, IsSetup}
 use Rattle.end_laws.specs.sending.Messages.{CanBeSent}
-use Rattle.end_laws.specs.sending.Sized.{AreFew, Found, IsFew, IsLive}
+use Rattle.end_laws.specs.sending.Sized.{AreFew, Found, IsFew, IsLive, IsWaiting}
 use Rattle.exchange_laws.specs.Sized.{IsChosenWell}
 use Rattle.exchange_laws.proofs.Reported.{IsWell}
 
@@ -45,24 +51,24 @@ module _ (setup : Setup) (good : IsSetup setup) where
 
   asking_right : (phase : State) (request : Request) (live : Live) → IsLive live → IsFew request → IsRight setup (asking phase request live)
   asking_right phase request live is few = (
-    record { device = is.device; asked = few; way = is.way; few = is.few; last = is.last; seen = is.seen; confirming = is.confirming },
+    record { device = is.device; asked = few; way = is.way; few = is.few; high = is.high; low = is.low; access = is.access },
     ((is.device, numbered request few), tt),
   )
 
   unasked : (live : Live) (phase : State) → IsLive live → IsLive (record live { phase = phase; asked = None })
-  unasked live phase is = record { device = is.device; asked = tt; way = is.way; few = is.few; last = is.last; seen = is.seen; confirming = is.confirming }
+  unasked live phase is = record { device = is.device; asked = tt; way = is.way; few = is.few; high = is.high; low = is.low; access = is.access }
 
   over_live : (why : Cause) (live : Live) → IsLive live → IsLive (over why live)
-  over_live why live is = record { device = is.device; asked = tt; way = is.way; few = is.few; last = is.last; seen = is.seen; confirming = is.confirming }
+  over_live why live is = record { device = is.device; asked = tt; way = is.way; few = is.few; high = is.high; low = is.low; access = tt }
 
-  sequence_few : (plan : Parts) (asked : Option Request) → IsPlan plan → AreFew asked → next_sequence plan asked < 4294967296
-  sequence_few plan (Some asks.Connect) is few = omega arith
-  sequence_few plan (Some (asks.Write number)) is few = omega (arith, few)
-  sequence_few plan other is few = omega (arith, is.few_records)
+  sequence_few : (plan : Parts) (calls : ℕ) (asked : Option Request) → AreFew asked → next_sequence plan calls asked < 4294967296
+  sequence_few plan calls (Some asks.Connect) few = omega arith
+  sequence_few plan calls (Some (asks.Write number)) few = omega (arith, few)
+  sequence_few plan calls other few = mod-lt (length plan.records.items + 2 + calls) (omega arith)
 
   released_right : (why : Cause) (live : Live) → IsLive live → IsRight setup (released setup why live)
   released_right why live is =
-      asking_right (Ended why) (asks.Release (next_sequence setup.plan live.asked)) (over why live) (over_live why live is) (sequence_few setup.plan live.asked good.plan is.asked)
+      asking_right (Ended why) (asks.Release (next_sequence setup.plan live.access.calls live.asked)) (over why live) (over_live why live is) (sequence_few setup.plan live.access.calls live.asked is.asked)
 
   -- the next request is a Write, or PrmEnd
   picked_few : (number : ℕ) (b : Bool) → (b ≡ true → number < 32) → IsFew (cond b (asks.Write number) asks.PrmEnd)
@@ -82,9 +88,9 @@ module _ (setup : Setup) (good : IsSetup setup) where
     asked = is.asked;
     way = record { partner = is.device; sent_id = small.0; sent_tag = omega arith; alarm_tag = omega arith; reference = small.1 };
     few = is.few;
-    last = is.last;
-    seen = is.seen;
-    confirming = is.confirming;
+    high = is.high;
+    low = is.low;
+    access = is.access;
   }
 
   related_right : (live : Live) (found : Option Chosen) → IsLive live → ((chosen : Chosen) → found ≡ Some chosen → (chosen.frame_id < 65536) × (chosen.reference < 65536))
@@ -110,7 +116,7 @@ module _ (setup : Setup) (good : IsSetup setup) where
 
   noted_live : (status : Status) (number : ℕ) (live : Live) → IsLive live → IsLive (noted status number live)
   noted_live status number live is =
-      record { device = is.device; asked = is.asked; way = is.way; few = is.few; last = is.last; seen = is.seen; confirming = is.confirming }
+      record { device = is.device; asked = is.asked; way = is.way; few = is.few; high = is.high; low = is.low; access = is.access }
 
   undone_right : (live : Live) (status : Status) (request : Request) → IsLive live → IsRight setup (undone setup live status request)
   undone_right live status (asks.Write number) is =
@@ -118,7 +124,7 @@ module _ (setup : Setup) (good : IsSetup setup) where
       (λ goes. writing_right (number + 1) (noted status number live) (noted_live status number live is))
       (λ ends. stays_right (over cause.Refused (noted status number live)) (over_live cause.Refused (noted status number live) (noted_live status number live is)))
   undone_right live status request is =
-      stays_right (denied status live) (record { device = is.device; asked = tt; way = is.way; few = is.few; last = is.last; seen = is.seen; confirming = is.confirming })
+      stays_right (denied status live) (record { device = is.device; asked = tt; way = is.way; few = is.few; high = is.high; low = is.low; access = tt })
 
   handled_right : (live : Live) (response : Response) (request : Request) → IsLive live → (request ≡ asks.Connect → is_done response.status ≡ true → IsChosenWell response.blocks)
       → IsRight setup (handled setup live response request)
@@ -135,9 +141,40 @@ module _ (setup : Setup) (good : IsSetup setup) where
   decided_right live response asks.PrmEnd is well = handled_right live response asks.PrmEnd is well
   decided_right live response (asks.Release sequence) is well = stays_right _ (unasked live live.phase is)
 
+  -- the answer to a request of the application
+  answered_live : (live : Live) (refusal : Option Status) (access : Accessing) → access.waiting ≡ None → IsLive live → IsLive (record live { refusal = refusal; access = access })
+  answered_live live refusal access e is = record {
+    device = is.device;
+    asked = is.asked;
+    way = is.way;
+    few = is.few;
+    high = is.high;
+    low = is.low;
+    access = subst (λ (w : Option RecordRequest). IsWaiting w access.octets) (sym e) tt;
+  }
+
+  live_if : (b : Bool) (x y : Live) → IsLive x → IsLive y → IsLive (cond b x y)
+  live_if true x y one other = one
+  live_if false x y one other = other
+
+  brings_live : (request : RecordRequest) (read : Option (List ℕ)) (live : Live) → IsLive live → IsLive (brings request read live)
+  brings_live request (Some octets) live is = answered_live live live.refusal _ refl is
+  brings_live request None live is = is
+
+  granted_live : (request : RecordRequest) (blocks : List ℕ) (asked : RecordService) (live : Live) → IsLive live → IsLive (granted request blocks asked live)
+  granted_live request blocks service.Read live is = brings_live request (record_in (block_of blocks)) live is
+  granted_live request blocks service.Write live is = answered_live live live.refusal _ refl is
+
+  replied_live : (live : Live) (response : Response) (waiting : Option RecordRequest) → IsLive live → IsLive (replied setup live response waiting)
+  replied_live live response (Some request) is =
+      live_if (is_reply setup request response.header) (replied_by live response request) live
+      (live_if (is_done response.status) (granted request response.blocks request.service live) (failed response.status request live)
+      (granted_live request response.blocks request.service live is) (answered_live live (Some response.status) _ refl is)) is
+  replied_live live response None is = is
+
   pub responded_right : (live : Live) (response : Response) (asked : Option Request) → IsLive live → IsWell setup (Responds response) → IsRight setup (responded setup live response asked)
   responded_right live response (Some request) is fit =
       either (is_answer setup request response.header) _ _
       (λ answers. decided_right live response request is (λ connects. fit (ap (λ (one : Request). is_answer setup one response.header) (sym connects) ∙ answers)))
       (λ other. stays_right live is)
-  responded_right live response None is fit = stays_right live is
+  responded_right live response None is fit = stays_right (replied setup live response live.access.waiting) (replied_live live response live.access.waiting is)

@@ -7,6 +7,10 @@ use Rattle.record_blocks.specs.declared.alarm_notification.AlarmNotification.{Al
 use Rattle.pn_alarms.specs.declared.message.Notice.{Notice}
 use Rattle.pn_alarms.specs.declared.message.Notice.TheVariants as notice
 use Rattle.pn_alarms.specs.declared.pdu.PduType.{PduType}
+use Rattle.pn_alarms.specs.declared.priority.Priority.{Priority}
+use Rattle.pn_alarms.specs.declared.priority.Priority.TheVariants.{High}
+use Rattle.pn_alarms.specs.Message.{ToController}
+use Rattle.pn_alarms.specs.Report.{ours}
 use Rattle.pn_alarms.specs.declared.pdu.PduType.TheVariants as pdu
 use Rattle.relations.specs.exchange.Frames.{Frame, Inputs, Notifies, Replies as Answers}
 use Rattle.device_frames.specs.declared.event.Event.TheVariants.{Frame as comes_in}
@@ -29,6 +33,7 @@ use Rattle.end_laws.specs.both.Small as small
 use Rattle.end_laws.specs.device.Small.{heard_as}
 use Rattle.end_laws.specs.hearing.Stations.{IsCaller}
 use Rattle.end_laws.specs.sending.Sized.{IsNotice}
+use Rattle.startup_law.specs.View.{is_planned}
 use Rattle.exchange_laws.specs.Sized.{IsChosenWell}
 
 -- ---- at the device
@@ -58,25 +63,39 @@ noted_in other = None
 
 -- ---- at the controller
 
+-- what a notice says, whatever the priority of an alarm
+abbrev pub noticed : ToController → Notice AlarmNotification
+noticed (notice.Data number report) = notice.Data number report.notification
+noticed notice.Nack = notice.Nack
+noticed (notice.Ack number) = notice.Ack number
+noticed notice.Abort = notice.Abort
+
 -- what the controller hears of alarms
 abbrev pub noted_at : controller.Heard → Option (Notice AlarmNotification)
-noted_at (controller.Alarms source header message) = Some message
+noted_at (controller.Alarms source under header message) = Some (noticed message)
 noted_at other = None
 
--- what the controller says of alarms: an AlarmAck with its number, the reply to an alarm, or the end of the relation
+-- what the controller says of alarms to a device that sends those of high priority alone: an AlarmAck of that priority with its
+-- number, the reply to an alarm, or the end of the relation
 abbrev pub reported_in : said.Sent → Option (Notice AlarmAck)
-reported_in (said.Confirms route header ack) = Some (notice.Data header.send_number ack)
-reported_in (said.Replies route header) = reply_of header.ack_number header.kind
+reported_in (said.Confirms route High header ack) = Some (notice.Data header.send_number ack)
+reported_in (said.Replies route priority header) = reply_of header.ack_number header.kind
 reported_in (said.Ends route header reason) = Some notice.Abort
 reported_in other = None
 
 -- ---- what a controller hears of its device
 
--- only this station responds to the controller and calls it, and each field has its size
+-- an alarm is one of this product's device, and an ACK is one of high priority
+abbrev pub IsOurs : Priority → ToController → Type 0
+IsOurs under (notice.Data number report) = report ≡ ours report.notification
+IsOurs under (notice.Ack number) = under ≡ High
+IsOurs under other = Unit {0}
+
+-- only this station responds to the controller and calls it, its alarms are of high priority, and each field has its size
 abbrev pub IsGood : Mac → controller.Heard → Type 0
 IsGood mac (controller.Answers source answer) = (source ≡ mac) × IsMac source
 IsGood mac (controller.Calls caller call) = (caller.mac ≡ mac) × IsCaller caller × IsHeader call.header × (call.args_maximum < 4294967296)
-IsGood mac (controller.Alarms source header reported) = IsNotice reported
+IsGood mac (controller.Alarms source under header reported) = IsNotice reported × IsOurs under reported
 IsGood mac other = Unit {0}
 
 -- a positive response to the Connect chooses a suitable FrameID for outputs
@@ -90,9 +109,9 @@ pub record IsSizedCall (call : Call) : Type 0 where
   pub header : IsHeader call.header
   pub maximum : call.args_maximum < 4294967296
 
--- a call of a start-up has its sizes
-abbrev pub IsCallIn : device.Heard → Type 0
-IsCallIn heard = (caller : Caller) (address : List ℕ) (call : Call) → heard ≡ device.Reported caller address (device.Calls call) → (heard_as heard ≡ small.Idle → ⊥) → IsSizedCall call
+-- a call of a start-up or of the application has its sizes
+abbrev pub IsCallIn : Setup → device.Heard → Type 0
+IsCallIn setup heard = (caller : Caller) (address : List ℕ) (call : Call) → heard ≡ device.Reported caller address (device.Calls call) → (heard_as (is_planned setup) heard ≡ small.Idle → ⊥) → IsSizedCall call
 
 -- ---- what is heard as it is said
 
@@ -146,4 +165,4 @@ IsWellSent setup identity (sent.ReadyCall address ready) = IsWellBy setup (bytes
 
 -- a message of the controller, in which a call has its sizes
 abbrev pub IsCalledAs : Setup → Identity → said.Sent → Type 0
-IsCalledAs setup identity message = IsCallIn (heard_of identity (comes_in (record { items = said.bytes_of setup message })))
+IsCalledAs setup identity message = IsCallIn setup (heard_of identity (comes_in (record { items = said.bytes_of setup message })))

@@ -1,6 +1,7 @@
 -- The response of a device to the first call of its controller: only the Connect may succeed, and then its blocks
 -- choose a suitable FrameID for outputs.
 use Rattle.std.proofs.Common.{◌≡◌, inl, inr, ℕ, suc, true, List, [], ◌∷◌, Option, Some, None, Result, Ok, Err, sym, ap, subst, ◌∙◌, refl}
+use Rattle.std.specs.Prelude.{unwrap_or}
 use Rattle.std.specs.List.{AllByRecursion}
 use Rattle.std.proofs.lemmas.Bool.{false≢true}
 use Rattle.frame_codec.specs.declared.udp.Caller.{Caller}
@@ -24,8 +25,9 @@ use Rattle.controller_frames.specs.declared.setup.Setup.{Setup}
 use Rattle.controller_core.specs.Connect.{found_in, is_whole, nothing}
 use Rattle.end_laws.specs.sending.Sized.{Found}
 use Rattle.end_laws.specs.device.Does.{Does, IsEffect, IsOther, Serves, readied_from}
-use Rattle.end_laws.specs.device.Small.{IsPlanned, IsPlannedAs, IsPlannedCall}
-use Rattle.startup_law.specs.View.{rules_of}
+use Rattle.end_laws.specs.both.Small as small
+use Rattle.end_laws.specs.device.Small.{IsPlanned, IsPlannedAs, IsPlannedCall, asked_by, heard_as, written_by}
+use Rattle.startup_law.specs.View.{is_planned, rules_of}
 use Rattle.exchange_laws.specs.Sized.{IsChosenWell}
 use Rattle.exchange_laws.proofs.Lists.{none_some, some_is}
 
@@ -72,22 +74,30 @@ module _ (setup : Setup) (station : Station) (live : Live) where
   others_served after (message ∷ messages) others = (tt, others_served after messages others.1)
 
   -- the blocks of a response, by the outcome and the operation of its call
+  -- a Write of number 0 is one of the application
+  written_zero : (sequence : ℕ) (blocks : List ℕ) → sequence ≡ 0 → written_by (is_planned setup sequence blocks) sequence ≡ small.Call sequence small.Accesses
+  written_zero sequence blocks zero_is =
+      ap (λ (n : ℕ). written_by (is_planned setup n blocks) n) zero_is ∙ ap (λ (n : ℕ). small.Call n small.Accesses) (sym zero_is)
+
   outcome_well : (caller : Caller) (sequence : ℕ) (blocks : List ℕ) (outcome : Result (List ℕ) CallFault) (which : Operation) (after : Option RelationState) → sequence ≡ 0 → live.rest.link ≡ None
+      → (asked_by (is_planned setup) sequence blocks (Some which) ≡ small.Call sequence small.Accesses → ⊥)
       → IsPlannedAs (rules_of setup station) station.real sequence blocks (Some which) → IsEffect station caller blocks outcome which live.rest.link after → Chooses → IsChosenWell (outcome_of which outcome).1
-  outcome_well caller sequence blocks (Err why) which after zero_is none plan effect chooses = empty_well
-  outcome_well caller sequence blocks (Ok octets) operation.Connect after zero_is none plan effect chooses =
+  outcome_well caller sequence blocks (Err why) which after zero_is none early plan effect chooses = empty_well
+  outcome_well caller sequence blocks (Ok octets) operation.Connect after zero_is none early plan effect chooses =
       let is : effect.request ≡ asked = ok_is effect.request asked (sym effect.read ∙ (ap (λ (l : Option RelationState). connect_of l blocks) none ∙ plan)) in
       subst (λ (answer : List ℕ). IsChosenWell answer) (sym effect.answer)
       (subst (λ (request : Request). IsChosenWell (connect_blocks station.identity request (differing_of request station.real))) (sym is) chooses)
-  outcome_well caller sequence blocks (Ok octets) operation.Read after zero_is none plan effect chooses = absurd plan
-  outcome_well caller sequence blocks (Ok octets) operation.ReadImplicit after zero_is none plan effect chooses = absurd plan
-  outcome_well caller sequence blocks (Ok octets) which after zero_is none plan effect chooses = absurd (none_some effect.link live.rest.link none effect.was)
+  outcome_well caller sequence blocks (Ok octets) operation.Read after zero_is none early plan effect chooses = absurd (early refl)
+  outcome_well caller sequence blocks (Ok octets) operation.Write after zero_is none early plan effect chooses = absurd (early (written_zero sequence blocks zero_is))
+  outcome_well caller sequence blocks (Ok octets) operation.ReadImplicit after zero_is none early plan effect chooses = absurd plan
+  outcome_well caller sequence blocks (Ok octets) which after zero_is none early plan effect chooses = absurd (none_some effect.link live.rest.link none effect.was)
 
   -- ---- a turn
 
   module _ (heard : Heard) (after : Rest) (sent : List Sent) (planned : IsPlanned (rules_of setup station) setup.activity station.real heard)
       (none : (caller : Caller) (address : List ℕ) (call : Call) → heard ≡ Reported caller address (Calls call) → call.header.sequence ≡ 0
-      → looked call.header.activity call.header.sequence live.rest.calls ≡ new → live.rest.link ≡ None) where
+      → looked call.header.activity call.header.sequence live.rest.calls ≡ new
+      → (live.rest.link ≡ None) × (heard_as (is_planned setup) heard ≡ small.Call call.header.sequence small.Accesses → ⊥)) where
     silent_served : (messages : List Sent) → sent ≡ messages → AreServed messages → AreServed sent
     silent_served messages is all = subst (λ (those : List Sent). AreServed those) (sym is) all
 
@@ -104,7 +114,11 @@ module _ (setup : Setup) (station : Station) (live : Live) where
 
         well : IsServed (answer_from live.values.running.suite.address it.caller it.call it.which it.outcome)
         well = λ chooses zero_is done.
-            outcome_well it.caller it.call.header.sequence it.blocks it.outcome it.which after.link zero_is (none it.caller it.address it.call it.is zero_is it.fresh) asks it.effect chooses
+            let early = none it.caller it.address it.call it.is zero_is it.fresh in
+            outcome_well it.caller it.call.header.sequence it.blocks it.outcome it.which after.link zero_is early.0
+            (λ e. early.1 (ap (heard_as (is_planned setup)) it.is ∙ (ap (λ (b : Option (List ℕ)). asked_by (is_planned setup) it.call.header.sequence (unwrap_or b []) (operation_of it.call.header.operation)) it.counted
+            ∙ (ap (λ (o : Option Operation). asked_by (is_planned setup) it.call.header.sequence it.blocks o) it.asks ∙ e))))
+            asks it.effect chooses
 
     pub all_served : Does station live heard after sent → AreServed sent
     all_served (inl it) = silent_served [] it.silent tt

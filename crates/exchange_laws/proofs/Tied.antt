@@ -14,6 +14,8 @@ use Rattle.pn_alarms.specs.declared.message.Notice.TheVariants as notice
 use Rattle.pn_alarms.specs.declared.pdu.Header.{Header}
 use Rattle.pn_alarms.specs.declared.pdu.PduType.{PduType}
 use Rattle.pn_alarms.specs.declared.pdu.PduType.TheVariants as pdu
+use Rattle.pn_alarms.specs.declared.priority.Priority.{Priority}
+use Rattle.pn_alarms.specs.declared.priority.Priority.TheVariants.{High}
 use Rattle.pn_alarms.specs.declared.receiver.Taken.{Taken}
 use Rattle.pn_alarms.specs.declared.receiver.Taken.TheVariants.{New, Again as Once_more, Refused as Not_taken}
 use Rattle.pn_alarms.specs.declared.repeats.Due.{Due}
@@ -61,14 +63,15 @@ pub record IsConfirmed (reported : List said.Sent) (number : ℕ) (ack : AlarmAc
   pub place : ℕ
   pub route : Route
   pub header : Header
-  pub there : slice_get reported place ≡ Some (said.Confirms route header ack)
+  pub there : slice_get reported place ≡ Some (said.Confirms route High header ack)
   pub same : header.send_number ≡ number
 
 pub record IsReplied (reported : List said.Sent) (number : ℕ) : Type 0 where
   pub place : ℕ
   pub route : Route
+  pub priority : Priority
   pub header : Header
-  pub there : slice_get reported place ≡ Some (said.Replies route header)
+  pub there : slice_get reported place ≡ Some (said.Replies route priority header)
   pub kind : header.kind ≡ pdu.Ack
   pub same : header.ack_number ≡ number
 
@@ -85,9 +88,9 @@ said_stays pdus more acks others other p a is = tt
 
 pub heard_stays : (reported more : List said.Sent) (says : Option (Notice AlarmAck)) → Extends reported more → IsHeard reported says → IsHeard more says
 heard_stays reported more (Some (notice.Data number ack)) t is =
-    record { place = is.place; route = is.route; header = is.header; there = t is.place (said.Confirms is.route is.header ack) is.there; same = is.same }
+    record { place = is.place; route = is.route; header = is.header; there = t is.place (said.Confirms is.route High is.header ack) is.there; same = is.same }
 heard_stays reported more (Some (notice.Ack number)) t is =
-    record { place = is.place; route = is.route; header = is.header; there = t is.place (said.Replies is.route is.header) is.there; kind = is.kind; same = is.same }
+    record { place = is.place; route = is.route; priority = is.priority; header = is.header; there = t is.place (said.Replies is.route is.priority is.header) is.there; kind = is.kind; same = is.same }
 heard_stays reported more other t is = tt
 
 -- ---- a turn of the device

@@ -2,7 +2,7 @@
 -- and the calls that a device hears have their sizes.
 -- hears have their sizes.
 use Rattle.std.proofs.Common.{◌≡◌, ◌⊎◌, inl, inr, ◌==◌, ◌&&◌, ◌<◌, ℕ, Bool, true, false, cond, List, [], ◌∷◌, length, Option, Some, None, refl, sym, ap, subst, ◌∙◌}
-use Rattle.std.specs.Prelude.{nat_eq, nat_le}
+use Rattle.std.specs.Prelude.{nat_eq, nat_le, unwrap_or}
 use Rattle.std.specs.List.{AllByRecursion}
 use Rattle.std.specs.Cmp.Lexicographic.{pointwise}
 use Rattle.std.proofs.lemmas.Bool.{eqb-true, leb-false, leb-true}
@@ -11,7 +11,8 @@ use Rattle.frame_codec.specs.declared.udp.Caller.{Caller}
 use Rattle.codec_laws.specs.frames.Sendable.{IsMac}
 use Rattle.rpc_core.specs.Call.{Asked as Call}
 use Rattle.rpc_core.specs.Response.{Answered as Response, is_done}
-use Rattle.rpc_core.specs.Sendable.{CanBeAnswered, IsHeader}
+use Rattle.rpc_core.specs.declared.interface.Interface.TheVariants.{Device as devices}
+use Rattle.rpc_core.specs.Sendable.{CanBeAnswered, CanBeCalled, IsHeader}
 use Rattle.records.specs.declared.status.operation.Operation.{Operation}
 use Rattle.records.specs.declared.status.operation.Operation.TheVariants as operation
 use Rattle.records.specs.status.Operation.{operation_of}
@@ -26,6 +27,7 @@ use Rattle.controller_frames.specs.declared.request.Request.TheVariants as asks
 use Rattle.controller_frames.specs.declared.setup.Setup.{Setup}
 use Rattle.controller_frames.specs.Heard as controller
 use Rattle.controller_frames.specs.Heard.{heard_of as heard_by, is_to}
+use Rattle.controller_frames.specs.RecordRequests.{record_call}
 use Rattle.controller_frames.specs.Requests.{call_for}
 use Rattle.controller_frames.specs.Sent as said
 use Rattle.controller_frames.specs.Sent.{call_frame, calls_at}
@@ -36,8 +38,8 @@ use Rattle.end_laws.specs.both.Small as small
 use Rattle.end_laws.specs.both.Small.{ToController, ToDevice}
 use Rattle.end_laws.specs.controller.Small.{said_to}
 use Rattle.end_laws.specs.device.Owed.{IsOwed}
-use Rattle.end_laws.specs.device.Small.{IsHeardAs, IsPlanned, IsPlannedAs, IsPlannedCall, asked_by, heard_as}
-use Rattle.startup_law.specs.View.{IsSaidAs, rules_of}
+use Rattle.end_laws.specs.device.Small.{IsHeardAs, IsPlanned, IsPlannedAs, IsPlannedCall, asked_by, heard_as, written_by}
+use Rattle.startup_law.specs.View.{IsSaidAs, is_planned, rules_of}
 use Rattle.exchange_laws.proofs.Lists.{holds_if}
 use Rattle.exchange_laws.proofs.Messages.{HearsSo, IsSizedSaid}
 use Rattle.exchange_laws.proofs.Served.{IsServed}
@@ -86,11 +88,15 @@ module _ (setup : Setup) where
 -- ---- what the device sends
 
 module _ (so : HearsSo) (setup : Setup) (station : Station) (good : IsSetup setup) (live : Live) (heard : Heard)
-    (planned : IsPlanned (rules_of setup station) setup.activity station.real heard) (called : IsCallIn heard) where
+    (planned : IsPlanned (rules_of setup station) setup.activity station.real heard) (called : IsCallIn setup heard) where
   -- a call that is planned is one of the start-up
   planned_call : (which : Option Operation) (sequence : ℕ) (blocks : List ℕ) → IsPlannedAs (rules_of setup station) station.real sequence blocks which
-      → asked_by sequence which ≡ small.Idle → ⊥
-  planned_call (Some operation.Read) sequence blocks plan e = absurd plan
+      → asked_by (is_planned setup) sequence blocks which ≡ small.Idle → ⊥
+  planned_call (Some operation.Write) sequence blocks plan e = by_write (is_planned setup sequence blocks) e
+    where
+      by_write : (b : Bool) → written_by b sequence ≡ small.Idle → ⊥
+      by_write true f = absurd cc
+      by_write false f = absurd cc
   planned_call (Some operation.ReadImplicit) sequence blocks plan e = absurd plan
   planned_call None sequence blocks plan e = absurd plan
   planned_call which sequence blocks plan e = absurd cc
@@ -100,7 +106,8 @@ module _ (so : HearsSo) (setup : Setup) (station : Station) (good : IsSetup setu
       let plan : IsPlannedCall (rules_of setup station) setup.activity station.real call =
       subst (λ (h : Heard). IsPlanned (rules_of setup station) setup.activity station.real h) is planned in
       called caller address call is
-      (λ idle. planned_call (operation_of call.header.operation) call.header.sequence plan.blocks plan.asks (sym (ap heard_as is) ∙ idle))
+      (λ idle. planned_call (operation_of call.header.operation) call.header.sequence plan.blocks plan.asks
+      (sym (ap (heard_as (is_planned setup)) is ∙ ap (λ (b : Option (List ℕ)). asked_by (is_planned setup) call.header.sequence (unwrap_or b []) (operation_of call.header.operation)) plan.counted) ∙ idle))
 
   answer_well : (caller : Caller) (address : List ℕ) (answer : Response) → IsSendable station.identity (sent.CallAnswer caller address answer)
       → IsOwed heard live (sent.CallAnswer caller address answer) → IsServed setup station live (sent.CallAnswer caller address answer)
@@ -149,29 +156,31 @@ module _ (so : HearsSo) (setup : Setup) (station : Station) (good : IsSetup setu
 
 -- ---- what the controller sends
 
-idle_called : (heard : Heard) → heard_as heard ≡ small.Idle → IsCallIn heard
-idle_called heard idle = λ caller address call is other. absurd (other idle)
+idle_called : (setup : Setup) (heard : Heard) → heard_as (is_planned setup) heard ≡ small.Idle → IsCallIn setup heard
+idle_called setup heard idle = λ caller address call is other. absurd (other idle)
 
 same_call : (one other : Caller) (here there : List ℕ) (call now : Call) → device.Reported one here (device.Calls call) ≡ device.Reported other there (device.Calls now) → call ≡ now
 same_call one other here there call now e = cc
 
 module _ (so : HearsSo) (setup : Setup) (station : Station) (good : IsSetup setup) where
-  reported_called : (caller : Caller) (address : List ℕ) (call : Call) → IsSizedCall call → IsCallIn (device.Reported caller address (device.Calls call))
+  reported_called : (caller : Caller) (address : List ℕ) (call : Call) → IsSizedCall call → IsCallIn setup (device.Reported caller address (device.Calls call))
   reported_called caller address call sized = λ other there now is not_idle. subst (λ (c : Call). IsSizedCall c) (same_call caller other address there call now is) sized
 
-  call_called : (to : Mac) (request : Request) → IsMac to → IsCalled request → IsNumbered request → IsCallIn (heard_of station.identity (comes (call_frame setup to (call_for setup request))))
-  call_called to request mac called numbered =
-      let can = so.call_can setup request good called numbered in
-      subst (λ (h : Heard). IsCallIn h) (sym (so.call_at_device station.identity setup to (call_for setup request) good mac can))
-      (holds_if IsCallIn (is_own station.identity to && (calls_at setup.plan.station.suite.address).port == 34964)
-      (device.Reported (record { mac = setup.plan.controller.mac; endpoint = calls_at setup.plan.controller.address }) (calls_at setup.plan.station.suite.address).address (device.Calls (call_for setup request)))
+  frame_called : (to : Mac) (call : Call) → IsMac to → CanBeCalled devices call → IsCallIn setup (heard_of station.identity (comes (call_frame setup to call)))
+  frame_called to call mac can =
+      subst (λ (h : Heard). IsCallIn setup h) (sym (so.call_at_device station.identity setup to call good mac can))
+      (holds_if (IsCallIn setup) (is_own station.identity to && (calls_at setup.plan.station.suite.address).port == 34964)
+      (device.Reported (record { mac = setup.plan.controller.mac; endpoint = calls_at setup.plan.controller.address }) (calls_at setup.plan.station.suite.address).address (device.Calls call))
       device.Elsewhere
-      (reported_called _ _ (call_for setup request) (record { header = can.header; maximum = can.maximum })) (λ caller address call is other. absurd (other refl)))
+      (reported_called _ _ call (record { header = can.header; maximum = can.maximum })) (λ caller address one is other. absurd (other refl)))
 
-  answer_called : (caller : Caller) (answer : Response) → IsCaller caller → CanBeAnswered answer → IsCallIn (heard_of station.identity (comes (said.answer_frame setup caller answer)))
+  call_called : (to : Mac) (request : Request) → IsMac to → IsCalled request → IsNumbered request → IsCallIn setup (heard_of station.identity (comes (call_frame setup to (call_for setup request))))
+  call_called to request mac called numbered = frame_called to (call_for setup request) mac (so.call_can setup request good called numbered)
+
+  answer_called : (caller : Caller) (answer : Response) → IsCaller caller → CanBeAnswered answer → IsCallIn setup (heard_of station.identity (comes (said.answer_frame setup caller answer)))
   answer_called caller answer calls can =
-      subst (λ (h : Heard). IsCallIn h) (sym (so.agreed_at_device station.identity setup caller answer good calls can))
-      (holds_if IsCallIn (is_own station.identity caller.mac && caller.endpoint.port == 34964)
+      subst (λ (h : Heard). IsCallIn setup h) (sym (so.agreed_at_device station.identity setup caller answer good calls can))
+      (holds_if (IsCallIn setup) (is_own station.identity caller.mac && caller.endpoint.port == 34964)
       (device.Reported (record { mac = setup.plan.controller.mac; endpoint = calls_at setup.plan.controller.address }) caller.endpoint.address (device.Responds answer)) device.Elsewhere
       (λ c address call is other. absurd cc) (λ c address call is other. absurd (other refl)))
 
@@ -179,9 +188,9 @@ module _ (so : HearsSo) (setup : Setup) (station : Station) (good : IsSetup setu
   idle_either heard (inl idle) = idle
   idle_either heard (inr idle) = idle
 
-  inactive_called : (octets : List ℕ) → (heard_as (heard_of station.identity (comes octets)) ≡ small.Idle) ⊎ (heard_as (heard_of station.identity (comes octets)) ≡ small.Idle)
-      → IsCallIn (heard_of station.identity (comes octets))
-  inactive_called octets either = idle_called (heard_of station.identity (comes octets)) (idle_either (heard_as (heard_of station.identity (comes octets))) either)
+  inactive_called : (octets : List ℕ) → (heard_as (is_planned setup) (heard_of station.identity (comes octets)) ≡ small.Idle) ⊎ (heard_as (is_planned setup) (heard_of station.identity (comes octets)) ≡ small.Idle)
+      → IsCallIn setup (heard_of station.identity (comes octets))
+  inactive_called octets either = idle_called setup (heard_of station.identity (comes octets)) (idle_either (heard_as (is_planned setup) (heard_of station.identity (comes octets))) either)
 
   message_called : (message : said.Sent) → IsSizedSaid setup message → IsSaidAs setup station message → IsCalledAs setup station.identity message
   message_called (said.Requests to asks.Identify) sized meant = inactive_called (said.bytes_of setup (said.Requests to asks.Identify)) meant.1
@@ -190,10 +199,11 @@ module _ (so : HearsSo) (setup : Setup) (station : Station) (good : IsSetup setu
   message_called (said.Requests to (asks.Write number)) sized meant = call_called to (asks.Write number) sized.0.0 tt sized.0.1
   message_called (said.Requests to asks.PrmEnd) sized meant = call_called to asks.PrmEnd sized.0.0 tt sized.0.1
   message_called (said.Requests to (asks.Release sequence)) sized meant = call_called to (asks.Release sequence) sized.0.0 tt sized.0.1
+  message_called (said.Accesses to request octets) sized meant = frame_called to (record_call setup request octets) sized.0.0 (so.record_can setup request octets good sized.0.1)
   message_called (said.Agrees caller answer) sized meant = answer_called caller answer sized.0.0 sized.0.1
   message_called (said.Cycles route shown counter) sized meant = inactive_called (said.bytes_of setup (said.Cycles route shown counter)) meant.1
-  message_called (said.Confirms route header one) sized meant = inactive_called (said.bytes_of setup (said.Confirms route header one)) meant.1
-  message_called (said.Replies route header) sized meant = inactive_called (said.bytes_of setup (said.Replies route header)) meant.1
+  message_called (said.Confirms route priority header one) sized meant = inactive_called (said.bytes_of setup (said.Confirms route priority header one)) meant.1
+  message_called (said.Replies route priority header) sized meant = inactive_called (said.bytes_of setup (said.Replies route priority header)) meant.1
   message_called (said.Ends route header reason) sized meant = inactive_called (said.bytes_of setup (said.Ends route header reason)) meant.1
 
   pub all_called : (messages : List said.Sent) → AllByRecursion (IsSizedSaid setup) messages → AllByRecursion (IsSaidAs setup station) messages

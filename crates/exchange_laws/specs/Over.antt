@@ -11,6 +11,7 @@ use Rattle.relations.specs.Exchanged.{raised_to}
 use Rattle.codec_laws.specs.alarms.Line.{more_taken}
 use Rattle.controller_frames.specs.Heard.{Heard, Nothing, Answers, Responds, Refuses, Calls, Cyclic, Alarms, heard_of}
 use Rattle.controller_core.specs.Alarms.{is_alarm}
+use Rattle.controller_core.specs.Machine.{end_of}
 use Rattle.controller_core.specs.State.{Controlling, Live}
 use Rattle.end_laws.specs.turns.Alarms.{last_of}
 use Rattle.network_world.specs.declared.moves.End.TheVariants.{Device, Controller}
@@ -42,6 +43,8 @@ module _ {F : Type 0} where
   raised_with world move.Ready = []
   raised_with world (move.Give slot subslot value) = []
   raised_with world (move.OutputStatus slot subslot is_good) = []
+  raised_with world (move.Read slot subslot index) = []
+  raised_with world (move.Write slot subslot index octets) = []
   raised_with world move.Stop = []
 
   -- the alarms raised over a run, in order
@@ -51,17 +54,20 @@ module _ {F : Type 0} where
 
 -- ---- accepted alarms
 
--- an alarm frame is looked at while the relation exists, if it belongs to it, and data with the next number is accepted
+-- an alarm frame is looked at while the relation exists, if it belongs to it, and data with the next number of its priority is
+-- accepted
 abbrev pub taken_of : Live → Mac → Header → ToController → List AlarmNotification
-taken_of live source header (notice.Data number alarm) =
-    if live.stands && is_alarm live.cyclic.route source header then more_taken [] alarm (taken_as live.alarms.seen number) else []
+taken_of live source header (notice.Data number report) =
+    if live.stands && is_alarm live.cyclic.route source header
+    then more_taken [] report.notification (taken_as (end_of live report.priority).seen number)
+    else []
 taken_of live source header (notice.Ack number) = []
 taken_of live source header notice.Nack = []
 taken_of live source header notice.Abort = []
 
 -- the alarms accepted with what a controller hears
 abbrev pub taken_by : Live → Heard → List AlarmNotification
-taken_by live (Alarms source header notice) = taken_of live source header notice
+taken_by live (Alarms source under header notice) = taken_of live source header notice
 taken_by live Nothing = []
 taken_by live (Answers source answer) = []
 taken_by live (Responds response) = []
@@ -91,6 +97,8 @@ module _ {F : Type 0} where
   taken_with world move.Ready = []
   taken_with world (move.Give slot subslot value) = []
   taken_with world (move.OutputStatus slot subslot is_good) = []
+  taken_with world (move.Read slot subslot index) = []
+  taken_with world (move.Write slot subslot index octets) = []
   taken_with world move.Stop = []
 
   -- the alarms accepted over a run, in order

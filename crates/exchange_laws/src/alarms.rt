@@ -15,7 +15,7 @@ use end_laws::{
     alarms_are_heard, alarms_are_taken_in_order, calls_are_heard, calls_can_be_sent,
     confirmations_are_heard, device_goes_on, device_turns, ends_are_heard, messages_can_be_sent,
     ready_answers_are_heard, ready_calls_are_heard, requests_are_heard, responses_are_heard,
-    stations_are_real,
+    stations_are_real, turns_are_of_a_kind,
 };
 use flash_model::Flash;
 use pn_values::Identity;
@@ -66,5 +66,6 @@ pub fn worlds_take_alarms<F: Flash<S>, const S: usize>(setup: &Setup, identity: 
     worlds_start_up::<F, S>(setup, identity);
     device_goes_on();
     device_turns();
+    turns_are_of_a_kind();
     alarms_are_taken_in_order();
 }

@@ -1,4 +1,4 @@
-//! The controller of a station with four calls. `include/nandutable_controller.h` says how they are used.
+//! The controller of a station with five calls. `include/nandutable_controller.h` says how they are used.
 //!
 //! Each call is proved down to its raw pointer: the content of the memory before the call, and its content after it.
 #![tactic(auto)]
@@ -39,7 +39,8 @@ pub extern "C" fn pn_controller_judge(
     judge(size, abi, op_size, plan, ar)
 }
 
-/// Makes the controller of a plan in the memory at `room`, from a plan for which `pn_controller_judge` returned 0.
+/// Makes the controller of a plan in the memory at `room`, from a plan for which `pn_controller_judge` returned 0. It has
+/// not started: `pn_controller_begin` comes next. They are two calls so that the stack never holds what both need.
 #[unsafe(no_mangle)]
 pub unsafe extern "C" fn pn_controller_put(
     room: *mut u8,
@@ -48,9 +49,18 @@ pub unsafe extern "C" fn pn_controller_put(
     activity: &[u8; 16],
 )
     requires* { sem 𝓛 (room_at Row room) ∗ ⌜ is_plan plan.now ≡ true ⌝ }
-    ensures* { ex 𝓤 (λ (port : State). sem 𝓛 (lies_at Row full_share room port) ∗ ⌜ port ≡ opened (begun (parts_of plan.now) ar.now activity.now) ⌝) }
+    ensures* { ex 𝓤 (λ (port : State). sem 𝓛 (lies_at Row full_share room port) ∗ ⌜ port.controller.setup ≡ record { plan = parts_of plan.now; ar = ar.now; activity = activity.now } ⌝) }
 {
     unsafe { std::ptr::write(room as *mut Port, unstarted(plan, ar, activity)) };
+}
+
+/// Starts the controller that `pn_controller_put` made in the memory at `room`. Its opening frame waits to be fetched.
+#[unsafe(no_mangle)]
+pub unsafe extern "C" fn pn_controller_begin(room: *mut u8)
+    ghost port: { State }
+    requires* { sem 𝓛 (lies_at Row full_share room port) }
+    ensures* { ex 𝓤 (λ (new : State). sem 𝓛 (lies_at Row full_share room new) ∗ ⌜ new ≡ opened (begun port.controller.setup.plan port.controller.setup.ar port.controller.setup.activity) ⌝) }
+{
     start(unsafe { &mut *(room as *mut Port) });
 }
 

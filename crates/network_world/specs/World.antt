@@ -122,6 +122,8 @@ end_at (move.Status slot subslot is_good) = Device
 end_at move.Ready = Device
 end_at (move.Give slot subslot value) = Controller
 end_at (move.OutputStatus slot subslot is_good) = Controller
+end_at (move.Read slot subslot index) = Controller
+end_at (move.Write slot subslot index octets) = Controller
 end_at move.Stop = Controller
 
 -- a move is made
@@ -134,6 +136,8 @@ Happens as_flash before (move.Status slot subslot is_good) after = AtDevice as_f
 Happens as_flash before move.Ready after = AtDevice as_flash before Readied after
 Happens as_flash before (move.Give slot subslot value) after = after ≡ at_controller before (controller.Give slot subslot value)
 Happens as_flash before (move.OutputStatus slot subslot is_good) after = after ≡ at_controller before (controller.Status slot subslot is_good)
+Happens as_flash before (move.Read slot subslot index) after = after ≡ at_controller before (controller.Read slot subslot index)
+Happens as_flash before (move.Write slot subslot index octets) after = after ≡ at_controller before (controller.Write slot subslot index octets)
 Happens as_flash before move.Stop after = after ≡ at_controller before controller.Stop
 
 -- moves are made, one after the other: the world that they lead to

@@ -29,6 +29,11 @@ pub enum Move {
     Give(u16, u16, Bytes),
     /// The controller's application says whether the output of the submodule in this slot and subslot is good.
     OutputStatus(u16, u16, bool),
+    /// The controller's application reads the record with this index of the submodule in this slot and subslot.
+    Read(u16, u16, u16),
+    /// The controller's application writes these octets to the record with this index of the submodule in this slot and
+    /// subslot.
+    Write(u16, u16, u16, Bytes),
     /// The controller's application stops it.
     Stop,
 }

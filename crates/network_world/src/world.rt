@@ -197,6 +197,19 @@ fn happen<F: Flash<S>, const S: usize>(
             let status = ControllerEvent::Status(*slot, *subslot, *is_good);
             happen_at_controller(controller, sent, &status);
         }
+        Move::Read(slot, subslot, index) => {
+            let read = ControllerEvent::Read(*slot, *subslot, *index);
+            happen_at_controller(controller, sent, &read);
+        }
+        Move::Write(slot, subslot, index, octets) => {
+            let write = ControllerEvent::Write(
+                *slot,
+                *subslot,
+                *index,
+                bytes_of(octets.as_slice()),
+            );
+            happen_at_controller(controller, sent, &write);
+        }
         Move::Stop => happen_at_controller(controller, sent, &ControllerEvent::Stop),
     }
 }

@@ -9,7 +9,7 @@ use Rattle.record_blocks.specs.declared.alarm_ack.AlarmAck.{AlarmAck}
 use Rattle.record_blocks.specs.declared.alarm_notification.AlarmNotification.{AlarmNotification}
 use Rattle.block_codec.specs.declared.block.Block.{Block}
 use Rattle.block_codec.specs.declared.block.Block.TheVariants as is
-use Rattle.block_codec.specs.Block.{block_of, block_bytes, in_alarm_ack, in_alarm_notification}
+use Rattle.block_codec.specs.Block.{block_of, block_bytes, in_alarm_ack}
 use Rattle.pn_alarms.specs.declared.fault.AlarmFault.TheVariants as fault
 use Rattle.pn_alarms.specs.Carried.{notification_of, wanted}
 
@@ -41,17 +41,9 @@ ack_is : (block : Block) (ack : AlarmAck) → in_alarm_ack block ≡ Some ack �
 ack_is (is.AlarmAck value) ack e = cc
 ack_is _ ack e = absurd cc
 
-notification_is : (block : Block) (alarm : AlarmNotification) → in_alarm_notification block ≡ Some alarm → block ≡ is.AlarmNotification alarm
-notification_is (is.AlarmNotification value) alarm e = cc
-notification_is _ alarm e = absurd cc
-
 pub ack_found : (P : Block → List ℕ → Type 0) (r : Read) (ack : AlarmAck) → IfOk r (λ x. P x.0 x.1.now) → wanted in_alarm_ack r ≡ Ok ack
     → (rest : List ℕ) × P (is.AlarmAck ack) rest
 ack_found P r ack holds e = found_in in_alarm_ack P r ack (is.AlarmAck ack) (λ b. ack_is b ack) holds e
-
-pub notification_found : (P : Block → List ℕ → Type 0) (r : Read) (alarm : AlarmNotification) → IfOk r (λ x. P x.0 x.1.now) → wanted in_alarm_notification r ≡ Ok alarm
-    → (rest : List ℕ) × P (is.AlarmNotification alarm) rest
-notification_found P r alarm holds e = found_in in_alarm_notification P r alarm (is.AlarmNotification alarm) (λ b. notification_is b alarm) holds e
 
 -- A property of the value, if there is one.
 pub of_ok : {A F : Type 0} (P : A → Type 0) (result : Result A F) → ((value : A) → result ≡ Ok value → P value) → IfOk result P

@@ -3,3 +3,4 @@ pub mod Carried
 pub mod Fitting
 pub mod Short
 pub mod Leaps
+pub mod Reports

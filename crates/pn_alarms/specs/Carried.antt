@@ -1,4 +1,4 @@
--- The blocks that data carries: an AlarmNotification to a controller, an AlarmAck to a device.
+-- The blocks that data of high priority carries: an AlarmNotification to a controller, an AlarmAck to a device.
 use Rattle.std.specs.Prelude.{ℕ, List, Option, Result, Ok, Err}
 use Rattle.wire.specs.Checks.{or_fault}
 use Rattle.block_fields.specs.declared.fault.BlockFault.{BlockFault}
@@ -15,9 +15,6 @@ use Rattle.pn_alarms.specs.declared.fault.AlarmFault.TheVariants as fault
 -- These octets begin with this block.
 abbrev pub IsAck : List ℕ → AlarmAck → Type 0
 IsAck body ack = (rest : List ℕ) × IsBlock body (is.AlarmAck ack) rest
-
-abbrev pub IsNotification : List ℕ → AlarmNotification → Type 0
-IsNotification body alarm = (rest : List ℕ) × IsBlock body (is.AlarmNotification alarm) rest
 
 -- The block of the expected type, if the block that was read is one.
 abbrev pub wanted : {A X : Type 0} → (Block → Option A) → Result (Block × X) BlockFault → Result A AlarmFault

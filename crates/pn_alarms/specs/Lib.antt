@@ -1,5 +1,7 @@
 pub mod Format
+pub mod Priority
 pub mod Carried
+pub mod Report
 pub mod Abort
 pub mod Numbers
 pub mod Receiver

@@ -2,22 +2,23 @@
 use Rattle.std.specs.Prelude.{ℕ, List, Result, Ok}
 use Rattle.wire.specs.Codec.{◌>>=◌}
 use Rattle.record_blocks.specs.declared.alarm_ack.AlarmAck.{AlarmAck}
-use Rattle.record_blocks.specs.declared.alarm_notification.AlarmNotification.{AlarmNotification}
 use Rattle.pn_alarms.specs.declared.fault.AlarmFault.{AlarmFault}
 use Rattle.pn_alarms.specs.declared.pdu.Header.{Header}
 use Rattle.pn_alarms.specs.declared.pdu.PduType.{PduType}
 use Rattle.pn_alarms.specs.declared.pdu.PduType.TheVariants as pdu
+use Rattle.pn_alarms.specs.declared.report.Report.{Report}
 use Rattle.pn_alarms.specs.declared.message.Notice.{Notice}
 use Rattle.pn_alarms.specs.declared.message.Notice.TheVariants.{Data, Nack, Ack, Abort}
 use Rattle.pn_alarms.specs.Format.{Said, pdu_of}
-use Rattle.pn_alarms.specs.Carried.{ack_of, notification_of}
+use Rattle.pn_alarms.specs.Carried.{ack_of}
+use Rattle.pn_alarms.specs.Report.{report_of}
 
 -- What a PDU says to a device, and what it says to a controller.
 abbrev pub ToDevice : Type 0
 ToDevice = Notice AlarmAck
 
 abbrev pub ToController : Type 0
-ToController = Notice AlarmNotification
+ToController = Notice Report
 
 -- What a PDU of this type says: of data, its SendSeqNum and the block that it carries; of an ACK, only its AckSeqNum.
 abbrev pub notice_in : {B : Type 0} → (List ℕ → Result B AlarmFault) → PduType → Said → Result (Notice B) AlarmFault
@@ -38,7 +39,7 @@ abbrev pub message_of : List ℕ → Result (Header × ToDevice) AlarmFault
 message_of bytes = notice_of ack_of bytes
 
 abbrev pub alarm_in : PduType → Said → Result ToController AlarmFault
-alarm_in kind said = notice_in notification_of kind said
+alarm_in kind said = notice_in report_of kind said
 
 abbrev pub alarm_of : List ℕ → Result (Header × ToController) AlarmFault
-alarm_of bytes = notice_of notification_of bytes
+alarm_of bytes = notice_of report_of bytes

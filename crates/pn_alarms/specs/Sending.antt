@@ -1,5 +1,5 @@
 -- Data that is sent again until it is acknowledged, or until the repeats are used up (IEC 61158-6-10, 4.8).
-use Rattle.std.specs.Prelude.{◌+◌, ◌*◌, ◌%◌, ◌==◌, ℕ, Option, Some, None, if◌then◌else◌}
+use Rattle.std.specs.Prelude.{◌+◌, ◌*◌, ◌%◌, ◌==◌, ℕ, Bool, true, false, Option, Some, None, if◌then◌else◌}
 use Rattle.pn_alarms.specs.declared.repeats.Due.{Due}
 use Rattle.pn_alarms.specs.declared.repeats.Due.TheVariants.{Nothing, Again, Spent}
 use Rattle.pn_alarms.specs.Numbers.{next_number, is_last}
@@ -35,6 +35,20 @@ due_behind s (Some units) = due_at s (units + 1)
 
 abbrev pub due : Sending → Due
 due s = due_behind s s.waiting
+
+-- What is due of either of two senders: that the relation ends comes before that data is sent again.
+abbrev pub either_due : Due → Due → Due
+either_due one Nothing = one
+either_due Spent Again = Spent
+either_due Again Again = Again
+either_due Nothing Again = Again
+either_due one Spent = Spent
+
+-- Whether data is sent again.
+abbrev pub is_again : Due → Bool
+is_again Nothing = false
+is_again Again = true
+is_again Spent = false
 
 -- The state after a unit of time.
 abbrev pub waiting_behind : Sending → Option ℕ → Option ℕ

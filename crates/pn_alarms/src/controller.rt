@@ -1,5 +1,5 @@
 //! A controller's end of the alarms of a relation.
-ghost use Rattle.std.specs.Prelude.{◌≡◌, ◌<◌, ◌≤◌};
+ghost use Rattle.std.specs.Prelude.{◌≡◌, ◌<◌, ◌≤◌, is_some};
 ghost use Rattle.pn_alarms.specs.Numbers.{is_last};
 ghost use Rattle.pn_alarms.specs.Receiver.{taken_as};
 ghost use Rattle.pn_alarms.specs.Sending.{due};
@@ -47,6 +47,20 @@ impl ControllerAlarms {
         ensures state { self.new ≡ with_data self.old number }
     {
         self.receiver.take(number)
+    }
+
+    /// The number of the last alarm that was accepted, if any was. It is another one after each alarm that is accepted.
+    pub fn accepted(&self) -> Option<u16>
+        ensures { result ≡ self.now.seen }
+    {
+        self.receiver.last()
+    }
+
+    /// Whether any AlarmAck was sent yet.
+    pub fn has_confirmed(&self) -> bool
+        ensures { result ≡ is_some self.now.sending.last }
+    {
+        self.repeats.has_sent()
     }
 
     /// Confirms an accepted alarm with this AlarmAck, which the caller then sends as data. It replaces the AlarmAck

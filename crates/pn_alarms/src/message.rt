@@ -3,8 +3,8 @@ ghost use Rattle.std.specs.Prelude.{◌≡◌};
 ghost use Rattle.pn_alarms.specs.Format.{said};
 ghost use Rattle.pn_alarms.specs.Message.{alarm_in, alarm_of, message_in, message_of};
 
-use crate::{AlarmFault, Header, Pdu, PduType, read_ack, read_notification, read_pdu};
-use block_codec::{AlarmAck, AlarmNotification};
+use crate::{AlarmFault, Header, Pdu, PduType, Report, read_ack, read_pdu, read_report};
+use block_codec::AlarmAck;
 
 /// What a PDU says to the station that receives it. `B` is the type of block that this station reads from data.
 #[derive(Clone, Copy)]
@@ -48,12 +48,12 @@ pub fn read_message(bytes: &[u8]) -> Result<(Header, Message), AlarmFault>
 }
 
 /// What this PDU says to a controller.
-fn alarm_in_pdu<'a>(pdu: &Pdu<'a>) -> Result<Notice<AlarmNotification<'a>>, AlarmFault>
+fn alarm_in_pdu<'a>(pdu: &Pdu<'a>) -> Result<Notice<Report<'a>>, AlarmFault>
     ensures { result ≡ alarm_in pdu.now.header.kind (said pdu.now) }
 {
     match pdu.header.kind {
         PduType::Data => {
-            let alarm = read_notification(pdu.body)?;
+            let alarm = read_report(pdu.body)?;
             Ok(Notice::Data(pdu.header.send_number, alarm))
         }
         PduType::Nack => Ok(Notice::Nack),
@@ -63,8 +63,8 @@ fn alarm_in_pdu<'a>(pdu: &Pdu<'a>) -> Result<Notice<AlarmNotification<'a>>, Alar
 }
 
 /// Reads the octets that follow the FrameID of a frame to a controller. Returns the header and what the PDU says. Data
-/// without a complete AlarmNotification is a fault. The body of an ERR is ignored.
-pub fn read_alarm(bytes: &[u8]) -> Result<(Header, Notice<AlarmNotification<'_>>), AlarmFault>
+/// without a complete AlarmNotification, of either priority, is a fault. The body of an ERR is ignored.
+pub fn read_alarm(bytes: &[u8]) -> Result<(Header, Notice<Report<'_>>), AlarmFault>
     ensures { result ≡ alarm_of bytes.now }
 {
     let pdu = read_pdu(bytes)?;

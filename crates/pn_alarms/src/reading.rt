@@ -1,14 +1,13 @@
 //! From octets to PDUs, and to the blocks that PDUs carry.
 ghost use Rattle.std.specs.Prelude.{◌≡◌, ◌<◌, ◌++◌, List, ℕ, IfOk, Ok, Err, length};
 ghost use Rattle.wire.specs.Codec.{Gives};
-ghost use Rattle.block_codec.specs.Block.{in_alarm_ack, in_alarm_notification};
+ghost use Rattle.block_codec.specs.Block.{in_alarm_ack};
 ghost use Rattle.record_blocks.specs.declared.alarm_ack.AlarmAck.{AlarmAck as Ack};
-ghost use Rattle.record_blocks.specs.declared.alarm_notification.AlarmNotification.{AlarmNotification as Notification};
 ghost use Rattle.pn_alarms.specs.Format.{Said, said, kind, header, pdu, IsPdu, pdu_of};
-ghost use Rattle.pn_alarms.specs.Carried.{IsAck, ack_of, IsNotification, notification_of, wanted};
+ghost use Rattle.pn_alarms.specs.Carried.{IsAck, ack_of, wanted};
 
 use crate::{AlarmFault, Header, Pdu, PduType};
-use block_codec::{AlarmAck, AlarmNotification, Block, BlockFault, read_alarm_ack, read_block};
+use block_codec::{AlarmAck, Block, BlockFault, read_alarm_ack, read_block};
 use wire::{split, u8_at, u16_at};
 
 /// The number of octets before the body of a PDU.
@@ -109,21 +108,6 @@ fn ack_in(read: Result<(Block<'_>, &[u8]), BlockFault>) -> Result<AlarmAck, Alar
     }
 }
 
-/// The AlarmNotification, if the block that was read is one.
-fn notification_in<'a>(
-    read: Result<(Block<'a>, &'a [u8]), BlockFault>,
-) -> Result<AlarmNotification<'a>, AlarmFault>
-    ensures { result ≡ wanted in_alarm_notification read.entry }
-{
-    let Ok((block, _behind)) = read else {
-        return Err(AlarmFault::Block);
-    };
-    match block {
-        Block::AlarmNotification(alarm) => Ok(alarm),
-        _ => Err(AlarmFault::Block),
-    }
-}
-
 /// Reads the AlarmAck from octets that do not begin with the BlockType of one.
 #[inline(never)]
 fn other_ack(body: &[u8]) -> Result<AlarmAck, AlarmFault>
@@ -151,16 +135,4 @@ pub fn read_ack(body: &[u8]) -> Result<AlarmAck, AlarmFault>
         Ok((ack, _)) => Ok(ack),
         Err(_) => Err(AlarmFault::Block),
     }
-}
-
-/// Reads the AlarmNotification that data carries to a controller. Octets after the block are ignored.
-pub fn read_notification(body: &[u8]) -> Result<AlarmNotification<'_>, AlarmFault>
-    // If a value is read, the octets encode that value.
-    ensures found { IfOk result (λ found. IsNotification body.now found) }
-    // Octets that encode a value are read as that value, and as no other.
-    ensures only { (meaning : Notification) → IsNotification body.now meaning → result ≡ Ok meaning }
-    // The result is the block or the fault that the format defines for these octets.
-    ensures exact { result ≡ notification_of body.now }
-{
-    notification_in(read_block(body))
 }

@@ -60,6 +60,13 @@ impl Receiver {
         self.last.unwrap_or(0xFFFE)
     }
 
+    /// The number of the last data that was accepted, if any was.
+    pub fn last(&self) -> Option<u16>
+        ensures { result ≡ self.now }
+    {
+        self.last
+    }
+
     /// Receives data of this number. Returns what happens to it.
     pub fn take(&mut self, number: u16) -> Taken
         ensures taken { result ≡ taken_as self.old number }

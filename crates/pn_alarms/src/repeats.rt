@@ -1,7 +1,7 @@
 //! Data that is sent again until it is acknowledged.
-ghost use Rattle.std.specs.Prelude.{◌≡◌, ◌<◌, ◌≤◌};
+ghost use Rattle.std.specs.Prelude.{◌≡◌, ◌<◌, ◌≤◌, is_some};
 ghost use Rattle.pn_alarms.specs.Numbers.{send_number, is_last};
-ghost use Rattle.pn_alarms.specs.Sending.{silent, sent, due, ticked, rested, acked};
+ghost use Rattle.pn_alarms.specs.Sending.{silent, sent, due, either_due, is_again, ticked, rested, acked};
 ghost use Rattle.pn_alarms.specs.Leaps.{NothingDue, after, data_due_in};
 
 use crate::numbers::next_number;
@@ -19,6 +19,26 @@ pub enum Due {
     Again,
     /// It was repeated as often as RTARetries allows and was not acknowledged: the relation ends.
     Spent,
+}
+
+impl Due {
+    /// What is due of either of two senders: that the relation ends comes before that data is sent again.
+    pub fn or(self, other: Due) -> Due
+        ensures { result ≡ either_due self other }
+    {
+        match (self, other) {
+            (due, Due::Nothing) => due,
+            (Due::Spent, Due::Again) => Due::Spent,
+            (_, due) => due,
+        }
+    }
+
+    /// Whether the last data is sent again.
+    pub fn is_again(self) -> bool
+        ensures { result ≡ is_again self }
+    {
+        matches!(self, Due::Again)
+    }
 }
 
 /// How data is sent: one at a time, and again until it is acknowledged.
@@ -73,6 +93,13 @@ impl Repeats {
         ensures { result ≡ send_number self.now.last }
     {
         self.last.unwrap_or(0xFFFF)
+    }
+
+    /// Whether any data was sent yet.
+    pub fn has_sent(&self) -> bool
+        ensures { result ≡ is_some self.now.last }
+    {
+        self.last.is_some()
     }
 
     /// Sends the next data, under a new number.

@@ -11,8 +11,9 @@ mod writes;
 
 pub use calls::{check_relation, is_relation, single_block};
 pub use reads::{
-    Blocks, check_place, names_relation, parameter_length, put_read_answer, read_implicit,
-    read_request, read_within,
+    Blocks, Level, Listing, check_place, listing_of, names_relation, parameter_length,
+    put_identification, put_read_answer, read_implicit, read_request, request_within,
+    serve_listing, serve_within,
 };
 pub use status::{CallFault, Operation, Status, done, refusals_are_not_done};
 pub use writes::{Effect, TakenRecord, TakenRecords, Write, judge_write, put_write_answer};

@@ -31,6 +31,10 @@ link_in (Some phase) link = Some (link phase)
 abbrev pub phase_of : Option RelationState → Option Phase
 phase_of link = option_map (λ l. l.phase) link
 
+-- What its Connect asked for, and its ARUUID.
+abbrev pub request_of : Option RelationState → Option Request
+request_of link = option_map (λ l. l.request) link
+
 abbrev pub uuid_of : Option RelationState → Option (List ℕ)
 uuid_of link = option_map (λ l. l.request.ar.uuid) link
 

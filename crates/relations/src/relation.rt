@@ -2,7 +2,7 @@
 ghost use Rattle.std.specs.Prelude.{◌≡◌, ◌≤◌, Err, IfErr, IsOk, None, OnOk, if◌then◌else◌, length, option_map};
 ghost use Rattle.relations.specs.Phases.{Ended, Named, Unmoved, answered, keeping, updated, taking};
 ghost use Rattle.relations.specs.Farewells.{farewell_of};
-ghost use Rattle.relations.specs.RelationState.{IsInStep, differing_in, is_alarm_of, is_named, is_parameterized, phase_of, taken_of, uuid_of};
+ghost use Rattle.relations.specs.RelationState.{IsInStep, differing_in, is_alarm_of, is_named, is_parameterized, phase_of, request_of, taken_of, uuid_of};
 
 use crate::exchange::{DataExchange, OWN_REFERENCE};
 use crate::{Farewell, Partner, Phase};
@@ -94,6 +94,16 @@ impl Relation {
             self.phase,
             Some(Phase::Preparing | Phase::Awaiting | Phase::Exchanging)
         )
+    }
+
+    /// What the Connect of the relation asked for, if there is a relation.
+    pub fn request(&self) -> Option<&ConnectRequest>
+        ensures { option_map (λ request. request.now) result ≡ request_of self.now }
+    {
+        match self.phase {
+            Some(_) => Some(&self.request),
+            None => None,
+        }
     }
 
     /// The ARUUID of the relation, if there is one.

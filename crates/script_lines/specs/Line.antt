@@ -19,7 +19,7 @@ use Rattle.script_lines.specs.declared.command.Words.TheVariants.{One, Two, Thre
 -- order the flash to fail, set the input of the submodule in a slot and subslot, raise an alarm of it with these octets, say
 -- whether its inputs are good, or show what the controller says of its output; make a plan, start a controller with this
 -- ARUUID and activity UUID at the other end, set an output of the controller or say whether it is good, end the relation,
--- hand over the frames that wait.
+-- hand over the frames that wait, start the services beside the device.
 pub data Command : Type 0 where
   Frame : (bytes : List ℕ) → Command
   Restart : Command
@@ -40,6 +40,7 @@ pub data Command : Type 0 where
   OutputStatus : (slot : ℕ) → (subslot : ℕ) → (is_good : Bool) → Command
   Stop : Command
   Deliver : Command
+  Serve : Command
 
 -- The meaning of a line: too long or not ASCII, empty or a comment, a command, or none of these.
 pub data Line : Type 0 where
@@ -94,11 +95,16 @@ units_of None = None
 units_of (Some zero) = None
 units_of (Some (suc more)) = Some (suc more)
 
+-- The services are started by the word 'on'.
+abbrev pub services_of : List ℕ → Option Command
+services_of state = if is_text state (codes "on") then Some Serve else None
+
 abbrev pub with_one : List ℕ → List ℕ → Option Command
 with_one word first =
     if is_text word (codes "frame") then option_map Frame (bytes_of first)
     else (if is_text word (codes "tick") then option_map Tick (units_of (number_of 1000000 first))
-    else (if is_text word (codes "elapse") then option_map Elapse (units_of (number_of 1000000 first)) else None))
+    else (if is_text word (codes "elapse") then option_map Elapse (units_of (number_of 1000000 first))
+    else (if is_text word (codes "services") then services_of first else None)))
 
 -- The mask of decoded bytes.
 abbrev pub mask_of : Result (List ℕ) FromHexError → Option (List ℕ)

@@ -7,7 +7,7 @@ ghost use Rattle.hex.specs.Hex.{decode_of};
 ghost use Rattle.uuid.specs.Text.{parsed};
 ghost use Rattle.script_lines.specs.Line.{behind, AreWords, bytes_of, catalogue_in, command_in, command_of, meaning_of, words_of, bare};
 ghost use Rattle.script_lines.specs.Line.{bare_of_both, with_one, with_two, with_three, ordered, start_of, units_of, mask_of, strike_of};
-ghost use Rattle.script_lines.specs.Line.{Choose, Elapse, OutputStatus, Status, Tick, choice_of, one_of, provider_of, targeted};
+ghost use Rattle.script_lines.specs.Line.{Choose, Elapse, OutputStatus, Status, Tick, choice_of, one_of, provider_of, services_of, targeted};
 ghost use Rattle.script_lines.specs.Numbers.{number_of};
 ghost use Rattle.script_lines.specs.Read.{command_read, line_read};
 
@@ -67,6 +67,8 @@ pub enum Command<'a> {
     Stop,
     /// Hands over the frames that wait: those for the device, then those for the controller.
     Deliver,
+    /// Starts the services beside the device.
+    Serve,
 }
 
 /// An option of the device, and its value.
@@ -286,8 +288,21 @@ fn with_one<'a>(
         Ok(tick(first))
     } else if word == b"elapse".as_slice() {
         Ok(elapse(first))
+    } else if word == b"services".as_slice() {
+        Ok(services(first))
     } else {
         Ok(None)
+    }
+}
+
+/// The command that starts the services.
+fn services(state: &[u8]) -> Option<Command<'static>>
+    ensures { option_map command_read result ≡ services_of state.now }
+{
+    if state == b"on".as_slice() {
+        Some(Command::Serve)
+    } else {
+        None
     }
 }
 

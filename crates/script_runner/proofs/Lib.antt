@@ -6,4 +6,5 @@ mod SessionOnePlan
 pub mod SessionFlashes
 pub mod SessionObeying
 pub mod SessionTicking
+pub mod SessionBegins
 pub mod SessionLeaping

@@ -2,12 +2,10 @@
 use Rattle.std.proofs.Common.{◌≡◌, ◌⊎◌, inl, inr, ℕ, List, ◌++◌, codes, Bool, true, false, Option, Some, None, Result, Ok, OnOk, IsErr, MatchResult, length, is_some, replicate, append_assoc, refl, sym, ap, subst, ◌∙◌}
 use Rattle.std.proofs.lemmas.Bool.{false≢true}
 use Rattle.std.proofs.lemmas.Result.{on_ok_weaker}
-use Rattle.flash_model.specs.declared.memory.MemoryFlash.{MemoryFlash}
 use Rattle.plans.specs.declared.parts.Parts.{Parts}
 use Rattle.configurator.specs.declared.fault.PlanFault.{PlanFault}
 use Rattle.configurator.specs.declared.fault.PlanFault.TheVariants.{OutOfMemory}
 use Rattle.configurator.specs.Planned.{IsPlanOf, IsRefused}
-use Rattle.device_core.specs.State.{State}
 use Rattle.device_frames.specs.declared.note.Note.TheVariants.{Done}
 use Rattle.device_frames.specs.declared.event.Event.TheVariants as event
 use Rattle.controller_core.specs.declared.event.Event.{Event as ControllerEvent}
@@ -16,7 +14,7 @@ use Rattle.script_lines.specs.Show.{controller_shown}
 use Rattle.script_lines.specs.Text.{moved_line, note_line, printed}
 use Rattle.script_runner.specs.declared.session.power.Power.{Power}
 use Rattle.script_runner.specs.declared.session.power.Power.TheVariants.{On}
-use Rattle.script_runner.specs.session.Ends.{Hears, IsRightFor, Network, Other, Starts, arrived_at, device_run, frames_for_device, printed_for, ticked_by, with_ends, with_plan, with_sent}
+use Rattle.script_runner.specs.session.Ends.{Hears, IsRightFor, Network, Other, Running, Starts, arrived_at, device_run, frames_for_device, printed_for, ticked_by, with_ends, with_plan, with_sent}
 use Rattle.script_runner.specs.session.Power.{Held, IsRunning}
 use Rattle.script_runner.specs.session.Said.{config_outcome, deliver_answer, deliver_outcome, handed_over, heard_outcome, start_outcome, tick_answer}
 use Rattle.script_runner.specs.session.Session.{Comes, IsDone, IsHandedOver, IsObeyed, IsRunOf, IsWithoutPlan, Obeys}
@@ -101,7 +99,7 @@ pub deliver_answered : (network : Network) (far : Other) (held : Held) (before n
 deliver_answered network far held before now same some obeyed = deliver_some network.other.controller network held before now (subst (λ o. is_some o.controller ≡ true) same some) obeyed
 
 -- All frames that waited were handed over: to the device, and then to the controller.
-pub delivered : (network : Network) (device : State (MemoryFlash 4096)) (far between after : Other) (to_device to_controller : ℕ) (before middle now : List ℕ) → far ≡ network.other
+pub delivered : (network : Network) (device : Running) (far between after : Other) (to_device to_controller : ℕ) (before middle now : List ℕ) → far ≡ network.other
     → IsHandedOver (device_run network.station (frames_for_device far.to_device)) device far between to_device
     → to_controller ≡ length between.to_controller → after ≡ arrived_at between.controller between
     → middle ≡ before ++ moved_line to_device to_controller → now ≡ middle ++ controller_shown after.controller
@@ -124,7 +122,7 @@ delivered network device far between after to_device to_controller before middle
 
 -- ---- units of time
 
-pub ticks_obeyed : (network : Network) (units : ℕ) (device : State (MemoryFlash 4096)) (far between after : Other) (before middle now : List ℕ) → far ≡ network.other
+pub ticks_obeyed : (network : Network) (units : ℕ) (device : Running) (far between after : Other) (before middle now : List ℕ) → far ≡ network.other
     → IsRunOf (device_run network.station (replicate units event.Tick)) device far between before middle
     → after ≡ ticked_by between.controller between units → now ≡ middle ++ note_line Done
     → IsObeyed (tick_answer network units) (record { power = On device; other = after }) before now

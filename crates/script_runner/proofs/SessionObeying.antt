@@ -1,18 +1,16 @@
 -- The effect of a line at both ends.
 use Rattle.std.proofs.Common.{◌≡◌, inl, ℕ, List, [], ◌∷◌, ◌++◌, length, arith, Bool, true, false, Option, None, Result, Ok, Err, OnOk, IfOk, IsErr, MatchResult, is_ok, if◌then◌else◌, refl, sym, ap, subst, append-nil, ◌∙◌}
 use Rattle.flash_model.specs.declared.flash.Order.{Order}
-use Rattle.flash_model.specs.declared.memory.MemoryFlash.{MemoryFlash}
 use Rattle.plans.specs.declared.parts.Parts.{Parts}
 use Rattle.configurator.specs.declared.fault.PlanFault.{PlanFault}
 use Rattle.configurator.specs.declared.fault.PlanFault.TheVariants.{OutOfMemory}
-use Rattle.device_core.specs.State.{State}
-use Rattle.script_lines.specs.Line.{Command, Frame, Restart, Tick, Elapse, Show, Due, Choose, Ready, Arm, Input, Alarm, Status, Provider, Config, Start, Give, OutputStatus, Stop, Deliver, Line, Unfit, Skipped, Asks, Unknown, meaning_of}
+use Rattle.script_lines.specs.Line.{Command, Frame, Restart, Tick, Elapse, Show, Due, Choose, Ready, Arm, Input, Alarm, Status, Provider, Config, Start, Give, OutputStatus, Stop, Deliver, Serve, Line, Skipped, Asks, meaning_of}
 use Rattle.script_lines.specs.declared.command.Choice.{Choice}
 use Rattle.script_runner.specs.declared.session.power.Power.{Power}
 use Rattle.script_runner.specs.declared.session.power.Power.TheVariants.{On, Off, Away}
-use Rattle.script_runner.specs.session.Ends.{Network, Station, Other, chosen}
+use Rattle.script_runner.specs.session.Ends.{Network, Station, Running, Other, chosen, serving}
 use Rattle.script_runner.specs.session.Power.{Held, IsRunning, is_off, refusal_of}
-use Rattle.script_runner.specs.session.Said.{Answer, Answers, Outcome, choose_answer, outcome_of, unchanged}
+use Rattle.script_runner.specs.session.Said.{Answer, Answers, Outcome, choose_answer, outcome_of, serve_answer, served, unchanged}
 use Rattle.script_runner.specs.session.Off.{Orders, TakesOrder}
 use Rattle.script_runner.specs.session.Session.{Are, Comes, IsDone, IsObeyed, Obeys}
 
@@ -29,7 +27,7 @@ unlost station (Off fault flash) runs = absurd runs
 unlost station Away runs = absurd runs
 
 -- What the device carried out is what was asked for.
-pub done_obeyed : (answer : Answer) (device : State (MemoryFlash 4096)) (other : Other) (before now : List ℕ) → IsDone answer device other before now → IsObeyed answer (record { power = On device; other = other }) before now
+pub done_obeyed : (answer : Answer) (device : Running) (other : Other) (before now : List ℕ) → IsDone answer device other before now → IsObeyed answer (record { power = On device; other = other }) before now
 done_obeyed answer device other before now done = record { runs = done.runs; waits = done.waits; text = done.text }
 
 -- A line with this meaning obeys as that meaning does.
@@ -51,6 +49,14 @@ pub chosen_obeyed : (network : Network) (choice : Choice) (power : Power) (far o
 chosen_obeyed network choice power far other before runs same set = record {
   runs = runs;
   waits = set ∙ ap (λ (o : Other). chosen o choice) same;
+  text = sym (append-nil before);
+}
+
+-- Services are on, and nothing is printed.
+pub serve_obeyed : (network : Network) (power : Power) (far other : Other) (before : List ℕ) → IsRunning (served network.station.services network.station) power → far ≡ network.other → other ≡ serving far → IsObeyed (serve_answer network) (record { power = power; other = other }) before before
+serve_obeyed network power far other before runs same set = record {
+  runs = runs;
+  waits = set ∙ ap serving same;
   text = sym (append-nil before);
 }
 
@@ -85,31 +91,6 @@ if_there_tells A is (Err fault) reported given = tt
 
 -- ---- orders to the flash
 
--- A line for which memory was refused did nothing.
-pub untaken : (line : Line) (held : Held) (before : List ℕ) → TakesOrder line held held before before (Err OutOfMemory)
-untaken Unfit held before = tt
-untaken Skipped held before = tt
-untaken Unknown held before = tt
-untaken (Asks (Arm order)) held before = (refl, refl, refl)
-untaken (Asks (Frame bytes)) held before = tt
-untaken (Asks Restart) held before = tt
-untaken (Asks (Tick units)) held before = tt
-untaken (Asks (Elapse units)) held before = tt
-untaken (Asks Show) held before = tt
-untaken (Asks Due) held before = tt
-untaken (Asks (Choose choice)) held before = tt
-untaken (Asks Ready) held before = tt
-untaken (Asks (Input slot subslot bytes)) held before = tt
-untaken (Asks (Alarm slot subslot bytes)) held before = tt
-untaken (Asks (Status slot subslot is_good)) held before = tt
-untaken (Asks (Provider slot subslot)) held before = tt
-untaken (Asks (Config catalogue)) held before = tt
-untaken (Asks (Start ar activity)) held before = tt
-untaken (Asks (Give slot subslot bytes)) held before = tt
-untaken (Asks (OutputStatus slot subslot is_good)) held before = tt
-untaken (Asks Stop) held before = tt
-untaken (Asks Deliver) held before = tt
-
 -- The effect of an order is the effect of a line with that order.
 pub order_taken : (command : Command) (old new : Held) (before now : List ℕ) (result : Result Bool PlanFault)
     → ((order : Order) → command ≡ Arm order → Orders order old new before now result) → TakesOrder (Asks command) old new before now result
@@ -132,3 +113,4 @@ order_taken (Give slot subslot bytes) old new before now result orders = tt
 order_taken (OutputStatus slot subslot is_good) old new before now result orders = tt
 order_taken Stop old new before now result orders = tt
 order_taken Deliver old new before now result orders = tt
+order_taken Serve old new before now result orders = tt

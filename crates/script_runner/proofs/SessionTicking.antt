@@ -1,16 +1,13 @@
 -- Events at either end, one after the other.
-use Rattle.std.proofs.Common.{◌≡◌, ℕ, ◌+◌, ◌-◌, ◌<◌, ◌≤◌, List, [], ◌∷◌, ◌++◌, zero, suc, replicate, length, drop, append_assoc, append-nil, arith, refl, ap, subst, sym, ◌∙◌, Option, Some, None}
+use Rattle.std.proofs.Common.{◌≡◌, ℕ, ◌+◌, ◌-◌, ◌<◌, ◌≤◌, List, [], ◌∷◌, ◌++◌, zero, suc, replicate, length, drop, append_assoc, append-nil, arith, refl, ap, subst, sym, ◌∙◌, Option, Some, None, Result, Ok, Err, OnOk}
 use Rattle.std.proofs.lemmas.Grind.{flat_map-append}
 use Rattle.std.proofs.lemmas.List.{drop_all}
 use Rattle.arrayvec.specs.ArrayVec.{ArrayVec}
-use Rattle.flash_model.specs.declared.memory.MemoryFlash.{MemoryFlash}
 use Rattle.device_frames.specs.declared.event.Event.{Event}
-use Rattle.device_core.specs.State.{State}
-use Rattle.device_core.specs.Machine.{step_of}
 use Rattle.controller_core.specs.declared.event.Event.{Event as ControllerEvent}
 use Rattle.controller_core.specs.Machine.{Stepped as ControllerRun, step_of as controller_step}
 use Rattle.controller_core.specs.State.{Controlling}
-use Rattle.script_runner.specs.session.Ends.{Station, turned_to, Other, DeviceRun, IsRun, controller_run, device_run, frames_for_device, kept, octets_of, printed_for, with_sent}
+use Rattle.script_runner.specs.session.Ends.{Station, Running, station_step, Other, DeviceRun, IsRun, controller_run, device_run, frames_for_device, kept, octets_of, printed_for, with_sent}
 use Rattle.script_runner.specs.session.Power.{Runs}
 use Rattle.script_runner.specs.session.Session.{IsHandedTo, IsRunOf, IsTurned}
 
@@ -18,7 +15,7 @@ use Rattle.script_runner.specs.session.Session.{IsHandedTo, IsRunOf, IsTurned}
 
 -- Between two events the device runs. The frames sent before are kept or printed; with the frames of the remaining events
 -- they are the whole.
-pub record IsUnderway (whole : DeviceRun) (left : List Event) (now : Station) (device : State (MemoryFlash 4096)) (far other : Other) (before text : List ℕ) : Type 0 where
+pub record IsUnderway (whole : DeviceRun) (left : List Event) (now : Station) (device : Running) (far other : Other) (before text : List ℕ) : Type 0 where
   pub runs : Runs now device
   pub station : whole.station ≡ (device_run now left).station
   pub sent : List (List ℕ)
@@ -27,11 +24,11 @@ pub record IsUnderway (whole : DeviceRun) (left : List Event) (now : Station) (d
   pub printed : text ≡ before ++ printed_for far.controller sent
 
 -- Frames are kept one after the other.
-kept_on : (controller : Option Controlling) (waiting a b : List (List ℕ)) → kept controller (kept controller waiting a) b ≡ kept controller waiting (a ++ b)
+pub kept_on : (controller : Option Controlling) (waiting a b : List (List ℕ)) → kept controller (kept controller waiting a) b ≡ kept controller waiting (a ++ b)
 kept_on None waiting a b = refl
 kept_on (Some controller) waiting a b = append_assoc waiting a b
 
-printed_on : (controller : Option Controlling) (a b : List (List ℕ)) → printed_for controller a ++ printed_for controller b ≡ printed_for controller (a ++ b)
+pub printed_on : (controller : Option Controlling) (a b : List (List ℕ)) → printed_for controller a ++ printed_for controller b ≡ printed_for controller (a ++ b)
 printed_on None a b = sym (flat_map-append _ a b)
 printed_on (Some controller) a b = refl
 
@@ -60,10 +57,10 @@ ran_at station frames = record { station = station; frames = frames }
 device_more : (now : Station) (events more : List Event) → device_run now (events ++ more) ≡ and_run (device_run now events).frames (device_run (device_run now events).station more)
 device_more now [] more = refl
 device_more now (event ∷ events) more =
-    let step = step_of [] now.device now.live event in
-    let first = device_run (turned_to now step.live) events in
+    let step = station_step now event in
+    let first = device_run step.station events in
     let last = device_run first.station more in
-    ap (and_run step.frames) (device_more (turned_to now step.live) events more) ∙ ap (ran_at last.station) (sym (append_assoc step.frames first.frames last.frames))
+    ap (and_run step.frames) (device_more step.station events more) ∙ ap (ran_at last.station) (sym (append_assoc step.frames first.frames last.frames))
 
 abbrev and_heard : List (List ℕ) → ControllerRun → ControllerRun
 and_heard frames later = record { controller = later.controller; frames = frames ++ later.frames }
@@ -79,8 +76,37 @@ controller_more now (event ∷ events) more =
     let last = controller_run first.controller more in
     ap (and_heard step.frames) (controller_more step.controller events more) ∙ ap (heard_at last.controller) (sym (append_assoc step.frames first.frames last.frames))
 
+-- The frames of the device were sent, and then those of the services.
+pub sent_all : {E : Type 0} (done : Result (Unit {0}) E) (far between after : Other) (a b : List (List ℕ)) (before middle now : List ℕ) → between ≡ with_sent far a → middle ≡ before ++ printed_for far.controller a
+    → OnOk done ((after ≡ with_sent between b) × (now ≡ middle ++ printed_for between.controller b)) → OnOk done ((after ≡ with_sent far (a ++ b)) × (now ≡ before ++ printed_for far.controller (a ++ b)))
+sent_all (Ok it) far between after a b before middle now e f g = (
+  g.0 ∙ ap (λ (o : Other). with_sent o b) e ∙ sent_on far a b,
+  g.1 ∙ ap (λ (o : Other). middle ++ printed_for o.controller b) e ∙ ap (λ (t : List ℕ). t ++ printed_for far.controller b) f ∙ append_assoc before _ _
+      ∙ ap (λ (t : List ℕ). before ++ t) (printed_on far.controller a b),
+)
+sent_all (Err fault) far between after a b before middle now e f g = tt
+
+-- The same, of frames that are these two lists.
+pub sent_both : {E : Type 0} (done : Result (Unit {0}) E) (far between after : Other) (a b device services : List (List ℕ)) (before middle now : List ℕ) → a ≡ device → b ≡ services → between ≡ with_sent far a → middle ≡ before ++ printed_for far.controller a
+    → OnOk done ((after ≡ with_sent between b) × (now ≡ middle ++ printed_for between.controller b)) → OnOk done ((after ≡ with_sent far (device ++ services)) × (now ≡ before ++ printed_for far.controller (device ++ services)))
+sent_both done far between after a b device services before middle now is_a is_b e f g =
+    subst (λ (s : List (List ℕ)). OnOk done ((after ≡ with_sent far (s ++ services)) × (now ≡ before ++ printed_for far.controller (s ++ services)))) is_a
+    (subst (λ (s : List (List ℕ)). OnOk done ((after ≡ with_sent far (a ++ s)) × (now ≡ before ++ printed_for far.controller (a ++ s)))) is_b
+    (sent_all done far between after a b before middle now e f g))
+
+-- The frames of the device wait, and then those of the services.
+pub waiting_all : {E : Type 0} (done : Result (Unit {0}) E) (before middle now a b : List (List ℕ)) → middle ≡ before ++ a → OnOk done (now ≡ middle ++ b) → OnOk done (now ≡ before ++ (a ++ b))
+waiting_all (Ok it) before middle now a b e g = g ∙ ap (λ (t : List (List ℕ)). t ++ b) e ∙ append_assoc before a b
+waiting_all (Err fault) before middle now a b e g = tt
+
+-- The same, of frames that are these two lists.
+pub waiting_both : {E : Type 0} (done : Result (Unit {0}) E) (before middle now a b device services : List (List ℕ)) → a ≡ device → b ≡ services → middle ≡ before ++ a → OnOk done (now ≡ middle ++ b) → OnOk done (now ≡ before ++ (device ++ services))
+waiting_both done before middle now a b device services is_a is_b e g =
+    subst (λ (s : List (List ℕ)). OnOk done (now ≡ before ++ (s ++ services))) is_a
+    (subst (λ (s : List (List ℕ)). OnOk done (now ≡ before ++ (a ++ s))) is_b (waiting_all done before middle now a b e g))
+
 -- The state before the first event.
-pub underway_first : (events : List Event) (now : Station) (device : State (MemoryFlash 4096)) (far : Other) (before : List ℕ) → Runs now device → IsUnderway (device_run now events) events now device far far before before
+pub underway_first : (events : List Event) (now : Station) (device : Running) (far : Other) (before : List ℕ) → Runs now device → IsUnderway (device_run now events) events now device far far before before
 underway_first events now device far before runs = record {
   runs = runs;
   station = refl;
@@ -91,22 +117,21 @@ underway_first events now device far before runs = record {
 }
 
 -- The state after one more event.
-pub underway_on : (whole : DeviceRun) (event : Event) (left : List Event) (now : Station) (device after : State (MemoryFlash 4096)) (far other later : Other) (before text more : List ℕ) → IsUnderway whole (event ∷ left) now device far other before text → IsTurned now (step_of [] now.device now.live event) after other later text more → IsUnderway whole left (turned_to now (step_of [] now.device now.live event).live) after far later before more
+pub underway_on : (whole : DeviceRun) (event : Event) (left : List Event) (now : Station) (device after : Running) (far other later : Other) (before text more : List ℕ) → IsUnderway whole (event ∷ left) now device far other before text → IsTurned (station_step now event) after other later text more → IsUnderway whole left (station_step now event).station after far later before more
 underway_on whole event left now device after far other later before text more underway turned =
-    let step = step_of [] now.device now.live event in
-    let next = turned_to now step.live in
+    let step = station_step now event in
     record {
       runs = turned.runs;
       station = underway.station;
       sent = underway.sent ++ step.frames;
-      frames = underway.frames ∙ sym (append_assoc underway.sent step.frames (device_run next left).frames);
+      frames = underway.frames ∙ sym (append_assoc underway.sent step.frames (device_run step.station left).frames);
       waits = turned.waits ∙ ap (λ o. with_sent o step.frames) underway.waits ∙ sent_on far underway.sent step.frames;
       printed = turned.text ∙ ap (λ o. text ++ printed_for o.controller step.frames) underway.waits
           ∙ ap (λ t. t ++ printed_for far.controller step.frames) underway.printed ∙ append_assoc before _ _ ∙ ap (λ t. before ++ t) (printed_on far.controller underway.sent step.frames);
     }
 
 -- The state after several more events.
-pub underway_run : (whole : DeviceRun) (events left : List Event) (now : Station) (device after : State (MemoryFlash 4096)) (far other later : Other) (before text more : List ℕ) → IsUnderway whole (events ++ left) now device far other before text → IsRunOf (device_run now events) after other later text more → IsUnderway whole left (device_run now events).station after far later before more
+pub underway_run : (whole : DeviceRun) (events left : List Event) (now : Station) (device after : Running) (far other later : Other) (before text more : List ℕ) → IsUnderway whole (events ++ left) now device far other before text → IsRunOf (device_run now events) after other later text more → IsUnderway whole left (device_run now events).station after far later before more
 underway_run whole events left now device after far other later before text more underway ran =
     let run = device_run now events in
     let all = device_more now events left in
@@ -121,7 +146,7 @@ underway_run whole events left now device after far other later before text more
     }
 
 -- The state after all events.
-pub underway_all : (whole : DeviceRun) (left : List Event) (now : Station) (device : State (MemoryFlash 4096)) (far other : Other) (before text : List ℕ) → left ≡ [] → IsUnderway whole left now device far other before text → IsRunOf whole device far other before text
+pub underway_all : (whole : DeviceRun) (left : List Event) (now : Station) (device : Running) (far other : Other) (before text : List ℕ) → left ≡ [] → IsUnderway whole left now device far other before text → IsRunOf whole device far other before text
 underway_all whole left now device far other before text none underway =
     let frames : whole.frames ≡ underway.sent = underway.frames ∙ ap (λ events. underway.sent ++ (device_run now events).frames) none ∙ append-nil underway.sent in
     let station : whole.station ≡ now = underway.station ∙ ap (λ events. (device_run now events).station) none in
@@ -153,22 +178,22 @@ parted A tick left units most =
 
 -- Between two frames the device runs. The frames that wait, with those that it sends for the remaining frames, are the
 -- whole.
-pub record IsHanding (whole : DeviceRun) (left : List Event) (now : Station) (device : State (MemoryFlash 4096)) (before waiting : List (ArrayVec ℕ)) : Type 0 where
+pub record IsHanding (whole : DeviceRun) (left : List Event) (now : Station) (device : Running) (before waiting : List (ArrayVec ℕ)) : Type 0 where
   pub runs : Runs now device
   pub station : whole.station ≡ (device_run now left).station
   pub frames : octets_of before ++ whole.frames ≡ octets_of waiting ++ (device_run now left).frames
 
-pub handing_on : (whole : DeviceRun) (event : Event) (left : List Event) (now : Station) (device after : State (MemoryFlash 4096)) (before waiting more : List (ArrayVec ℕ)) → IsHanding whole (event ∷ left) now device before waiting → Runs (turned_to now (step_of [] now.device now.live event).live) after → octets_of more ≡ octets_of waiting ++ (step_of [] now.device now.live event).frames → IsHanding whole left (turned_to now (step_of [] now.device now.live event).live) after before more
+pub handing_on : (whole : DeviceRun) (event : Event) (left : List Event) (now : Station) (device after : Running) (before waiting more : List (ArrayVec ℕ)) → IsHanding whole (event ∷ left) now device before waiting → Runs (station_step now event).station after → octets_of more ≡ octets_of waiting ++ (station_step now event).frames → IsHanding whole left (station_step now event).station after before more
 handing_on whole event left now device after before waiting more handing runs sent =
-    let step = step_of [] now.device now.live event in
-    let later = device_run (turned_to now step.live) left in
+    let step = station_step now event in
+    let later = device_run step.station left in
     record {
       runs = runs;
       station = handing.station;
       frames = handing.frames ∙ sym (append_assoc (octets_of waiting) step.frames later.frames) ∙ ap (λ t. t ++ later.frames) (sym sent);
     }
 
-pub handed_all : (whole : DeviceRun) (left : List Event) (now : Station) (device : State (MemoryFlash 4096)) (before waiting : List (ArrayVec ℕ)) → left ≡ [] → IsHanding whole left now device before waiting → IsHandedTo whole device before waiting
+pub handed_all : (whole : DeviceRun) (left : List Event) (now : Station) (device : Running) (before waiting : List (ArrayVec ℕ)) → left ≡ [] → IsHanding whole left now device before waiting → IsHandedTo whole device before waiting
 handed_all whole left now device before waiting none handing =
     let station : whole.station ≡ now = handing.station ∙ ap (λ events. (device_run now events).station) none in
     record {

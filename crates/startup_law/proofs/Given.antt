@@ -30,6 +30,8 @@ use Rattle.frame_codec.specs.declared.arp.ArpOperation.TheVariants.{Reply}
 use Rattle.controller_frames.specs.declared.request.Request.{Request as Asking}
 use Rattle.controller_frames.specs.declared.setup.Setup.{Setup}
 use Rattle.controller_frames.specs.Heard.{Calls as Called, Nothing, Responds as Responded, heard_of as controller_hears}
+use Rattle.controller_frames.specs.declared.record_request.RecordRequest.{RecordRequest}
+use Rattle.controller_frames.specs.RecordRequests.{record_call}
 use Rattle.controller_frames.specs.Requests.{call_for}
 use Rattle.controller_frames.specs.Sent.{answer_frame, call_frame, calls_at, bytes_of as controller_bytes}
 use Rattle.controller_core.specs.declared.event.Event.{Event}
@@ -37,13 +39,13 @@ use Rattle.controller_core.specs.Machine.{first, step_of, turn_of}
 use Rattle.controller_core.specs.State.{Controlling, Live as ControllerLive}
 use Rattle.codec_laws.specs.frames.Sendable.{IsHolder, IsMac, IsTag, carrying}
 use Rattle.end_laws.specs.hearing.Hearing.{IsUncalled, IsUnreported, all_hears, comes, mine_reported, own_reported}
-use Rattle.end_laws.specs.hearing.Stations.{IsAddress, IsCalled, IsCaller, IsDevice, IsNumbered, IsSetup, ready_call}
+use Rattle.end_laws.specs.hearing.Stations.{IsAddress, IsCalled, IsCaller, IsDevice, IsNumbered, IsRecordCall, IsSetup, ready_call}
 use Rattle.end_laws.specs.sending.Addressed.{IsAimed, IsAimedAt, IsEventFrom}
 use Rattle.end_laws.specs.both.Small as small
 use Rattle.end_laws.specs.both.Small.{Exchanges, Exchanging, RelationState, Move, Rules, World}
 use Rattle.end_laws.specs.both.StartUp.{Begins, IsRun, last_of}
 use Rattle.end_laws.specs.both.Steps.{DeviceSteps}
-use Rattle.end_laws.specs.controller.Small.{GoesOn, IsInStep, said_in, small_of as small_controller}
+use Rattle.end_laws.specs.controller.Small.{GoesOn, IsSteady, said_in, small_of as small_controller}
 use Rattle.end_laws.specs.device.Owed.{IsOwed}
 use Rattle.end_laws.specs.device.Small.{IsHeardAs, IsPlanned, heard_as, small_of}
 
@@ -62,6 +64,7 @@ pub record HeardSo : Type 0 where
       → device_hears other (comes (device_bytes identity (ArpReply asker address target)))
       ≡ all_hears other asker (Resolves identity.mac (record { operation = Reply; sender = record { mac = identity.mac; address = address }; target = target }))
   pub call_can : (setup : Setup) (request : Asking) → IsSetup setup → IsCalled request → IsNumbered request → CanBeCalled devices (call_for setup request)
+  pub record_can : (setup : Setup) (request : RecordRequest) (octets : List ℕ) → IsSetup setup → IsRecordCall request octets → CanBeCalled devices (record_call setup request octets)
   pub ready_can : (ready : Ready) → IsHeader ready.header → ready.header.interface ≡ interface_uuid controllers → IsUuid ready.block.ar_uuid
       → CanBeCalled controllers (ready_call ready)
   pub call_at_device : (identity : Identity) (setup : Setup) (to : Mac) (call : Call) → IsSetup setup → IsMac to → CanBeCalled devices call
@@ -101,14 +104,14 @@ pub record GoesSo : Type 0 where
   pub aimed_first : (setup : Setup) → IsSetup setup → IsAimed (first setup.plan)
   pub aimed : (mac : Mac) (setup : Setup) (live : ControllerLive) (event : Event) → IsSetup setup → IsAimed live → IsEventFrom mac setup event
       → IsAimed (turn_of setup live event).live × AllByRecursion (IsAimedAt mac) (turn_of setup live event).sent
-  pub begins : (plan : Parts) → IsInStep plan (first plan).phase (first plan).asked × (small_controller plan (first plan) ≡ small.Seeking)
-  pub controller_on : (setup : Setup) (live : ControllerLive) (event : Event) → IsInStep setup.plan live.phase live.asked
+  pub begins : (plan : Parts) → IsSteady plan (first plan) × (small_controller plan (first plan) ≡ small.Seeking)
+  pub controller_on : (setup : Setup) (live : ControllerLive) (event : Event) → IsSteady setup.plan live
       → GoesOn setup.plan (said_in setup (controller_hears setup.plan.controller) event) live (turn_of setup live event)
   pub frames_are : (old : Controlling) (event : Event) → (step_of old event).frames ≡ map (controller_bytes old.setup) (turn_of old.setup old.live event).sent
   pub device_on : (rules : Rules TakenRecord Request) (activity : List ℕ) (outcomes : List Outcome) (station : Station) (live : Live) (heard : Heard)
       → IsPlanned rules activity station.real heard
       → AllByRecursion (IsHeardAs rules station.identity) (heard_step outcomes station live heard).sent
-      → DeviceSteps rules (heard_as heard) (small_of activity live) (small_of activity (heard_step outcomes station live heard).live) (heard_step outcomes station live heard).frames
+      → DeviceSteps rules (heard_as rules.is_planned heard) (small_of activity live) (small_of activity (heard_step outcomes station live heard).live) (heard_step outcomes station live heard).frames
   pub owed : (rules : Rules TakenRecord Request) (activity : List ℕ) (outcomes : List Outcome) (station : Station) (live : Live) (heard : Heard)
       → IsPlanned rules activity station.real heard
       → AllByRecursion (IsOwed heard live) (heard_step outcomes station live heard).sent

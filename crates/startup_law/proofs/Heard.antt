@@ -1,9 +1,9 @@
 -- What either end hears of each message of the other.
-use Rattle.std.proofs.Common.{◌≡◌, ◌⊎◌, inl, inr, ◌<◌, ◌+◌, ◌-◌, ◌==◌, ◌&&◌, ◌||◌, ℕ, Bool, true, false, cond, List, [], ◌∷◌, length, Option, Some, None, Result, Ok, Err, refl, sym, ap, subst, ◌∙◌, arith}
-use Rattle.std.specs.Prelude.{nat_eq, nat_le, nat_lt}
+use Rattle.std.proofs.Common.{◌≡◌, ◌⊎◌, inl, inr, ◌<◌, ◌+◌, ◌-◌, ◌==◌, ◌&&◌, ◌||◌, ℕ, Bool, true, false, cond, List, [], ◌∷◌, length, Option, Some, None, Result, Ok, Err, refl, sym, ap, subst, ◌∙◌, add-one, arith}
+use Rattle.std.specs.Prelude.{nat_eq, nat_le, nat_lt, slice_get}
 use Rattle.std.specs.List.{AllByRecursion}
 use Rattle.std.specs.Cmp.Lexicographic.{pointwise, same_text}
-use Rattle.std.proofs.lemmas.Bool.{leb-true, leb-false}
+use Rattle.std.proofs.lemmas.Bool.{eq-eqb, leb-true, leb-false, lt-ltb}
 use Rattle.wire.specs.Codec.{IsSoundWhole}
 use Rattle.pn_values.specs.declared.identity.Identity.{Identity}
 use Rattle.pn_values.specs.declared.mac.Mac.{Mac}
@@ -31,6 +31,9 @@ use Rattle.connect_requests.specs.Request.{Request as Asked_for}
 use Rattle.records.specs.status.Operation.{operation_of}
 use Rattle.pn_alarms.specs.declared.fault.AlarmFault.{AlarmFault}
 use Rattle.pn_alarms.specs.declared.pdu.Header.{Header}
+use Rattle.pn_alarms.specs.declared.priority.Priority.{Priority}
+use Rattle.pn_alarms.specs.declared.priority.Priority.TheVariants.{High, Low}
+use Rattle.cyclic_exchange.specs.declared.route.Route.{Route}
 use Rattle.pn_alarms.specs.Message.{ToController as AlarmReported, alarm_of}
 use Rattle.plans.specs.declared.parts.Controller.{Controller}
 use Rattle.plans.specs.declared.parts.Parts.{Parts}
@@ -44,6 +47,7 @@ use Rattle.device_frames.specs.Heard.{Heard, is_own}
 use Rattle.device_frames.specs.Sendable.{IsSendable}
 use Rattle.device_frames.specs.Sent.{Sent, IdentifyAnswer, GetAnswer, SetAnswer, ArpReply, CallAnswer, Again, ReadyCall, Ends, Exchanges, bytes_of}
 use Rattle.device_core.specs.State.{Live, Station}
+use Rattle.controller_frames.specs.declared.record_request.RecordRequest.{RecordRequest}
 use Rattle.controller_frames.specs.declared.request.Request.{Request}
 use Rattle.controller_frames.specs.declared.request.Request.TheVariants as asks
 use Rattle.controller_frames.specs.declared.setup.Setup.{Setup}
@@ -51,23 +55,24 @@ use Rattle.controller_frames.specs.Heard as controller
 use Rattle.controller_frames.specs.Heard.{heard_alarm, heard_answer, heard_body, heard_call, heard_content, heard_first, heard_frame, heard_read, heard_real_time, heard_refusal, heard_response, is_to}
 use Rattle.controller_frames.specs.declared.refusal.Refusal.{Refusal}
 use Rattle.controller_frames.specs.Refusal.{refusal_of}
-use Rattle.controller_frames.specs.Requests.{call_for, sequence_of}
+use Rattle.controller_frames.specs.RecordRequests.{record_call}
+use Rattle.controller_frames.specs.Requests.{blocks_of, call_for, sequence_of, write_blocks}
 use Rattle.controller_frames.specs.Sent as said
-use Rattle.controller_frames.specs.Sent.{answer_frame, call_frame, calls_at, identify_multicast}
+use Rattle.controller_frames.specs.Sent.{answer_frame, call_frame, calls_at, identify_multicast, tag_of}
 use Rattle.controller_core.specs.Answers.{is_ready}
 use Rattle.controller_core.specs.Machine.{ready_in}
 use Rattle.codec_laws.specs.frames.Sendable.{IsHolder, IsMac, IsTag, carrying}
 use Rattle.end_laws.specs.hearing.Hearing.{IsUncalled, IsUnreported, all_hears, comes, mine_reported, own_reported}
-use Rattle.end_laws.specs.hearing.Stations.{IsAddress, IsCalled, IsCaller, IsDevice, IsNumbered, IsSetup, ready_call}
-use Rattle.end_laws.specs.sending.Addressed.{IsAimedAt, IsHeardFrom}
+use Rattle.end_laws.specs.hearing.Stations.{IsAddress, IsCalled, IsCaller, IsDevice, IsNumbered, IsRecordCall, IsSetup, ready_call}
+use Rattle.end_laws.specs.sending.Addressed.{IsAimedAt, IsDirection, IsHeardFrom}
 use Rattle.end_laws.specs.both.Small as small
 use Rattle.end_laws.specs.both.Small.{ToController, ToDevice}
 use Rattle.end_laws.specs.both.Steps.{CallsWhile, SaysToDevice}
 use Rattle.end_laws.specs.controller.Small.{asked_by, readied_by, said_by, said_to}
 use Rattle.end_laws.specs.device.Owed.{IsAnswering, IsOwed}
 use Rattle.end_laws.specs.device.Small as ends
-use Rattle.end_laws.specs.device.Small.{IsHeardAs, IsHeardBy, confirms, heard_as}
-use Rattle.startup_law.specs.View.{IsSaidAs, rules_of}
+use Rattle.end_laws.specs.device.Small.{IsHeardAs, IsHeardBy, Planned, confirms, heard_as}
+use Rattle.startup_law.specs.View.{IsSaidAs, is_planned, rules_of, says_to_device}
 use Rattle.wire.proofs.Fields.{bind_ok}
 use Rattle.startup_law.proofs.Given.{HeardSo}
 
@@ -123,15 +128,15 @@ six_answer : (source : Mac) (read : Result Answered DcpFault) → IsMac source �
 six_answer source (Ok answer) six = six
 six_answer source (Err fault) six = tt
 
-six_alarm : (source : Mac) (read : Result (Header × AlarmReported) AlarmFault) → IsSix (heard_alarm source read)
-six_alarm source (Ok x) = tt
-six_alarm source (Err fault) = tt
+six_alarm : (source : Mac) (frame_id : ℕ) (read : Result (Header × AlarmReported) AlarmFault) → IsSix (heard_alarm source frame_id read)
+six_alarm source frame_id (Ok x) = tt
+six_alarm source frame_id (Err fault) = tt
 
 six_real_time : (source : Mac) (frame_id : ℕ) (body : List ℕ) → IsMac source → IsSix (heard_real_time source frame_id body)
 unfolding heard_real_time
 six_real_time source frame_id body six =
     holds_if IsSix (is_cyclic frame_id) (controller.Cyclic source frame_id body) _ tt
-    (holds_if IsSix (is_alarm frame_id) (heard_alarm source (alarm_of body)) _ (six_alarm source (alarm_of body))
+    (holds_if IsSix (is_alarm frame_id) (heard_alarm source frame_id (alarm_of body)) _ (six_alarm source frame_id (alarm_of body))
     (holds_if IsSix (frame_id == 0xFEFD) (heard_answer source (answer_of frame_id body)) _ (six_answer source (answer_of frame_id body) six)
     (holds_if IsSix (frame_id == 0xFEFF) (heard_answer source (answer_of frame_id body)) controller.Nothing (six_answer source (answer_of frame_id body) six) tt)))
 
@@ -185,8 +190,29 @@ pub record IsOwnCall (setup : Setup) (caller : Caller) (call : Call) : Type 0 wh
   pub is : call ≡ call_for setup request
   pub caller_is : caller ≡ record { mac = setup.plan.controller.mac; endpoint = calls_at setup.plan.controller.address }
 
+-- a call of the application that a device hears
+pub record IsAccess (setup : Setup) (caller : Caller) (call : Call) : Type 0 where
+  pub request : RecordRequest
+  pub octets : List ℕ
+  pub sized : IsRecordCall request octets
+  pub is : call ≡ record_call setup request octets
+  pub caller_is : caller ≡ record { mac = setup.plan.controller.mac; endpoint = calls_at setup.plan.controller.address }
+
+-- either of them
+abbrev pub IsKnownCall : Setup → Caller → Call → Type 0
+IsKnownCall setup caller call = IsOwnCall setup caller call ⊎ IsAccess setup caller call
+
+pub known_activity : (setup : Setup) (caller : Caller) (call : Call) → IsKnownCall setup caller call → call.header.activity ≡ setup.activity
+known_activity setup caller call (inl own) = ap (λ (c : Call). c.header.activity) own.is
+known_activity setup caller call (inr access) = ap (λ (c : Call). c.header.activity) access.is
+
+known_caller : (setup : Setup) (caller : Caller) (call : Call) → IsKnownCall setup caller call
+    → caller ≡ record { mac = setup.plan.controller.mac; endpoint = calls_at setup.plan.controller.address }
+known_caller setup caller call (inl own) = own.caller_is
+known_caller setup caller call (inr access) = access.caller_is
+
 abbrev pub IsKnownSaid : Setup → Caller → device.Said → Type 0
-IsKnownSaid setup caller (device.Calls call) = IsOwnCall setup caller call
+IsKnownSaid setup caller (device.Calls call) = IsKnownCall setup caller call
 IsKnownSaid setup caller reported = Unit {0}
 
 abbrev pub IsKnownHeard : Setup → Heard → Type 0
@@ -204,9 +230,9 @@ unreported_known : (setup : Setup) (heard : Heard) → IsUnreported heard → Is
 unreported_known setup (device.Reported caller address reported) un = absurd un
 unreported_known setup heard un = tt
 
-unreported_idle : (heard : Heard) → IsUnreported heard → heard_as heard ≡ small.Idle
-unreported_idle (device.Reported caller address reported) un = absurd un
-unreported_idle heard un = refl
+unreported_idle : (planned : Planned) (heard : Heard) → IsUnreported heard → heard_as planned heard ≡ small.Idle
+unreported_idle planned (device.Reported caller address reported) un = absurd un
+unreported_idle planned heard un = refl
 
 uncalled_from : (own : Mac) (heard : controller.Heard) → IsSix heard → IsUncalled heard → IsHeardFrom own heard
 uncalled_from own (controller.Answers source answer) six un = six
@@ -225,6 +251,9 @@ module _ (so : HeardSo) (setup : Setup) (station : Station) (good : IsSetup setu
   abbrev pub identity : Identity
   identity = station.identity
 
+  abbrev pub planned : Planned
+  planned = is_planned setup
+
   abbrev pub mine : Controller
   mine = setup.plan.controller
 
@@ -237,19 +266,19 @@ module _ (so : HeardSo) (setup : Setup) (station : Station) (good : IsSetup setu
   -- a frame of the device, of which the controller hears at most this
   pub record IsMet (frame : List ℕ) (says : ToController) : Type 0 where
     pub known : IsKnown setup identity frame
-    pub idle : heard_as (at_device frame) ≡ small.Idle
+    pub idle : heard_as planned (at_device frame) ≡ small.Idle
     pub says_at_most : (said_to setup (at_controller frame) ≡ small.Nothing) ⊎ (said_to setup (at_controller frame) ≡ says)
 
   -- the same, from what both ends hear
   met_by : (frame : List ℕ) (says : ToController) (heard : Heard) (reported : controller.Heard) → at_device frame ≡ heard → at_controller frame ≡ reported
-      → IsKnownHeard setup heard → heard_as heard ≡ small.Idle → IsHeardFrom identity.mac reported → (said_to setup reported ≡ small.Nothing) ⊎ (said_to setup reported ≡ says)
+      → IsKnownHeard setup heard → heard_as planned heard ≡ small.Idle → IsHeardFrom identity.mac reported → (said_to setup reported ≡ small.Nothing) ⊎ (said_to setup reported ≡ says)
       → IsMet frame says
   met_by frame says heard reported e f known idle from at_most = record {
     known = record {
       at_device = subst (λ (h : Heard). IsKnownHeard setup h) (sym e) known;
       at_controller = subst (λ (h : controller.Heard). IsHeardFrom identity.mac h) (sym f) from;
     };
-    idle = ap heard_as e ∙ idle;
+    idle = ap (heard_as planned) e ∙ idle;
     says_at_most = subst (λ (h : controller.Heard). (said_to setup h ≡ small.Nothing) ⊎ (said_to setup h ≡ says)) (sym f) at_most;
   }
 
@@ -264,9 +293,9 @@ module _ (so : HeardSo) (setup : Setup) (station : Station) (good : IsSetup setu
       }
 
   data_idle : (destination source : Mac) (tag : Option ℕ) (frame_id : ℕ) (body : List ℕ) → IsMac destination → IsMac source → IsTag tag
-      → heard_as (at_device (frame_bytes (carrying destination source tag (RealTime frame_id body)))) ≡ small.Idle
+      → heard_as planned (at_device (frame_bytes (carrying destination source tag (RealTime frame_id body)))) ≡ small.Idle
   data_idle destination source tag frame_id body one other tagged =
-      unreported_idle (at_device (frame_bytes (carrying destination source tag (RealTime frame_id body)))) (so.unreported identity destination source tag frame_id body one other tagged)
+      unreported_idle planned (at_device (frame_bytes (carrying destination source tag (RealTime frame_id body)))) (so.unreported identity destination source tag frame_id body one other tagged)
 
   data_nothing : (destination source : Mac) (tag : Option ℕ) (frame_id : ℕ) (body : List ℕ) → IsMac destination → IsMac source → IsTag tag
       → said_to setup (at_controller (frame_bytes (carrying destination source tag (RealTime frame_id body)))) ≡ small.Nothing
@@ -287,7 +316,7 @@ module _ (so : HeardSo) (setup : Setup) (station : Station) (good : IsSetup setu
       met_by (bytes_of identity (ArpReply asker address target)) small.Nothing (all_hears identity asker (device.Resolves identity.mac packet)) controller.Nothing
       (so.packet_at_device identity identity asker address target real one four held) (so.packet_at_controller mine identity asker address target real one four held)
       (holds_if (λ (h : Heard). IsKnownHeard setup h) (is_own identity asker || pointwise nat_eq asker.octets device.broadcast) (device.Resolves identity.mac packet) device.Elsewhere tt tt)
-      (holds_if (λ (h : Heard). heard_as h ≡ small.Idle) (is_own identity asker || pointwise nat_eq asker.octets device.broadcast) (device.Resolves identity.mac packet) device.Elsewhere refl refl)
+      (holds_if (λ (h : Heard). heard_as planned h ≡ small.Idle) (is_own identity asker || pointwise nat_eq asker.octets device.broadcast) (device.Resolves identity.mac packet) device.Elsewhere refl refl)
       tt (inl refl)
 
   -- ---- responses
@@ -363,7 +392,7 @@ module _ (so : HeardSo) (setup : Setup) (station : Station) (good : IsSetup setu
       (mine_reported mine ready.partner.mac to (controller.Calls caller (ready_call ready)))
       (so.ready_at_device identity identity address ready real one four own can) (so.ready_at_controller mine identity address ready real one four own can)
       (own_holds (λ (h : Heard). IsKnownHeard setup h) identity.mac ready.partner.mac from to device.Garbled tt tt)
-      (own_holds (λ (h : Heard). heard_as h ≡ small.Idle) identity.mac ready.partner.mac from to device.Garbled refl refl)
+      (own_holds (λ (h : Heard). heard_as planned h ≡ small.Idle) identity.mac ready.partner.mac from to device.Garbled refl refl)
       (mine_holds (λ (h : controller.Heard). IsHeardFrom identity.mac h) ready.partner.mac to (controller.Calls caller (ready_call ready))
       (refl, record { mac = real; endpoint = (own, omega arith) }, can.header, can.maximum) tt)
       (mine_holds (AtMost small.Readies) ready.partner.mac to (controller.Calls caller (ready_call ready)) (ready_says (ready_in (ready_call ready))) (inl refl))
@@ -388,15 +417,19 @@ module _ (so : HeardSo) (setup : Setup) (station : Station) (good : IsSetup setu
   -- ---- a message of the device
 
   -- a call that was heard is one of the controller
-  own_call : (heard : Heard) (caller : Caller) (address : List ℕ) (call : Call) → heard ≡ device.Reported caller address (device.Calls call) → IsKnownHeard setup heard → IsOwnCall setup caller call
+  own_call : (heard : Heard) (caller : Caller) (address : List ℕ) (call : Call) → heard ≡ device.Reported caller address (device.Calls call) → IsKnownHeard setup heard → IsKnownCall setup caller call
   own_call heard caller address call is known = subst (λ (h : Heard). IsKnownHeard setup h) is known
+
+  known_can : (caller : Caller) (call : Call) → IsKnownCall setup caller call → CanBeCalled devices call
+  known_can caller call (inl own) = subst (λ (c : Call). CanBeCalled devices c) (sym own.is) (so.call_can setup own.request good own.called own.numbered)
+  known_can caller call (inr access) = subst (λ (c : Call). CanBeCalled devices c) (sym access.is) (so.record_can setup access.request access.octets good access.sized)
 
   answering_met : (heard : Heard) (caller : Caller) (address : List ℕ) (answer : Response) → IsKnownHeard setup heard → IsAnswering heard caller answer → IsAddress address
       → IsMet (bytes_of identity (CallAnswer caller address answer)) (small.Answers answer.header.sequence (is_done answer.status))
   answering_met heard caller address answer known owed four =
       let call = own_call heard caller owed.address owed.call owed.is known in
-      let can : CanBeCalled devices owed.call = subst (λ (c : Call). CanBeCalled devices c) (sym call.is) (so.call_can setup call.request good call.called call.numbered) in
-      answer_met caller address answer call.caller_is four (subst (λ (h : CallHeader). IsHeader h) (sym owed.header) can.header) owed.status
+      let can = known_can caller owed.call call in
+      answer_met caller address answer (known_caller setup caller owed.call call) four (subst (λ (h : CallHeader). IsHeader h) (sym owed.header) can.header) owed.status
       (subst (λ (n : ℕ). n < 4294967296) (sym owed.maximum) can.maximum)
 
   -- the relation of the device is the plan's
@@ -444,10 +477,10 @@ module _ (so : HeardSo) (setup : Setup) (station : Station) (good : IsSetup setu
   pub record IsReported (frame : List ℕ) (says : ToDevice) : Type 0 where
     pub known : IsKnown setup identity frame
     pub nothing : said_to setup (at_controller frame) ≡ small.Nothing
-    pub says_or_idle : (heard_as (at_device frame) ≡ says) ⊎ (heard_as (at_device frame) ≡ small.Idle)
+    pub says_or_idle : (heard_as planned (at_device frame) ≡ says) ⊎ (heard_as planned (at_device frame) ≡ small.Idle)
 
   reported_by : (frame : List ℕ) (says : ToDevice) (heard : Heard) (reported : controller.Heard) → at_device frame ≡ heard → at_controller frame ≡ reported
-      → IsKnownHeard setup heard → (heard_as heard ≡ says) ⊎ (heard_as heard ≡ small.Idle) → IsHeardFrom identity.mac reported → said_to setup reported ≡ small.Nothing
+      → IsKnownHeard setup heard → (heard_as planned heard ≡ says) ⊎ (heard_as planned heard ≡ small.Idle) → IsHeardFrom identity.mac reported → said_to setup reported ≡ small.Nothing
       → IsReported frame says
   reported_by frame says heard reported e f known or_idle from nothing = record {
     known = record {
@@ -455,7 +488,7 @@ module _ (so : HeardSo) (setup : Setup) (station : Station) (good : IsSetup setu
       at_controller = subst (λ (h : controller.Heard). IsHeardFrom identity.mac h) (sym f) from;
     };
     nothing = ap (λ (h : controller.Heard). said_to setup h) f ∙ nothing;
-    says_or_idle = subst (λ (h : Heard). (heard_as h ≡ says) ⊎ (heard_as h ≡ small.Idle)) (sym e) or_idle;
+    says_or_idle = subst (λ (h : Heard). (heard_as planned h ≡ says) ⊎ (heard_as planned h ≡ small.Idle)) (sym e) or_idle;
   }
 
   data_reported : (destination : Mac) (tag : Option ℕ) (frame_id : ℕ) (body : List ℕ) (says : ToDevice) → IsMac destination → IsTag tag
@@ -467,29 +500,55 @@ module _ (so : HeardSo) (setup : Setup) (station : Station) (good : IsSetup setu
   }
 
   -- the device reads the call as what the controller says by it
-  asked_is : (request : Request) → IsCalled request
-      → ends.asked_by (sequence_of setup.plan request) (operation_of (call_for setup request).header.operation) ≡ asked_by setup.plan request
+  same_list : (xs : List ℕ) → pointwise nat_eq xs xs ≡ true
+  same_list [] = refl
+  same_list (x ∷ xs) = rw (eq-eqb x x refl) (same_list xs)
+
+  write_is_planned : (number : ℕ) → number < length setup.plan.records.items
+      → is_planned setup (number + 1) (write_blocks setup number (slice_get setup.plan.records.items number)) ≡ true
+  write_is_planned number listed =
+      let blocks = write_blocks setup number (slice_get setup.plan.records.items number) in
+      ap (λ (s : ℕ). is_planned setup s blocks) (add-one number) ∙ both (nat_lt number (length setup.plan.records.items)) (pointwise nat_eq blocks blocks) (lt-ltb _ _ listed) (same_list blocks)
+    where
+      both : (a b : Bool) → a ≡ true → b ≡ true → (a && b) ≡ true
+      both true b e f = f
+      both false b e f = absurd cc
+
+  asked_is : (request : Request) → IsCalled request → IsListed setup.plan request
+      → ends.asked_by planned (sequence_of setup.plan request) (blocks_of setup request) (operation_of (call_for setup request).header.operation) ≡ asked_by setup.plan request
   unfolding operation_of
-  asked_is asks.Identify called = absurd called
-  asked_is asks.Address called = absurd called
-  asked_is asks.Connect called = refl
-  asked_is (asks.Write number) called = let same : (number + 1) - 1 ≡ number = omega arith in ap (λ (n : ℕ). small.Call (number + 1) (small.Writes n)) same
-  asked_is asks.PrmEnd called = refl
-  asked_is (asks.Release sequence) called = refl
+  asked_is asks.Identify called listed = absurd called
+  asked_is asks.Address called listed = absurd called
+  asked_is asks.Connect called listed = refl
+  asked_is (asks.Write number) called listed =
+      let same : (number + 1) - 1 ≡ number = omega arith in
+      ap (λ (b : Bool). ends.written_by b (number + 1)) (write_is_planned number listed) ∙ ap (λ (n : ℕ). small.Call (number + 1) (small.Writes n)) same
+  asked_is asks.PrmEnd called listed = refl
+  asked_is (asks.Release sequence) called listed = refl
+
+  -- a call to the device, of the start-up or of the application
+  known_reported : (to : Mac) (call : Call) (says : ToDevice) → IsMac to → CanBeCalled devices call
+      → IsKnownCall setup (record { mac = mine.mac; endpoint = calls_at mine.address }) call → ends.said_to planned (device.Calls call) ≡ says → IsReported (call_frame setup to call) says
+  known_reported to call says six can known is =
+      let from = calls_at mine.address in
+      let to_end = calls_at setup.plan.station.suite.address in
+      reported_by (call_frame setup to call) says (own_reported identity mine.mac to from to_end (device.Calls call)) controller.Nothing
+      (so.call_at_device identity setup to call good six can) (so.call_at_controller mine setup to call good six can)
+      (own_holds (λ (h : Heard). IsKnownHeard setup h) mine.mac to from to_end (device.Calls call) known tt)
+      (own_holds (λ (h : Heard). (heard_as planned h ≡ says) ⊎ (heard_as planned h ≡ small.Idle)) mine.mac to from to_end (device.Calls call) (inl is) (inr refl))
+      tt refl
 
   call_reported : (to : Mac) (request : Request) → IsMac to → IsCalled request → IsNumbered request → IsListed setup.plan request
       → IsReported (call_frame setup to (call_for setup request)) (asked_by setup.plan request)
   call_reported to request six called numbered listed =
-      let call = call_for setup request in
-      let can = so.call_can setup request good called numbered in
-      let from = calls_at mine.address in
-      let to_end = calls_at setup.plan.station.suite.address in
-      let own : IsOwnCall setup (record { mac = mine.mac; endpoint = from }) call = record { request = request; called = called; numbered = numbered; listed = listed; is = refl; caller_is = refl } in
-      reported_by (call_frame setup to call) (asked_by setup.plan request) (own_reported identity mine.mac to from to_end (device.Calls call)) controller.Nothing
-      (so.call_at_device identity setup to call good six can) (so.call_at_controller mine setup to call good six can)
-      (own_holds (λ (h : Heard). IsKnownHeard setup h) mine.mac to from to_end (device.Calls call) own tt)
-      (own_holds (λ (h : Heard). (heard_as h ≡ asked_by setup.plan request) ⊎ (heard_as h ≡ small.Idle)) mine.mac to from to_end (device.Calls call) (inl (asked_is request called)) (inr refl))
-      tt refl
+      known_reported to (call_for setup request) (asked_by setup.plan request) six (so.call_can setup request good called numbered)
+      (inl (record { request = request; called = called; numbered = numbered; listed = listed; is = refl; caller_is = refl })) (asked_is request called listed)
+
+  access_reported : (to : Mac) (request : RecordRequest) (octets : List ℕ) → IsMac to → IsRecordCall request octets
+      → IsReported (call_frame setup to (record_call setup request octets)) (ends.said_to planned (device.Calls (record_call setup request octets)))
+  access_reported to request octets six sized =
+      known_reported to (record_call setup request octets) (ends.said_to planned (device.Calls (record_call setup request octets))) six (so.record_can setup request octets good sized)
+      (inr (record { request = request; octets = octets; sized = sized; is = refl; caller_is = refl })) refl
 
   confirms_or_not : (answer : Response) (b : Bool) → (cond b small.Confirms small.Idle ≡ small.Confirms) ⊎ (cond b small.Confirms small.Idle ≡ small.Idle)
   confirms_or_not answer true = inl refl
@@ -504,7 +563,7 @@ module _ (so : HeardSo) (setup : Setup) (station : Station) (good : IsSetup setu
       (so.agreed_at_controller mine setup caller answer good is can
       ∙ ap (λ (b : Bool). cond b (cond (is_to mine.address caller.endpoint) (controller.Responds answer) controller.Nothing) controller.Nothing) none)
       (own_holds (λ (h : Heard). IsKnownHeard setup h) mine.mac caller.mac from caller.endpoint (device.Responds answer) tt tt)
-      (own_holds (λ (h : Heard). (heard_as h ≡ small.Confirms) ⊎ (heard_as h ≡ small.Idle)) mine.mac caller.mac from caller.endpoint (device.Responds answer)
+      (own_holds (λ (h : Heard). (heard_as planned h ≡ small.Confirms) ⊎ (heard_as planned h ≡ small.Idle)) mine.mac caller.mac from caller.endpoint (device.Responds answer)
       (confirms_or_not answer (confirms answer)) (inr refl))
       tt refl
 
@@ -515,29 +574,38 @@ module _ (so : HeardSo) (setup : Setup) (station : Station) (good : IsSetup setu
   -- a record that is written now is one of the plan
   is_listed : (now : small.Controller) (number : ℕ) → CallsWhile (length setup.plan.records.items) now (number + 1) (small.Writes number) → number < length setup.plan.records.items
   is_listed now number (inl releases) = absurd cc
-  is_listed now number (inr asked) = asked.1.0
+  is_listed now number (inr (inl asked)) = asked.1.0
+  is_listed now number (inr (inr accesses)) = absurd (not_access number accesses.0)
+    where
+      not_access : (n : ℕ) → small.Writes n ≡ small.Accesses → ⊥
+      not_access n e = cc
+
+  tag_sized : (route : Route) (priority : Priority) → IsDirection route → tag_of route priority < 65536
+  tag_sized route High aimed = aimed.alarm_tag
+  tag_sized route Low aimed = omega arith
 
   message_reported : (now : small.Controller) (message : said.Sent) → IsAimedAt identity.mac message → SaysToDevice (length setup.plan.records.items) now (said_by setup.plan message)
-      → IsReported (said.bytes_of setup message) (said_by setup.plan message)
+      → IsReported (said.bytes_of setup message) (says_to_device setup message)
   message_reported now (said.Requests to asks.Identify) aimed says = data_reported identify_multicast None _ _ small.Idle multicast_six tt
   message_reported now (said.Requests to asks.Address) aimed says = data_reported to None _ _ small.Idle aimed.0 tt
   message_reported now (said.Requests to asks.Connect) aimed says = call_reported to asks.Connect aimed.0 tt tt tt
   message_reported now (said.Requests to (asks.Write number)) aimed says = call_reported to (asks.Write number) aimed.0 tt aimed.1 (is_listed now number says)
   message_reported now (said.Requests to asks.PrmEnd) aimed says = call_reported to asks.PrmEnd aimed.0 tt tt tt
   message_reported now (said.Requests to (asks.Release sequence)) aimed says = call_reported to (asks.Release sequence) aimed.0 tt aimed.1 tt
+  message_reported now (said.Accesses to request octets) aimed says = access_reported to request octets aimed.0 aimed.1
   message_reported now (said.Agrees caller answer) aimed says = agrees_reported caller answer aimed.0 aimed.1 aimed.2
   message_reported now (said.Cycles route shown counter) aimed says = data_reported route.partner (Some route.sent_tag) _ _ small.Idle aimed.partner aimed.sent_tag
-  message_reported now (said.Confirms route header ack) aimed says = data_reported route.partner (Some route.alarm_tag) _ _ small.Idle aimed.partner aimed.alarm_tag
-  message_reported now (said.Replies route header) aimed says = data_reported route.partner (Some route.alarm_tag) _ _ small.Idle aimed.partner aimed.alarm_tag
+  message_reported now (said.Confirms route priority header ack) aimed says = data_reported route.partner (Some (tag_of route priority)) _ _ small.Idle aimed.partner (tag_sized route priority aimed)
+  message_reported now (said.Replies route priority header) aimed says = data_reported route.partner (Some (tag_of route priority)) _ _ small.Idle aimed.partner (tag_sized route priority aimed)
   message_reported now (said.Ends route header reason) aimed says = data_reported route.partner (Some alarm_block.tag_header_low) _ _ small.Idle aimed.partner (omega arith)
 
   pub all_reported : (now : small.Controller) (messages : List said.Sent) → AllByRecursion (IsAimedAt identity.mac) messages
       → AllByRecursion (λ message. SaysToDevice (length setup.plan.records.items) now (said_by setup.plan message)) messages
-      → AllByRecursion (λ message. IsReported (said.bytes_of setup message) (said_by setup.plan message)) messages
+      → AllByRecursion (λ message. IsReported (said.bytes_of setup message) (says_to_device setup message)) messages
   all_reported now [] aimed says = tt
   all_reported now (message ∷ messages) aimed says = (message_reported now message aimed.0 says.0, all_reported now messages aimed.1 says.1)
 
-  pub all_said : (messages : List said.Sent) → AllByRecursion (λ message. IsReported (said.bytes_of setup message) (said_by setup.plan message)) messages
+  pub all_said : (messages : List said.Sent) → AllByRecursion (λ message. IsReported (said.bytes_of setup message) (says_to_device setup message)) messages
       → AllByRecursion (IsSaidAs setup station) messages
   all_said [] reported = tt
   all_said (message ∷ messages) reported = ((reported.0.nothing, reported.0.says_or_idle), all_said messages reported.1)

@@ -7,7 +7,6 @@ use Rattle.flash_model.specs.declared.flash.Flash.{Ghosts as Flash}
 use Rattle.settings_store.specs.Machine.{Outcome}
 use Rattle.pn_values.specs.declared.identity.Identity.{Identity}
 use Rattle.rpc_core.specs.Cache.{Kept as Answer, kept_of}
-use Rattle.rpc_core.specs.Call.{Asked as Called}
 use Rattle.connect_requests.specs.Request.{Request}
 use Rattle.connect_requests.specs.Handled.{request_of}
 use Rattle.plans.specs.Connect.{connect_of}
@@ -36,15 +35,15 @@ use Rattle.end_laws.specs.both.Small as small
 use Rattle.end_laws.specs.both.Small.{Rules, ToDevice}
 use Rattle.end_laws.specs.both.StartUp.{Begins as BeginsSmall, IsRun, last_of}
 use Rattle.end_laws.specs.both.Steps.{DeviceSteps, IsDull, Steps}
-use Rattle.end_laws.specs.controller.Small.{IsInStep, said_by, small_of}
+use Rattle.end_laws.specs.controller.Small.{IsSteady, small_of}
 use Rattle.end_laws.specs.device.Owed.{IsOfKept, IsOwed}
 use Rattle.end_laws.specs.device.Small.{heard_as, kept_in, link_of}
 use Rattle.end_laws.specs.device.Small as device
-use Rattle.startup_law.specs.View.{IsMeant, IsMeantAtController, IsMeantAtDevice, move_of, rules_of, view_of}
+use Rattle.startup_law.specs.View.{IsMeant, IsMeantAtController, IsMeantAtDevice, move_of, rules_of, says_to_device, view_of}
 use Rattle.startup_law.specs.Played.{AreMade, AreMeant, ArePlaced, Begins, CanMeet, last_world, viewed}
 use Rattle.startup_law.proofs.Each.{each_at, each_behind, some_is}
 use Rattle.startup_law.proofs.Given.{GoesSo, HeardSo}
-use Rattle.startup_law.proofs.Heard.{IsKnown, IsKnownHeard, IsMetAs, IsOwnCall, IsPlans, IsReported, all_heard, all_met, all_said, all_reported, opening_reported}
+use Rattle.startup_law.proofs.Heard.{IsKnown, IsKnownCall, IsKnownHeard, IsMetAs, IsPlans, IsReported, all_heard, all_met, all_said, all_reported, known_activity, opening_reported}
 use Rattle.startup_law.proofs.Planned.{IsGood, heard_planned}
 use Rattle.startup_law.proofs.Runs.{InStep, controller_is, delivered, happens_steps, last_viewed, rules_at}
 
@@ -88,7 +87,7 @@ module _ (so : HeardSo) (goes : GoesSo) where
   -- ---- one move
 
   module _ {F : Type 0} (before : World F) (can : CanStart before.controller.setup before.device.station) (holds : HoldsAt before)
-      (in_step : IsInStep before.controller.setup.plan before.controller.live.phase before.controller.live.asked) where
+      (in_step : IsSteady before.controller.setup.plan before.controller.live) where
     abbrev setup : Setup
     setup = before.controller.setup
 
@@ -114,8 +113,8 @@ module _ (so : HeardSo) (goes : GoesSo) where
       -- the frame of a repeated response was known
       again_known : (frame : List ℕ) → IsOfKept heard before.device.live frame → IsKnown setup station.identity frame
       again_known frame owed =
-          let own : IsOwnCall setup owed.caller owed.call = subst (λ (h : Heard). IsKnownHeard setup h) owed.is known in
-          let activity : owed.call.header.activity ≡ setup.activity = ap (λ (c : Called). c.header.activity) own.is in
+          let own : IsKnownCall setup owed.caller owed.call = subst (λ (h : Heard). IsKnownHeard setup h) owed.is known in
+          let activity : owed.call.header.activity ≡ setup.activity = known_activity setup owed.caller owed.call own in
           let kept : kept_of setup.activity before.device.live.rest.calls ≡ Some owed.kept =
           ap (λ (a : List ℕ). kept_of a before.device.live.rest.calls) (sym activity) ∙ owed.there in
           subst (λ (f : List ℕ). IsKnown setup station.identity f) owed.same (holds.again (kept_in owed.kept) (ap (λ (k : Option Answer). option_map kept_in k) kept))
@@ -143,7 +142,7 @@ module _ (so : HeardSo) (goes : GoesSo) where
           let met = all_met so setup station can.setup_is can.device_is can.apart heard live step.sent known plans (all_owed hears.steps.outcomes) hears.steps.sendable in
           let frames : AllByRecursion (IsKnown setup station.identity) step.frames = step_frames hears.steps.outcomes met in
           let steps = goes.device_on rules setup.activity hears.steps.outcomes station live heard meant_at_device.planned (meant_at_device.sent hears.steps.outcomes hears.steps.sendable) in
-          let kept = kept_known rules (IsKnown setup station.identity) (heard_as heard) (device.small_of setup.activity live) (device.small_of setup.activity step.live) step.frames steps holds.again frames in
+          let kept = kept_known rules (IsKnown setup station.identity) (heard_as rules.is_planned heard) (device.small_of setup.activity live) (device.small_of setup.activity step.live) step.frames steps holds.again frames in
           let all : Holds setup station before.controller.live (device.small_of setup.activity step.live).kept (before.sent ++ step.frames) = record {
             known = each_behind (IsKnown setup station.identity) before.sent step.frames holds.known frames;
             again = kept;
@@ -158,7 +157,7 @@ module _ (so : HeardSo) (goes : GoesSo) where
     -- ---- the controller
 
     module _ (event : Event) (from : IsEventFrom station.identity.mac setup event) where
-      reported : AllByRecursion (λ message. IsReported so setup station can.setup_is can.device_is can.apart (said.bytes_of setup message) (said_by setup.plan message))
+      reported : AllByRecursion (λ message. IsReported so setup station can.setup_is can.device_is can.apart (said.bytes_of setup message) (says_to_device setup message))
           (turn_of setup before.controller.live event).sent
       reported =
           let turn = turn_of setup before.controller.live event in
@@ -170,7 +169,7 @@ module _ (so : HeardSo) (goes : GoesSo) where
       meant_at_controller = all_said so setup station can.setup_is can.device_is can.apart (turn_of setup before.controller.live event).sent reported
 
       reported_known : (messages : List said.Sent)
-          → AllByRecursion (λ message. IsReported so setup station can.setup_is can.device_is can.apart (said.bytes_of setup message) (said_by setup.plan message)) messages
+          → AllByRecursion (λ message. IsReported so setup station can.setup_is can.device_is can.apart (said.bytes_of setup message) (says_to_device setup message)) messages
           → AllByRecursion (IsKnown setup station.identity) (map (said.bytes_of setup) messages)
       reported_known [] all = tt
       reported_known (message ∷ messages) all = (all.0.known, reported_known messages all.1)
@@ -206,6 +205,8 @@ module _ (so : HeardSo) (goes : GoesSo) where
       all_meant move.Ready = meant_at_device plans Readied tt
       all_meant (move.Give slot subslot value) = meant_at_controller (controller.Give slot subslot value) tt
       all_meant (move.OutputStatus slot subslot is_good) = meant_at_controller (controller.Status slot subslot is_good) tt
+      all_meant (move.Read slot subslot index) = meant_at_controller (controller.Read slot subslot index) tt
+      all_meant (move.Write slot subslot index octets) = meant_at_controller (controller.Write slot subslot index octets) tt
       all_meant move.Stop = meant_at_controller controller.Stop tt
 
       module _ {S : ℕ} (as_flash : Flash F S) (after : World F) where
@@ -227,6 +228,8 @@ module _ (so : HeardSo) (goes : GoesSo) where
         holds_behind move.Ready happens = holds_behind_device plans Readied tt as_flash after happens
         holds_behind (move.Give slot subslot value) happens = holds_behind_controller (controller.Give slot subslot value) tt after happens
         holds_behind (move.OutputStatus slot subslot is_good) happens = holds_behind_controller (controller.Status slot subslot is_good) tt after happens
+        holds_behind (move.Read slot subslot index) happens = holds_behind_controller (controller.Read slot subslot index) tt after happens
+        holds_behind (move.Write slot subslot index octets) happens = holds_behind_controller (controller.Write slot subslot index octets) tt after happens
         holds_behind move.Stop happens = holds_behind_controller controller.Stop tt after happens
 
   -- ---- any list of moves
@@ -310,7 +313,7 @@ module _ (so : HeardSo) (goes : GoesSo) where
         none_kept answer e = absurd cc
 
     pub first_in_step : InStep first
-    first_in_step = subst (λ (l : ControllerLive). IsInStep first.controller.setup.plan l.phase l.asked) (sym begins.made) (goes.begins first.controller.setup.plan).0
+    first_in_step = subst (λ (l : ControllerLive). IsSteady first.controller.setup.plan l) (sym begins.made) (goes.begins first.controller.setup.plan).0
 
     pub runs_so : {S : ℕ} (as_flash : Flash F S) (run : List (Move × World F)) → AreMade as_flash first run
         → IsRun (rules_at first) (view_of first) (viewed run) × AreMeant first run

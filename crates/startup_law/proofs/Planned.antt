@@ -1,8 +1,9 @@
--- Each call that a device hears is one of the start-up.
-use Rattle.std.proofs.Common.{◌≡◌, ◌<◌, ◌≤◌, ◌+◌, ◌&&◌, ◌==◌, ℕ, zero, suc, Bool, true, false, not, cond, List, [], ◌∷◌, ◌++◌, length, take, Option, Some, None, option_map, Result, Ok, Err, refl, sym, ap, subst, ◌∙◌, arith}
-use Rattle.std.specs.Prelude.{nat_lt, slice_get}
+-- Each call that a device hears is one of the start-up or of the application.
+use Rattle.std.proofs.Common.{◌≡◌, inl, inr, ◌<◌, ◌≤◌, ◌+◌, ◌&&◌, ◌==◌, ℕ, zero, suc, Bool, true, false, not, cond, List, [], ◌∷◌, ◌++◌, length, take, Option, Some, None, option_map, Result, Ok, Err, refl, sym, ap, subst, ◌∙◌, add-one, arith}
+use Rattle.std.specs.Prelude.{nat_eq, nat_lt, slice_get}
+use Rattle.std.specs.Cmp.Lexicographic.{pointwise, same_text}
 use Rattle.std.specs.List.{AllByRecursion}
-use Rattle.std.proofs.lemmas.Bool.{ne_eqb}
+use Rattle.std.proofs.lemmas.Bool.{and_parts, ltb-true, ne_eqb}
 use Rattle.std.proofs.lemmas.Option.{slice_get-map}
 use Rattle.wire.specs.Codec.{◌>>=◌}
 use Rattle.wire.specs.Checks.{or_fault}
@@ -42,19 +43,22 @@ use Rattle.startup_law.specs.request.Request.{request_for}
 use Rattle.device_frames.specs.Heard as device
 use Rattle.device_frames.specs.Heard.{Heard}
 use Rattle.device_core.specs.State.{Station}
+use Rattle.controller_frames.specs.declared.record_request.RecordService.{RecordService}
+use Rattle.controller_frames.specs.declared.record_request.RecordService.TheVariants as service
 use Rattle.controller_frames.specs.declared.request.Request.{Request}
 use Rattle.controller_frames.specs.declared.request.Request.TheVariants as asks
 use Rattle.controller_frames.specs.declared.setup.Setup.{Setup}
+use Rattle.controller_frames.specs.RecordRequests.{record_blocks, service_operation}
 use Rattle.controller_frames.specs.Requests.{blocks_of, call_for, write_blocks, write_of as write_asked}
 use Rattle.codec_laws.specs.blocks.Writable.{CanBeWritten}
 use Rattle.end_laws.specs.hearing.Stations.{IsCalled}
 use Rattle.end_laws.specs.both.Small.{Rules}
 use Rattle.end_laws.specs.device.Small.{IsPlanned, IsPlannedAs, IsPlannedCall, IsPlannedIn, IsPlannedWrite}
 use Rattle.startup_law.specs.Played.{ArePlaced, IsParameter, IsPlaced}
-use Rattle.startup_law.specs.View.{rules_of, taken_for}
+use Rattle.startup_law.specs.View.{is_planned, rules_of, taken_for}
 use Rattle.wire.proofs.Fields.{bind_ok, ok_is}
 use Rattle.startup_law.proofs.Each.{each_at, some_is}
-use Rattle.startup_law.proofs.Heard.{IsKnownHeard, IsKnownSaid, IsListed, IsOwnCall}
+use Rattle.startup_law.proofs.Heard.{IsKnownCall, IsKnownHeard, IsKnownSaid, IsListed}
 
 -- if no earlier judgement fails, the rest decides
 handled_ok : {A : Type 0} (judgements : List (Bool × CallFault)) (otherwise : Result A CallFault) (value : A) → in_order judgements otherwise ≡ Ok value → otherwise ≡ Ok value
@@ -209,16 +213,36 @@ module _ (read : (block : Block) (rest : List ℕ) → CanBeWritten block → bl
   asked_planned asks.Identify called listed = absurd called
   asked_planned asks.Address called listed = absurd called
   asked_planned asks.Connect called listed = good.connect
-  asked_planned (asks.Write number) called listed = write_planned number listed
+  asked_planned (asks.Write number) called listed = λ planned. write_planned number listed
   asked_planned asks.PrmEnd called listed = tt
   asked_planned (asks.Release sequence) called listed = tt
 
-  call_planned : (caller : Caller) (call : Call) → IsOwnCall setup caller call → IsPlannedCall rules setup.activity station.real call
-  call_planned caller call own = subst (λ (c : Call). IsPlannedCall rules setup.activity station.real c) (sym own.is) (record {
+  -- a Write of the application that is one of the plan
+  access_write : (sequence : ℕ) (blocks : List ℕ) → is_planned setup sequence blocks ≡ true → IsPlannedWrite rules station.real sequence blocks
+  access_write zero blocks e = absurd cc
+  access_write (suc number) blocks e =
+      let parts = and_parts (nat_lt number (length setup.plan.records.items)) (pointwise nat_eq blocks (write_blocks setup number (slice_get setup.plan.records.items number))) e in
+      let planned = write_planned number (ltb-true number (length setup.plan.records.items) parts.0) in
+      subst (λ (b : List ℕ). IsPlannedWrite rules station.real (suc number) b) (sym (same_text blocks _ (sym parts.1)))
+      (subst (λ (n : ℕ). IsPlannedWrite rules station.real n (write_blocks setup number (slice_get setup.plan.records.items number))) (add-one number) planned)
+
+  access_planned : (kind : RecordService) (sequence : ℕ) (blocks : List ℕ) → IsPlannedAs rules station.real sequence blocks (operation_of (service_operation kind))
+  unfolding operation_of
+  access_planned service.Read sequence blocks = tt
+  access_planned service.Write sequence blocks = λ planned. access_write sequence blocks planned
+
+  call_planned : (caller : Caller) (call : Call) → IsKnownCall setup caller call → IsPlannedCall rules setup.activity station.real call
+  call_planned caller call (inl own) = subst (λ (c : Call). IsPlannedCall rules setup.activity station.real c) (sym own.is) (record {
     own = refl;
     blocks = blocks_of setup own.request;
     counted = refl;
     asks = asked_planned own.request own.called own.listed;
+  })
+  call_planned caller call (inr access) = subst (λ (c : Call). IsPlannedCall rules setup.activity station.real c) (sym access.is) (record {
+    own = refl;
+    blocks = record_blocks setup access.request access.octets access.request.service;
+    counted = refl;
+    asks = access_planned access.request.service access.request.sequence (record_blocks setup access.request access.octets access.request.service);
   })
 
   said_planned : (caller : Caller) (reported : device.Said) → IsKnownSaid setup caller reported → IsPlannedIn rules setup.activity station.real reported

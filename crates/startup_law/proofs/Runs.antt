@@ -13,7 +13,7 @@ use Rattle.device_core.specs.State.{Station, Live}
 use Rattle.device_core.specs.Machine.{heard_step}
 use Rattle.controller_frames.specs.declared.setup.Setup.{Setup}
 use Rattle.controller_frames.specs.Heard.{heard_of as heard_by}
-use Rattle.controller_frames.specs.Sent.{Sent, bytes_of}
+use Rattle.controller_frames.specs.Sent.{Sent, Requests, Accesses, Agrees, Cycles, Confirms, Replies, Ends, bytes_of}
 use Rattle.controller_core.specs.declared.state.State.{State as Phase}
 use Rattle.controller_core.specs.declared.state.State.TheVariants.{Exchanging}
 use Rattle.controller_core.specs.declared.event.Event.{Event}
@@ -27,9 +27,9 @@ use Rattle.network_world.specs.declared.moves.Move.TheVariants as move
 use Rattle.network_world.specs.World.{World, AtDevice, Comes, Delivers, Happens, Played, at_controller, is_skipped}
 use Rattle.end_laws.specs.both.Small as small
 use Rattle.end_laws.specs.both.Small.{Rules, ToController, ToDevice}
-use Rattle.end_laws.specs.both.Steps.{DeviceSteps, ControllerSteps, IsSaid, Moves, SaysToDevice, Steps, StepsAtController, StepsAtDevice}
+use Rattle.end_laws.specs.both.Steps.{CallsWhile, DeviceSteps, ControllerSteps, IsSaid, Moves, SaysToDevice, Steps, StepsAtController, StepsAtDevice}
 use Rattle.end_laws.specs.both.StartUp.{last_of}
-use Rattle.end_laws.specs.controller.Small.{GoesOn, IsInStep, said_by, said_in, small_of, state_of}
+use Rattle.end_laws.specs.controller.Small.{GoesOn, IsSteady, said_by, said_in, small_of, state_of}
 use Rattle.end_laws.specs.device.Small.{IsHeardAs, IsPlanned, heard_as, kept_in, link_of, phase_in}
 use Rattle.end_laws.specs.device.Small as device
 use Rattle.startup_law.specs.View.{IsMeant, IsMeantAtController, IsMeantAtDevice, IsSaidAs, move_of, rules_of, taken_for, view_of}
@@ -41,10 +41,10 @@ abbrev pub DeviceGoesOn : Type 0
 DeviceGoesOn = (rules : Rules TakenRecord Request) (activity : List ℕ) (outcomes : List Outcome) (station : Station) (live : Live) (heard : Heard)
     → IsPlanned rules activity station.real heard
     → AllByRecursion (IsHeardAs rules station.identity) (heard_step outcomes station live heard).sent
-    → DeviceSteps rules (heard_as heard) (device.small_of activity live) (device.small_of activity (heard_step outcomes station live heard).live) (heard_step outcomes station live heard).frames
+    → DeviceSteps rules (heard_as rules.is_planned heard) (device.small_of activity live) (device.small_of activity (heard_step outcomes station live heard).live) (heard_step outcomes station live heard).frames
 
 abbrev pub ControllerGoesOn : Type 0
-ControllerGoesOn = (setup : Setup) (live : ControllerLive) (event : Event) → IsInStep setup.plan live.phase live.asked
+ControllerGoesOn = (setup : Setup) (live : ControllerLive) (event : Event) → IsSteady setup.plan live
     → GoesOn setup.plan (said_in setup (heard_by setup.plan.controller) event) live (turn_of setup live event)
 
 abbrev pub FramesAre : Type 0
@@ -83,6 +83,15 @@ pub controller_is : (old : Controlling) (event : Event) → (step_of old event).
 unfolding step_of
 controller_is old event = refl
 
+-- a request of the application is sent while data is exchanged
+access_exchanges : (count sequence : ℕ) (now : small.Controller) → CallsWhile count now sequence small.Accesses → now ≡ small.Exchanges
+access_exchanges count sequence now (inl releases) = absurd (not_releases releases)
+  where
+    not_releases : small.Accesses ≡ small.Releases → ⊥
+    not_releases e = cc
+access_exchanges count sequence now (inr (inl asked)) = absurd asked.1
+access_exchanges count sequence now (inr (inr accesses)) = accesses.1
+
 module _ {F : Type 0} where
   abbrev pub rules_at : World F → Rules TakenRecord Request
   rules_at w = rules_of w.controller.setup w.device.station
@@ -92,25 +101,35 @@ module _ {F : Type 0} where
     pub is : steps
     pub setup : after.controller.setup ≡ before.controller.setup
     pub station : after.device.station ≡ before.device.station
-    pub in_step : IsInStep after.controller.setup.plan after.controller.live.phase after.controller.live.asked
+    pub in_step : IsSteady after.controller.setup.plan after.controller.live
 
   abbrev pub InStep : World F → Type 0
-  InStep w = IsInStep w.controller.setup.plan w.controller.live.phase w.controller.live.asked
+  InStep w = IsSteady w.controller.setup.plan w.controller.live
 
   count_is : (w : World F) → length (rules_at w).records ≡ length w.controller.setup.plan.records.items
   count_is w = length-map w.controller.setup.plan.records.items taken_for
 
+  -- a message of the start-up says what it says, or nothing
+  as_said : (w : World F) (now : small.Controller) (frame : List ℕ) (says : ToDevice)
+      → ((rules_at w).to_device frame ≡ says) ⊎ ((rules_at w).to_device frame ≡ small.Idle)
+      → SaysToDevice (length w.controller.setup.plan.records.items) now says
+      → SaysToDevice (length (rules_at w).records) now ((rules_at w).to_device frame)
+  as_said w now frame says (inl same) may = subst (λ (said : ToDevice). SaysToDevice (length (rules_at w).records) now said) (sym same)
+      (subst (λ (count : ℕ). SaysToDevice count now says) (sym (count_is w)) may)
+  as_said w now frame says (inr idle) may = subst (λ (said : ToDevice). SaysToDevice (length (rules_at w).records) now said) (sym idle) tt
+
   said_is : (w : World F) (now : small.Controller) (message : Sent) → IsSaidAs w.controller.setup w.device.station message
       → SaysToDevice (length w.controller.setup.plan.records.items) now (said_by w.controller.setup.plan message)
       → IsSaid (rules_at w) now (bytes_of w.controller.setup message)
-  said_is w now message heard says = (heard.0, as_said heard.1)
-    where
-      as_said : ((rules_at w).to_device (bytes_of w.controller.setup message) ≡ said_by w.controller.setup.plan message)
-          ⊎ ((rules_at w).to_device (bytes_of w.controller.setup message) ≡ small.Idle)
-          → SaysToDevice (length (rules_at w).records) now ((rules_at w).to_device (bytes_of w.controller.setup message))
-      as_said (inl same) = subst (λ (said : ToDevice). SaysToDevice (length (rules_at w).records) now said) (sym same)
-          (subst (λ (count : ℕ). SaysToDevice count now (said_by w.controller.setup.plan message)) (sym (count_is w)) says)
-      as_said (inr idle) = subst (λ (said : ToDevice). SaysToDevice (length (rules_at w).records) now said) (sym idle) tt
+  said_is w now (Accesses to request octets) heard says = (heard.0, inr (access_exchanges (length w.controller.setup.plan.records.items) request.sequence now says))
+  said_is w now (Requests to request) heard says =
+      (heard.0, inl (as_said w now (bytes_of w.controller.setup (Requests to request)) (said_by w.controller.setup.plan (Requests to request)) heard.1 says))
+  said_is w now (Agrees caller answer) heard says = (heard.0, inl (as_said w now (bytes_of w.controller.setup (Agrees caller answer)) small.Confirms heard.1 says))
+  said_is w now (Cycles route shown counter) heard says = (heard.0, inl (as_said w now (bytes_of w.controller.setup (Cycles route shown counter)) small.Idle heard.1 says))
+  said_is w now (Confirms route priority header ack) heard says =
+      (heard.0, inl (as_said w now (bytes_of w.controller.setup (Confirms route priority header ack)) small.Idle heard.1 says))
+  said_is w now (Replies route priority header) heard says = (heard.0, inl (as_said w now (bytes_of w.controller.setup (Replies route priority header)) small.Idle heard.1 says))
+  said_is w now (Ends route header reason) heard says = (heard.0, inl (as_said w now (bytes_of w.controller.setup (Ends route header reason)) small.Idle heard.1 says))
 
   all_said : (w : World F) (now : small.Controller) (sent : List Sent) → AllByRecursion (IsSaidAs w.controller.setup w.device.station) sent
       → AllByRecursion (λ message. SaysToDevice (length w.controller.setup.plan.records.items) now (said_by w.controller.setup.plan message)) sent
@@ -158,7 +177,7 @@ module _ {F : Type 0} where
 
   module _ {S : ℕ} (as_flash : Flash F S) (goes : DeviceGoesOn) where
     at_device_steps : (before after : World F) (heard : Heard) → InStep before → IsMeantAtDevice before heard → AtDevice as_flash before heard after
-        → Refines before after (StepsAtDevice (rules_at before) (heard_as heard) (view_of before) (view_of after))
+        → Refines before after (StepsAtDevice (rules_at before) (heard_as (rules_at before).is_planned heard) (view_of before) (view_of after))
     at_device_steps before after heard in_step meant made =
         let hears = made.hears in
         let activity = before.controller.setup.activity in
@@ -166,10 +185,10 @@ module _ {F : Type 0} where
         let step = heard_step hears.steps.outcomes station before.device.live heard in
         let rules = rules_at before in
         let on = goes rules activity hears.steps.outcomes station before.device.live heard meant.planned (meant.sent hears.steps.outcomes hears.steps.sendable) in
-        let steps : DeviceSteps rules (heard_as heard) (device.small_of activity before.device.live) (device.small_of after.controller.setup.activity after.device.live) hears.frames =
-        subst (λ (c : Controlling). DeviceSteps rules (heard_as heard) (device.small_of activity before.device.live) (device.small_of c.setup.activity after.device.live) hears.frames) (sym made.controller)
-        (subst (λ (l : Live). DeviceSteps rules (heard_as heard) (device.small_of activity before.device.live) (device.small_of activity l) hears.frames) (sym hears.steps.live)
-        (subst (λ (frames : List (List ℕ)). DeviceSteps rules (heard_as heard) (device.small_of activity before.device.live) (device.small_of activity step.live) frames) (sym hears.steps.frames) on)) in
+        let steps : DeviceSteps rules (heard_as rules.is_planned heard) (device.small_of activity before.device.live) (device.small_of after.controller.setup.activity after.device.live) hears.frames =
+        subst (λ (c : Controlling). DeviceSteps rules (heard_as rules.is_planned heard) (device.small_of activity before.device.live) (device.small_of c.setup.activity after.device.live) hears.frames) (sym made.controller)
+        (subst (λ (l : Live). DeviceSteps rules (heard_as rules.is_planned heard) (device.small_of activity before.device.live) (device.small_of activity l) hears.frames) (sym hears.steps.live)
+        (subst (λ (frames : List (List ℕ)). DeviceSteps rules (heard_as rules.is_planned heard) (device.small_of activity before.device.live) (device.small_of activity step.live) frames) (sym hears.steps.frames) on)) in
         record {
           is = record {
             frames = hears.frames;
@@ -179,7 +198,7 @@ module _ {F : Type 0} where
           };
           setup = ap (λ (c : Controlling). c.setup) made.controller;
           station = hears.steps.same;
-          in_step = subst (λ (c : Controlling). IsInStep c.setup.plan c.live.phase c.live.asked) (sym made.controller) in_step;
+          in_step = subst (λ (c : Controlling). IsSteady c.setup.plan c.live) (sym made.controller) in_step;
         }
 
     rests : (before after : World F) (Does : Type 0) → InStep before → after ≡ before → Refines before after ((view_of after ≡ view_of before) ⊎ Does)
@@ -214,6 +233,10 @@ module _ {F : Type 0} where
           does before after _ _ _ (λ steps. steps) (at_controller_steps on frames_are before after (controller.Give slot subslot value) in_step meant happens)
       happens_steps (move.OutputStatus slot subslot is_good) meant happens =
           does before after _ _ _ (λ steps. steps) (at_controller_steps on frames_are before after (controller.Status slot subslot is_good) in_step meant happens)
+      happens_steps (move.Read slot subslot index) meant happens =
+          does before after _ _ _ (λ steps. steps) (at_controller_steps on frames_are before after (controller.Read slot subslot index) in_step meant happens)
+      happens_steps (move.Write slot subslot index octets) meant happens =
+          does before after _ _ _ (λ steps. steps) (at_controller_steps on frames_are before after (controller.Write slot subslot index octets) in_step meant happens)
       happens_steps move.Stop meant happens = does before after _ _ _ (λ steps. steps) (at_controller_steps on frames_are before after controller.Stop in_step meant happens)
 
 -- ---- the law

@@ -1,19 +1,22 @@
 -- Both ends of a network, as far as a start-up is concerned.
-use Rattle.std.specs.Prelude.{◌≡◌, ◌⊎◌, ℕ, List, map, slice_get, Some}
+use Rattle.std.specs.Prelude.{◌≡◌, ◌⊎◌, ◌&&◌, ℕ, zero, suc, Bool, false, nat_eq, nat_lt, List, length, map, slice_get, Some}
 use Rattle.std.specs.List.{AllByRecursion}
+use Rattle.std.specs.Cmp.Lexicographic.{pointwise}
 use Rattle.settings_store.specs.Machine.{Outcome}
 use Rattle.connect_requests.specs.Request.{Request}
 use Rattle.records.specs.declared.writes.taken.TakenRecord.{TakenRecord}
 use Rattle.plans.specs.declared.parts.PlanRecord.{PlanRecord}
 use Rattle.startup_law.specs.request.Request.{request_for}
 use Rattle.device_frames.specs.declared.event.Event.TheVariants.{Frame}
-use Rattle.device_frames.specs.Heard.{Heard, Ticks, Given, Raised, Rated, Readied, heard_of}
+use Rattle.device_frames.specs.Heard.{Calls, Heard, Ticks, Given, Raised, Rated, Readied, heard_of}
 use Rattle.device_frames.specs.Sendable.{AreSendable}
 use Rattle.device_core.specs.State.{Station}
 use Rattle.device_core.specs.Machine.{heard_step}
 use Rattle.controller_frames.specs.declared.setup.Setup.{Setup}
 use Rattle.controller_frames.specs.Heard.{heard_of as heard_by}
-use Rattle.controller_frames.specs.Sent.{Sent, bytes_of}
+use Rattle.controller_frames.specs.RecordRequests.{record_call}
+use Rattle.controller_frames.specs.Requests.{write_blocks}
+use Rattle.controller_frames.specs.Sent.{Sent, Accesses, bytes_of}
 use Rattle.controller_core.specs.declared.event.Event.{Event}
 use Rattle.controller_core.specs.declared.event.Event.TheVariants as controller
 use Rattle.controller_core.specs.Machine.{turn_of}
@@ -22,9 +25,9 @@ use Rattle.network_world.specs.declared.moves.Move.{Move}
 use Rattle.network_world.specs.declared.moves.Move.TheVariants as move
 use Rattle.network_world.specs.World.{World}
 use Rattle.end_laws.specs.both.Small as small
-use Rattle.end_laws.specs.both.Small.{Rules}
+use Rattle.end_laws.specs.both.Small.{Rules, ToDevice}
 use Rattle.end_laws.specs.controller.Small.{said_by, said_to, small_of}
-use Rattle.end_laws.specs.device.Small.{IsHeardAs, IsPlanned, heard_as}
+use Rattle.end_laws.specs.device.Small.{IsHeardAs, IsPlanned, heard_as, said_to as device_said}
 use Rattle.end_laws.specs.device.Small as device
 
 -- ---- the start-up of a plan
@@ -33,14 +36,22 @@ use Rattle.end_laws.specs.device.Small as device
 abbrev pub taken_for : PlanRecord → TakenRecord
 taken_for entry = record { slot = entry.slot; subslot = entry.subslot; index = entry.index; value = record { items = entry.data.items } }
 
--- the request of the plan's Connect, the plan's records, whether the plan goes on after a record that was refused, and
--- what each end hears in octets
+-- whether a Write with a sequence number and blocks is that of a record of the plan, whose number is one less
+abbrev pub is_planned : Setup → ℕ → List ℕ → Bool
+is_planned setup zero blocks = false
+is_planned setup (suc number) blocks =
+    nat_lt number (length setup.plan.records.items)
+    && pointwise nat_eq blocks (write_blocks setup number (slice_get setup.plan.records.items number))
+
+-- the request of the plan's Connect, the plan's records and their Writes, whether the plan goes on after a record that was
+-- refused, and what each end hears in octets
 abbrev pub rules_of : Setup → Station → Rules TakenRecord Request
 rules_of setup station = record {
   request = request_for setup.plan setup.ar;
   records = map taken_for setup.plan.records.items;
+  is_planned = is_planned setup;
   skips = setup.plan.continue_on_refused_record;
-  to_device = λ octets. heard_as (heard_of station.identity (Frame (record { items = octets })));
+  to_device = λ octets. heard_as (is_planned setup) (heard_of station.identity (Frame (record { items = octets })));
   to_controller = λ octets. said_to setup (heard_by setup.plan.controller octets);
 }
 
@@ -64,6 +75,8 @@ move_of (move.Status slot subslot is_good) = small.AtDevice
 move_of move.Ready = small.AtDevice
 move_of (move.Give slot subslot value) = small.AtController
 move_of (move.OutputStatus slot subslot is_good) = small.AtController
+move_of (move.Read slot subslot index) = small.AtController
+move_of (move.Write slot subslot index octets) = small.AtController
 move_of move.Stop = small.AtController
 
 -- ---- what is heard as it is meant
@@ -76,12 +89,17 @@ pub record IsMeantAtDevice {F : Type 0} (world : World F) (heard : Heard) : Type
       → AllByRecursion (IsHeardAs (rules_of world.controller.setup world.device.station) world.device.station.identity)
       (heard_step outcomes world.device.station world.device.live heard).sent
 
+-- what a message of the controller says to the device: a request of the application, the call that it is
+abbrev pub says_to_device : Setup → Sent → ToDevice
+says_to_device setup (Accesses device request octets) = device_said (is_planned setup) (Calls (record_call setup request octets))
+says_to_device setup message = said_by setup.plan message
+
 -- a message of the controller: the controller hears nothing of a start-up in it, and the device hears what it says, or
 -- nothing
 abbrev pub IsSaidAs : Setup → Station → Sent → Type 0
 IsSaidAs setup station message =
     ((rules_of setup station).to_controller (bytes_of setup message) ≡ small.Nothing)
-    × (((rules_of setup station).to_device (bytes_of setup message) ≡ said_by setup.plan message)
+    × (((rules_of setup station).to_device (bytes_of setup message) ≡ says_to_device setup message)
     ⊎ ((rules_of setup station).to_device (bytes_of setup message) ≡ small.Idle))
 
 -- the controller handles this event: each message that it then sends is heard as it is meant
@@ -103,4 +121,6 @@ IsMeant world (move.Status slot subslot is_good) = IsMeantAtDevice world (Rated 
 IsMeant world move.Ready = IsMeantAtDevice world Readied
 IsMeant world (move.Give slot subslot value) = IsMeantAtController world (controller.Give slot subslot value)
 IsMeant world (move.OutputStatus slot subslot is_good) = IsMeantAtController world (controller.Status slot subslot is_good)
+IsMeant world (move.Read slot subslot index) = IsMeantAtController world (controller.Read slot subslot index)
+IsMeant world (move.Write slot subslot index octets) = IsMeantAtController world (controller.Write slot subslot index octets)
 IsMeant world move.Stop = IsMeantAtController world controller.Stop

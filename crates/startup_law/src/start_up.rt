@@ -57,7 +57,8 @@ pub fn worlds_start_up<F: Flash<S>, const S: usize>(setup: &Setup, identity: &Id
     ensures run { (before after : World F) (moves : List Move) → Played F.Flash before moves after
         → IsRunOf F.Flash before moves after }
     // Everything that is delivered and sent with each move is heard as it is meant: the device hears no calls but those
-    // of the plan, in octets that spell them, and either end hears what the other says, or nothing.
+    // of the plan, in octets that spell them, and those with which the controller's application reads and writes records,
+    // and either end hears what the other says, or nothing.
     ensures meant { CanMeet setup.now identity.now →
         (first : World F) (run : List (Move × World F)) → Begins setup.now identity.now first
         → AreMade F.Flash first run → AreMeant first run }

@@ -4,7 +4,6 @@ use Rattle.std.specs.Prelude.{◌&&◌, nat_eq, if◌then◌else◌}
 use Rattle.std.specs.Cmp.Lexicographic.{pointwise}
 use Rattle.arrayvec.specs.ArrayVec.{ArrayVec}
 use Rattle.pn_values.specs.declared.mac.Mac.{Mac}
-use Rattle.pn_values.specs.declared.identity.Identity.{Identity}
 use Rattle.frame_codec.specs.declared.arp.Arp.{Arp}
 use Rattle.frame_codec.specs.declared.fault.FrameFault.{FrameFault}
 use Rattle.frame_codec.specs.Meaning.{Meaning, Content, RealTime, ArpPacket, UdpDatagram}
@@ -16,11 +15,11 @@ use Rattle.flash_model.specs.declared.flash.Flash.{Ghosts as Flash}
 use Rattle.device_frames.specs.declared.note.Note.{Note}
 use Rattle.device_frames.specs.declared.note.Note.TheVariants.{NotMine}
 use Rattle.device_frames.specs.Sent.{Sent, ArpReply}
-use Rattle.device_frames.specs.Heard.{Heard, Elsewhere, Resolves, broadcast, heard_content, heard_frame, heard_of, is_own}
+use Rattle.device_frames.specs.Heard.{Elsewhere, Resolves, broadcast, heard_content, heard_frame, heard_of, is_own}
 use Rattle.device_core.specs.State.{Station, Rest, Live}
 use Rattle.device_core.specs.State as device
 use Rattle.device_core.specs.Steps.{Steps}
-use Rattle.device_core.specs.Handled.{Handled, Moves, Refuses, handled, is_request, is_running}
+use Rattle.device_core.specs.Handled.{Moves, Refuses, is_request, is_running}
 use Rattle.device_core.specs.Machine.{Stepped, handled_step, heard_step}
 use Rattle.services.specs.State.{State}
 use Rattle.services.specs.Answer.{content_disputes, disputes, layers_dispute}

@@ -1,6 +1,6 @@
 -- Several units of time at once at a station, and as many Tick events.
-use Rattle.std.proofs.Common.{◌≡◌, ◌+◌, ◌-◌, ◌≤◌, ◌<◌, ◌++◌, ◌⊎◌, inl, inr, ℕ, zero, suc, Bool, true, false, List, [], ◌∷◌, Option, Some, None, sum, refl, sym, ap, subst, ◌∙◌, arith, append_assoc}
-use Rattle.std.specs.Prelude.{max, min, nat_eq, if◌then◌else◌}
+use Rattle.std.proofs.Common.{◌≡◌, ◌+◌, ◌≤◌, ◌<◌, ◌++◌, ◌⊎◌, inl, inr, ℕ, zero, suc, Bool, true, false, List, [], ◌∷◌, sum, refl, sym, ap, subst, ◌∙◌, arith, append_assoc}
+use Rattle.std.specs.Prelude.{nat_eq, if◌then◌else◌}
 use Rattle.std.specs.Cmp.Lexicographic.{pointwise}
 use Rattle.std.proofs.lemmas.List.{append-nil}
 use Rattle.std.proofs.lemmas.List.Sums.{sum_by-cons}
@@ -10,8 +10,8 @@ use Rattle.device_frames.specs.Heard.{heard_of}
 use Rattle.device_frames.specs.declared.event.Event.TheVariants.{Tick}
 use Rattle.device_frames.specs.declared.note.Note.{Note}
 use Rattle.device_core.specs.State.{Live, Station}
-use Rattle.device_core.specs.Machine.{Stepped, handled_step, heard_step, step_of}
-use Rattle.device_core.specs.Leaps.{live_due_in, OnlyTheLastSends as OnlyTheLastOfDevice, ticks_of as device_ticks}
+use Rattle.device_core.specs.Machine.{handled_step, heard_step, step_of}
+use Rattle.device_core.specs.Leaps.{OnlyTheLastSends as OnlyTheLastOfDevice, ticks_of as device_ticks}
 use Rattle.services.specs.declared.announcement.Announcement.{Announcement}
 use Rattle.services.specs.declared.announcement.Announcement.TheVariants.{Nothing, First, Second}
 use Rattle.services.specs.State.{frames_in, is_defended, observed, sent_by_tick, ticked}

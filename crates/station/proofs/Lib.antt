@@ -3,6 +3,7 @@ pub mod Leaping
 pub mod ServedBeside
 pub mod ServedRuns
 pub mod Sparing
+pub mod Cycles
 pub mod Running
 pub mod Stepping
 pub mod ServedLeaping

@@ -14,7 +14,7 @@ use Rattle.services.specs.Answer.{is_sought as sought_of}
 use Rattle.plans.specs.declared.parts.Controller.{Controller}
 use Rattle.controller_frames.specs.Heard.{Nothing, heard_of}
 use Rattle.controller_core.specs.declared.event.Event.{Event}
-use Rattle.controller_core.specs.declared.event.Event.TheVariants.{Frame as Framed, Tick, Give, Status, Stop}
+use Rattle.controller_core.specs.declared.event.Event.TheVariants.{Frame as Framed, Tick, Give, Status, Read, Write, Stop}
 use Rattle.controller_core.specs.Machine.{step_of}
 use Rattle.controller_core.specs.State.{Controlling}
 use Rattle.station.specs.Served.{Frames, Served, after_frame, beside, beside_frame, by_services, is_sought, no_frames, only, services_after}
@@ -68,6 +68,8 @@ step_keeps state (Framed octets) frames = frame_keeps state octets.items frames
 step_keeps state Tick frames = (refl, refl, refl)
 step_keeps state (Give slot subslot value) frames = (refl, refl, refl)
 step_keeps state (Status slot subslot is_good) frames = (refl, refl, refl)
+step_keeps state (Read slot subslot index) frames = (refl, refl, refl)
+step_keeps state (Write slot subslot index octets) frames = (refl, refl, refl)
 step_keeps state Stop frames = (refl, refl, refl)
 
 -- A step of the controller keeps its plan.
@@ -88,6 +90,8 @@ few_beside state (Framed octets) frames = few_frames state octets.items frames
 few_beside state Tick frames = few_in (sent_by_tick state)
 few_beside state (Give slot subslot value) frames = omega arith
 few_beside state (Status slot subslot is_good) frames = omega arith
+few_beside state (Read slot subslot index) frames = omega arith
+few_beside state (Write slot subslot index octets) frames = omega arith
 few_beside state Stop frames = omega arith
 
 -- ---- frames that are for the services

@@ -1,5 +1,5 @@
 -- Units at once, at a controller and its services.
-use Rattle.std.proofs.Common.{◌≡◌, ◌<◌, ◌≤◌, ◌++◌, ℕ, zero, suc, List, [], None, refl, sym, ap, ◌∙◌, arith}
+use Rattle.std.proofs.Common.{◌≡◌, ◌<◌, ◌++◌, ℕ, zero, suc, List, [], refl, sym, ap, ◌∙◌, arith}
 use Rattle.services.specs.State.{State, frames_in, sent_by_tick, ticked}
 use Rattle.services.specs.Leaps.{NoneSends, ticks_of}
 use Rattle.controller_core.specs.declared.event.Event.TheVariants.{Tick}

@@ -1,5 +1,5 @@
 -- What the services send beside a step.
-use Rattle.std.proofs.Common.{◌≡◌, ◌≢◌, ◌||◌, ℕ, Bool, true, false, List, [], ◌∷◌, Option, Some, None, is_some, refl, sym, ap, subst, ◌∙◌, inl, inr}
+use Rattle.std.proofs.Common.{◌≡◌, ◌≢◌, ◌||◌, ℕ, Bool, true, false, List, [], Option, Some, None, is_some, refl, sym, ap, subst, ◌∙◌, inl, inr}
 use Rattle.std.specs.Prelude.{if◌then◌else◌}
 use Rattle.flash_model.specs.declared.flash.Flash.{Ghosts as Flash}
 use Rattle.pn_values.specs.declared.identity.Identity.{Identity}
@@ -7,7 +7,7 @@ use Rattle.device_frames.specs.declared.event.Event.{Event}
 use Rattle.device_frames.specs.declared.event.Event.TheVariants.{Frame, Tick, Input, Alarm, Status, Ready}
 use Rattle.device_frames.specs.declared.note.Note.{Note}
 use Rattle.device_frames.specs.declared.note.Note.TheVariants.{Done, NotMine, Fault, Filter, OldCall, NoRelation, StaleCycle, Refused}
-use Rattle.device_frames.specs.Heard.{Heard, Ticks, heard_of}
+use Rattle.device_frames.specs.Heard.{Ticks, heard_of}
 use Rattle.device_core.specs.State as device
 use Rattle.device_core.specs.Machine.{handled_step, heard_step}
 use Rattle.device_core.specs.Steps.{Steps}
@@ -15,7 +15,7 @@ use Rattle.services.specs.State.{frames_in, sent_by_tick}
 use Rattle.services.specs.State as services
 use Rattle.services.specs.Answer.{disputes}
 use Rattle.station.specs.State.{State, Frames, no_frames}
-use Rattle.station.specs.Beside.{Beside, answer_beside, answered, event_beside, idle, is_accepted, is_dropped, observing}
+use Rattle.station.specs.Beside.{Beside, answer_beside, answered, event_beside, idle, is_dropped, observing}
 use Rattle.station.specs.Steps.{AtMostOne, IsSparing, StationSteps}
 
 at_most_one : (frame : Option (List ℕ)) → AtMostOne (frames_in frame)

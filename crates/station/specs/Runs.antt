@@ -1,11 +1,17 @@
--- A run of a station.
-use Rattle.std.specs.Prelude.{◌≡◌, ◌<◌, ◌-◌, ◌^◌, ℕ, false, List, [], ◌∷◌, ◌++◌, flat_map}
+-- A run of a station, and a cycle of it.
+use Rattle.std.specs.Prelude.{◌≡◌, ◌<◌, ◌-◌, ◌^◌, ◌⊎◌, ℕ, false, List, [], ◌∷◌, ◌++◌, flat_map}
 use Rattle.flash_model.specs.declared.flash.Flash.{Ghosts as Flash}
+use Rattle.pn_values.specs.declared.settings.Settings.{Settings}
+use Rattle.settings_journal.specs.declared.journal.BootFault.{BootFault}
 use Rattle.device_frames.specs.declared.event.Event.{Event}
 use Rattle.device_frames.specs.declared.note.Note.{Note}
+use Rattle.device_core.specs.State.{Station}
 use Rattle.device_core.specs.State as device
 use Rattle.device_core.specs.Faults.{RunGoesOn}
 use Rattle.device_core.specs.Steps.{IsBehindCalls, IsExactRun, Runs, TakesRoom}
+use Rattle.device_core.specs.Cycle.{IsStartedFrom, Refuses, RefusesAfter, Restarts}
+use Rattle.services.specs.State as services
+use Rattle.services.specs.declared.announcement.Role.TheVariants as role
 use Rattle.station.specs.State.{State, Frames, handed_on, in_order, of_device}
 use Rattle.station.specs.Steps.{StationSteps}
 
@@ -42,3 +48,35 @@ pub record StationRuns {F : Type 0} {S : ℕ} (as_flash : Flash F S) (old : Stat
   pub steps : StepByStep as_flash old events turns new
   pub alone : DeviceRuns as_flash old.device events [] (flat_map of_device turns) new.device
   pub handed : now ≡ before ++ flat_map in_order turns
+
+-- Services that have just begun beside a device, with its MAC address and running IP address.
+abbrev pub ServesFrom : {F : Type 0} → device.State F → services.State → Type 0
+ServesFrom device state = state ≡ services.started role.Device device.station.identity.mac device.live.values.running.suite.address
+
+-- A station was started from this flash, with services that begin there, and then ran the events.
+pub record StationCycled {F : Type 0} {S : ℕ} (as_flash : Flash F S) (station : Station) (flash : F) (events : List Event) (before now : List (List ℕ)) : Type 0 where
+  pub begun : State F
+  pub ended : State F
+  pub starts : IsStartedFrom as_flash station flash begun.device
+  pub serves : ServesFrom begun.device begun.services
+  pub ran : StationRuns as_flash begun events before now ended
+
+-- The frames that the device sent in a cycle.
+abbrev pub frames_of_device : {F : Type 0} {S : ℕ} {as_flash : Flash F S} {station : Station} {flash : F} {events : List Event} {before now : List (List ℕ)} → StationCycled as_flash station flash events before now → List (List ℕ)
+frames_of_device cycled = flat_map of_device cycled.ran.turns
+
+-- The headline of a station: after its cycle a restart finds what it finds of a device alone, for the frames that the
+-- station's device sent.
+pub record StationRestarts {F : Type 0} {S : ℕ} (as_flash : Flash F S) (power_up : F → F → Type 0) (station : Station) (flash : F) (first : Settings) (room : ℕ) (events : List Event) (before now : List (List ℕ)) (restarted : State F) : Type 0 where
+  pub cycled : StationCycled as_flash station flash events before now
+  pub alone : Restarts as_flash power_up station flash first room events [] (frames_of_device cycled) restarted.device
+
+-- The start after a cycle of a station was refused: what is said of a device then.
+pub record StationRefusesAfter {F : Type 0} {S : ℕ} (as_flash : Flash F S) (power_up : F → F → Type 0) (station : Station) (flash : F) (events : List Event) (before now : List (List ℕ)) (fault : BootFault) (left : F) : Type 0 where
+  pub cycled : StationCycled as_flash station flash events before now
+  pub alone : RefusesAfter as_flash power_up station flash events [] (frames_of_device cycled) fault left
+
+-- A start was refused: the first one, and nothing was handed on, or the one after the cycle.
+abbrev pub IsStationRefused : {F : Type 0} {S : ℕ} → Flash F S → (F → F → Type 0) → Station → F → List Event → List (List ℕ) → List (List ℕ) → BootFault → F → Type 0
+IsStationRefused as_flash power_up station flash events before now fault left =
+    ((now ≡ before) × Refuses as_flash flash fault left) ⊎ StationRefusesAfter as_flash power_up station flash events before now fault left

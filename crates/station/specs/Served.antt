@@ -10,7 +10,7 @@ use Rattle.services.specs.Answer.{answer_to, heard, is_request}
 use Rattle.plans.specs.declared.parts.Controller.{Controller}
 use Rattle.plans.specs.declared.parts.Parts.{Parts}
 use Rattle.controller_core.specs.declared.event.Event.{Event}
-use Rattle.controller_core.specs.declared.event.Event.TheVariants.{Frame, Tick, Give, Status, Stop}
+use Rattle.controller_core.specs.declared.event.Event.TheVariants.{Frame, Tick, Give, Status, Read, Write, Stop}
 use Rattle.controller_core.specs.Machine.{fresh}
 use Rattle.controller_core.specs.State.{Controlling}
 
@@ -66,6 +66,8 @@ beside services (Frame octets) frames = beside_frame services octets.items frame
 beside services Tick frames = frames_in (sent_by_tick services)
 beside services (Give slot subslot value) frames = []
 beside services (Status slot subslot is_good) frames = []
+beside services (Read slot subslot index) frames = []
+beside services (Write slot subslot index octets) frames = []
 beside services Stop frames = []
 
 -- The services after a frame to which the controller sends these frames.
@@ -79,6 +81,8 @@ services_after services (Frame octets) frames = after_frame services octets.item
 services_after services Tick frames = ticked services
 services_after services (Give slot subslot value) frames = services
 services_after services (Status slot subslot is_good) frames = services
+services_after services (Read slot subslot index) frames = services
+services_after services (Write slot subslot index octets) frames = services
 services_after services Stop frames = services
 
 -- ---- what is answered, by the plan

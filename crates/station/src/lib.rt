@@ -8,6 +8,7 @@
 //! answer, and their frames follow those of the controller.
 #![tactic(auto)]
 
+mod headline;
 mod law;
 mod leaps;
 mod outbox;
@@ -17,6 +18,7 @@ mod served_outbox;
 mod station;
 mod step;
 
+pub use headline::cycle;
 pub use law::a_station_has_its_controller_alone;
 pub use leaps::{due_beside, elapse_alone, elapse_beside, leaps_are_ticks};
 pub use outbox::StationOutbox;

@@ -196,7 +196,11 @@ fn advance(
     match event {
         Event::Frame(bytes) => hear_beside(services, bytes.as_slice(), sent, outbox),
         Event::Tick => services.tick(outbox),
-        Event::Give(_, _, _) | Event::Status(_, _, _) | Event::Stop => {}
+        Event::Give(_, _, _)
+        | Event::Status(_, _, _)
+        | Event::Read(_, _, _)
+        | Event::Write(_, _, _, _)
+        | Event::Stop => {}
     }
 }
 

@@ -15,6 +15,10 @@ pub enum Choice {
     Alarm([u8; 2]),
     /// The output of slot 2 or 3 is set.
     Give(u16, [u8; 2]),
+    /// The controller's application reads the record with this index of slot 1.
+    Read(u16),
+    /// The controller's application writes these octets to the record with this index of slot 1.
+    Write(u16, [u8; 2]),
     /// The controller is stopped.
     Stop,
 }
@@ -28,6 +32,8 @@ impl Choice {
             Choice::Input(value) => Move::Input(1, 1, octets(&value)),
             Choice::Alarm(data) => Move::Alarm(1, 1, octets(&data)),
             Choice::Give(slot, value) => Move::Give(slot, 1, octets(&value)),
+            Choice::Read(index) => Move::Read(1, 1, index),
+            Choice::Write(index, value) => Move::Write(1, 1, index, octets(&value)),
             Choice::Stop => Move::Stop,
         }
     }
@@ -40,6 +46,8 @@ impl Choice {
             Choice::Input(_) => End::Device,
             Choice::Alarm(_) => End::Device,
             Choice::Give(_, _) => End::Controller,
+            Choice::Read(_) => End::Controller,
+            Choice::Write(_, _) => End::Controller,
             Choice::Stop => End::Controller,
         }
     }

@@ -4,6 +4,7 @@
 #![cfg(test)]
 
 mod blocks;
+mod diagnosis;
 mod differences;
 mod lists;
 mod listings;

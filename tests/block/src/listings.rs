@@ -4,9 +4,10 @@
 use super::reads::{Asked, GOOD, plugged, sent};
 use super::records::settings;
 use super::statuses::told;
+use super::within::read_within;
 use arrayvec::ArrayVec;
 use pn_values::{ParameterRecord, Real, demo_identity, demo_modules};
-use records::{Blocks, Operation, read_implicit, read_within};
+use records::{Blocks, Operation, read_implicit};
 use uuid::Uuid;
 
 const NO_PLACE: [u8; 4] = [0xDE, 0x80, 0xB2, 0x00];
@@ -31,13 +32,15 @@ fn read(real: &Real, slot: u16, subslot: u16, index: u16) -> Result<Blocks, [u8;
     answered(real, Asked { slot, subslot, index, ..GOOD })
 }
 
-/// The same by a Read of the relation whose ARUUID `Asked::octets` names.
-fn read_by_relation(real: &Real, slot: u16, subslot: u16, index: u16) -> Option<Blocks> {
+/// The same by a Read of the relation whose ARUUID `Asked::octets` names, which has this record of its own, or none.
+fn read_by(own: Option<&[u8]>, real: &Real, slot: u16, subslot: u16, index: u16) -> Result<Blocks, [u8; 4]> {
     let call = Asked { slot, subslot, index, ..GOOD };
-    let mut answer = Blocks::new();
     let relation = Uuid::from_bytes([7; 16]);
-    read_within(Some(&relation), &[], &demo_identity(), real, &settings(), &call.octets(), &mut answer).ok()?;
-    Some(answer)
+    read_within(&relation, &[], own, real, &call.octets()).map_err(|fault| told(Operation::Read, fault))
+}
+
+fn read_by_relation(real: &Real, slot: u16, subslot: u16, index: u16) -> Option<Blocks> {
+    read_by(None, real, slot, subslot, index).ok()
 }
 
 /// The record of an answer in hex, if RecordDataLength is its length.
@@ -109,11 +112,27 @@ fn a_record_of_the_relation_is_read_by_the_relation_alone() {
 }
 
 #[test]
+fn a_record_of_its_own_is_read_by_the_relation_alone() {
+    let real = plugged();
+    for index in [0x8000, 0xC000, 0xE000, 0xE001] {
+        assert_eq!(read(&real, 2, 1, index).err(), Some(NO_INDEX), "{index:04X}");
+        assert_eq!(read_by(None, &real, 2, 1, index).err(), Some(NO_INDEX), "{index:04X}");
+        let answer = read_by(Some(&[0xAB; 3]), &real, 2, 1, index).ok().as_ref().and_then(record);
+        assert_eq!(answer.as_deref(), Some("ABABAB"), "{index:04X}");
+    }
+    assert_eq!(read_by(Some(&[]), &real, 1, 2, 0x8000).err(), Some(NO_PLACE));
+    assert_eq!(read_by(Some(&[]), &real, 3, 1, 0xC000).err(), Some(NO_PLACE));
+    // A record of the device is not that of the relation.
+    let listed = read_by(Some(&[0xAB; 3]), &real, 9, 9, 0xF821).ok().as_ref().and_then(record);
+    assert_eq!(listed.as_deref(), Some("001A00080100000100000000"));
+}
+
+#[test]
 fn other_indices_are_unknown() {
     let real = plugged();
     for index in [
-        0x000A, 0x700A, 0x8000, 0x8002, 0x8009, 0x800D, 0x800F, 0x8014, 0x900A, 0xA010, 0xC000,
-        0xD00A, 0xE001, 0xF001, 0xF80B, 0xF80D, 0xF820,
+        0x000A, 0x700A, 0x8002, 0x8009, 0x800D, 0x800F, 0x8014, 0x900A, 0xA010, 0xC002, 0xD00A, 0xE003,
+        0xF001, 0xF80B, 0xF80D, 0xF820,
     ] {
         assert_eq!(read(&real, 0, 1, index).err(), Some(NO_INDEX), "{index:04X}");
         assert_eq!(read(&real, 9, 1, index).err(), Some(NO_PLACE), "{index:04X}");

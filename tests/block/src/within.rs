@@ -3,8 +3,10 @@
 use super::reads::{Asked, GOOD, plugged, sent};
 use super::records::settings;
 use block_fields::Uuid;
-use pn_values::demo_identity;
-use records::{Blocks, CallFault, Operation, names_relation, read_within};
+use pn_values::{Real, demo_identity};
+use records::{
+    Blocks, CallFault, Operation, listing_of, names_relation, request_within, serve_listing, serve_within,
+};
 
 /// The ModuleDiffBlock, in any slot.
 const DIFFERENCE: Asked = Asked {
@@ -14,20 +16,27 @@ const DIFFERENCE: Asked = Asked {
     ..GOOD
 };
 
+/// The answer to a Read while a relation is active, whose ModuleDiffBlock is this. It has this record of its own, or none.
+pub(crate) fn read_within(
+    relation: &Uuid,
+    differing: &[u8],
+    own: Option<&[u8]>,
+    real: &Real,
+    blocks: &[u8],
+) -> Result<Blocks, CallFault> {
+    let mut answer = Blocks::new();
+    let request = request_within(Some(relation), blocks)?;
+    match listing_of(real, &request) {
+        Some(listing) => serve_listing(true, real, own, &request, listing, &mut answer)?,
+        None => serve_within(differing, &demo_identity(), real, &settings(), &request, &mut answer)?,
+    }
+    Ok(answer)
+}
+
 /// The answer to a Read while a relation is active. All octets of its ARUUID are `relation`, and its ModuleDiffBlock is this.
 fn answered(relation: u8, differing: &[u8], asked: Asked) -> Result<Blocks, CallFault> {
     let uuid = Uuid::from_bytes([relation; 16]);
-    let mut answer = Blocks::new();
-    read_within(
-        Some(&uuid),
-        differing,
-        &demo_identity(),
-        &plugged(),
-        &settings(),
-        &asked.octets(),
-        &mut answer,
-    )?;
-    Ok(answer)
+    read_within(&uuid, differing, None, &plugged(), &asked.octets())
 }
 
 /// Whether a ModuleDiffBlock of these octets is read, up to RecordDataLength `size`.

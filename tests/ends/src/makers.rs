@@ -6,7 +6,7 @@ use super::PUMP;
 use super::operations::{asked, taken};
 use configurator::plan_from_json;
 use controller_abi::{Port, serve};
-use controller_core::{Controller, Event, State};
+use controller_core::{Answer, Controller, Event, Priority, RecordService, State};
 use frame_codec::Outbox;
 use rpc_core::Status;
 use rattle_std::alloc::Global;
@@ -17,7 +17,7 @@ use uuid::Uuid;
 const SCENARIOS: &str = include_str!("makers.txt");
 
 /// How many scenarios there are, so that a file that was cut off is found.
-const COUNT: usize = 32;
+const COUNT: usize = 39;
 
 /// The ARUUID and the activity of the controller, as Scapy's station expects them.
 const AR: &str = "11111111-2222-3333-4444-555555555555";
@@ -36,6 +36,30 @@ fn hex_of(octets: &[u8]) -> std::string::String {
     octets.iter().map(|octet| format!("{octet:02x}")).collect()
 }
 
+/// The same; `-` for none.
+fn digits_of(octets: &[u8]) -> std::string::String {
+    match octets {
+        [] => "-".into(),
+        octets => hex_of(octets),
+    }
+}
+
+/// The octets that an operation reports.
+fn told_octets(op: &c_layout::Op) -> &[u8] {
+    &op.octets[..op.length as usize]
+}
+
+/// The words of an alarm that the library for C reports: those of a scenario without the API and both idents.
+fn reported_words(wanted: &str) -> std::string::String {
+    let words: std::vec::Vec<&str> = wanted.split(' ').collect();
+    match words.as_slice() {
+        [number, kind, _, slot, subslot, _, _, specifier, user_structure, data] => {
+            format!("{number} {kind} {slot} {subslot} {specifier} {user_structure} {data}")
+        }
+        _ => wanted.into(),
+    }
+}
+
 /// A status in hex.
 fn status_of(status: Status) -> std::string::String {
     hex_of(&[status.code, status.decode, status.code1, status.code2])
@@ -48,6 +72,19 @@ struct Scene {
     /// The same controller, as a host in C drives it.
     port: Port,
     sent: std::collections::VecDeque<std::string::String>,
+    /// What the library for C returned for a request of the application, until it is compared.
+    number: Option<u32>,
+    /// CycleCounter of the last input.
+    counter: u16,
+}
+
+/// An operation at a slot, a subslot and an index.
+fn placed(what: u32, slot: u16, subslot: u16, index: u16) -> c_layout::Op {
+    let mut op = asked(what);
+    op.slot = u32::from(slot);
+    op.subslot = u32::from(subslot);
+    op.place = u32::from(index);
+    op
 }
 
 impl Scene {
@@ -68,6 +105,8 @@ impl Scene {
             controller: Controller::new(plan, ar, activity),
             port,
             sent: std::collections::VecDeque::new(),
+            number: None,
+            counter: 0,
         }
     }
 
@@ -93,26 +132,63 @@ impl Scene {
     fn play(&mut self, event: &Event) -> std::vec::Vec<std::vec::Vec<u8>> {
         let (mut op, given) = match event {
             Event::Frame(bytes) => (asked(3), bytes.as_slice()),
+            Event::Read(slot, subslot, index) => (placed(30, *slot, *subslot, *index), &[][..]),
+            Event::Write(slot, subslot, index, bytes) => (placed(31, *slot, *subslot, *index), bytes.as_slice()),
+            Event::Stop => (asked(13), &[][..]),
             _ => (asked(4), &[][..]),
         };
         op.units = 1;
-        assert_eq!(serve(&mut self.port, &mut op, given), 0, "{}", self.name);
+        let answer = serve(&mut self.port, &mut op, given);
+        match event {
+            // A request that cannot be made now is refused by its number, and ignored by the controller.
+            Event::Read(..) | Event::Write(..) => self.number = Some(answer),
+            _ => assert_eq!(answer, 0, "{}", self.name),
+        }
         taken(&mut self.port)
     }
 
-    /// What the library for C reports by this operation; `None` if nothing was refused.
-    fn told(&mut self, what: u32) -> Option<(u32, std::string::String)> {
+    /// What the library for C reports by this operation about what `place` names; `None` if it returns this number.
+    fn told(&mut self, what: u32, place: u32, none: u32) -> Option<c_layout::Op> {
         let mut op = asked(what);
-        match serve(&mut self.port, &mut op, &[]) {
-            0 => Some((op.place, format!("{:08x}", op.units))),
-            25 => None,
-            other => panic!("{}: {other}", self.name),
+        op.place = place;
+        let answer = serve(&mut self.port, &mut op, &[]);
+        assert!(answer == 0 || answer == none, "{}: {answer}", self.name);
+        (answer == 0).then_some(op)
+    }
+
+    /// The answer to the last request of the application, as the library for C reports it.
+    fn told_answer(&mut self) -> std::string::String {
+        match self.told(32, 0, 27) {
+            Some(op) => format!("{:08x} {}", op.units, digits_of(told_octets(&op))),
+            None => "-".into(),
         }
     }
 
-    /// Nothing is left that was sent and not wanted.
+    /// The last alarm of high priority, as the library for C reports it.
+    fn told_alarm(&mut self) -> std::string::String {
+        match self.told(12, 0, 9) {
+            Some(op) => format!("{} {} {} {} {}", op.note, op.slot, op.subslot, op.units, hex_of(told_octets(&op))),
+            None => "-".into(),
+        }
+    }
+
+    /// The last alarm of a priority, as the library for C reports it: all but the API and both idents.
+    fn told_report(&mut self, is_low: bool) -> std::string::String {
+        let Some(op) = self.told(34, u32::from(is_low), 9) else {
+            return "-".into();
+        };
+        let user_structure = match op.more {
+            65536 => "-".into(),
+            number => number.to_string(),
+        };
+        let data = digits_of(told_octets(&op));
+        format!("{} {} {} {} {} {user_structure} {data}", op.sector, op.note, op.slot, op.subslot, op.units)
+    }
+
+    /// Nothing is left that was sent and not wanted, and no number that was not compared.
     fn is_done(&self) {
         assert!(self.sent.is_empty(), "{}: also sent {:?}", self.name, self.sent);
+        assert!(self.number.is_none(), "{}: returned {:?}", self.name, self.number);
     }
 
     /// The state, in words.
@@ -145,6 +221,60 @@ impl Scene {
         }
     }
 
+    /// What the last request of the application was answered with, in words.
+    fn answer(&self) -> std::string::String {
+        let Some(Answer { request, status }) = self.controller.answer() else {
+            return "-".into();
+        };
+        let service = match request.service {
+            RecordService::Read => "read",
+            RecordService::Write => "write",
+        };
+        let record = digits_of(self.controller.record());
+        format!(
+            "{service} {} {} {} {} {} {record}",
+            request.slot,
+            request.subslot,
+            request.index,
+            request.sequence,
+            hex_of(&[status.code, status.decode, status.code1, status.code2])
+        )
+    }
+
+    /// Intervals pass, and after each this cyclic frame comes, with the next CycleCounter.
+    fn run(&mut self, intervals: u32, input: &str) {
+        let mut frame = octets_of(input);
+        let place = frame.len() - 4;
+        for _ in 0..intervals {
+            for _ in 0..32 {
+                self.step(&Event::Tick);
+            }
+            self.counter = self.counter.wrapping_add(32);
+            frame[place..place + 2].copy_from_slice(&self.counter.to_be_bytes());
+            self.step(&Event::Frame(octets(&frame)));
+        }
+        self.forget_outputs();
+    }
+
+    /// Frames of outputs are not compared: those with the FrameID that these stations choose, behind a VLAN tag.
+    fn forget_outputs(&mut self) {
+        self.sent
+            .retain(|frame| frame.get(24..28) != Some("8100") || frame.get(32..40) != Some("88928123"));
+    }
+
+    /// A request of the application: slot, subslot and index, and the octets of a Write.
+    fn ask(&mut self, rest: &str) {
+        let words: std::vec::Vec<&str> = rest.split(' ').collect();
+        let number = |place: usize| words[place].parse::<u16>().expect("a number");
+        let (slot, subslot, index) = (number(0), number(1), number(2));
+        self.is_done();
+        match words.get(3) {
+            None => self.step(&Event::Read(slot, subslot, index)),
+            Some(&"-") => self.step(&Event::Write(slot, subslot, index, octets(&[]))),
+            Some(hex) => self.step(&Event::Write(slot, subslot, index, octets(&octets_of(hex)))),
+        }
+    }
+
     /// The last alarm, in words.
     fn alarm(&self) -> std::string::String {
         match self.controller.alarm() {
@@ -158,6 +288,41 @@ impl Scene {
             ),
             None => "-".into(),
         }
+    }
+
+    /// The last alarm of a priority, in words.
+    fn report(&self, priority: Priority) -> std::string::String {
+        let Some(report) = self.controller.report(priority) else {
+            assert!(self.controller.accepted(priority).is_none(), "{}", self.name);
+            return "-".into();
+        };
+        assert!(report.priority == priority, "{}", self.name);
+        let number = self.controller.accepted(priority).expect("a number");
+        let user_structure = match report.user_structure {
+            Some(number) => number.to_string(),
+            None => "-".into(),
+        };
+        let alarm = report.notification;
+        let data = digits_of(alarm.alarm_data.octets());
+        format!(
+            "{number} {} {} {} {} {} {} {} {user_structure} {data}",
+            alarm.alarm_type,
+            alarm.api,
+            alarm.slot_number,
+            alarm.subslot_number,
+            alarm.module_ident_number,
+            alarm.submodule_ident_number,
+            alarm.alarm_specifier,
+        )
+    }
+
+    /// So many units, of which cyclic frames are not looked at.
+    fn pass(&mut self, units: u32) {
+        for _ in 0..units {
+            self.step(&Event::Tick);
+        }
+        self.sent
+            .retain(|frame| !frame.starts_with("0200000000010200000000028100c00088928123"));
     }
 
     /// A line of the scenario.
@@ -174,20 +339,56 @@ impl Scene {
                     self.step(&Event::Tick);
                 }
             }
+            "pass" => {
+                self.is_done();
+                self.pass(rest.parse().expect("a number"));
+            }
+            "report" => {
+                let (priority, wanted) = rest.split_once(' ').expect("a priority");
+                let is_low = priority == "low";
+                let priority = if is_low { Priority::Low } else { Priority::High };
+                assert_eq!(self.report(priority), wanted, "{name}");
+                assert_eq!(self.told_report(is_low), reported_words(wanted), "{name}");
+            }
             "out" => assert_eq!(self.sent.pop_front().as_deref(), Some(rest), "{name}"),
             "state" => assert_eq!(self.state(), rest, "{name}"),
             "deviates" => assert_eq!(self.controller.deviates(), rest == "yes", "{name}"),
             "refusal" => {
                 assert_eq!(self.refusal(), rest, "{name}");
-                let told = self.told(20).map_or("-".into(), |told| told.1);
+                let told = self.told(20, 0, 25).map_or("-".into(), |told| format!("{:08x}", told.units));
                 assert_eq!(told, rest, "{name}");
             }
             "refused" => {
                 assert_eq!(self.refused_record(), rest, "{name}");
-                let told = self.told(33).map_or("-".into(), |told| format!("{} {}", told.0, told.1));
+                let told = self.told(33, 0, 25).map_or("-".into(), |told| format!("{} {:08x}", told.place, told.units));
                 assert_eq!(told, rest, "{name}");
             }
-            "alarm" => assert_eq!(self.alarm(), rest, "{name}"),
+            "alarm" => {
+                assert_eq!(self.alarm(), rest, "{name}");
+                assert_eq!(self.told_alarm(), rest, "{name}");
+            }
+            "answer" => {
+                assert_eq!(self.answer(), rest, "{name}");
+                let words: std::vec::Vec<&str> = rest.rsplitn(3, ' ').collect();
+                let wanted = match words.as_slice() {
+                    [record, status, _] => format!("{status} {record}"),
+                    _ => rest.into(),
+                };
+                assert_eq!(self.told_answer(), wanted, "{name}");
+            }
+            "number" => assert_eq!(self.number.take(), rest.parse().ok(), "{name}"),
+            "can" => assert_eq!(self.controller.can_request(), rest == "yes", "{name}"),
+            "read" | "write" => self.ask(rest),
+            "run" => {
+                self.is_done();
+                let (intervals, input) = rest.split_once(' ').expect("a number and a frame");
+                self.run(intervals.parse().expect("a number"), input);
+            }
+            "outputs" => self.forget_outputs(),
+            "stop" => {
+                self.is_done();
+                self.step(&Event::Stop);
+            }
             _ => panic!("{name}: {word}"),
         }
     }

@@ -68,5 +68,5 @@ pub(crate) fn output(port: &Port, slot: u16, subslot: u16) -> u32 {
 
 /// How many units are left of these where time goes by, up to the first that sends something.
 pub(crate) fn left(port: &mut Port, units: u32) -> Option<u32> {
-    port.tick(units).ok()
+    port.tick(units).ok().map(|passed| passed.left)
 }

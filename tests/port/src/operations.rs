@@ -124,14 +124,14 @@ fn what_is_due_is_told() {
     assert_eq!((op.units, op.due, op.work), (9, 8, 0));
 }
 
-// A DCP Set of Signal lets the lamp flash for three seconds, 96,000 units. A tick says what is due after its units; after a
-// single one it says 0.
+// A DCP Set of Signal lets the lamp flash for three seconds, 96,000 units. A tick says what is due after its units, also after a
+// single one.
 #[test]
 fn a_tick_tells_what_is_due() {
     let signal: Vec<u8> = [&SET[..6], &SET[6..12], b"\x88\x92\xfe\xfd\x04\x00\0\0\0\x09\0\0\0\x08\x05\x03\0\x04\0\0\x01\0"].concat();
     let mut port = booted();
     let mut op = asked(4);
-    for (units, due) in [(0, u32::MAX), (9, u32::MAX), (1, 0)] {
+    for (units, due) in [(0, u32::MAX), (9, u32::MAX), (1, u32::MAX)] {
         op.units = units;
         assert_eq!(serve(&mut port, &mut op, &[]), 0);
         assert_eq!((op.units, op.due, op.work), (0, due, 0), "{units}");
@@ -139,7 +139,7 @@ fn a_tick_tells_what_is_due() {
     op.what = 3;
     assert_eq!((serve(&mut port, &mut op, &signal), op.note), (0, 0));
     while !hand_out(&mut port, &mut op, &mut 0).is_empty() {}
-    for (units, due) in [(0, 96_000), (1_000, 95_000), (1, 0), (2, 94_997), (94_997, u32::MAX)] {
+    for (units, due) in [(0, 96_000), (1_000, 95_000), (1, 94_999), (2, 94_997), (94_996, 1), (1, u32::MAX)] {
         (op.what, op.units) = (4, units);
         assert_eq!(serve(&mut port, &mut op, &[]), 0);
         assert_eq!((op.units, op.due, op.work), (0, due, 0), "{units}");

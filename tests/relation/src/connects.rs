@@ -49,6 +49,16 @@ pub(crate) const THREE: Plan = Plan {
     ),
 };
 
+/// An access point with one port, and two octets of input in slot 1.
+pub(crate) const TWO: Plan = Plan {
+    modules: &[
+        (0, 1, &[(1, 1, None, None), (0x8000, 2, None, None)]),
+        (1, 16, &[(1, 16, Some(2), None)]),
+    ],
+    inputs: (&[(0, 1, 0), (0, 0x8000, 1), (1, 1, 3)], &[]),
+    outputs: (&[], &[(0, 1, 3), (0, 0x8000, 4), (1, 1, 6)]),
+};
+
 /// The same as `THREE`, with the output after the statuses in the frames of outputs.
 pub(crate) const MOVED: Plan = Plan {
     outputs: (

@@ -11,6 +11,7 @@ use test_stations::{Station, frame, is_padded, step};
 
 mod connects;
 mod exchange;
+mod listings;
 mod options;
 mod readiness;
 mod records;

@@ -4,8 +4,8 @@ use super::blocks::with;
 use arrayvec::ArrayVec;
 use block_codec::{AlarmAck, AlarmNotification};
 use pn_alarms::{
-    Abort, Alarm, AlarmFault, ControllerAlarms, DeviceAlarms, Due, Message, PduFate, PduType,
-    RaiseFault, Receiver, Taken, alarm_front, pdu_front, read_message, read_notification, read_pdu,
+    Abort, Alarm, AlarmFault, ControllerAlarms, DeviceAlarms, Due, Message, PduFate, PduType, Priority,
+    RaiseFault, Receiver, Taken, alarm_front, pdu_front, read_message, read_pdu, read_report,
 };
 
 /// The first alarm of a relation, of slot 1 and subslot 1, with two octets of data.
@@ -103,9 +103,12 @@ fn first_alarm() {
 /// Whether octets are the first alarm.
 fn is_first(octets: &[u8]) -> Option<bool> {
     let pdu = read_pdu(octets).ok()?;
-    let alarm = read_notification(pdu.body).ok()?;
+    let report = read_report(pdu.body).ok()?;
+    let alarm = report.notification;
     Some(
-        alarm.alarm_type == 2
+        report.priority == Priority::High
+            && report.user_structure == Some(1)
+            && alarm.alarm_type == 2
             && alarm.slot_number == 1
             && alarm.module_ident_number == 0x10
             && alarm.alarm_data.octets() == [0xAA, 0xBB].as_slice(),

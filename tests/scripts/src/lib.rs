@@ -18,6 +18,7 @@ mod off;
 mod plan;
 mod relation;
 mod rows;
+mod services;
 mod struck;
 mod vectors;
 mod whole;

@@ -1,11 +1,11 @@
-//! A device and the services beside it: a run of them, and several units at once.
+//! A device and the services beside it: a run and a cycle of them, and several units at once.
 
 use super::{ANNOUNCEMENT, octets};
 use device_core::{Device, Event, Note, Sink};
 use flash_model::MemoryFlash;
 use frame_codec::Frame;
 use pn_values::{demo_identity, demo_modules};
-use station::{IoStation, StationOutbox};
+use station::{IoStation, StationOutbox, cycle};
 
 /// A Set of the IP address 192.168.0.2, permanent.
 const SET_ADDRESS: &str =
@@ -50,6 +50,37 @@ fn a_run_hands_on_what_both_send() {
         .collect();
     assert_eq!((sink.0.len(), begins), (3, vec![true, true]));
     assert_eq!(station.services().conflicts(), 0);
+}
+
+#[test]
+fn a_cycle_hands_on_what_both_send_and_its_next_start_announces_the_address() {
+    let events = [
+        frame(SET_ADDRESS),
+        Event::Tick,
+        frame(PING),
+        frame(SET_ADDRESS),
+        frame(PING),
+    ];
+    let mut flash = MemoryFlash::<768>::blank();
+    // The power is lost in the second commit, in its first call.
+    flash.fuse(3, [0; 8]);
+    let mut sink = Taken(Vec::new());
+    let station = cycle(demo_identity(), demo_modules(), flash, &events, &mut sink, |mut flash| {
+        flash.power_up();
+        flash
+    });
+    let mut station = station.ok().expect("starts again");
+    // The answer to the Set is the device's; then come the announcement and the echo reply of the services. The last Ping comes
+    // when the power is lost.
+    let begins: Vec<bool> = [(1, ANNOUNCEMENT), (2, PINGED)]
+        .iter()
+        .map(|(place, wanted)| sink.0[*place].starts_with(&octets(wanted)))
+        .collect();
+    assert_eq!((sink.0.len(), begins), (3, vec![true, true]));
+    // The address that was stored is announced again.
+    let mut outbox = StationOutbox::new();
+    assert_eq!(station.step(&Event::Tick, &mut outbox), Note::Done);
+    assert!(outbox.services()[0].as_slice().starts_with(&octets(ANNOUNCEMENT)));
 }
 
 #[test]

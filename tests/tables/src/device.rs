@@ -1,9 +1,10 @@
 //! What serves the calls of a relation.
 
 use pn_values::{Command, Identity, Mac, Real, Settings};
+use relation_records::read_within;
 use records::{
     Blocks, CallFault, Effect, Operation, Write, judge_write, names_relation, put_write_answer,
-    read_implicit, read_within,
+    read_implicit,
 };
 use relations::{Application, DeviceOptions, Partner, Relation};
 use std::mem;
@@ -74,8 +75,7 @@ impl Device {
     /// A Read within the relation.
     fn read(&mut self, blocks: &[u8], answer: &mut Blocks) -> Result<(), CallFault> {
         read_within(
-            self.relation.uuid(),
-            self.relation.differing(),
+            &self.relation,
             &self.identity,
             &self.real,
             &self.settings,

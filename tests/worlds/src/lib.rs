@@ -3,6 +3,7 @@
 
 mod otherwise;
 mod played;
+mod requests;
 
 use controller_core::{Cause, State};
 use pn_values::demo_identity;

@@ -96,7 +96,7 @@ pub(crate) fn station_with(real: Real, options: DeviceOptions) -> Station {
 }
 
 /// The station "pump-1" in which this is plugged, and a controller of the plan of the catalogue.
-fn world(real: Real) -> Watched {
+pub(crate) fn world(real: Real) -> Watched {
     let device = station(real);
     let plan = plan_from_json(Global, RECORDS.as_bytes())
         .ok()
@@ -111,7 +111,7 @@ fn world(real: Real) -> Watched {
 }
 
 /// A move is made, and all laws hold after it.
-fn make(watched: &mut Watched, choice: Choice) {
+pub(crate) fn make(watched: &mut Watched, choice: Choice) {
     let broken = watched.make(choice).expect("memory");
     assert!(broken.is_none(), "{choice:?} breaks {broken:?}");
 }

@@ -33,7 +33,7 @@ fn setup(catalogue: &str) -> Setup {
 }
 
 /// What comes of these moves, at the station as planned and a controller of its plan.
-fn played(moves: &[Move]) -> Net {
+pub(crate) fn played(moves: &[Move]) -> Net {
     played_with(as_planned(), RECORDS, moves)
 }
 
@@ -51,11 +51,11 @@ fn played_at(device: Station, catalogue: &str, moves: &[Move]) -> Net {
     world
 }
 
-fn to_device(number: usize) -> Move {
+pub(crate) fn to_device(number: usize) -> Move {
     Move::Deliver(End::Device, number)
 }
 
-fn to_controller(number: usize) -> Move {
+pub(crate) fn to_controller(number: usize) -> Move {
     Move::Deliver(End::Controller, number)
 }
 
@@ -111,7 +111,7 @@ const START_UP: [Kind; 18] = [
 ];
 
 /// The moves of that start-up up to its ApplicationReady, frame 16, which the controller answers with frame 17.
-fn start_up() -> Vec<Move> {
+pub(crate) fn start_up() -> Vec<Move> {
     let mut moves = Vec::new();
     // Frame 0, the Identify, is lost, and sent again as frame 1.
     wait(&mut moves, AGAIN);

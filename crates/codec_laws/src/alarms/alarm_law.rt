@@ -12,11 +12,12 @@ ghost use Rattle.pn_alarms.specs.Abort.{abort_of};
 ghost use Rattle.pn_alarms.specs.Carried.{alarm_pdu};
 ghost use Rattle.pn_alarms.specs.Format.{Said, pdu_bytes, pdu_of};
 ghost use Rattle.pn_alarms.specs.Message.{alarm_of, message_of};
+ghost use Rattle.pn_alarms.specs.Report.{ours};
 ghost use Rattle.codec_laws.specs.blocks.Writable.{IsAck, IsAlarm};
 ghost use Rattle.codec_laws.specs.alarms.Sendable.{CanBeSaid, IsHeader, ack_pdu, empty_pdu};
 
 use crate::blocks_are_read;
-use pn_alarms::fitting_pdus_are_read;
+use pn_alarms::{fitting_pdus_are_read, reports_are_read};
 
 /// A PDU that can be sent is read back. This is a law of the definitions. No code is involved.
 pub fn pdus_are_read()
@@ -42,14 +43,16 @@ pub fn acks_are_read()
 
 /// What a controller reads of an alarm. This is a law of the definitions. No code is involved.
 pub fn alarms_are_read()
-    // The controller reads data with its number, and the alarm itself.
+    // The controller reads data with its number, and the alarm itself: of high priority, and with the
+    // UserStructureIdentifier 1.
     ensures read { (header : Header) (alarm : AlarmNotification) (more : List ℕ) → header.kind ≡ pdu.Data → IsHeader header → IsAlarm alarm
-        → alarm_of (pdu_bytes (alarm_pdu header alarm) ++ more) ≡ Ok (header, notice.Data header.send_number alarm) }
+        → alarm_of (pdu_bytes (alarm_pdu header alarm) ++ more) ≡ Ok (header, notice.Data header.send_number (ours alarm)) }
     // An alarm has 28 octets and those of its data.
     ensures long { (alarm : AlarmNotification) → length (block_bytes (alarm_block alarm)) ≡ 28 + length alarm.alarm_data }
 {
     blocks_are_read();
     fitting_pdus_are_read();
+    reports_are_read();
 }
 
 /// What either end reads of an ACK or a NACK. These are laws of the definitions. No code is involved.

@@ -22,6 +22,7 @@ use Rattle.device_core.specs.Leaps.{live_due_in}
 use Rattle.c_layout.specs.Places.{place_in}
 use Rattle.c_layout.specs.Reported.{with_octets}
 use Rattle.c_layout.specs.declared.op.Op.{Op}
+use Rattle.device_abi.specs.declared.port.device.Passed.{Passed}
 use Rattle.device_abi.specs.declared.port.refusal.Refusal.{Refusal}
 use Rattle.device_abi.specs.port.Refusals.{refusal_number}
 use Rattle.device_abi.specs.port.State.{State, advanced, closed, lost, waiting}
@@ -83,21 +84,18 @@ abbrev pub IsStatus : Option (ℕ × ℕ) → State → Op → ℕ → State →
 IsStatus (Some place) old asked answer new reported = IsEvent old (Status place.0 place.1 (not (asked.place == 0))) asked answer new reported
 IsStatus None old asked answer new reported = (answer ≡ 9) × (new ≡ old) × (reported ≡ asked)
 
--- What a tick reports as due: the number of units up to and with the next one with which anything is due. For a single
--- unit it is not computed, and 0.
-abbrev pub told_due : ℕ → State → ℕ
-told_due units new = if units == 1 then 0 else live_due_in new.device.live
-
--- The number of units that remain, what is due, and the kind of the first piece of work. The note is 0, done.
-abbrev pub passed : Result ℕ Refusal → State → Op → Op
-passed (Ok left) new asked = record asked { units = left; due = told_due asked.units new; note = 0; work = waiting new.calls new.frames }
-passed (Err refusal) new asked = asked
+-- The number of units that remain, what is due, and the kind of the first piece of work. The note is 0, done. Due is the
+-- number of units up to and with the next one with which anything is due.
+abbrev pub with_passed : Result Passed Refusal → State → Op → Op
+with_passed (Ok units) new asked =
+    record asked { units = units.left; due = live_due_in new.device.live; note = 0; work = waiting new.calls new.frames }
+with_passed (Err refusal) new asked = asked
 
 -- The units of time that are asked for passed, and the number that remains is reported, or none passed and nothing
 -- changed.
 abbrev pub IsTick : State → Op → ℕ → State → Op → Type 0
 IsTick old asked answer new reported =
-    (result : Result ℕ Refusal) × PassesOrNot old asked.units result new × (answer ≡ answer_of result) × (reported ≡ passed result new asked)
+    (result : Result Passed Refusal) × PassesOrNot old asked.units result new × (answer ≡ answer_of result) × (reported ≡ with_passed result new asked)
 
 -- ---- a start
 

@@ -1,9 +1,11 @@
 -- What a host sees of a port.
-use Rattle.std.specs.Prelude.{◌≡◌, Bool, true, false, ℕ, List, [], ◌∷◌, drop, if◌then◌else◌, Option, Some, None}
+use Rattle.std.specs.Prelude.{◌≡◌, ◌<◌, Bool, true, false, ℕ, List, [], ◌∷◌, drop, if◌then◌else◌, Option, Some, None}
 use Rattle.flash_model.specs.Calls.{Call, Programs, Erases, Arms}
 use Rattle.device_abi.specs.declared.recorded.flash.RecordedFlash.{RecordedFlash}
 use Rattle.device_abi.specs.recorded.Entry.{call_of}
+use Rattle.device_core.specs.Leaps.{live_due_in}
 use Rattle.device_core.specs.State as device
+use Rattle.device_core.specs.State.{Live}
 use Rattle.device_abi.specs.declared.port.device.Work.{Work}
 use Rattle.device_abi.specs.declared.port.device.Work.TheVariants.{Nothing, Carry, Send}
 use Rattle.device_abi.specs.declared.port.refusal.Refusal.{Refusal}
@@ -27,6 +29,11 @@ abbrev pub IsSteady : Stage → Bool → List Call → List (List ℕ) → Type 
 IsSteady Made has_failed calls frames = (has_failed ≡ true) × (calls ≡ []) × (frames ≡ [])
 IsSteady Booted has_failed calls frames = has_failed ≡ false
 IsSteady Lost has_failed calls frames = (calls ≡ []) × (frames ≡ [])
+
+-- What is due, if it is known: it is known only of a port that is open and from which no flash call remains.
+abbrev pub IsCounted : Option ℕ → Live → Stage → List Call → Type 0
+IsCounted None live stage calls = Unit {0}
+IsCounted (Some due) live stage calls = (due ≡ live_due_in live) × (0 < due) × (stage ≡ Booted) × (calls ≡ [])
 
 -- Why a port reports nothing: it did not start, or power was lost.
 abbrev pub closed : Stage → Option Refusal
@@ -93,9 +100,18 @@ work_kind Nothing = 0
 work_kind (Carry call) = kind_of (call_of call.now)
 work_kind (Send frame) = 3
 
--- The next piece of work is fetched, and the kind of the one after it is known.
-abbrev pub IsFetched : State → Work → ℕ → State → Type 0
-IsFetched old work more new = IsNext old work × (new ≡ advanced old) × (more ≡ waiting new.calls new.frames)
+-- The first of these, or none if there are none.
+abbrev pub IsFirst : {T : Type 0} → List T → Option T → Type 0
+IsFirst all None = all ≡ []
+IsFirst {T} all (Some one) = (rest : List T) × (all ≡ one ∷ rest)
+
+-- The first flash call is fetched, and the kind of the piece of work after it is known.
+abbrev pub FetchesCall : State → Call → ℕ → State → Type 0
+FetchesCall old call more new = IsFirst old.calls (Some call) × (new ≡ advanced old) × (more ≡ waiting new.calls new.frames)
+
+-- The first frame is fetched, if a frame remains, and the kind of the piece of work after it is known.
+abbrev pub FetchesFrame : State → Option (List ℕ) → ℕ → State → Type 0
+FetchesFrame old frame more new = IsFirst old.frames frame × (new ≡ advanced old) × (more ≡ waiting new.calls new.frames)
 
 -- Power is lost, and the remaining work with it.
 abbrev pub lost : State → State

@@ -6,11 +6,13 @@ use Rattle.settings_journal.specs.Image.{StartsWith, IsForeign, LeftByDevice}
 use Rattle.device_frames.specs.declared.event.Event.{Event}
 use Rattle.device_frames.specs.declared.event.Event.TheVariants.{Tick}
 use Rattle.device_core.specs.Cycle.{started}
+use Rattle.device_core.specs.Leaps.{live_due_in}
 use Rattle.device_core.specs.Machine.{step_of}
 use Rattle.device_core.specs.Steps.{IsExactStep}
 use Rattle.device_frames.specs.declared.note.Note.{Note}
 use Rattle.device_abi.specs.recorded.Record.{image_of, record_of, filled}
 use Rattle.device_abi.specs.recording.Recorded.{Records}
+use Rattle.device_abi.specs.declared.port.device.Passed.{Passed}
 use Rattle.device_abi.specs.declared.port.refusal.Refusal.{Refusal}
 use Rattle.device_abi.specs.declared.port.refusal.Refusal.TheVariants as refusal
 use Rattle.device_abi.specs.declared.port.stage.Stage.TheVariants.{Made, Booted}
@@ -40,8 +42,9 @@ pub record Passes (old : State) (units left : ℕ) (new : State) : Type 0 where
   pub ticks : Ticks (units - left) old new
   pub stops : left ≢ 0 → barred new ≡ Some refusal.HasWork
 
-abbrev pub PassesOrNot : State → ℕ → Result ℕ Refusal → State → Type 0
-PassesOrNot old units (Ok left) new = (barred old ≡ None) × Passes old units left new
+-- The same with what is due then, or no unit passed.
+abbrev pub PassesOrNot : State → ℕ → Result Passed Refusal → State → Type 0
+PassesOrNot old units (Ok passed) new = (barred old ≡ None) × Passes old units passed.left new × (passed.due ≡ live_due_in new.device.live)
 PassesOrNot old units (Err refusal) new = (barred old ≡ Some refusal) × (new ≡ old)
 
 -- A sector of the chip is known, and nothing else changes.

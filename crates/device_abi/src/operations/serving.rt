@@ -1,5 +1,5 @@
 //! One operation of the host.
-ghost use Rattle.std.specs.Prelude.{◌≡◌, ◌≤◌, IfOk, Some, [], slice_get, take};
+ghost use Rattle.std.specs.Prelude.{◌≡◌, ◌≤◌, IfOk, Some, [], slice_get, take, true};
 ghost use Rattle.device_frames.specs.declared.event.Event.TheVariants.{Frame as Framed, Ready as IsReady};
 ghost use Rattle.device_abi.specs.recorded.Entry.{call_of};
 ghost use Rattle.relations.specs.Exchanged.{provider_in};
@@ -10,16 +10,16 @@ ghost use mathlib.Core.Option.{none};
 ghost use types.Logic.{sem};
 ghost use denote.Follow.{follows_so};
 ghost use Rattle.device_abi.specs.contracts.port.device.Port.{the_row as Row};
-ghost use Rattle.device_abi.specs.port.State.{closed};
+ghost use Rattle.device_abi.specs.port.State.{advanced, closed, has_some, waiting};
 ghost use Rattle.c_layout.specs.Places.{place_in};
 ghost use Rattle.c_layout.specs.Reported.{with_octets};
-ghost use Rattle.device_abi.specs.operations.Serves.{IsAlarm, IsBoot, IsCall, IsDue, IsEvent, IsInput, IsLeft, IsLoss, HandsOut, IsOutput, with_frame};
+ghost use Rattle.device_abi.specs.operations.Serves.{IsAlarm, IsBoot, IsCall, IsDue, IsEvent, IsInput, IsLeft, IsLoss, HandsOut, IsHanded, IsOutput, with_frame};
 ghost use Rattle.device_abi.specs.operations.Serves.{IsRecordAt, IsRecordOf, IsProvider, IsProviderAt, IsProviderOf, IsSector, IsSettings, IsState, IsStatus, IsTick, IsValueOf, Serves, answer_of};
-ghost use Rattle.device_abi.specs.operations.Serves.{noted as is_noted, operation_of as operation_in, passed as is_passed, phase_number, told_due as due_told};
+ghost use Rattle.device_abi.specs.operations.Serves.{noted as is_noted, operation_of as operation_in, with_passed, phase_number};
 ghost use Rattle.device_abi.specs.operations.Serves.{sector_number as number_of, sector_of, settings_octets, value_of};
 
 use crate::operations::operation::{Operation, operation_of};
-use crate::{Port, Recorded, Refusal, Work};
+use crate::{Passed, Port, Recorded, Refusal};
 use c_layout::{BAD_LENGTH, NO_FRAME, NO_RECORD, NO_SLOT, Op, UNKNOWN, place_of, put, put_more};
 use device_core::Note;
 use flash_model::Sector;
@@ -36,6 +36,14 @@ pub fn serve(port: &mut Port, op: &mut Op, given: &[u8]) -> u32
     if op.what == 4 {
         return tick(port, op);
     }
+    serve_other(port, op, given)
+}
+
+// The same. It has a function of its own, so that a unit of time makes one comparison.
+#[inline(never)]
+fn serve_other(port: &mut Port, op: &mut Op, given: &[u8]) -> u32
+    ensures { Serves (operation_in op.old.what) port.old op.old given.now result port.new op.new }
+{
     match operation_of(op.what) {
         Some(operation) => perform(operation, port, op, given),
         None => UNKNOWN,
@@ -191,33 +199,26 @@ fn tick(port: &mut Port, op: &mut Op) -> u32
 {
     let units = op.units;
     let outcome = port.tick(units);
-    passed(outcome, port, op)
+    tell_passed(outcome, port, op)
 }
 
-// The number of units that remain and the kind of the first piece of work, or why none passed.
-fn passed(outcome: Result<u32, Refusal>, port: &Port, op: &mut Op) -> u32
-    requires { IfOk outcome (λ left. port.now.calls ≡ []) }
+// The number of units that remain, what is due, and the kind of the first piece of work, or why none passed.
+fn tell_passed(outcome: Result<Passed, Refusal>, port: &Port, op: &mut Op) -> u32
+    requires due { IfOk outcome (λ units. units.due ≡ live_due_in port.now.device.live) }
+    requires quiet { IfOk outcome (λ units. port.now.calls ≡ []) }
     ensures answer { result ≡ answer_of outcome }
-    ensures reported { op.new ≡ is_passed outcome port.now op.old }
+    ensures reported { op.new ≡ with_passed outcome port.now op.old }
 {
     match outcome {
-        Ok(left) => {
-            op.due = told_due(op.units, port);
-            op.units = left;
+        Ok(units) => {
+            op.due = units.due;
+            op.units = units.left;
             op.note = 0;
-            op.work = if port.has_frames() { 3 } else { 0 };
+            op.work = port.waiting_frame();
             0
         }
         Err(refusal) => refusal.number(),
     }
-}
-
-// What is due after this many units. For a single one it is not computed, since most hosts hand in one at a time.
-#[inline(always)]
-fn told_due(units: u32, port: &Port) -> u32
-    ensures { result ≡ due_told units port.now }
-{
-    if units == 1 { 0 } else { port.next_due() }
 }
 
 // Power is lost on the host's side.
@@ -241,15 +242,29 @@ pub fn hand_out<'a>(port: &'a mut Port, op: &mut Op, answer: &mut u32) -> &'a [u
         return &[];
     }
     *answer = 0;
-    match port.fetch(&mut op.more) {
-        Work::Send(frame) => tell_frame(frame, op),
-        Work::Carry(call) => tell_call(call, op),
-        Work::Nothing => {
+    if port.has_calls() {
+        return hand_out_call(port, op);
+    }
+    match port.fetch_frame(&mut op.more) {
+        Some(frame) => tell_frame(frame, op),
+        None => {
             op.work = 0;
             op.length = 0;
             &[]
         }
     }
+}
+
+// Hands out the next flash call. It has a function of its own, so that a frame, which is far more frequent, saves no
+// register that only a call needs.
+#[inline(never)]
+fn hand_out_call<'a>(port: &'a mut Port, op: &mut Op) -> &'a [u8]
+    requires { has_some port.old.calls ≡ true }
+    ensures* { sem 𝓛 (follows_so Row Row port.entry.ghost_name none (λ _ _. ⊤) (λ new. IsHanded port.old.calls port.old.frames
+        (record op.old { more = waiting new.calls new.frames }) result.now op.new × (new ≡ advanced port.old))) }
+{
+    let call = port.fetch_call(&mut op.more);
+    tell_call(call, op)
 }
 
 // Reports a frame, and returns its octets.

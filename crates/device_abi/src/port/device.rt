@@ -1,5 +1,5 @@
 //! A device, and the work of its last step that the host has not fetched yet.
-ghost use Rattle.std.specs.Prelude.{◌≡◌, ◌≢◌, ◌+◌, ◌-◌, ◌<◌, ◌≤◌, ◌%◌, ◌^◌, [], None, Some, IfOk, MatchResult, ℕ, length, take};
+ghost use Rattle.std.specs.Prelude.{◌≡◌, ◌≢◌, ◌+◌, ◌-◌, ◌<◌, ◌≤◌, ◌%◌, ◌^◌, [], None, Some, IfOk, MatchResult, ℕ, length, option_map, take, true};
 ghost use Rattle.std.specs.Prelude.{⊤};
 ghost use mathlib.Core.Option.{none};
 ghost use types.Logic.{sem};
@@ -46,13 +46,15 @@ pub struct Port {
     calls_past: usize,
     /// The number of frames in the outbox that the host has fetched.
     frames_past: usize,
+    /// What is due, if it is known: after units of time it is, any other event makes it unknown.
+    due: Option<u32>,
 }
 
 impl Model for Port {
     ghost use Rattle.std.specs.Prelude.{◌≤◌, length, drop};
     ghost use Rattle.frame_codec.specs.Outbox.{boxed};
     ghost use Rattle.device_abi.specs.recorded.Record.{record_of};
-    ghost use Rattle.device_abi.specs.port.State.{State, IsSteady};
+    ghost use Rattle.device_abi.specs.port.State.{State, IsCounted, IsSteady};
 
     ghost Value = { State };
 
@@ -66,7 +68,17 @@ impl Model for Port {
     ghost invariant = { λ port. (port.calls_past ≤ length (record_of port.device.flash).recent)
         × (port.frames_past ≤ length port.outbox.items)
         × IsSteady port.stage port.device.live.values.has_failed (drop port.calls_past (record_of port.device.flash).recent)
-        (drop port.frames_past (boxed port.outbox)) };
+        (drop port.frames_past (boxed port.outbox))
+        × IsCounted port.due port.device.live port.stage (drop port.calls_past (record_of port.device.flash).recent) };
+}
+
+/// What units of time left to do.
+#[derive(Clone, Copy, Debug, PartialEq, Eq)]
+pub struct Passed {
+    /// The number of units that did not pass.
+    pub left: u32,
+    /// What is due after those that passed, as `Port::due` returns it.
+    pub due: u32,
 }
 
 /// A piece of work.
@@ -101,7 +113,7 @@ impl Fill<RecordedFlash<4096>> for Chip<'_> {
 
 impl Port {
     ghost use Rattle.device_abi.specs.contracts.port.device.Port.{the_row};
-    ghost use Rattle.device_abi.specs.port.State.{IsFetched};
+    ghost use Rattle.device_abi.specs.port.State.{FetchesCall, FetchesFrame, IsCounted};
 
     /// A device that did not start, over a chip whose content is not known yet.
     #[inline(always)]
@@ -117,6 +129,7 @@ impl Port {
             stage: Stage::Made,
             calls_past: 0,
             frames_past: 0,
+            due: None,
         }
     }
 
@@ -171,6 +184,7 @@ impl Port {
             return Err(Refusal::BadLength);
         }
         self.device.fill(&Chip { sector, octets });
+        self.due = None;
         Ok(())
     }
 
@@ -189,6 +203,7 @@ impl Port {
         requires { too_late self.old.stage ≡ None }
         ensures { StartsOrNot self.old result self.new }
     {
+        self.due = None;
         match self.device.load() {
             Ok(()) => {
                 self.stage = Stage::Booted;
@@ -243,16 +258,18 @@ impl Port {
         self.offer(&Event::Ready)
     }
 
-    /// Lets units of time pass, up to the first that sends something. Returns how many remain.
-    pub fn tick(&mut self, units: u32) -> Result<u32, Refusal>
+    /// Lets units of time pass, up to the first that sends something. Returns how many remain, and what is due then.
+    pub fn tick(&mut self, units: u32) -> Result<Passed, Refusal>
         ensures passes { PassesOrNot self.old units result self.new }
         // No unit makes a flash call.
-        ensures quiet { IfOk result (λ left. self.new.calls ≡ []) }
+        ensures quiet { IfOk result (λ passed. self.new.calls ≡ []) }
     {
-        match self.barred() {
-            Some(refusal) => Err(refusal),
-            None => Ok(self.pass(units)),
+        let due = self.counted()?;
+        // No flash call remains after units of time, so only the frames are looked at.
+        if self.has_frames() {
+            return Err(Refusal::HasWork);
         }
+        Ok(self.pass(units, due))
     }
 
     /// Reports that a flash call failed on the host's side, which counts as lost power. The remaining work is dropped,
@@ -267,6 +284,7 @@ impl Port {
         self.calls_past = self.device.flash().recent().len();
         self.frames_past = self.outbox.len();
         self.stage = Stage::Lost;
+        self.due = None;
         Ok(())
     }
 
@@ -308,24 +326,32 @@ impl Port {
         }
     }
 
-    /// Takes the next piece of work, which is then fetched, and says the kind of the piece after it.
-    pub fn fetch(&mut self, more: &mut u32) -> Work<'_>
-        ensures* { sem 𝓛 (follows_so the_row the_row self.entry.ghost_name none (λ _ _. ⊤) (λ new. IsFetched self.old result more.new new)) }
+    /// Takes the next flash call, which is then fetched, and says the kind of the piece of work after it.
+    pub fn fetch_call(&mut self, more: &mut u32) -> &Recorded
+        requires { has_some self.old.calls ≡ true }
+        ensures* { sem 𝓛 (follows_so the_row the_row self.entry.ghost_name none (λ _ _. ⊤) (λ new. FetchesCall self.old (call_of result.now) more.new new)) }
     {
-        if self.calls_past < self.device.flash().recent().len() {
-            let past = self.calls_past;
-            self.calls_past = past + 1;
-            *more = self.waiting();
-            return Work::Carry(&self.device.flash().recent()[past]);
-        }
+        let past = self.calls_past;
+        // One remains, so the next position is a length of the record at most.
+        let _ = self.device.flash().recent().len();
+        self.calls_past = past + 1;
+        *more = self.waiting();
+        &self.device.flash().recent()[past]
+    }
+
+    /// Takes the next frame once no flash call remains. It is then fetched. Says the kind of the piece of work after it.
+    pub fn fetch_frame(&mut self, more: &mut u32) -> Option<&Frame>
+        requires { self.old.calls ≡ [] }
+        ensures* { sem 𝓛 (follows_so the_row the_row self.entry.ghost_name none (λ _ _. ⊤) (λ new. FetchesFrame self.old (option_map (λ frame. frame.now.items) result) more.new new)) }
+    {
         if self.frames_past < self.outbox.len() {
             let past = self.frames_past;
             self.frames_past = past + 1;
-            *more = self.waiting();
-            return Work::Send(&self.outbox.as_slice()[past]);
+            *more = self.waiting_frame();
+            return Some(&self.outbox.as_slice()[past]);
         }
         *more = 0;
-        Work::Nothing
+        None
     }
 
     /// The kind of the next piece of work.
@@ -335,6 +361,14 @@ impl Port {
         if self.has_calls() {
             return kind(&self.next());
         }
+        self.waiting_frame()
+    }
+
+    // The same if no flash call remains.
+    pub(crate) fn waiting_frame(&self) -> u32
+        requires { self.now.calls ≡ [] }
+        ensures { result ≡ kind_in self.now.calls self.now.frames }
+    {
         if self.has_frames() { 3 } else { 0 }
     }
 
@@ -395,13 +429,6 @@ impl Port {
             Some(refusal) => Err(refusal),
             None => Ok(self.device.due()),
         }
-    }
-
-    /// The same of a port that may be closed.
-    pub(crate) fn next_due(&self) -> u32
-        ensures { result ≡ live_due_in self.now.device.live }
-    {
-        self.device.due()
     }
 
     /// The number of units for which the lamp still flashes.
@@ -487,6 +514,7 @@ impl Port {
         let note = step(&mut self.device, event, &mut self.outbox);
         self.calls_past = older(before, self.device.flash());
         self.frames_past = 0;
+        self.due = None; // the event may change it
         note
     }
 
@@ -500,81 +528,133 @@ impl Port {
         let past = older(before, self.device.flash());
         self.calls_past = past;
         self.frames_past = 0;
+        self.due = None; // the frame may change it
         note
     }
 
-    // Lets units of time pass, up to the first that sends something. Returns how many remain. One unit is the most frequent
-    // case, and has its own path. No unit makes a flash call, so the flash is not looked at.
-    fn pass(&mut self, units: u32) -> u32
-        requires { barred self.old ≡ None }
-        ensures passes { Passes self.old units result self.new }
-        ensures quiet { self.new.calls ≡ [] }
+    // ---- units of time. None of them makes a flash call, so the flash is not looked at.
+
+    // What is due, if the port is open and no flash call remains; else why no event is accepted.
+    #[inline(always)]
+    fn counted(&mut self) -> Result<u32, Refusal>
+        ensures same { self.new ≡ self.old }
+        ensures counted { MatchResult result (λ due. IsCounted (Some due) self.old.device.live self.old.stage self.old.calls)
+            (λ refusal. barred self.old ≡ Some refusal) }
     {
-        if units == 1 {
-            self.pass_unit();
-            return 0;
+        match self.due {
+            Some(due) => Ok(due),
+            None => self.count(),
         }
-        let due = self.device.due();
-        if units < due {
-            self.skip(units);
-            return 0;
-        }
-        self.pass_all(units)
     }
 
-    // Lets one unit pass. All work of the step before is fetched.
-    fn pass_unit(&mut self)
+    // Counts the units until something is due, which then is known, if an event is accepted now.
+    #[inline(never)]
+    fn count(&mut self) -> Result<u32, Refusal>
+        ensures same { self.new ≡ self.old }
+        ensures counted { MatchResult result (λ due. IsCounted (Some due) self.old.device.live self.old.stage self.old.calls)
+            (λ refusal. barred self.old ≡ Some refusal) }
+    {
+        if let Some(refusal) = self.barred() {
+            return Err(refusal);
+        }
+        let due = self.device.due();
+        self.due = Some(due);
+        Ok(due)
+    }
+
+    // Lets units of time pass, up to the first that sends something, if `due` is what is due. Most units bring nothing. Of
+    // the others most are handed in one at a time, and have their own path.
+    fn pass(&mut self, units: u32, due: u32) -> Passed
+        requires free { barred self.old ≡ None }
+        requires due { due ≡ live_due_in self.old.device.live }
+        requires some { 0 < due }
+        ensures passes { Passes self.old units result.left self.new }
+        ensures due { result.due ≡ live_due_in self.new.device.live }
+        ensures quiet { self.new.calls ≡ [] }
+    {
+        if units < due {
+            return Passed {
+                left: 0,
+                due: self.skip(units),
+            };
+        }
+        if units == 1 {
+            return Passed {
+                left: 0,
+                due: self.pass_unit(),
+            };
+        }
+        self.pass_all(units, due)
+    }
+
+    // Lets one unit pass. All work of the step before is fetched. Returns what is due then.
+    fn pass_unit(&mut self) -> u32
         requires { barred self.old ≡ None }
         ensures ticks { Ticks 1 self.old self.new }
+        ensures due { result ≡ live_due_in self.new.device.live }
         ensures quiet { self.new.calls ≡ [] }
     {
         unit(&mut self.device, &mut self.outbox);
         self.frames_past = 0;
+        let due = self.device.due();
+        self.due = Some(due);
+        due
     }
 
-    // Lets units of time pass by leaps, up to the first that sends something. Returns how many remain.
+    // Lets units of time pass by leaps, up to the first that sends something, if `first` is what is due.
     #[inline(never)]
-    fn pass_all(&mut self, units: u32) -> u32
-        requires { barred self.old ≡ None }
-        ensures passes { Passes self.old units result self.new }
+    fn pass_all(&mut self, units: u32, first: u32) -> Passed
+        requires free { barred self.old ≡ None }
+        requires due { first ≡ live_due_in self.old.device.live }
+        requires some { 0 < first }
+        ensures passes { Passes self.old units result.left self.new }
+        ensures due { result.due ≡ live_due_in self.new.device.live }
         ensures quiet { self.new.calls ≡ [] }
     {
         let mut left = units;
-        while left > 0 {
-            if self.has_work() {
-                return left;
-            }
-            let due = self.device.due();
-            if left < due {
-                self.skip(left);
-                return 0;
-            }
-            self.leap(due);
+        let mut due = first;
+        while left >= due {
             left -= due;
+            due = self.leap(due);
+            if self.has_frames() {
+                return Passed { left, due };
+            }
         }
-        0
+        Passed {
+            left: 0,
+            due: self.skip(left),
+        }
     }
 
-    // Lets several units of time pass at once, at most as many as are due. All work of the step before is fetched.
-    fn leap(&mut self, units: u32)
+    // Lets all units pass that are due. All work of the step before is fetched. Returns what is due then.
+    fn leap(&mut self, units: u32) -> u32
         requires free { barred self.old ≡ None }
-        requires few { units ≤ live_due_in self.old.device.live }
+        requires due { units ≡ live_due_in self.old.device.live }
         ensures ticks { Ticks units self.old self.new }
         ensures stage { self.new.stage ≡ Stage.Booted }
+        ensures due { result ≡ live_due_in self.new.device.live }
+        ensures some { 0 < result }
         ensures quiet { self.new.calls ≡ [] }
     {
         leap(&mut self.device, units, &mut self.outbox);
         self.frames_past = 0;
+        let due = self.device.due();
+        self.due = Some(due);
+        due
     }
 
-    // Lets units of time pass with which nothing is sent.
-    fn skip(&mut self, units: u32)
+    // Lets units of time pass with which nothing is sent. Returns what is due then.
+    fn skip(&mut self, units: u32) -> u32
         requires free { barred self.old ≡ None }
         requires few { units < live_due_in self.old.device.live }
         ensures ticks { Ticks units self.old self.new }
+        ensures due { result ≡ live_due_in self.new.device.live }
         ensures quiet { self.new.calls ≡ [] }
     {
         skip(&mut self.device, units);
+        let due = self.device.due();
+        self.due = Some(due);
+        due
     }
 }
 

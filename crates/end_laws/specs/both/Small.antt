@@ -2,13 +2,14 @@
 -- exchange.
 use Rattle.std.specs.Prelude.{ℕ, Bool, List, Option}
 
--- the request of a call: a relation, that the record with this number is accepted, the end of the parameters, or the
--- end of the relation
+-- the request of a call: a relation, that the record with this number is accepted, the end of the parameters, the end of
+-- the relation, or another record, which the application reads or writes
 pub data Ask : Type 0 where
   Connects : Ask
   Writes : (number : ℕ) → Ask
   Parameterized : Ask
   Releases : Ask
+  Accesses : Ask
 
 -- what octets mean to the device: a call with this sequence number, the response that confirms ApplicationReady, or
 -- neither
@@ -24,11 +25,12 @@ pub data ToController : Type 0 where
   Readies : ToController
   Nothing : ToController
 
--- A start-up: the request of its Connect, the records that it writes, in order, whether it goes on after a record that
--- was refused, and what each end hears in octets.
+-- A start-up: the request of its Connect, the records that it writes, in order, whether a Write with a sequence number and
+-- blocks is one of these, whether it goes on after a record that was refused, and what each end hears in octets.
 pub record Rules (T Q : Type 0) : Type 0 where
   pub request : Q
   pub records : List T
+  pub is_planned : ℕ → List ℕ → Bool
   pub skips : Bool
   pub to_device : List ℕ → ToDevice
   pub to_controller : List ℕ → ToController

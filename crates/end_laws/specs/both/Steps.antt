@@ -2,7 +2,7 @@
 -- decides.
 use Rattle.std.specs.Prelude.{◌≡◌, ◌⊎◌, ◌+◌, ◌<◌, ◌≤◌, ℕ, Bool, true, false, List, [], ◌∷◌, ◌++◌, length, slice_get, Option, Some, None}
 use Rattle.std.specs.List.{AllByRecursion}
-use Rattle.end_laws.specs.both.Small.{Ask, Connects, Writes, Parameterized, Releases, ToDevice, Call, Confirms, Idle, ToController, Answers, Readies, Nothing, Rules, Started, Awaiting, Exchanging, RelationState, Kept, Device, Controller, Asking, Waiting, Exchanges, Ended, World, Move, ComesToDevice, ComesToController, AtDevice, AtController}
+use Rattle.end_laws.specs.both.Small.{Ask, Connects, Writes, Parameterized, Releases, Accesses, ToDevice, Call, Confirms, Idle, ToController, Answers, Readies, Nothing, Rules, Started, Awaiting, Exchanging, RelationState, Kept, Device, Controller, Asking, Waiting, Exchanges, Ended, World, Move, ComesToDevice, ComesToController, AtDevice, AtController}
 
 -- ---- the device
 
@@ -13,16 +13,18 @@ IsNew sequence (Some kept) = kept.sequence < sequence
 
 -- ---- the calls of a controller
 
--- the request of the controller's call with a sequence number, given the number of records to write
+-- the request of a call of the start-up with a sequence number, given the number of records to write
 abbrev pub IsAsked : ℕ → ℕ → Ask → Type 0
 IsAsked count sequence Connects = sequence ≡ 0
 IsAsked count sequence (Writes number) = (number < count) × (sequence ≡ number + 1)
 IsAsked count sequence Parameterized = sequence ≡ count + 1
 IsAsked count sequence Releases = Unit {0}
+IsAsked count sequence Accesses = ⊥
 
--- a Release is sent at an end, and any other call as long as the controller makes it
+-- a Release is sent at an end, another call of the start-up as long as the controller makes it, and the calls of the
+-- application while data is exchanged
 abbrev pub CallsWhile : ℕ → Controller → ℕ → Ask → Type 0
-CallsWhile count now sequence ask = (ask ≡ Releases) ⊎ ((now ≡ Asking sequence) × IsAsked count sequence ask)
+CallsWhile count now sequence ask = (ask ≡ Releases) ⊎ (((now ≡ Asking sequence) × IsAsked count sequence ask) ⊎ ((ask ≡ Accesses) × (now ≡ Exchanges)))
 
 -- what the device hears in a frame sent now: a call, the response to ApplicationReady while data is exchanged, or
 -- nothing of a start-up
@@ -67,12 +69,20 @@ module _ {T Q : Type 0} where
     pub started : link.phase ≡ Started
     pub becomes : after ≡ Some (record link { phase = Awaiting })
 
-  -- the effect of a call that is answered positively; for a Connect this is stated only if there is no relation yet
+  -- a relation accepts any record
+  pub record TakesAny (before after : Option (RelationState T Q)) : Type 0 where
+    pub link : RelationState T Q
+    pub value : T
+    pub was : before ≡ Some link
+    pub becomes : after ≡ Some (record link { taken = link.taken ++ value ∷ [] })
+
+  -- the effect of a call that is answered positively
   abbrev pub Carries : Rules T Q → Ask → Option (RelationState T Q) → Option (RelationState T Q) → Type 0
-  Carries rules Connects before after = before ≡ None → after ≡ Some (made rules)
+  Carries rules Connects before after = after ≡ Some (made rules)
   Carries rules (Writes number) before after = TakesRecord rules number before after
   Carries rules Parameterized before after = IsParameterized before after
   Carries rules Releases before after = after ≡ None
+  Carries rules Accesses before after = (after ≡ before) ⊎ TakesAny before after
 
   -- a call that is not answered positively changes nothing
   abbrev pub Comes : Rules T Q → Bool → Ask → Option (RelationState T Q) → Option (RelationState T Q) → Type 0
@@ -145,9 +155,10 @@ module _ {T Q : Type 0} where
 
   -- ---- the controller
 
-  -- a frame of the controller, in which it hears nothing of a start-up itself
+  -- A frame of the controller, in which it hears nothing of a start-up itself. While data is exchanged a call of the
+  -- application may say anything.
   abbrev pub IsSaid : Rules T Q → Controller → List ℕ → Type 0
-  IsSaid rules now frame = (rules.to_controller frame ≡ Nothing) × SaysToDevice (length rules.records) now (rules.to_device frame)
+  IsSaid rules now frame = (rules.to_controller frame ≡ Nothing) × (SaysToDevice (length rules.records) now (rules.to_device frame) ⊎ (now ≡ Exchanges))
 
   -- a step of the controller that hears this
   pub record ControllerSteps (rules : Rules T Q) (heard : ToController) (before after : Controller) (frames : List (List ℕ)) : Type 0 where

@@ -5,16 +5,17 @@ use Rattle.std.specs.Cmp.Lexicographic.{pointwise}
 use Rattle.connect_blocks.specs.declared.control.ControlBlock.{ControlBlock}
 use Rattle.rpc_core.specs.Response.{is_done}
 use Rattle.plans.specs.declared.parts.Parts.{Parts}
+use Rattle.controller_frames.specs.declared.record_request.RecordRequest.{RecordRequest}
 use Rattle.controller_frames.specs.declared.setup.Setup.{Setup}
 use Rattle.controller_frames.specs.declared.request.Request.{Request}
 use Rattle.controller_frames.specs.declared.request.Request.TheVariants as asks
 use Rattle.controller_frames.specs.Heard.{Heard, Nothing, Answers, Responds, Refuses, Calls, Cyclic, Alarms}
 use Rattle.controller_frames.specs.Requests.{sequence_of}
-use Rattle.controller_frames.specs.Sent.{Sent, Requests, Agrees, Cycles, Confirms, Replies, Ends}
+use Rattle.controller_frames.specs.Sent.{Sent, Requests, Accesses, Agrees, Cycles, Confirms, Replies, Ends}
 use Rattle.controller_core.specs.declared.state.State.{State}
 use Rattle.controller_core.specs.declared.state.State.TheVariants.{Looking, Addressing, Connecting, Writing, Ending, Waiting, Exchanging, Ended}
 use Rattle.controller_core.specs.declared.event.Event.{Event}
-use Rattle.controller_core.specs.declared.event.Event.TheVariants.{Frame, Tick, Give, Status, Stop}
+use Rattle.controller_core.specs.declared.event.Event.TheVariants.{Frame, Tick, Give, Status, Read, Write, Stop}
 use Rattle.controller_core.specs.State.{Live}
 use Rattle.controller_core.specs.Answers.{is_ready}
 use Rattle.controller_core.specs.Machine.{Turn, ready_in}
@@ -55,6 +56,16 @@ IsInStep plan Waiting asked = asked ≡ None
 IsInStep plan Exchanging asked = asked ≡ None
 IsInStep plan (Ended cause) asked = (asked ≡ None) ⊎ ((sequence : ℕ) × (asked ≡ Some (asks.Release sequence)))
 
+-- a request of the application waits only while data is exchanged
+abbrev pub MayWait : State → Option RecordRequest → Type 0
+MayWait Exchanging waiting = Unit {0}
+MayWait phase waiting = waiting ≡ None
+
+-- what is active in each state belongs to it
+pub record IsSteady (plan : Parts) (live : Live) : Type 0 where
+  pub asked : IsInStep plan live.phase live.asked
+  pub waiting : MayWait live.phase live.access.waiting
+
 -- ---- what it hears
 
 -- ApplicationReady of its relation, if this block is one
@@ -71,7 +82,7 @@ said_to setup (Calls caller call) = readied_by setup (ready_in call)
 said_to setup Nothing = small.Nothing
 said_to setup (Answers source answer) = small.Nothing
 said_to setup (Cyclic source frame_id body) = small.Nothing
-said_to setup (Alarms source header notice) = small.Nothing
+said_to setup (Alarms source under header notice) = small.Nothing
 
 -- ---- what it says
 
@@ -87,17 +98,18 @@ asked_by plan (asks.Release sequence) = small.Call (sequence_of plan (asks.Relea
 -- a request as the call that it is, and the response to ApplicationReady
 abbrev pub said_by : Parts → Sent → ToDevice
 said_by plan (Requests device request) = asked_by plan request
+said_by plan (Accesses device request octets) = small.Call request.sequence small.Accesses
 said_by plan (Agrees caller answer) = small.Confirms
 said_by plan (Cycles route shown counter) = small.Idle
-said_by plan (Confirms route header ack) = small.Idle
-said_by plan (Replies route header) = small.Idle
+said_by plan (Confirms route priority header ack) = small.Idle
+said_by plan (Replies route priority header) = small.Idle
 said_by plan (Ends route header reason) = small.Idle
 
 -- ---- a step
 
 -- The small step of a turn that hears this: the state moves, and each message says to the device what it may say then.
 pub record GoesOn (plan : Parts) (heard : ToController) (live : Live) (turn : Turn) : Type 0 where
-  pub in_step : IsInStep plan turn.live.phase turn.live.asked
+  pub in_step : IsSteady plan turn.live
   pub moves : Moves plan.continue_on_refused_record (length plan.records.items) heard (small_of plan live) (small_of plan turn.live)
   pub says : AllByRecursion (λ message. SaysToDevice (length plan.records.items) (small_of plan turn.live) (said_by plan message)) turn.sent
 
@@ -107,4 +119,6 @@ said_in setup heard (Frame bytes) = said_to setup (heard bytes.items)
 said_in setup heard Tick = small.Nothing
 said_in setup heard (Give slot subslot value) = small.Nothing
 said_in setup heard (Status slot subslot is_good) = small.Nothing
+said_in setup heard (Read slot subslot index) = small.Nothing
+said_in setup heard (Write slot subslot index octets) = small.Nothing
 said_in setup heard Stop = small.Nothing

@@ -11,8 +11,9 @@ use Rattle.records.specs.declared.status.call_fault.CallFault.{CallFault}
 use Rattle.records.specs.declared.status.operation.Operation.{Operation}
 use Rattle.records.specs.declared.status.operation.Operation.TheVariants as operation
 use Rattle.records.specs.status.Operation.{operation_of}
+use Rattle.pn_values.specs.declared.im_value.ImValue.{ImValue}
 use Rattle.records.specs.declared.writes.taken.TakenRecord.{TakenRecord}
-use Rattle.records.specs.declared.writes.write.Effect.TheVariants.{Keeps}
+use Rattle.records.specs.declared.writes.write.Effect.TheVariants.{Stores, Keeps}
 use Rattle.records.specs.declared.writes.write.Write.{Write}
 use Rattle.records.specs.writes.Handled.{write_of}
 use Rattle.relations.specs.declared.phase.Phase.TheVariants.{Started, Awaiting}
@@ -27,7 +28,7 @@ use Rattle.device_core.specs.Handled.{answer_from, kept_for, outcome_of, partner
 use Rattle.device_core.specs.State.{Live, Rest, Station}
 use Rattle.end_laws.specs.both.Small as small
 use Rattle.end_laws.specs.device.Owed.{IsOfRelation}
-use Rattle.end_laws.specs.device.Small.{heard_as, link_of}
+use Rattle.end_laws.specs.device.Small.{Planned, heard_as, link_of}
 
 -- ---- messages
 
@@ -57,14 +58,14 @@ pub record Rests (live : Live) (after : Rest) (sent : List Sent) : Type 0 where
 
 -- something happens that says nothing of a start-up: the relation keeps its phase, its request and its records, or ends
 pub record GoesBy (live : Live) (heard : Heard) (after : Rest) (sent : List Sent) : Type 0 where
-  pub idle : heard_as heard ≡ small.Idle
+  pub idle : (planned : Planned) → heard_as planned heard ≡ small.Idle
   pub calls : after.calls ≡ live.rest.calls
   pub link : (option_map link_of after.link ≡ option_map link_of live.rest.link) ⊎ (option_map link_of after.link ≡ None)
   pub others : AllByRecursion (IsOther live after.link) sent
 
 -- the response that confirms ApplicationReady, while the relation waits for it
 pub record Confirms (live : Live) (heard : Heard) (after : Rest) (sent : List Sent) : Type 0 where
-  pub confirms : heard_as heard ≡ small.Confirms
+  pub confirms : (planned : Planned) → heard_as planned heard ≡ small.Confirms
   pub link : RelationState
   pub was : live.rest.link ≡ Some link
   pub awaits : link.phase ≡ Awaiting
@@ -92,6 +93,18 @@ pub record Connected (station : Station) (caller : Caller) (blocks octets : List
   pub read : connect_of before blocks ≡ Ok request
   pub made : after ≡ Some (made_of request (partner_of caller) (rows_of request station.real) starting)
   pub answer : octets ≡ connect_blocks station.identity request (differing_of request station.real)
+
+-- a call that names the relation is accepted, and changes nothing else
+abbrev pub IsRestarted : Option RelationState → Option RelationState → Type 0
+IsRestarted before after = after ≡ option_map restarted before
+
+-- a Write is accepted whose record the settings store
+pub record Stored (station : Station) (blocks : List ℕ) (before after : Option RelationState) : Type 0 where
+  pub write : Write
+  pub judged : write_of (uuid_of before) station.real blocks ≡ Ok write
+  pub value : ImValue
+  pub stores : write.effect ≡ Stores value
+  pub same : IsRestarted before after
 
 -- a Write is accepted, and the relation has one more record
 pub record Written (station : Station) (blocks : List ℕ) (before after : Option RelationState) : Type 0 where
@@ -121,10 +134,10 @@ pub record Released (before after : Option RelationState) : Type 0 where
 abbrev pub IsEffect : Station → Caller → List ℕ → Result (List ℕ) CallFault → Operation → Option RelationState → Option RelationState → Type 0
 IsEffect station caller blocks (Err fault) which before after = after ≡ before
 IsEffect station caller blocks (Ok octets) operation.Connect before after = Connected station caller blocks octets before after
-IsEffect station caller blocks (Ok octets) operation.Write before after = Written station blocks before after
+IsEffect station caller blocks (Ok octets) operation.Write before after = Written station blocks before after ⊎ Stored station blocks before after
 IsEffect station caller blocks (Ok octets) operation.Control before after = Parameterized before after
 IsEffect station caller blocks (Ok octets) operation.Release before after = Released before after
-IsEffect station caller blocks (Ok octets) operation.Read before after = ⊥
+IsEffect station caller blocks (Ok octets) operation.Read before after = IsRestarted before after
 IsEffect station caller blocks (Ok octets) operation.ReadImplicit before after = ⊥
 
 -- ApplicationReady behind a response, if there is one

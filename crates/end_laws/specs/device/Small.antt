@@ -1,5 +1,5 @@
 -- A device as a small machine, and what it says and hears of a start-up.
-use Rattle.std.specs.Prelude.{◌≡◌, ◌+◌, ◌-◌, ◌==◌, ◌&&◌, ℕ, Bool, false, nat_eq, List, Option, Some, None, option_map, slice_get, if◌then◌else◌, Ok}
+use Rattle.std.specs.Prelude.{◌≡◌, ◌+◌, ◌-◌, ◌==◌, ◌&&◌, ℕ, Bool, true, false, nat_eq, List, [], unwrap_or, Option, Some, None, option_map, slice_get, if◌then◌else◌, Ok}
 use Rattle.std.specs.Cmp.Lexicographic.{pointwise}
 use Rattle.pn_values.specs.declared.identity.Identity.{Identity}
 use Rattle.pn_values.specs.declared.real.Real.{Real}
@@ -52,16 +52,24 @@ small_of activity live = record { kept = option_map kept_in (kept_of activity li
 
 -- ---- what it hears
 
--- the request of a call, by its operation: a Write asks for the record whose number is one less than the call's
--- sequence number
-abbrev pub asked_by : ℕ → Option Operation → ToDevice
-asked_by sequence (Some operation.Connect) = small.Call sequence small.Connects
-asked_by sequence (Some operation.Write) = small.Call sequence (small.Writes (sequence - 1))
-asked_by sequence (Some operation.Control) = small.Call sequence small.Parameterized
-asked_by sequence (Some operation.Release) = small.Call sequence small.Releases
-asked_by sequence (Some operation.Read) = small.Idle
-asked_by sequence (Some operation.ReadImplicit) = small.Idle
-asked_by sequence None = small.Idle
+-- whether a Write with a sequence number and blocks is one of the start-up
+abbrev pub Planned : Type 0
+Planned = ℕ → List ℕ → Bool
+
+-- a Write of the start-up asks for the record whose number is one less than its sequence number
+abbrev pub written_by : Bool → ℕ → ToDevice
+written_by true sequence = small.Call sequence (small.Writes (sequence - 1))
+written_by false sequence = small.Call sequence small.Accesses
+
+-- the request of a call, by its operation and its blocks
+abbrev pub asked_by : Planned → ℕ → List ℕ → Option Operation → ToDevice
+asked_by planned sequence blocks (Some operation.Connect) = small.Call sequence small.Connects
+asked_by planned sequence blocks (Some operation.Write) = written_by (planned sequence blocks) sequence
+asked_by planned sequence blocks (Some operation.Control) = small.Call sequence small.Parameterized
+asked_by planned sequence blocks (Some operation.Release) = small.Call sequence small.Releases
+asked_by planned sequence blocks (Some operation.Read) = small.Call sequence small.Accesses
+asked_by planned sequence blocks (Some operation.ReadImplicit) = small.Idle
+asked_by planned sequence blocks None = small.Idle
 
 -- whether a block names the relation whose ARUUID is the activity of the call
 abbrev pub names_own : List ℕ → Option ControlBlock → Bool
@@ -75,30 +83,31 @@ confirms response =
     && (is_done response.status && names_own response.header.activity (confirmed_block (block_of response.blocks)))
 
 -- what a datagram says to a device, as a start-up sees it
-abbrev pub said_to : Said → ToDevice
-said_to (Calls call) = asked_by call.header.sequence (operation_of call.header.operation)
-said_to (Responds response) = if confirms response then small.Confirms else small.Idle
-said_to Garbled = small.Idle
+abbrev pub said_to : Planned → Said → ToDevice
+said_to planned (Calls call) = asked_by planned call.header.sequence (unwrap_or call.blocks []) (operation_of call.header.operation)
+said_to planned (Responds response) = if confirms response then small.Confirms else small.Idle
+said_to planned Garbled = small.Idle
 
 -- calls and responses; everything else says nothing of a start-up
-abbrev pub heard_as : Heard → ToDevice
-heard_as (Reported caller address said) = said_to said
-heard_as Ticks = small.Idle
-heard_as Unreadable = small.Idle
-heard_as Elsewhere = small.Idle
-heard_as (Asks source request) = small.Idle
-heard_as (Resolves asker packet) = small.Idle
-heard_as (Cyclic source frame_id body) = small.Idle
-heard_as (Alarms source header message) = small.Idle
-heard_as (Given slot subslot value) = small.Idle
-heard_as (Raised slot subslot octets) = small.Idle
-heard_as (Rated slot subslot is_good) = small.Idle
-heard_as Readied = small.Idle
+abbrev pub heard_as : Planned → Heard → ToDevice
+heard_as planned (Reported caller address said) = said_to planned said
+heard_as planned Ticks = small.Idle
+heard_as planned Unreadable = small.Idle
+heard_as planned Elsewhere = small.Idle
+heard_as planned (Asks source request) = small.Idle
+heard_as planned (Resolves asker packet) = small.Idle
+heard_as planned (Cyclic source frame_id body) = small.Idle
+heard_as planned (Alarms source header message) = small.Idle
+heard_as planned (Given slot subslot value) = small.Idle
+heard_as planned (Raised slot subslot octets) = small.Idle
+heard_as planned (Rated slot subslot is_good) = small.Idle
+heard_as planned Readied = small.Idle
 
 -- ---- the calls of a start-up
 
 -- A call with these blocks is one of the start-up. Its Connect is read as the expected request. Its Writes, if they are
--- accepted, store the records. The contents of a PrmEnd or a Release are looked at when it arrives.
+-- accepted, store the records. The contents of a PrmEnd or a Release are looked at when it arrives, and so are those of a
+-- Read or of another Write, which is a call of the application.
 pub record IsPlannedWrite (rules : Rules TakenRecord Request) (real : Real) (sequence : ℕ) (blocks : List ℕ) : Type 0 where
   pub number : ℕ
   pub value : TakenRecord
@@ -106,30 +115,30 @@ pub record IsPlannedWrite (rules : Rules TakenRecord Request) (real : Real) (seq
   pub there : slice_get rules.records number ≡ Some value
   pub keeps : (standing : Option (List ℕ)) (write : Write) → write_of standing real blocks ≡ Ok write → write.effect ≡ Keeps value
 
--- these blocks of a call with this operation are those of the start-up; a Read is not one of its calls
+-- these blocks of a call with this operation are those of the start-up, or of a call of the application
 abbrev pub IsPlannedAs : Rules TakenRecord Request → Real → ℕ → List ℕ → Option Operation → Type 0
 IsPlannedAs rules real sequence blocks (Some operation.Connect) = request_of None blocks ≡ Ok rules.request
-IsPlannedAs rules real sequence blocks (Some operation.Write) = IsPlannedWrite rules real sequence blocks
+IsPlannedAs rules real sequence blocks (Some operation.Write) = rules.is_planned sequence blocks ≡ true → IsPlannedWrite rules real sequence blocks
 IsPlannedAs rules real sequence blocks (Some operation.Control) = Unit {0}
 IsPlannedAs rules real sequence blocks (Some operation.Release) = Unit {0}
-IsPlannedAs rules real sequence blocks (Some operation.Read) = ⊥
+IsPlannedAs rules real sequence blocks (Some operation.Read) = Unit {0}
 IsPlannedAs rules real sequence blocks (Some operation.ReadImplicit) = ⊥
 IsPlannedAs rules real sequence blocks None = ⊥
 
--- a call of the activity of the start-up, whose blocks have the right counts
+-- a call of the activity of the start-up or of the application, whose blocks have the right counts
 pub record IsPlannedCall (rules : Rules TakenRecord Request) (activity : List ℕ) (real : Real) (call : Call) : Type 0 where
   pub own : call.header.activity ≡ activity
   pub blocks : List ℕ
   pub counted : call.blocks ≡ Some blocks
   pub asks : IsPlannedAs rules real call.header.sequence blocks (operation_of call.header.operation)
 
--- each call that is heard is one of the start-up
+-- each call that is heard is one of the start-up or of the application
 abbrev pub IsPlannedIn : Rules TakenRecord Request → List ℕ → Real → Said → Type 0
 IsPlannedIn rules activity real (Calls call) = IsPlannedCall rules activity real call
 IsPlannedIn rules activity real (Responds response) = Unit {0}
 IsPlannedIn rules activity real Garbled = Unit {0}
 
--- if a call is heard, it is one of the start-up
+-- if a call is heard, it is one of the start-up or of the application
 abbrev pub IsPlanned : Rules TakenRecord Request → List ℕ → Real → Heard → Type 0
 IsPlanned rules activity real (Reported caller address said) = IsPlannedIn rules activity real said
 IsPlanned rules activity real Ticks = Unit {0}

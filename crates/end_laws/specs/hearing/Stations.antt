@@ -1,17 +1,15 @@
 -- Which stations and messages exist: each field has its size.
-use Rattle.std.specs.Prelude.{◌≡◌, ◌≤◌, ◌<◌, ◌+◌, ℕ, true, List, length, Some, ⊤}
+use Rattle.std.specs.Prelude.{◌≡◌, ◌≤◌, ◌<◌, ℕ, true, List, length, Some, ⊤}
 use Rattle.pn_values.specs.declared.identity.Identity.{Identity}
-use Rattle.pn_values.specs.IpSuite.{Suite}
 use Rattle.frame_codec.specs.declared.udp.Caller.{Caller}
-use Rattle.frame_codec.specs.declared.udp.Endpoint.{Endpoint}
 use Rattle.frame_codec.specs.FrameId.{is_cyclic}
 use Rattle.rpc_core.specs.Call.{Asked as Call}
 use Rattle.block_codec.specs.declared.block.Block.TheVariants as is
 use Rattle.block_codec.specs.Block.{block_bytes}
-use Rattle.cyclic_data.specs.Image.{Shown}
 use Rattle.cyclic_exchange.specs.declared.route.Route.{Route}
 use Rattle.plans.specs.Plan.{IsPlan}
 use Rattle.relations.specs.declared.ready.Ready.{Ready}
+use Rattle.controller_frames.specs.declared.record_request.RecordRequest.{RecordRequest}
 use Rattle.controller_frames.specs.declared.request.Request.{Request}
 use Rattle.controller_frames.specs.declared.request.Request.TheVariants as asks
 use Rattle.controller_frames.specs.declared.setup.Setup.{Setup}
@@ -50,6 +48,10 @@ IsNumbered asks.Connect = ⊤
 IsNumbered (asks.Write number) = number < 65536
 IsNumbered asks.PrmEnd = ⊤
 IsNumbered (asks.Release sequence) = sequence < 4294967296
+
+-- a request of the application whose call can be written: its number has four octets, and a call has room for its record
+abbrev pub IsRecordCall : RecordRequest → List ℕ → Type 0
+IsRecordCall request octets = (request.sequence < 4294967296) × (length octets ≤ 1308)
 
 -- a request that is made by a call
 abbrev pub IsCalled : Request → Type 0

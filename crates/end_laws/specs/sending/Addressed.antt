@@ -4,14 +4,14 @@ use Rattle.pn_values.specs.declared.mac.Mac.{Mac}
 use Rattle.cyclic_exchange.specs.declared.route.Route.{Route}
 use Rattle.controller_frames.specs.declared.setup.Setup.{Setup}
 use Rattle.controller_frames.specs.Heard.{Heard, Nothing, Answers, Responds, Refuses, Calls, Cyclic, Alarms, heard_of}
-use Rattle.controller_frames.specs.Sent.{Sent, Requests, Agrees, Cycles, Confirms, Replies, Ends}
+use Rattle.controller_frames.specs.Sent.{Sent, Requests, Accesses, Agrees, Cycles, Confirms, Replies, Ends}
 use Rattle.controller_core.specs.declared.event.Event.{Event}
-use Rattle.controller_core.specs.declared.event.Event.TheVariants.{Frame, Tick, Give, Status, Stop}
+use Rattle.controller_core.specs.declared.event.Event.TheVariants.{Frame, Tick, Give, Status, Read, Write, Stop}
 use Rattle.controller_core.specs.State.{Live}
 use Rattle.codec_laws.specs.frames.Sendable.{IsMac}
 use Rattle.rpc_core.specs.Sendable.{CanBeAnswered, IsHeader}
-use Rattle.end_laws.specs.hearing.Stations.{IsCaller, IsNumbered}
-use Rattle.end_laws.specs.sending.Sized.{AreFew}
+use Rattle.end_laws.specs.hearing.Stations.{IsCaller, IsNumbered, IsRecordCall}
+use Rattle.end_laws.specs.sending.Sized.{AreFew, IsAccess}
 
 -- a route whose partner address and tags have their sizes, whatever its FrameID
 pub record IsDirection (route : Route) : Type 0 where
@@ -24,6 +24,7 @@ pub record IsAimed (live : Live) : Type 0 where
   pub device : IsMac live.device
   pub asked : AreFew live.asked
   pub way : IsDirection live.cyclic.route
+  pub access : IsAccess live.access
 
 -- A response comes from a station with a MAC address, and calls come from this station, each field with its size.
 abbrev pub IsHeardFrom : Mac → Heard → Type 0
@@ -33,7 +34,7 @@ IsHeardFrom mac Nothing = ⊤
 IsHeardFrom mac (Responds response) = ⊤
 IsHeardFrom mac (Refuses refusal) = ⊤
 IsHeardFrom mac (Cyclic source frame_id body) = ⊤
-IsHeardFrom mac (Alarms source header reported) = ⊤
+IsHeardFrom mac (Alarms source under header reported) = ⊤
 
 -- what the event brings comes from this station, each field with its size
 abbrev pub IsEventFrom : Mac → Setup → Event → Type 0
@@ -41,13 +42,16 @@ IsEventFrom mac setup (Frame bytes) = IsHeardFrom mac (heard_of setup.plan.contr
 IsEventFrom mac setup Tick = ⊤
 IsEventFrom mac setup (Give slot subslot value) = ⊤
 IsEventFrom mac setup (Status slot subslot is_good) = ⊤
+IsEventFrom mac setup (Read slot subslot index) = ⊤
+IsEventFrom mac setup (Write slot subslot index octets) = ⊤
 IsEventFrom mac setup Stop = ⊤
 
 -- a message that goes to a station; a response to a call goes to this one
 abbrev pub IsAimedAt : Mac → Sent → Type 0
 IsAimedAt mac (Requests device request) = IsMac device × IsNumbered request
+IsAimedAt mac (Accesses device request octets) = IsMac device × IsRecordCall request octets
 IsAimedAt mac (Agrees caller answer) = (caller.mac ≡ mac) × IsCaller caller × CanBeAnswered answer
 IsAimedAt mac (Cycles route shown counter) = IsDirection route
-IsAimedAt mac (Confirms route header ack) = IsDirection route
-IsAimedAt mac (Replies route header) = IsDirection route
+IsAimedAt mac (Confirms route priority header ack) = IsDirection route
+IsAimedAt mac (Replies route priority header) = IsDirection route
 IsAimedAt mac (Ends route header reason) = IsDirection route

@@ -4,12 +4,12 @@ use Rattle.pn_alarms.specs.declared.pdu.PduType.TheVariants.{Ack, Data, Nack}
 use Rattle.cyclic_exchange.specs.declared.route.Route.{Route}
 use Rattle.cyclic_exchange.specs.Frames.{cyclic_body}
 use Rattle.controller_frames.specs.declared.setup.Setup.{Setup}
-use Rattle.controller_frames.specs.Sent.{Sent, Requests, Agrees, Cycles, Confirms, Replies, Ends}
+use Rattle.controller_frames.specs.Sent.{Sent, Requests, Accesses, Agrees, Cycles, Confirms, Replies, Ends}
 use Rattle.codec_laws.specs.frames.Sendable.{IsMac}
 use Rattle.rpc_core.specs.Sendable.{CanBeAnswered}
 use Rattle.codec_laws.specs.blocks.Writable.{IsAck}
 use Rattle.codec_laws.specs.alarms.Sendable.{IsHeader}
-use Rattle.end_laws.specs.hearing.Stations.{IsCaller, IsNumbered}
+use Rattle.end_laws.specs.hearing.Stations.{IsCaller, IsNumbered, IsRecordCall}
 
 -- A route whose fields have their sizes. The device chooses the FrameID, so whether it is a cyclic one depends on the
 -- device.
@@ -23,8 +23,9 @@ pub record IsWay (route : Route) : Type 0 where
 -- a message that can be sent
 abbrev pub CanBeSent : Setup → Sent → Type 0
 CanBeSent setup (Requests device request) = IsMac device × IsNumbered request
+CanBeSent setup (Accesses device request octets) = IsMac device × IsRecordCall request octets
 CanBeSent setup (Agrees caller answer) = IsCaller caller × CanBeAnswered answer
 CanBeSent setup (Cycles route shown counter) = IsWay route × (length (cyclic_body shown counter) ≤ 1498)
-CanBeSent setup (Confirms route header ack) = IsWay route × (header.kind ≡ Data) × IsHeader header × IsAck ack
-CanBeSent setup (Replies route header) = IsWay route × ((header.kind ≡ Ack) ⊎ (header.kind ≡ Nack)) × IsHeader header
+CanBeSent setup (Confirms route priority header ack) = IsWay route × (header.kind ≡ Data) × IsHeader header × IsAck ack
+CanBeSent setup (Replies route priority header) = IsWay route × ((header.kind ≡ Ack) ⊎ (header.kind ≡ Nack)) × IsHeader header
 CanBeSent setup (Ends route header reason) = IsWay route × IsHeader header

@@ -3,19 +3,22 @@ use Rattle.std.specs.Prelude.{◌≡◌, ◌≤◌, ◌<◌, ℕ, List, Option, 
 use Rattle.record_blocks.specs.declared.alarm_ack.AlarmAck.{AlarmAck}
 use Rattle.record_blocks.specs.declared.alarm_notification.AlarmNotification.{AlarmNotification}
 use Rattle.pn_alarms.specs.declared.message.Notice.TheVariants as notice
+use Rattle.pn_alarms.specs.Ends.{ControllerEnd}
 use Rattle.pn_alarms.specs.Message.{ToController}
+use Rattle.controller_frames.specs.declared.record_request.RecordRequest.{RecordRequest}
 use Rattle.controller_frames.specs.declared.request.Request.{Request}
 use Rattle.controller_frames.specs.declared.request.Request.TheVariants as asks
 use Rattle.controller_frames.specs.declared.setup.Setup.{Setup}
 use Rattle.controller_frames.specs.Heard.{Heard, Nothing, Answers, Responds, Refuses, Calls, Cyclic, Alarms, heard_of}
 use Rattle.controller_core.specs.declared.event.Event.{Event}
-use Rattle.controller_core.specs.declared.event.Event.TheVariants.{Frame, Tick, Give, Status, Stop}
+use Rattle.controller_core.specs.declared.event.Event.TheVariants.{Frame, Tick, Give, Status, Read, Write, Stop}
+use Rattle.controller_core.specs.Access.{Accessing}
 use Rattle.controller_core.specs.Connect.{Chosen, chosen_of, found_in, nothing}
 use Rattle.controller_core.specs.State.{Live}
 use Rattle.codec_laws.specs.frames.Sendable.{IsMac}
 use Rattle.rpc_core.specs.Sendable.{IsHeader}
 use Rattle.codec_laws.specs.blocks.Writable.{IsAck}
-use Rattle.end_laws.specs.hearing.Stations.{IsCaller}
+use Rattle.end_laws.specs.hearing.Stations.{IsCaller, IsRecordCall}
 use Rattle.end_laws.specs.sending.Messages.{IsWay}
 
 -- ---- the state of a controller
@@ -44,15 +47,29 @@ abbrev pub IsAckOrNone : Option AlarmAck → Type 0
 IsAckOrNone None = ⊤
 IsAckOrNone (Some ack) = IsAck ack
 
--- a controller whose station, request, route, image and alarm numbers have their sizes
+-- the numbers of alarms and the AlarmAck of a priority have their sizes
+pub record IsSizedEnd (end : ControllerEnd) : Type 0 where
+  pub last : IsShort end.sending.last
+  pub seen : IsShort end.seen
+  pub confirming : IsAckOrNone end.confirming
+
+-- the request of the application that waits, if there is one, can be written
+abbrev pub IsWaiting : Option RecordRequest → List ℕ → Type 0
+IsWaiting None octets = ⊤
+IsWaiting (Some request) octets = IsRecordCall request octets
+
+abbrev pub IsAccess : Accessing → Type 0
+IsAccess access = IsWaiting access.waiting access.octets
+
+-- a controller whose station, requests, route, image and alarms have their sizes
 pub record IsLive (live : Live) : Type 0 where
   pub device : IsMac live.device
   pub asked : AreFew live.asked
   pub way : IsWay live.cyclic.route
   pub few : live.cyclic.shown.data_length ≤ 1440
-  pub last : IsShort live.alarms.sending.last
-  pub seen : IsShort live.alarms.seen
-  pub confirming : IsAckOrNone live.alarms.confirming
+  pub high : IsSizedEnd live.alarms
+  pub low : IsSizedEnd live.low_alarms
+  pub access : IsAccess live.access
 
 -- ---- what it hears
 
@@ -66,7 +83,7 @@ pub record IsNoted (alarm : AlarmNotification) : Type 0 where
 
 -- what an alarm frame says has its sizes
 abbrev pub IsNotice : ToController → Type 0
-IsNotice (notice.Data number alarm) = (number < 65536) × IsNoted alarm
+IsNotice (notice.Data number report) = (number < 65536) × IsNoted report.notification
 IsNotice notice.Nack = ⊤
 IsNotice (notice.Ack number) = ⊤
 IsNotice notice.Abort = ⊤
@@ -95,7 +112,7 @@ IsSized (Responds response) = IsChosen response.blocks
 IsSized (Refuses refusal) = ⊤
 IsSized (Calls caller call) = IsCaller caller × IsHeader call.header × (call.args_maximum < 4294967296)
 IsSized (Cyclic source frame_id body) = ⊤
-IsSized (Alarms source header reported) = IsNotice reported
+IsSized (Alarms source under header reported) = IsNotice reported
 
 -- what the event brings has its sizes
 abbrev pub IsSizedEvent : Setup → Event → Type 0
@@ -103,4 +120,6 @@ IsSizedEvent setup (Frame bytes) = IsSized (heard_of setup.plan.controller bytes
 IsSizedEvent setup Tick = ⊤
 IsSizedEvent setup (Give slot subslot value) = ⊤
 IsSizedEvent setup (Status slot subslot is_good) = ⊤
+IsSizedEvent setup (Read slot subslot index) = ⊤
+IsSizedEvent setup (Write slot subslot index octets) = ⊤
 IsSizedEvent setup Stop = ⊤

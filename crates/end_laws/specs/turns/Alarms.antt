@@ -7,20 +7,23 @@ use Rattle.pn_alarms.specs.declared.message.Notice.TheVariants as notice
 use Rattle.pn_alarms.specs.declared.pdu.Header.{Header}
 use Rattle.pn_alarms.specs.declared.pdu.PduType.{PduType}
 use Rattle.pn_alarms.specs.declared.pdu.PduType.TheVariants as pdu
+use Rattle.pn_alarms.specs.declared.priority.Priority.TheVariants.{High}
 use Rattle.pn_alarms.specs.declared.sender.Alarm.{Alarm}
 use Rattle.pn_alarms.specs.Device.{end_behind, end_later, end_raised, idle}
 use Rattle.pn_alarms.specs.Ends.{DeviceEnd}
 use Rattle.pn_alarms.specs.Numbers.{send_number}
 use Rattle.pn_alarms.specs.Receiver.{taken_as}
+use Rattle.pn_alarms.specs.Report.{ours}
 use Rattle.pn_alarms.specs.Sender.{notified}
 use Rattle.pn_alarms.specs.Sending.{due}
 use Rattle.codec_laws.specs.alarms.Line.{Line, empty, with_come, with_sent}
 use Rattle.codec_laws.specs.alarms.World.{IsPrefixOf, acks_after, line_after}
+use Rattle.controller_frames.specs.declared.record_request.RecordService.TheVariants as service
 use Rattle.controller_frames.specs.declared.setup.Setup.{Setup}
 use Rattle.controller_frames.specs.Heard.{Heard, Alarms}
 use Rattle.controller_frames.specs.Sent.{Sent, Confirms, Replies}
 use Rattle.controller_core.specs.Alarms.{is_alarm, kept_alarm}
-use Rattle.controller_core.specs.Machine.{Turn, alarmed, first, given, rated, stays, stopped, ticked, turned}
+use Rattle.controller_core.specs.Machine.{Turn, alarmed, first, given, rated, requested, stays, stopped, ticked, turned, written}
 use Rattle.controller_core.specs.State.{Live}
 
 -- The device's end; the state of the controller; the alarms: those that were raised, each PDU of one that the device's
@@ -36,7 +39,8 @@ pub record Relation : Type 0 where
 -- What may happen: the device raises an alarm; a unit passes at its end; the message at this position, of all that the
 -- controller ever sent, arrives at it; the data, or the ACK, at this position, of all that it ever sent, arrives at the
 -- controller in a frame of this station with these endpoints; anything else is received by the controller, also an ERR
--- or a NACK; a unit passes at the controller; or its application sets an output or its status, or stops it.
+-- or a NACK; a unit passes at the controller; or its application sets an output or its status, reads or writes a record, or
+-- stops it.
 pub data Move : Type 0 where
   Raises : (alarm : Alarm) → Move
   PassesAtDevice : Move
@@ -47,6 +51,8 @@ pub data Move : Type 0 where
   PassesAtController : Move
   Gives : (slot subslot : ℕ) → (value : List ℕ) → Move
   GivesStatus : (slot subslot : ℕ) → (is_good : Bool) → Move
+  Reads : (slot subslot index : ℕ) → Move
+  Writes : (slot subslot index : ℕ) → (octets : List ℕ) → Move
   Stops : Move
 
 -- ---- at the device
@@ -69,8 +75,8 @@ passed_at_device r = record r {
   alarms = line_after r.alarms (send_number r.device.sender.sending.last) r.device.sender.standing (due r.device.sender.sending);
 }
 
--- A message of the controller arrives: an AlarmAck, which is answered if it is accepted now or was before, an ACK or a
--- NACK. Its other messages do not concern alarms.
+-- A message of the controller arrives: an AlarmAck of high priority, which is answered if it is accepted now or was before,
+-- an ACK or a NACK. Its other messages do not concern alarms of the device, whose priority is high.
 abbrev pub replied_by : Relation → Header → PduType → Relation
 replied_by r header pdu.Ack = record r { device = end_behind r.device (notice.Ack header.ack_number) }
 replied_by r header pdu.Nack = record r { device = end_behind r.device notice.Nack }
@@ -78,11 +84,11 @@ replied_by r header pdu.Data = r
 replied_by r header pdu.Error = r
 
 abbrev pub comes_to_device : Relation → Option Sent → Relation
-comes_to_device r (Some (Confirms route header ack)) = record r {
+comes_to_device r (Some (Confirms route High header ack)) = record r {
   device = end_behind r.device (notice.Data header.send_number ack);
   acks = acks_after r.acks header.send_number (taken_as r.device.seen header.send_number);
 }
-comes_to_device r (Some (Replies route header)) = replied_by r header header.kind
+comes_to_device r (Some (Replies route priority header)) = replied_by r header header.kind
 comes_to_device r (Some _) = r
 comes_to_device r None = r
 
@@ -97,21 +103,22 @@ turns r turn = record r { live = turn.live; reported = r.reported ++ turn.sent }
 abbrev pub is_looked_at : Relation → Mac → Header → Bool
 is_looked_at r source header = r.live.stands && is_alarm r.live.cyclic.route source header
 
--- An alarm arrives, which is accepted if its number is the expected one; or an ACK arrives.
+-- An alarm of the device arrives, which is accepted if its number is the expected one; or an ACK arrives. Both are of high
+-- priority.
 abbrev pub alarm_comes : Relation → Mac → Header → Option (ℕ × AlarmNotification) → Relation
-alarm_comes r source header (Some came) = record (turns r (alarmed r.live source header (notice.Data came.0 came.1))) {
+alarm_comes r source header (Some came) = record (turns r (alarmed r.live source High header (notice.Data came.0 (ours came.1)))) {
   alarms = if is_looked_at r source header then with_come r.alarms r.live.alarms.seen came else r.alarms;
 }
 alarm_comes r source header None = r
 
 abbrev pub ack_comes : Relation → Mac → Header → Option ℕ → Relation
-ack_comes r source header (Some number) = turns r (alarmed r.live source header (notice.Ack number))
+ack_comes r source header (Some number) = turns r (alarmed r.live source High header (notice.Ack number))
 ack_comes r source header None = r
 
 -- Anything else is received.
 abbrev pub hears : Setup → Relation → Heard → Relation
-hears setup r (Alarms source header (notice.Data number alarm)) = r
-hears setup r (Alarms source header (notice.Ack number)) = r
+hears setup r (Alarms source under header (notice.Data number report)) = r
+hears setup r (Alarms source under header (notice.Ack number)) = r
 hears setup r heard = turns r (turned setup r.live heard)
 
 -- ----
@@ -127,6 +134,8 @@ behind_one setup r (Hears heard) = hears setup r heard
 behind_one setup r PassesAtController = turns r (ticked r.live)
 behind_one setup r (Gives slot subslot value) = turns r (stays (given r.live slot subslot value))
 behind_one setup r (GivesStatus slot subslot is_good) = turns r (stays (rated r.live slot subslot is_good))
+behind_one setup r (Reads slot subslot index) = turns r (requested setup r.live service.Read slot subslot index [])
+behind_one setup r (Writes slot subslot index octets) = turns r (written setup r.live slot subslot index octets)
 behind_one setup r Stops = turns r (stopped setup r.live r.live.phase)
 
 abbrev pub behind : Setup → List Move → Relation → Relation

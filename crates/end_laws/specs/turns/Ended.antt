@@ -10,7 +10,7 @@ use Rattle.controller_frames.specs.declared.refusal.Refusal.{Refusal}
 use Rattle.controller_frames.specs.Heard.{Heard, Refuses, Responds, heard_of}
 use Rattle.controller_frames.specs.Sent.{Requests, bytes_of}
 use Rattle.controller_core.specs.declared.event.Event.{Event}
-use Rattle.controller_core.specs.declared.event.Event.TheVariants.{Frame, Tick, Give, Status, Stop}
+use Rattle.controller_core.specs.declared.event.Event.TheVariants.{Frame, Tick, Give, Status, Read, Write, Stop}
 use Rattle.controller_core.specs.declared.state.Cause.{Cause}
 use Rattle.controller_core.specs.declared.state.Cause.TheVariants as why
 use Rattle.controller_core.specs.declared.state.State.TheVariants.{Ended}
@@ -62,8 +62,8 @@ pub record IsRefused (setup : Setup) (live : Live) (heard : Heard) : Type 0 wher
 abbrev pub IsReleased : Setup → Live → Heard → Type 0
 IsReleased setup live heard = IsAnswered setup live heard ⊎ IsRefused setup live heard
 
--- What comes is dropped: a frame, except that a Release that is answered is no longer active; a stop; and an output or its
--- status, which is sent to nobody.
+-- What comes is dropped: a frame, except that a Release that is answered is no longer active; a request of the application
+-- for a record; a stop; and an output or its status, which is sent to nobody.
 abbrev pub IsOnlySet : Live → Live → Type 0
 IsOnlySet before after = after ≡ record before { cyclic = record before.cyclic { shown = after.cyclic.shown }; outputs = after.outputs }
 
@@ -73,6 +73,8 @@ IsDropped setup (Frame bytes) before after =
 IsDropped setup Tick before after = ⊥
 IsDropped setup (Give slot subslot value) before after = IsOnlySet before after
 IsDropped setup (Status slot subslot is_good) before after = IsOnlySet before after
+IsDropped setup (Read slot subslot index) before after = after ≡ before
+IsDropped setup (Write slot subslot index octets) before after = after ≡ before
 IsDropped setup Stop before after = after ≡ before
 
 -- Whether an event is a unit of time.

@@ -1,5 +1,5 @@
 -- Each turn of a controller is of one of these kinds: its next state, what it sends, and when it makes such a turn.
-use Rattle.std.specs.Prelude.{◌≡◌, ◌⊎◌, ◌+◌, ◌∷◌, [], ℕ, Bool, true, false, List, option_and_then, Option, Some, None}
+use Rattle.std.specs.Prelude.{◌≡◌, ◌⊎◌, ◌+◌, ◌≤◌, ◌∷◌, [], ℕ, Bool, true, false, List, length, option_and_then, Option, Some, None}
 use Rattle.pn_values.specs.declared.mac.Mac.{Mac}
 use Rattle.frame_codec.specs.declared.udp.Caller.{Caller}
 use Rattle.dcp_core.specs.Response.{Answered}
@@ -7,40 +7,48 @@ use Rattle.rpc_core.specs.declared.response.Status.{Status}
 use Rattle.rpc_core.specs.Call.{Asked as Call}
 use Rattle.rpc_core.specs.Response.{Answered as Response, is_done}
 use Rattle.connect_blocks.specs.declared.control.ControlBlock.{ControlBlock}
-use Rattle.record_blocks.specs.declared.alarm_notification.AlarmNotification.{AlarmNotification}
 use Rattle.pn_alarms.specs.declared.abort.Abort.{Abort}
 use Rattle.pn_alarms.specs.declared.message.Notice.TheVariants as notice
 use Rattle.pn_alarms.specs.declared.pdu.Header.{Header}
-use Rattle.pn_alarms.specs.Controller.{with_ack}
+use Rattle.pn_alarms.specs.declared.priority.Priority.{Priority}
+use Rattle.pn_alarms.specs.declared.report.Report.{Report}
 use Rattle.pn_alarms.specs.Receiver.{taken_as}
+use Rattle.pn_alarms.specs.Sending.{due}
+use Rattle.pn_alarms.specs.Sending.{is_again as is_repeated}
 use Rattle.cyclic_exchange.specs.Opening.{begun_of}
 use Rattle.cyclic_exchange.specs.Received.{behind_frame}
+use Rattle.controller_frames.specs.declared.record_request.RecordRequest.{RecordRequest}
+use Rattle.controller_frames.specs.declared.record_request.RecordService.TheVariants as service
 use Rattle.controller_frames.specs.declared.setup.Setup.{Setup}
 use Rattle.controller_frames.specs.declared.request.Request.{Request}
 use Rattle.controller_frames.specs.declared.request.Request.TheVariants as asks
 use Rattle.controller_frames.specs.Heard.{Heard, Answers, Responds, Calls, Alarms, heard_of}
+use Rattle.controller_frames.specs.RecordRequests.{most_record_octets}
 use Rattle.controller_frames.specs.Requests.{writing_from}
 use Rattle.controller_frames.specs.Sent.{Agrees, ready_answer}
 use Rattle.controller_core.specs.declared.event.Event.{Event}
-use Rattle.controller_core.specs.declared.event.Event.TheVariants.{Frame, Tick, Give, Status as Rate, Stop}
+use Rattle.controller_core.specs.declared.event.Event.TheVariants.{Frame, Tick, Give, Status as Rate, Read, Write, Stop}
 use Rattle.controller_core.specs.declared.state.Cause.{Cause}
 use Rattle.controller_core.specs.declared.state.State.TheVariants.{Looking, Addressing, Connecting, Ending, Waiting, Exchanging, Ended}
 use Rattle.controller_core.specs.declared.state.RefusedRecord.{RefusedRecord}
 use Rattle.controller_core.specs.State.{Live}
+use Rattle.controller_core.specs.Access.{Accessing, call_number}
 use Rattle.controller_core.specs.Answers.{is_answer, is_ready}
 use Rattle.controller_core.specs.Connect.{Chosen, chosen_of, found_in, nothing}
-use Rattle.controller_core.specs.Machine.{Turn, asking, behind_data, brought, due_frames, ended_by, flow_later, given, is_again, later, noted, over, rated, ready_in, released, requests_of, standing, stays, stopped, taken, ticked, turned, where_due, writing}
+use Rattle.controller_core.specs.Machine.{Turn, accessing, acked_under, asking, behind_ack, behind_data, brought, due_frames, end_of, ended_by, flow_later, given, is_again, later, noted, over, rated, ready_in, released, requested, requests_of, standing, stays, stopped, taken, ticked, turned, where_due, writing, written}
 use Rattle.end_laws.specs.turns.Ended.{IsReleased, may_release}
 
 -- ---- what comes
 
--- A frame is received, with any octets; a unit passes; an output is set, or its status; or the application stops the
--- controller.
+-- A frame is received, with any octets; a unit passes; an output is set, or its status; the application asks for a record,
+-- or for the write of one; or it stops the controller.
 pub data Came : Type 0 where
   Hears : (heard : Heard) → Came
   Passes : Came
   Gets : (slot subslot : ℕ) → (value : List ℕ) → Came
   GetsStatus : (slot subslot : ℕ) → (is_good : Bool) → Came
+  AsksRead : (slot subslot index : ℕ) → Came
+  AsksWrite : (slot subslot index : ℕ) → (octets : List ℕ) → Came
   Halts : Came
 
 abbrev pub came_by : Setup → Event → Came
@@ -48,6 +56,8 @@ came_by setup (Frame bytes) = Hears (heard_of setup.plan.controller bytes.items)
 came_by setup Tick = Passes
 came_by setup (Give slot subslot value) = Gets slot subslot value.items
 came_by setup (Rate slot subslot is_good) = GetsStatus slot subslot is_good
+came_by setup (Read slot subslot index) = AsksRead slot subslot index
+came_by setup (Write slot subslot index octets) = AsksWrite slot subslot index octets.items
 came_by setup Stop = Halts
 
 abbrev pub turn_for : Setup → Live → Came → Turn
@@ -55,6 +65,8 @@ turn_for setup live (Hears heard) = turned setup live heard
 turn_for setup live Passes = ticked live
 turn_for setup live (Gets slot subslot value) = stays (given live slot subslot value)
 turn_for setup live (GetsStatus slot subslot is_good) = stays (rated live slot subslot is_good)
+turn_for setup live (AsksRead slot subslot index) = requested setup live service.Read slot subslot index []
+turn_for setup live (AsksWrite slot subslot index octets) = written setup live slot subslot index octets
 turn_for setup live Halts = stopped setup live live.phase
 
 -- ---- a complete end
@@ -65,11 +77,12 @@ IsReported cause None = Unit {0}
 IsReported cause (Some (asks.Release sequence)) = may_release cause ≡ true
 IsReported cause (Some _) = ⊥
 
--- It ended, its relation is over, and no request is active except its Release.
+-- It ended, its relation is over, and no request is active except its Release, also none of the application.
 pub record IsEnd (cause : Cause) (live : Live) : Type 0 where
   pub phase : live.phase ≡ Ended cause
   pub down : live.stands ≡ false
   pub asked : IsReported cause live.asked
+  pub idle : live.access.waiting ≡ None
 
 -- It did not reach such an end.
 abbrev pub IsGoing : Live → Type 0
@@ -82,8 +95,9 @@ IsGoing live = (cause : Cause) → IsEnd cause live → ⊥
 -- relation is established with what the device chose, and the first record is written; the record after this one is
 -- written, because this one was accepted, or although it was refused; the controller waits for ApplicationReady; a Release
 -- is no longer active; ApplicationReady is answered, and data is exchanged from then on, or was before; a cyclic frame is
--- received; an alarm is received, or the ACK of an AlarmAck; an output is set, or its status; a unit of the relation
--- passes, or ends it, or a unit passes without a relation.
+-- received; an alarm is received, or the ACK of an AlarmAck of a priority; an output is set, or its status; the application
+-- reads or writes a record, or its request is answered; a unit of the relation passes, or ends it, or a unit passes without
+-- a relation.
 pub data Kind : Type 0 where
   Rests : Kind
   Connects : (source : Mac) → Kind
@@ -98,10 +112,12 @@ pub data Kind : Type 0 where
   Begins : (caller : Caller) → (call : Call) → (block : ControlBlock) → Kind
   Repeats : (caller : Caller) → (call : Call) → (block : ControlBlock) → Kind
   Follows : (source : Mac) → (frame_id : ℕ) → (body : List ℕ) → Kind
-  Takes : (number : ℕ) → (alarm : AlarmNotification) → Kind
-  IsAcked : (number : ℕ) → Kind
+  Takes : (number : ℕ) → (report : Report) → Kind
+  IsAcked : (priority : Priority) → (number : ℕ) → Kind
   Gives : (slot subslot : ℕ) → (value : List ℕ) → Kind
   GivesStatus : (slot subslot : ℕ) → (is_good : Bool) → Kind
+  Asks : (request : RecordRequest) → (octets : List ℕ) → Kind
+  IsReplied : (refusal : Option Status) → (access : Accessing) → Kind
   Flows : Kind
   Breaks : (reason : Abort) → Kind
   Idles : Kind
@@ -124,11 +140,17 @@ turn_by setup live (Begins caller call block) = record {
 }
 turn_by setup live (Repeats caller call block) = record { live = live; sent = Agrees caller (ready_answer call block) ∷ [] }
 turn_by setup live (Follows source frame_id body) = stays (record live { cyclic = behind_frame live.cyclic source frame_id body })
-turn_by setup live (Takes number alarm) = taken (behind_data live number) alarm (taken_as live.alarms.seen number)
-turn_by setup live (IsAcked number) = stays (record live { alarms = with_ack live.alarms number })
+turn_by setup live (Takes number report) =
+    taken (behind_data live report.priority number) report (taken_as (end_of live report.priority).seen number)
+turn_by setup live (IsAcked priority number) = stays (behind_ack live priority number)
 turn_by setup live (Gives slot subslot value) = stays (given live slot subslot value)
 turn_by setup live (GivesStatus slot subslot is_good) = stays (rated live slot subslot is_good)
-turn_by setup live Flows = record { live = flow_later live; sent = due_frames (flow_later live) (brought live).is_alarm (is_again live) (brought live).is_cyclic }
+turn_by setup live (Asks request octets) = accessing request octets live
+turn_by setup live (IsReplied refusal access) = stays (record live { refusal = refusal; access = access })
+turn_by setup live Flows = record {
+  live = flow_later live;
+  sent = due_frames (flow_later live) (is_repeated (due live.alarms.sending)) (is_repeated (due live.low_alarms.sending)) (is_again live) (brought live).is_cyclic;
+}
 turn_by setup live (Breaks reason) = ended_by (flow_later live) reason
 turn_by setup live Idles = record { live = later live; sent = where_due (is_again live) (requests_of live.device live.asked) }
 
@@ -188,11 +210,17 @@ IsKind setup live came Forgets = (heard : Heard) × (came ≡ Hears heard) × Is
 IsKind setup live came (Begins caller call block) = ((live.phase ≡ Ending) ⊎ (live.phase ≡ Waiting)) × IsReadied setup came caller call block
 IsKind setup live came (Repeats caller call block) = (live.phase ≡ Exchanging) × IsReadied setup came caller call block
 IsKind setup live came (Follows source frame_id body) = live.stands ≡ true
-IsKind setup live came (Takes number alarm) =
-    (live.stands ≡ true) × (source : Mac) × (header : Header) × (came ≡ Hears (Alarms source header (notice.Data number alarm)))
-IsKind setup live came (IsAcked number) = (live.stands ≡ true) × (source : Mac) × (header : Header) × (came ≡ Hears (Alarms source header (notice.Ack number)))
+IsKind setup live came (Takes number report) =
+    (live.stands ≡ true) × (source : Mac) × (under : Priority) × (header : Header) × (came ≡ Hears (Alarms source under header (notice.Data number report)))
+IsKind setup live came (IsAcked priority number) =
+    (live.stands ≡ true) × (source : Mac) × (under : Priority) × (header : Header) × (came ≡ Hears (Alarms source under header (notice.Ack number)))
+    × (priority ≡ acked_under live under)
 IsKind setup live came (Gives slot subslot value) = came ≡ Gets slot subslot value
 IsKind setup live came (GivesStatus slot subslot is_good) = came ≡ GetsStatus slot subslot is_good
+IsKind setup live came (Asks request octets) =
+    (live.phase ≡ Exchanging) × (live.access.waiting ≡ None) × (request.sequence ≡ call_number setup.plan live.access.calls) × (length octets ≤ most_record_octets)
+IsKind setup live came (IsReplied refusal access) =
+    (live.asked ≡ None) × (access.waiting ≡ None) × (access.calls ≡ live.access.calls) × (request : RecordRequest) × (live.access.waiting ≡ Some request)
 IsKind setup live came Flows = (came ≡ Passes) × (live.stands ≡ true) × ((brought live).ending ≡ None)
 IsKind setup live came (Breaks reason) = (came ≡ Passes) × (live.stands ≡ true) × ((brought live).ending ≡ Some reason)
 IsKind setup live came Idles = (came ≡ Passes) × (live.stands ≡ false)

@@ -7,7 +7,7 @@ ghost use Rattle.controller_core.specs.declared.event.Event.{Event};
 ghost use Rattle.controller_core.specs.State.{Live};
 ghost use Rattle.controller_core.specs.Machine.{first, turn_of};
 ghost use Rattle.end_laws.specs.both.Small.{Seeking};
-ghost use Rattle.end_laws.specs.controller.Small.{GoesOn, IsInStep, said_in, small_of};
+ghost use Rattle.end_laws.specs.controller.Small.{GoesOn, IsSteady, said_in, small_of};
 
 use crate::turns::turns_are_of_a_kind;
 
@@ -15,10 +15,10 @@ use crate::turns::turns_are_of_a_kind;
 /// each step of a controller is specified.
 pub fn controller_goes_on()
     // A controller that was just made looks for the device.
-    ensures begins { (plan : Parts) → IsInStep plan (first plan).phase (first plan).asked × (small_of plan (first plan) ≡ Seeking) }
+    ensures begins { (plan : Parts) → IsSteady plan (first plan) × (small_of plan (first plan) ≡ Seeking) }
     // After any event, the state moves as that of the small machine does, and each message says to the device what it
     // may say then.
-    ensures goes_on { (setup : Setup) (live : Live) (event : Event) → IsInStep setup.plan live.phase live.asked
+    ensures goes_on { (setup : Setup) (live : Live) (event : Event) → IsSteady setup.plan live
         → GoesOn setup.plan (said_in setup (heard_of setup.plan.controller) event) live (turn_of setup live event) }
 {
     turns_are_of_a_kind();

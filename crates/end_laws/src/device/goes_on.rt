@@ -17,13 +17,13 @@ use records::refusals_are_not_done;
 /// A device refines its small machine, as far as a start-up is concerned. This is a law of the machine by which each
 /// step of a device is specified.
 pub fn device_goes_on()
-    // If each call is one of the start-up and each message that is sent is heard as it is meant, each step of a device
-    // is a step of the small machine, whatever the device hears and whatever the flash did.
+    // If each call is one of the start-up or of the application, and each message that is sent is heard as it is meant,
+    // each step of a device is a step of the small machine, whatever the device hears and whatever the flash did.
     ensures { (rules : Rules TakenRecord Request) (activity : List ℕ) (outcomes : List Outcome) (station : Station) (live : Live)
         (heard : Heard)
         → IsPlanned rules activity station.real heard
         → AllByRecursion (IsHeardAs rules station.identity) (heard_step outcomes station live heard).sent
-        → DeviceSteps rules (heard_as heard) (small_of activity live) (small_of activity (heard_step outcomes station live heard).live)
+        → DeviceSteps rules (heard_as rules.is_planned heard) (small_of activity live) (small_of activity (heard_step outcomes station live heard).live)
         (heard_step outcomes station live heard).frames }
 {
     device_turns();

@@ -16,7 +16,7 @@ use crate::device::turn::device_turns;
 /// A device sends only what it owes, as far as responses and ApplicationReady are concerned. This is a law of the
 /// machine by which each step of a device is specified.
 pub fn device_sends_what_it_owes()
-    // If each call that a device hears is one of the start-up, a response is to a call that it heard, or the one stored
+    // If each call that a device hears is one of the start-up or of the application, a response is to a call that it heard, or the one stored
     // for its activity, and ApplicationReady is of the relation that existed, whatever the flash did.
     ensures { (rules : Rules TakenRecord Request) (activity : List ℕ) (outcomes : List Outcome) (station : Station) (live : Live)
         (heard : Heard) → IsPlanned rules activity station.real heard

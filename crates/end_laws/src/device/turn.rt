@@ -14,7 +14,7 @@ ghost use Rattle.end_laws.specs.device.Turn.{IsRaise, Turn};
 /// is a law of the machine by which each step of a device is specified. The laws of start-up, of outputs and of alarms use
 /// it.
 pub fn device_turns()
-    // If each call that a device hears is one of the start-up: it does nothing, something that is no call, what the
+    // If each call that a device hears is one of the start-up or of the application: it does nothing, something that is no call, what the
     // response to ApplicationReady confirms, or what a call with this operation and this outcome does to the relation, or
     // it repeats a response; what its outputs and alarms depend on stays the same, or changes as a Connect, a cyclic frame,
     // an alarm frame, an alarm or a unit of time changes it; a response that is newly stored was sent now; and each message

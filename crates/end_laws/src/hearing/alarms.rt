@@ -1,5 +1,6 @@
 //! Alarm frames.
-ghost use Rattle.std.specs.Prelude.{◌≡◌, ◌<◌, ◌⊎◌, ℕ};
+ghost use Rattle.std.specs.Prelude.{◌≡◌, ◌<◌, ◌⊎◌, ℕ, false, nat_eq};
+ghost use Rattle.std.specs.Cmp.Lexicographic.{pointwise};
 ghost use Rattle.pn_values.specs.declared.identity.Identity.{Identity};
 ghost use Rattle.record_blocks.specs.declared.alarm_ack.AlarmAck.{AlarmAck};
 ghost use Rattle.record_blocks.specs.declared.alarm_notification.AlarmNotification.{AlarmNotification};
@@ -7,15 +8,18 @@ ghost use Rattle.pn_alarms.specs.declared.abort.Abort.{Abort};
 ghost use Rattle.pn_alarms.specs.declared.message.Notice.TheVariants as notice;
 ghost use Rattle.pn_alarms.specs.declared.pdu.Header.{Header};
 ghost use Rattle.pn_alarms.specs.declared.pdu.PduType.TheVariants as pdu;
+ghost use Rattle.pn_alarms.specs.declared.priority.Priority.{Priority};
+ghost use Rattle.pn_alarms.specs.declared.priority.Priority.TheVariants.{High, Low};
+ghost use Rattle.pn_alarms.specs.Report.{ours};
 ghost use Rattle.cyclic_exchange.specs.declared.route.Route.{Route};
 ghost use Rattle.relations.specs.exchange.Frames.{Notifies, Replies as Answers};
 ghost use Rattle.plans.specs.declared.parts.Controller.{Controller};
 ghost use Rattle.relations.specs.declared.farewell.Farewell.{Farewell};
 ghost use Rattle.relations.specs.Farewells.{said_by};
-ghost use Rattle.device_frames.specs.Heard.{Alarms, heard_of as device_hears};
+ghost use Rattle.device_frames.specs.Heard.{Alarms, Unreadable, heard_of as device_hears};
 ghost use Rattle.device_frames.specs.Sent.{Ends as Farewells, Exchanges, bytes_of as device_bytes};
 ghost use Rattle.controller_frames.specs.declared.setup.Setup.{Setup};
-ghost use Rattle.controller_frames.specs.Heard.{Alarms as Alarmed, heard_of as controller_hears};
+ghost use Rattle.controller_frames.specs.Heard.{Alarms as Alarmed, Nothing, heard_of as controller_hears};
 ghost use Rattle.controller_frames.specs.Sent.{Confirms, Ends, Replies, bytes_of as controller_bytes, end_pdu};
 ghost use Rattle.codec_laws.specs.frames.Sendable.{IsMac};
 ghost use Rattle.codec_laws.specs.alarms.Sendable.{IsHeader};
@@ -29,21 +33,22 @@ use codec_laws::{
 
 /// What the controller hears of an alarm, and of the reply to an AlarmAck. These are laws of the definitions.
 pub fn alarms_are_heard()
-    // The controller hears data with its number, and the alarm itself.
+    // The controller hears data with its number, and the alarm itself, as one of high priority with the
+    // UserStructureIdentifier 1.
     ensures alarm { (mine : Controller) (identity : Identity) (route : Route) (header : Header) (alarm : AlarmNotification)
         → IsDevice identity → IsRoute route → header.kind ≡ pdu.Data → IsHeader header → IsAlarm alarm
         → controller_hears mine (device_bytes identity (Exchanges route (Notifies header alarm)))
-        ≡ mine_hears mine route.partner (Alarmed identity.mac header (notice.Data header.send_number alarm)) }
+        ≡ mine_hears mine route.partner (Alarmed identity.mac High header (notice.Data header.send_number (ours alarm))) }
     // In an ACK the controller hears the number of the data that arrived.
     ensures ack { (mine : Controller) (identity : Identity) (route : Route) (header : Header)
         → IsDevice identity → IsRoute route → header.kind ≡ pdu.Ack → IsHeader header
         → controller_hears mine (device_bytes identity (Exchanges route (Answers header)))
-        ≡ mine_hears mine route.partner (Alarmed identity.mac header (notice.Ack header.ack_number)) }
+        ≡ mine_hears mine route.partner (Alarmed identity.mac High header (notice.Ack header.ack_number)) }
     // In a NACK the controller hears that data was refused.
     ensures nack { (mine : Controller) (identity : Identity) (route : Route) (header : Header)
         → IsDevice identity → IsRoute route → header.kind ≡ pdu.Nack → IsHeader header
         → controller_hears mine (device_bytes identity (Exchanges route (Answers header)))
-        ≡ mine_hears mine route.partner (Alarmed identity.mac header notice.Nack) }
+        ≡ mine_hears mine route.partner (Alarmed identity.mac High header notice.Nack) }
 {
     frames_are_read();
     pdus_are_read();
@@ -53,20 +58,29 @@ pub fn alarms_are_heard()
 
 /// What the device hears of an AlarmAck, and of the reply to an alarm. These are laws of the definitions.
 pub fn confirmations_are_heard()
-    // The device hears data with its number, and the AlarmAck itself.
+    // The device hears data of high priority with its number, and the AlarmAck itself.
     ensures confirms { (identity : Identity) (setup : Setup) (route : Route) (header : Header) (ack : AlarmAck)
         → IsSetup setup → IsRoute route → header.kind ≡ pdu.Data → IsHeader header → IsAck ack
-        → device_hears identity (comes (controller_bytes setup (Confirms route header ack)))
+        → device_hears identity (comes (controller_bytes setup (Confirms route High header ack)))
         ≡ own_hears identity route.partner (Alarms setup.plan.controller.mac header (notice.Data header.send_number ack)) }
-    // In an ACK the device hears the number of the alarm that arrived.
-    ensures ack { (identity : Identity) (setup : Setup) (route : Route) (header : Header)
+    // An AlarmAck of low priority the device finds unreadable.
+    ensures low { (identity : Identity) (setup : Setup) (route : Route) (header : Header) (ack : AlarmAck)
+        → IsSetup setup → IsRoute route → header.kind ≡ pdu.Data → IsHeader header → IsAck ack
+        → device_hears identity (comes (controller_bytes setup (Confirms route Low header ack)))
+        ≡ own_hears identity route.partner Unreadable }
+    // Of an AlarmAck of low priority that goes to another station a controller hears nothing.
+    ensures unheard { (mine : Controller) (setup : Setup) (route : Route) (header : Header) (ack : AlarmAck)
+        → IsSetup setup → IsRoute route → header.kind ≡ pdu.Data → pointwise nat_eq route.partner.octets mine.mac.octets ≡ false
+        → controller_hears mine (controller_bytes setup (Confirms route Low header ack)) ≡ Nothing }
+    // In an ACK of either priority the device hears the number of the alarm that arrived.
+    ensures ack { (identity : Identity) (setup : Setup) (route : Route) (priority : Priority) (header : Header)
         → IsSetup setup → IsRoute route → header.kind ≡ pdu.Ack → IsHeader header
-        → device_hears identity (comes (controller_bytes setup (Replies route header)))
+        → device_hears identity (comes (controller_bytes setup (Replies route priority header)))
         ≡ own_hears identity route.partner (Alarms setup.plan.controller.mac header (notice.Ack header.ack_number)) }
-    // In a NACK the device hears that data was refused.
-    ensures nack { (identity : Identity) (setup : Setup) (route : Route) (header : Header)
+    // In a NACK of either priority the device hears that data was refused.
+    ensures nack { (identity : Identity) (setup : Setup) (route : Route) (priority : Priority) (header : Header)
         → IsSetup setup → IsRoute route → header.kind ≡ pdu.Nack → IsHeader header
-        → device_hears identity (comes (controller_bytes setup (Replies route header)))
+        → device_hears identity (comes (controller_bytes setup (Replies route priority header)))
         ≡ own_hears identity route.partner (Alarms setup.plan.controller.mac header notice.Nack) }
 {
     frames_are_read();
@@ -86,7 +100,7 @@ pub fn ends_are_heard()
     ensures controller { (mine : Controller) (identity : Identity) (farewell : Farewell)
         → IsDevice identity → IsMac farewell.initiator → farewell.tag < 65536 → IsHeader (said_by farewell).header
         → controller_hears mine (device_bytes identity (Farewells farewell))
-        ≡ mine_hears mine farewell.initiator (Alarmed identity.mac (said_by farewell).header notice.Abort) }
+        ≡ mine_hears mine farewell.initiator (Alarmed identity.mac Low (said_by farewell).header notice.Abort) }
 {
     frames_are_read();
     pdus_are_read();

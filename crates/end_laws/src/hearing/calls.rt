@@ -14,15 +14,17 @@ ghost use Rattle.plans.specs.declared.parts.Controller.{Controller};
 ghost use Rattle.relations.specs.declared.ready.Ready.{Ready};
 ghost use Rattle.device_frames.specs.Heard.{Calls, Garbled, Responds, Unreadable, heard_of as device_hears};
 ghost use Rattle.device_frames.specs.Sent.{ready_frame, response_frame};
+ghost use Rattle.controller_frames.specs.declared.record_request.RecordRequest.{RecordRequest};
 ghost use Rattle.controller_frames.specs.declared.request.Request.{Request};
 ghost use Rattle.controller_frames.specs.declared.setup.Setup.{Setup};
 ghost use Rattle.controller_frames.specs.Heard.{Calls as Called, Nothing, Responds as Responded, heard_of as controller_hears};
+ghost use Rattle.controller_frames.specs.RecordRequests.{record_call};
 ghost use Rattle.controller_frames.specs.Requests.{call_for};
 ghost use Rattle.controller_frames.specs.Sent.{answer_frame, call_frame, calls_at, ready_answer};
 ghost use Rattle.codec_laws.specs.frames.Sendable.{IsMac, IsTag, carrying};
 ghost use Rattle.rpc_core.specs.Sendable.{CanBeAnswered, CanBeCalled, IsHeader, IsUuid};
 ghost use Rattle.end_laws.specs.hearing.Hearing.{IsUncalled, IsUnreported, comes, mine_reported, own_reported};
-ghost use Rattle.end_laws.specs.hearing.Stations.{IsAddress, IsCalled, IsCaller, IsDevice, IsNumbered, IsSetup, ready_call};
+ghost use Rattle.end_laws.specs.hearing.Stations.{IsAddress, IsCalled, IsCaller, IsDevice, IsNumbered, IsRecordCall, IsSetup, ready_call};
 
 use codec_laws::{blocks_are_read, frames_are_read};
 use controller_frames::calls_are_no_refusals;
@@ -35,6 +37,9 @@ pub fn calls_can_be_sent()
     // Each call of a controller for its plan can be sent: its header and its blocks fit.
     ensures call { (setup : Setup) (request : Request) → IsSetup setup → IsCalled request → IsNumbered request →
         CanBeCalled devices (call_for setup request) }
+    // Each call for a request of the application can be sent.
+    ensures record_call { (setup : Setup) (request : RecordRequest) (octets : List ℕ) → IsSetup setup → IsRecordCall request octets →
+        CanBeCalled devices (record_call setup request octets) }
     // ApplicationReady can be sent: it has one block, which fits.
     ensures ready { (ready : Ready) → IsHeader ready.header → ready.header.interface ≡ interface_uuid controllers →
         IsUuid ready.block.ar_uuid

@@ -12,8 +12,8 @@ pub fn ended_is_kept()
     ensures release { RepeatsItsRelease }
     // A controller that ended for another cause than modules that differ or a stop by the application sends nothing.
     ensures silent { IsSilent }
-    // For an event other than a unit of time no frame is sent. It changes nothing, except that the response to the
-    // active Release ends that, and that an output is stored.
+    // For an event other than a unit of time no frame is sent, also if the application asks for a record. It changes
+    // nothing, except that the response to the active Release ends that, and that an output is stored.
     ensures dropped { DropsWhatComes }
     // A unit is counted, and the active Release is sent when the units since it was last sent reach 32,000.
     ensures units { CountsUnits }

@@ -1,47 +1,40 @@
--- The controller of the plan is made by a call, and then written into the memory. There it is lent for the call that
--- starts it, and comes back.
-use Rattle.std.proofs.Common.{◌≡◌, ℕ, List, [], ◌∷◌, true, refl, ap, ◌∙◌, MutBor}
+-- The controller of the plan is made by a call, and then written into the memory.
+use Rattle.std.proofs.Common.{◌≡◌, ℕ, List, [], ◌∷◌, true, refl}
 use Rattle.std.proofs.raw_atomic.Walks.{proved}
 use base.Fraction.{full_share}
 use base.Logic.{ent, id⊢, ex, sep}
-use base.Fml.{ftrue, feq, flft, flent}
+use base.Fml.{ftrue, flft}
 use mir.Syntax.{named}
-use mir.Val.{Val, vunit, vptr}
+use mir.Val.{Val, vunit}
 use contract.Monad.{fact, fact_i}
 use contract.Running.{tables}
 use prog.Wp.{WpFn}
-use types.Kit.{‵, raw, ◌⊛◌, some, later, prop, at_ret, ◌$◌, ◌∵◌, !, qed, done, move, drop, use0, use1, use2, use3, split, join, fsplit, feq_i, feq_l, pick, await, regoal, suffices, group, show}
-use types.Run.{enter, of_opd, addr, stop, unit_lit, init, no_more, and_then, assigns_last, first, blocks, exec, returns}
-use types.ByLocal.{alloc_all, pass_all, free_all, look_at, get, through, sets, sets_last, lands_as, env}
-use types.SemTy.{Body}
-use types.Tokens.{lft_new, lft_end}
+use types.Kit.{‵, raw, ◌⊛◌, some, later, prop, at_ret, ◌$◌, ◌∵◌, !, qed, done, move, drop, use0, use1, use2, split, join, fsplit, feq_i, pick, await, regoal, suffices, group, show}
+use types.Run.{enter, of_opd, stop, unit_lit, init, no_more, and_then, assigns_last, first, blocks, exec, returns}
+use types.ByLocal.{alloc_all, pass_all, free_all, look_at, get, through, sets, lands_as, env}
 use denote.Array.{Array}
 use denote.Builtin.{u8}
 use denote.Exit.{yes}
 use denote.Laws.{shows}
-use denote.Lend.{lends_ref, ref_back}
-use denote.Memory.{mem, part_at}
+use denote.Memory.{part_at}
 use denote.RattleType.{RattleType, owns, flat}
 use denote.RawPtr.{Ptr, RawPtr, block_ptr, in_a_block, lies_at, room_at, rawptr_vals, rawptr_Tells}
-use denote.Ref.{MutRef, ShrRef, mut_vals, shr_vals, shr_Tells}
+use denote.Ref.{ShrRef, shr_vals, shr_Tells}
 use denote.Signature.{plain, shr_ref_to}
-use denote.Steps.{nothing, heard, only, peeks}
+use denote.Steps.{nothing, heard, peeks}
 use denote.Triple.Call.{calls_at}
 use denote.Triple.Clauses.{lasts}
 use denote.Triple.Spec.{triple_of}
 use denote.Triple.Table.{framed}
 use denote.Triple.Walked.{Stays, walk_of, says, stay_dropped, Goes-dropped, ends_at}
 use borrow.Table.OneValue.{part_in}
-use Rattle.station.specs.Served.{begun}
 use Rattle.controller_abi.specs.Plans.{is_plan, parts_of}
-use Rattle.controller_abi.specs.State.{State, opened}
+use Rattle.controller_abi.specs.State.{State}
 use Rattle.controller_abi.specs.contracts.plan.WrittenPlan.{the_row as S}
 use Rattle.controller_abi.specs.contracts.port.Port.{the_row as R}
 use Rattle.controller_abi.proofs.port.Port.TheLaws.{the_row_laws as port_laws}
 use Rattle.controller_abi.specs.contracts.unstarted as g
 use Rattle.controller_abi.proofs.unstarted.Met.{met}
-use Rattle.controller_abi.specs.contracts.start as h
-use Rattle.controller_abi.proofs.start.Met.{met as start_met}
 use Rattle.nandutable_controller.specs.contracts.pn_controller_put as f
 use Rattle.nandutable_controller.proofs.pn_controller_put.Statement.{statement}
 use Rattle.nandutable_controller.proofs.pn_controller_put.Code as code
@@ -71,10 +64,8 @@ pn_controller_put_spec 𝓤 𝓛 𝓜 𝓡 wired =
     let Params = RawPtr ∷ ShrRef (named 0) κ S ∷ ShrRef (named 1) η Number ∷ ShrRef (named 2) θ Number ∷ [] in
     let Tokens = ‵ (flft κ qs.0) ⊛ (‵ (flft η qs.1.0) ⊛ (‵ (flft θ qs.1.1.0) ⊛ ‵ ftrue)) in
     let IsUnstarted : State → Type 0 = λ port. port.controller.setup ≡ record { plan = parts_of plan.now; ar = ar.now; activity = activity.now } in
-    let IsStarted : State → State → Type 0 = λ old new. new ≡ opened (begun old.controller.setup.plan old.controller.setup.ar old.controller.setup.activity) in
-    let IsMade : State → Type 0 = λ port. port ≡ opened (begun (parts_of plan.now) ar.now activity.now) in
-    let Reported = λ (b o : ℕ) (port : State). sep 𝓤 (types.Logic.sem 𝓛 (lies_at R full_share (block_ptr b o) port)) (fact 𝓤 (IsMade port)) in
-    let reported : (b o : ℕ) (port : State) → IsMade port → ent 𝓤 (types.Logic.sem 𝓛 (lies_at R full_share (block_ptr b o) port)) (ex 𝓤 (Reported b o)) = λ b o port made.
+    let Reported = λ (b o : ℕ) (port : State). sep 𝓤 (types.Logic.sem 𝓛 (lies_at R full_share (block_ptr b o) port)) (fact 𝓤 (IsUnstarted port)) in
+    let reported : (b o : ℕ) (port : State) → IsUnstarted port → ent 𝓤 (types.Logic.sem 𝓛 (lies_at R full_share (block_ptr b o) port)) (ex 𝓤 (Reported b o)) = λ b o port made.
     qed 𝓛 (‵ (lies_at R full_share (block_ptr b o) port) ∷ []) ∵ show ! (Reported b o) port $ says ! made $ done ! in
     qed 𝓛 ((Tokens ⊛ ‵ (owns Params a (vals a.0))) ∷ (‵ (room_at R a.0) ⊛ raw (fact 𝓤 (is_plan plan.now ≡ true))) ∷ []) ∵
     split ! $ move ! (1 ∷ []) $ fsplit ! $ drop ! $ fsplit ! $ move ! (1 ∷ []) $ fsplit ! $ move ! (1 ∷ []) $ fsplit ! $ move ! (1 ∷ []) $ drop !
@@ -84,10 +75,6 @@ pn_controller_put_spec 𝓤 𝓛 𝓜 𝓡 wired =
     regoal ! (λ p. prop (WpFn 𝓤 𝓛.H 𝓣.C 𝓣.Λ code.function (flat Params (vals p)) (W.post (y p)))) e refl $
     enter ! _ _ _ _ _ $ alloc_all ! (λ l. pass_all ! refl ((tt, tt), ((tt, tt), ((tt, tt), ((tt, tt), tt)))) $
     first ! $ blocks ! $
-    sets ! (of_opd ! (get ! refl)) refl (tt, tt) $
-    sets ! (of_opd ! (get ! refl)) refl (tt, tt) $
-    sets ! (of_opd ! (get ! refl)) refl (tt, tt) $
-    sets ! (of_opd ! (get ! refl)) refl (tt, tt) $
     sets ! (of_opd ! (get ! refl)) refl (tt, tt) $
     let G = triple_of 𝓛 g.signature (g.spec 𝓛 𝓜.mem 𝓡.returns) in
     let z : G.Ghost = (((κ, (η, (θ, tt))), (qs.0, (qs.1.0, (qs.1.1.0, tt))), tt, (plan, (ar, (activity, tt))), (shr_vals plan, (shr_vals ar, (shr_vals activity, tt)))), tt) in
@@ -106,34 +93,9 @@ pn_controller_put_spec 𝓤 𝓛 𝓜 𝓡 wired =
     exec ! 𝓣.C 𝓣.Λ (env code.Mir.locals l) code.Mir.t-2 (at_ret (env code.Mir.locals l) (W.post (y (block_ptr b o)))) $
     move ! (2 ∷ 0 ∷ []) $ use2 𝓛 (‵ (part_at R full_share port b o)) (part_in 𝓛 R refl full_share port b o v) $
     -- [the port in the memory; the tokens]
-    first ! $ blocks ! $
-    sets ! (of_opd ! (get ! refl)) refl (tt, tt) $
-    sets ! (of_opd ! (get ! refl)) refl (tt, tt) $
-    sets_last ! (addr ! (through ! refl (stop !))) refl (tt, tt) $
-    exec ! 𝓣.C 𝓣.Λ (env code.Mir.locals l) code.Mir.t-3 (at_ret (env code.Mir.locals l) (W.post (y (block_ptr b o)))) $
-    sets ! (of_opd ! (get ! refl)) refl (tt, tt) $
-    lft_new ! tt (λ α. move ! (1 ∷ []) $
-    use1 𝓛 (later (some (λ (γ : ℕ). ‵ ((MutRef (named 0) (α ∷ []) R).own_val (record { ref_ptr = (b, o); ghost_name = γ; now = port }) (vptr b o ∷ [])) ⊛ ‵ (flent (α ∷ []) (Body (mem R) b o γ)))))
-    (lends_ref 𝓛 R (named 0) (α ∷ []) port b o) $ await ! tt $ pick ! (λ γ. split ! $
-    -- [the loan; what the lender keeps; its token; the tokens]
-    let H = triple_of 𝓛 h.signature (h.spec 𝓛 𝓜.mem 𝓡.returns) in
-    let loan : MutBor State = record { ref_ptr = (b, o); ghost_name = γ; now = port } in
-    let x : H.Ghost = (((α ∷ [], tt), (full_share, tt), tt, (loan, tt), (mut_vals loan, tt)), tt) in
-    nothing ! $ move ! (1 ∷ 0 ∷ []) $ join ! $ nothing ! $ move ! (3 ∷ 0 ∷ []) $ join ! $ join ! $ nothing ! $ move ! (1 ∷ 0 ∷ []) $ use2 𝓛 (raw (H.pre x)) (id⊢ 𝓤 _) $
-    calls_at ! (framed 𝓤 𝓛.H 𝓜 𝓣) H (start_met 𝓤 𝓛 𝓜 𝓡 (code.calls-controller_abi::start 𝓡.env wired)) x (and_then ! (get ! refl) (no_more !)) (λ u.
-    use1 𝓛 (later (some (λ (r : Unit {0}). ((‵ (flft (α ∷ []) full_share) ⊛ ‵ ftrue) ⊛ ‵ (feq (List Val) (u ∷ []) (vunit ∷ []))) ⊛
-    some (λ (now : State × Unit {0}). ‵ (lasts h.ended x.0.0 x.0.3 now) ⊛ raw (fact 𝓤 (IsStarted port now.0)))))) (id⊢ 𝓤 _) $
-    await ! tt $ pick ! (λ r. split ! $ split ! $ split ! $ lft_end ! tt $
-    -- [that its lifetime is over; true; the result; the last value; what the lender keeps; the tokens]
-    move ! (1 ∷ []) $ drop ! $ move ! (1 ∷ []) $ feq_l ! (λ unit. lands_as ! (ap only unit) refl (tt, tt) $
-    move ! (1 ∷ []) $ pick ! (λ now. split ! $ move ! (1 ∷ []) $ heard ! _ (λ started. fsplit ! $ fsplit ! $
-    -- [the last value; its borrow; true; the lifetime is over; what the lender keeps; the tokens]
-    move ! (3 ∷ 4 ∷ 0 ∷ []) $ use3 𝓛 (later (‵ (part_at R full_share now.0 b o))) (ref_back 𝓛 R (α ∷ []) γ now.0 b o) $ await ! tt $
-    move ! (1 ∷ []) $ drop ! $ move ! (1 ∷ []) $ drop ! $
-    -- [the port in the memory; the tokens]
     sets ! (of_opd ! (unit_lit !)) refl (tt, tt) $
     returns ! (look_at ! 0 refl) $ free_all ! refl $
-    use1 𝓛 (raw (ex 𝓤 (Reported b o))) (reported b o now.0 (started ∙ ap (λ s. opened (begun s.plan s.ar s.activity)) made)) $
+    use1 𝓛 (raw (ex 𝓤 (Reported b o))) (reported b o port made) $
     -- [the facts of the memory; the tokens]
     suffices ! _ (ends_at 𝓛 f.ended stayed c (y (block_ptr b o)) vunit tt (tt, (tt, (tt, (tt, tt)))) (tt, (tt, (tt, (tt, tt))))) $
-    feq_i ! _ (vunit ∷ []) _ refl $ nothing ! $ nothing ! $ join ! $ nothing ! $ join ! $ nothing ! $ join ! $ nothing ! $ join ! $ move ! (3 ∷ 0 ∷ 1 ∷ 2 ∷ []) $ group ! 3 $ done !))))))))))))))))
+    feq_i ! _ (vunit ∷ []) _ refl $ nothing ! $ nothing ! $ join ! $ nothing ! $ join ! $ nothing ! $ join ! $ nothing ! $ join ! $ move ! (3 ∷ 0 ∷ 1 ∷ 2 ∷ []) $ group ! 3 $ done !)))))))))

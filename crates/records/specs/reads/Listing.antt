@@ -1,7 +1,9 @@
 -- The records that list what a device consists of, from the whole device down to one submodule (IEC 61158-6-10, 5.2.3):
--- RealIdentificationData, APIData, and the diagnosis of each level.
+-- RealIdentificationData, APIData, the diagnosis of each level, and the records of a relation.
 use Rattle.std.specs.Prelude.{◌==◌, ◌&&◌, ◌||◌, ◌+◌, ◌/◌, ◌%◌, ◌++◌, ℕ, Bool, true, false, not, List, [], ◌∷◌, length, Option, Some, None, Result, Ok, if◌then◌else◌}
 use Rattle.std.specs.List.{list_any}
+use Rattle.wire.specs.Checks.{or_fault}
+use Rattle.wire.specs.Codec.{◌>>=◌}
 use Rattle.wire.specs.Formats.{big_bytes}
 use Rattle.pn_values.specs.declared.real.Real.{Real}
 use Rattle.pn_values.specs.declared.real.RealModule.{RealModule}
@@ -16,7 +18,7 @@ use Rattle.im_records.specs.Records.{is_real}
 use Rattle.records.specs.declared.status.call_fault.CallFault.{CallFault}
 use Rattle.records.specs.declared.status.call_fault.CallFault.TheVariants as fault
 use Rattle.records.specs.declared.reads.listing.Listing.{Listing}
-use Rattle.records.specs.declared.reads.listing.Listing.TheVariants.{Identification, Apis, Diagnosis}
+use Rattle.records.specs.declared.reads.listing.Listing.TheVariants.{Identification, Apis, Diagnosis, Expected, Found}
 use Rattle.records.specs.declared.reads.listing.Level.{Level}
 use Rattle.records.specs.declared.reads.listing.Level.TheVariants.{Subslot, Slot, Relation, Device}
 use Rattle.records.specs.calls.Handled.{handled}
@@ -47,29 +49,33 @@ kind_of index =
     else if index == 0xC001 then Some Identification
     else if index == 0xF000 then Some Identification
     else if index == 0xF821 then Some Apis
+    else if index == 0x8000 then Some Expected
+    else if index == 0xC000 then Some Expected
+    else if index == 0xE000 then Some Expected
+    else if index == 0xE001 then Some Found
     else if is_diagnosis index then Some Diagnosis
     else None
 
 -- ---- the octets
 
--- Whether a module belongs to what is asked for.
-abbrev pub has_module : Level → ℕ → RealModule → Bool
-has_module Subslot slot entry = entry.slot == slot
-has_module Slot slot entry = entry.slot == slot
-has_module Relation slot entry = true
-has_module Device slot entry = true
+-- Whether a module in a slot belongs to what is asked for.
+abbrev pub covers_slot : Level → ℕ → ℕ → Bool
+covers_slot Subslot asked slot = slot == asked
+covers_slot Slot asked slot = slot == asked
+covers_slot Relation asked slot = true
+covers_slot Device asked slot = true
 
--- Whether a submodule of such a module belongs to it.
-abbrev pub has_submodule : Level → ℕ → RealSubmodule → Bool
-has_submodule Subslot subslot part = part.subslot == subslot
-has_submodule Slot subslot part = true
-has_submodule Relation subslot part = true
-has_submodule Device subslot part = true
+-- Whether a submodule in a subslot of such a module belongs to it.
+abbrev pub covers_subslot : Level → ℕ → ℕ → Bool
+covers_subslot Subslot asked subslot = subslot == asked
+covers_subslot Slot asked subslot = true
+covers_subslot Relation asked subslot = true
+covers_subslot Device asked subslot = true
 
 -- The entries of the submodules that are asked for.
 abbrev pub parts_at : Level → ℕ → List RealSubmodule → List FilterSubmodule
 parts_at level subslot [] = []
-parts_at level subslot (part ∷ parts) = if has_submodule level subslot part then part_of part ∷ parts_at level subslot parts else parts_at level subslot parts
+parts_at level subslot (part ∷ parts) = if covers_subslot level subslot part.subslot then part_of part ∷ parts_at level subslot parts else parts_at level subslot parts
 
 -- The entry of a module: a module without submodules has one too.
 abbrev pub entry_of : RealModule → ℕ → FilterModule
@@ -79,14 +85,14 @@ entry_of entry count = record { slot_number = entry.slot; module_ident_number = 
 abbrev pub modules_at : Level → ℕ → ℕ → List RealModule → List FilterModule
 modules_at level slot subslot [] = []
 modules_at level slot subslot (entry ∷ entries) =
-    if has_module level slot entry then entry_of entry (length (parts_at level subslot entry.submodules.items)) ∷ modules_at level slot subslot entries
+    if covers_slot level slot entry.slot then entry_of entry (length (parts_at level subslot entry.submodules.items)) ∷ modules_at level slot subslot entries
     else modules_at level slot subslot entries
 
 -- The entries of their submodules.
 abbrev pub submodules_at : Level → ℕ → ℕ → List RealModule → List FilterSubmodule
 submodules_at level slot subslot [] = []
 submodules_at level slot subslot (entry ∷ entries) =
-    if has_module level slot entry then parts_at level subslot entry.submodules.items ++ submodules_at level slot subslot entries
+    if covers_slot level slot entry.slot then parts_at level subslot entry.submodules.items ++ submodules_at level slot subslot entries
     else submodules_at level slot subslot entries
 
 -- What is plugged, of what is asked for, in API 0.
@@ -96,20 +102,24 @@ plugged_of real level slot subslot = record {
   modules = record { modules = modules_at level slot subslot real.modules.items; submodules = submodules_at level slot subslot real.modules.items };
 }
 
--- RealIdentificationData: BlockType 0x0013, BlockLength, version 1.1, and the same fields as an I&M0FilterData.
-unfoldable pub identification_bytes : ImFilterData → List ℕ
-identification_bytes value =
-    big_bytes 2 0x0013 ++ big_bytes 2 (2 + filter_data.size value) ++ (1 ∷ 1 ∷ []) ++ filter_data.write value []
+-- ExpectedIdentificationData or RealIdentificationData: BlockType, BlockLength, version 1.1, and the same fields as an
+-- I&M0FilterData.
+unfoldable pub identification_bytes : ℕ → ImFilterData → List ℕ
+identification_bytes type value =
+    big_bytes 2 type ++ big_bytes 2 (2 + filter_data.size value) ++ (1 ∷ 1 ∷ []) ++ filter_data.write value []
 
 -- APIData: BlockType 0x001A, BlockLength 8, version 1.0, NumberOfAPIs 1, API 0.
 unfoldable pub api_bytes : List ℕ
 api_bytes = 0x00 ∷ 0x1A ∷ 0x00 ∷ 0x08 ∷ 0x01 ∷ 0x00 ∷ 0x00 ∷ 0x01 ∷ 0x00 ∷ 0x00 ∷ 0x00 ∷ 0x00 ∷ []
 
--- The octets of a record. No diagnosis exists, so its records are empty.
-abbrev pub octets_of : Real → Level → ℕ → ℕ → Listing → List ℕ
-octets_of real level slot subslot Identification = identification_bytes (plugged_of real level slot subslot)
-octets_of real level slot subslot Apis = api_bytes
-octets_of real level slot subslot Diagnosis = []
+-- The octets of a record, if there is one at its place. No diagnosis exists, so its records are empty. A record of the
+-- relation is what the relation has there.
+abbrev pub octets_of : Real → Option (List ℕ) → Level → ℕ → ℕ → Listing → Option (List ℕ)
+octets_of real own level slot subslot Identification = Some (identification_bytes 0x0013 (plugged_of real level slot subslot))
+octets_of real own level slot subslot Apis = Some api_bytes
+octets_of real own level slot subslot Diagnosis = Some []
+octets_of real own level slot subslot Expected = own
+octets_of real own level slot subslot Found = own
 
 -- ---- the order of the checks
 
@@ -127,14 +137,16 @@ is_of_relation Slot = false
 is_of_relation Relation = true
 is_of_relation Device = false
 
--- The response to a request for a record of this kind and level. `is_within` says whether it is read within the relation.
-unfoldable pub listed_at : Bool → Real → IodReadReq → Level → Listing → Result (List ℕ) CallFault
-listed_at is_within real request level kind = handled
+-- The response to a request for a record of this kind and level. `is_within` says whether it is read within the relation,
+-- and `own` is the record as the relation has it.
+unfoldable pub listed_at : Bool → Real → Option (List ℕ) → IodReadReq → Level → Listing → Result (List ℕ) CallFault
+listed_at is_within real own request level kind = handled
     ((not (request.header.api == 0), fault.Api)
     ∷ (not (is_there real level request.header.slot_number request.header.subslot_number), fault.Place)
     ∷ (is_of_relation level && not is_within, fault.Index)
     ∷ [])
-    (Ok (answer_of request (octets_of real level request.header.slot_number request.header.subslot_number kind)))
+    (or_fault fault.Index (octets_of real own level request.header.slot_number request.header.subslot_number kind))
+    >>= λ octets. Ok (answer_of request octets)
 
 -- What a request asks for, if it is a record of this page: its level and its kind. A parameter record with such an index
 -- stays what it is.
@@ -150,9 +162,9 @@ listing_of real request =
     (level_of request.header.index) (kind_of request.header.index)
 
 -- The response to a request: a record of this page, or another one, which is `readable` if there is one.
-abbrev pub served_by : Bool → Real → IodReadReq → Option (Level × Listing) → Option (List ℕ) → Result (List ℕ) CallFault
-served_by is_within real request (Some x) readable = listed_at is_within real request x.0 x.1
-served_by is_within real request None readable = read_of real request readable
+abbrev pub served_by : Bool → Real → Option (List ℕ) → IodReadReq → Option (Level × Listing) → Option (List ℕ) → Result (List ℕ) CallFault
+served_by is_within real own request (Some x) readable = listed_at is_within real own request x.0 x.1
+served_by is_within real own request None readable = read_of real request readable
 
-unfoldable pub served : Bool → Real → IodReadReq → Option (List ℕ) → Result (List ℕ) CallFault
-served is_within real request readable = served_by is_within real request (listing_of real request) readable
+unfoldable pub served : Bool → Real → Option (List ℕ) → IodReadReq → Option (List ℕ) → Result (List ℕ) CallFault
+served is_within real own request readable = served_by is_within real own request (listing_of real request) readable

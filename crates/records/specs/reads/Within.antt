@@ -1,5 +1,5 @@
 -- Read: a record is read within a relation.
-use Rattle.std.specs.Prelude.{ℕ, Bool, true, false, List, Option, Some, Result, Ok, Err, if◌then◌else◌}
+use Rattle.std.specs.Prelude.{ℕ, Bool, false, List, Option, Some, Result, Ok, Err, if◌then◌else◌}
 use Rattle.pn_values.specs.declared.identity.Identity.{Identity}
 use Rattle.pn_values.specs.declared.real.Real.{Real}
 use Rattle.pn_values.specs.declared.settings.Settings.{Settings}
@@ -10,7 +10,6 @@ use Rattle.im_records.specs.Records.{record_of}
 use Rattle.records.specs.declared.status.call_fault.CallFault.{CallFault}
 use Rattle.records.specs.calls.Naming.{in_relation, is_relation}
 use Rattle.records.specs.reads.Handled.{request_of}
-use Rattle.records.specs.reads.Listing.{served}
 
 -- The record that a request names if the ModuleDiffBlock of the relation is `differing`: that block exists at each place,
 -- and the other records are those of a Read Implicit.
@@ -22,11 +21,6 @@ record_within differing request identity real settings =
 -- The IODReadReqHeader of a call while this relation is active; ARUUID is checked directly after the block.
 unfoldable pub request_within : Option (List ℕ) → List ℕ → Result IodReadReq CallFault
 request_within standing blocks = request_of blocks >>= λ request. in_relation standing request.header.ar_uuid >>= λ _. Ok request
-
--- The blocks of the response to a call while this relation is active, or why it is refused.
-unfoldable pub relation_read : Option (List ℕ) → List ℕ → Identity → Real → Settings → List ℕ → Result (List ℕ) CallFault
-relation_read standing differing identity real settings blocks =
-    request_within standing blocks >>= λ request. served true real request (record_within differing request identity real settings)
 
 -- Whether the IODReadReqHeader of a call names the active relation.
 abbrev pub is_named : Option (List ℕ) → Result IodReadReq CallFault → Bool

@@ -28,7 +28,7 @@ pub fn read_implicit(
 {
     let request = read_request(blocks)?;
     match listing_of(real, &request) {
-        Some((level, kind)) => serve_listing(false, real, &request, level, kind, answer),
+        Some(listing) => serve_listing(false, real, None, &request, listing, answer),
         None => serve(identity, real, settings, &request, answer),
     }
 }

@@ -1,12 +1,13 @@
 //! The records that list what a device consists of, from the whole device down to one submodule (IEC 61158-6-10, 5.2.3).
-//! A new one is named by `kind_of`, and its octets by `octets_of`.
-ghost use Rattle.std.specs.Prelude.{◌≡◌, ◌==◌, ◌+◌, ◌≤◌, ◌++◌, [], length, IfErr, IfOk, Err, Ok};
+//! A new one is named by `kind_of`, and its octets by `octets_of`, or, if they are the relation's, by whoever knows the
+//! relation.
+ghost use Rattle.std.specs.Prelude.{◌≡◌, ◌==◌, ◌+◌, ◌*◌, ◌≤◌, ◌++◌, [], length, IfErr, IfOk, IfSome, Err, Ok};
 ghost use Rattle.std.specs.List.{list_any};
 ghost use Rattle.std.specs.Option.{option_map};
 ghost use Rattle.arrayvec.specs.ArrayVec.{array_vec_len};
 ghost use Rattle.record_blocks.specs.FilterData.{filter_data};
-ghost use Rattle.records.specs.reads.Listing.{api_bytes, has_module, has_submodule, identification_bytes, is_diagnosis, is_of_relation};
-ghost use Rattle.records.specs.reads.Listing.{is_there, kind_of, level_of, listed_at, listing_of, modules_at, octets_of};
+ghost use Rattle.records.specs.reads.Listing.{api_bytes, covers_slot, covers_subslot, identification_bytes, is_diagnosis};
+ghost use Rattle.records.specs.reads.Listing.{is_of_relation, is_there, kind_of, level_of, listed_at, listing_of, modules_at};
 ghost use Rattle.records.specs.reads.Listing.{parts_at, plugged_of, submodules_at};
 
 use crate::CallFault;
@@ -22,18 +23,22 @@ use wire::{append, append_u16};
 
 /// What a record lists.
 #[derive(Clone, Copy, Debug, PartialEq, Eq)]
-pub(crate) enum Listing {
+pub enum Listing {
     /// RealIdentificationData: the modules and submodules that are plugged.
     Identification,
     /// APIData: the APIs of the device.
     Apis,
     /// Diagnosis, of which there is none.
     Diagnosis,
+    /// ExpectedIdentificationData: the modules and submodules that the relation expects.
+    Expected,
+    /// RealIdentificationData: the modules and submodules that are plugged where the relation expects some.
+    Found,
 }
 
 /// The part of the device that a record lists.
 #[derive(Clone, Copy, Debug, PartialEq, Eq)]
-pub(crate) enum Level {
+pub enum Level {
     /// One submodule.
     Subslot,
     /// One slot, for any subslot.
@@ -59,22 +64,22 @@ impl Level {
         }
     }
 
-    /// Whether a module belongs to what is asked for.
-    fn has_module(self, slot: u16, entry: &RealModule) -> bool
-        ensures { result ≡ has_module self slot entry.now }
+    /// Whether a module in a slot belongs to what is asked for, which is `asked` if it is a slot or a submodule.
+    pub fn covers_slot(self, asked: u16, slot: u16) -> bool
+        ensures { result ≡ covers_slot self asked slot }
     {
         match self {
-            Level::Subslot | Level::Slot => entry.slot == slot,
+            Level::Subslot | Level::Slot => slot == asked,
             Level::Relation | Level::Device => true,
         }
     }
 
-    /// Whether a submodule of such a module belongs to it.
-    fn has_submodule(self, subslot: u16, part: &RealSubmodule) -> bool
-        ensures { result ≡ has_submodule self subslot part.now }
+    /// Whether a submodule in a subslot of such a module belongs to it, which is `asked` if it is a submodule.
+    pub fn covers_subslot(self, asked: u16, subslot: u16) -> bool
+        ensures { result ≡ covers_subslot self asked subslot }
     {
         match self {
-            Level::Subslot => part.subslot == subslot,
+            Level::Subslot => subslot == asked,
             Level::Slot | Level::Relation | Level::Device => true,
         }
     }
@@ -130,6 +135,8 @@ fn kind_of(index: u16) -> Option<Listing>
     match index {
         0x8001 | 0xC001 | 0xF000 => Some(Listing::Identification),
         0xF821 => Some(Listing::Apis),
+        0x8000 | 0xC000 | 0xE000 => Some(Listing::Expected),
+        0xE001 => Some(Listing::Found),
         _ if is_diagnosis(index) => Some(Listing::Diagnosis),
         _ => None,
     }
@@ -138,7 +145,7 @@ fn kind_of(index: u16) -> Option<Listing>
 /// What a request asks for, if it is a record of this page: its level and its kind. A parameter record with such an index
 /// stays what it is.
 #[tactic(auto, unfolding(crate::specs::reads::Listing::listing_of))]
-pub(crate) fn listing_of(real: &Real, request: &IodReadReq) -> Option<(Level, Listing)>
+pub fn listing_of(real: &Real, request: &IodReadReq) -> Option<(Level, Listing)>
     ensures { result ≡ listing_of real.now request.now }
 {
     let (slot, subslot) = (request.header.slot_number, request.header.subslot_number);
@@ -166,7 +173,7 @@ fn push_parts(
 {
     let before = entries.len();
     for part in parts {
-        if level.has_submodule(subslot, part) {
+        if level.covers_subslot(subslot, part.subslot) {
             entries.push(FilterSubmodule {
                 subslot_number: part.subslot,
                 submodule_ident_number: part.ident,
@@ -193,7 +200,7 @@ fn push_all(
     ensures few_submodules { length submodules.new.items ≤ 64 }
 {
     for entry in real.modules.as_slice() {
-        if level.has_module(slot, entry) {
+        if level.covers_slot(slot, entry.slot) {
             let parts = entry.submodules.as_slice();
             let count = push_parts(submodules, level, subslot, parts);
             modules.push(FilterModule {
@@ -205,11 +212,27 @@ fn push_all(
     }
 }
 
+/// Appends ExpectedIdentificationData, of type 0x0012, or RealIdentificationData, of type 0x0013. There must be room.
+#[tactic(auto, unfolding(crate::specs::reads::Listing::identification_bytes))]
+pub fn put_identification<const N: usize>(
+    out: &mut ArrayVec<u8, N>,
+    block_type: u16,
+    listed: &ImFilterData,
+)
+    requires { array_vec_len out.old + 14 + 8 * length listed.now.modules.modules + 6 * length listed.now.modules.submodules ≤ N }
+    ensures { out.new.items ≡ out.old.items ++ identification_bytes block_type listed.now }
+{
+    let size = filter_data_len(listed);
+    append_u16(out, block_type);
+    append_u16(out, 2 + size as u16);
+    append(out, &[1, 1]);
+    put_filter_data(out, listed);
+}
+
 /// RealIdentificationData of what is asked for. Its lists take four thousand octets of stack, so it is a function of its own.
 #[inline(never)]
-#[tactic(auto, unfolding(crate::specs::reads::Listing::identification_bytes))]
 fn identification_of(real: &Real, level: Level, slot: u16, subslot: u16) -> ArrayVec<u8, 1024>
-    ensures { result.items ≡ identification_bytes (plugged_of real.now level slot subslot) }
+    ensures { result.items ≡ identification_bytes 0x0013 (plugged_of real.now level slot subslot) }
 {
     let mut modules = ArrayVec::new();
     let mut submodules = ArrayVec::new();
@@ -218,31 +241,30 @@ fn identification_of(real: &Real, level: Level, slot: u16, subslot: u16) -> Arra
         api: 0,
         modules: FilterModules::lent(&modules, &submodules),
     };
-    let size = filter_data_len(&plugged);
     let mut out = ArrayVec::new();
-    append_u16(&mut out, 0x0013);
-    append_u16(&mut out, 2 + size as u16);
-    append(&mut out, &[1, 1]);
-    put_filter_data(&mut out, &plugged);
+    put_identification(&mut out, 0x0013, &plugged);
     out
 }
 
 /// Puts the response to a request for a record of this kind and level into an empty list, or returns why it is refused.
-/// `is_within` says whether it is read within the relation.
+/// `is_within` says whether it is read within the relation, and `own` is the record as the relation has it.
 #[tactic(auto, unfolding(crate::specs::reads::Listing::listed_at, crate::specs::reads::Listing::api_bytes))]
-pub(crate) fn serve_listing(
+pub fn serve_listing(
     is_within: bool,
     real: &Real,
+    own: Option<&[u8]>,
     request: &IodReadReq,
-    level: Level,
-    kind: Listing,
+    listing: (Level, Listing),
     answer: &mut Blocks,
 ) -> Result<(), CallFault>
     requires empty { answer.old.items ≡ [] }
-    ensures done { IfOk result (λ _. listed_at is_within real.now request.now level kind ≡ Ok answer.new.items) }
-    ensures refused { IfErr result (λ fault. (listed_at is_within real.now request.now level kind ≡ Err fault)
-        × (answer.new.items ≡ [])) }
+    requires room { IfSome own (λ octets. length octets.now ≤ 1308) }
+    ensures done { IfOk result (λ _. listed_at is_within real.now (option_map (λ octets. octets.now) own.entry) request.now listing.0
+        listing.1 ≡ Ok answer.new.items) }
+    ensures refused { IfErr result (λ fault. (listed_at is_within real.now (option_map (λ octets. octets.now) own.entry) request.now
+        listing.0 listing.1 ≡ Err fault) × (answer.new.items ≡ [])) }
 {
+    let (level, kind) = listing;
     let (slot, subslot) = (request.header.slot_number, request.header.subslot_number);
     if request.header.api != 0 {
         return Err(CallFault::Api);
@@ -264,6 +286,10 @@ pub(crate) fn serve_listing(
             &[0x00, 0x1A, 0x00, 0x08, 0x01, 0x00, 0x00, 0x01, 0, 0, 0, 0],
         ),
         Listing::Diagnosis => put_read_answer(answer, request, &[]),
+        Listing::Expected | Listing::Found => match own {
+            Some(octets) => put_read_answer(answer, request, octets),
+            None => return Err(CallFault::Index),
+        },
     }
     Ok(())
 }

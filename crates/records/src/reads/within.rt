@@ -2,11 +2,10 @@
 ghost use Rattle.std.specs.Prelude.{◌≡◌, ◌≤◌, [], length, IfErr, IfOk, Err, Ok};
 ghost use Rattle.std.specs.Option.{option_map};
 ghost use Rattle.records.specs.reads.Handled.{read_of};
-ghost use Rattle.records.specs.reads.Within.{record_within, relation_read, request_within};
+ghost use Rattle.records.specs.reads.Within.{record_within, request_within};
 
 use crate::reads::answering::put_read_answer;
 use crate::reads::judging::{check_place, read_request};
-use crate::reads::listing::{listing_of, serve_listing};
 use crate::reads::serving::{Blocks, serve};
 use crate::{CallFault, check_relation};
 use block_codec::IodReadReq;
@@ -14,39 +13,10 @@ use block_fields::Uuid;
 use im_records::is_module_diff;
 use pn_values::{Identity, Real, Settings};
 
-/// Serves a Read of the controller. `standing` is the ARUUID of the active relation, if there is one. Puts the blocks of
-/// the response into `answer`, which must be empty, or returns why the call is refused. The first fault in the order of
-/// the checks is reported. Besides the records of a Read Implicit it serves the ModuleDiffBlock of the relation, which is
-/// `differing`: it is empty if nothing differs.
-#[tactic(auto, unfolding(crate::specs::reads::Within::relation_read, crate::specs::reads::Listing::served))]
-pub fn read_within(
-    standing: Option<&Uuid>,
-    differing: &[u8],
-    identity: &Identity,
-    real: &Real,
-    settings: &Settings,
-    blocks: &[u8],
-    answer: &mut Blocks,
-) -> Result<(), CallFault>
-    requires empty { answer.old.items ≡ [] }
-    requires room { length differing.now ≤ 1308 }
-    // If the call succeeds, `answer` holds the response that the definition `relation_read` gives.
-    ensures done { IfOk result (λ _. relation_read (option_map (λ uuid. uuid.now) standing.entry) differing.now identity.now real.now
-        settings.now blocks.now ≡ Ok answer.new.items) }
-    // If the call is refused, the fault is the one that `relation_read` gives, and `answer` is empty.
-    ensures refused { IfErr result (λ fault. (relation_read (option_map (λ uuid. uuid.now) standing.entry) differing.now identity.now
-        real.now settings.now blocks.now ≡ Err fault) × (answer.new.items ≡ [])) }
-{
-    let request = request_within(standing, blocks)?;
-    match listing_of(real, &request) {
-        Some((level, kind)) => serve_listing(true, real, &request, level, kind, answer),
-        None => serve_within(differing, identity, real, settings, &request, answer),
-    }
-}
-
-/// Reads the IODReadReqHeader of a call, and checks that it names the active relation.
+/// Reads the IODReadReqHeader of a Read of the controller, and checks that it names the active relation. `standing` is the
+/// ARUUID of that, if there is one.
 #[tactic(auto, unfolding(crate::specs::reads::Within::request_within))]
-fn request_within(standing: Option<&Uuid>, blocks: &[u8]) -> Result<IodReadReq, CallFault>
+pub fn request_within(standing: Option<&Uuid>, blocks: &[u8]) -> Result<IodReadReq, CallFault>
     ensures { result ≡ request_within (option_map (λ uuid. uuid.now) standing.entry) blocks.now }
 {
     let request = read_request(blocks)?;
@@ -55,10 +25,11 @@ fn request_within(standing: Option<&Uuid>, blocks: &[u8]) -> Result<IodReadReq, 
     Ok(request)
 }
 
-/// Puts the response to a request within the relation into an empty list, or returns why it is refused. `differing` is
-/// the ModuleDiffBlock of the relation.
+/// Puts the response to a request within the relation into an empty list, or returns why it is refused. The request is for
+/// no record of a listing. Besides the records of a Read Implicit there is the ModuleDiffBlock of the relation, which is
+/// `differing`: it is empty if nothing differs.
 #[tactic(auto, unfolding(crate::specs::reads::Handled::read_of))]
-fn serve_within(
+pub fn serve_within(
     differing: &[u8],
     identity: &Identity,
     real: &Real,

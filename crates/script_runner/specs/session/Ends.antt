@@ -7,8 +7,16 @@ use Rattle.configurator.specs.declared.fault.PlanFault.TheVariants.{OutOfMemory}
 use Rattle.configurator.specs.Planned.{IsPlanOf, IsRefused}
 use Rattle.device_frames.specs.declared.event.Event.{Event}
 use Rattle.device_frames.specs.declared.event.Event.TheVariants as event
-use Rattle.device_core.specs.State.{Station as Device, Live}
-use Rattle.device_core.specs.Machine.{step_of}
+use Rattle.device_core.specs.State.{Station as Device, State, Live}
+use Rattle.flash_model.specs.declared.memory.MemoryFlash.{MemoryFlash}
+use Rattle.device_core.specs.Leaps.{live_due_in}
+use Rattle.device_core.specs.Machine.{Stepped, step_of}
+use Rattle.device_frames.specs.declared.note.Note.{Note}
+use Rattle.pn_values.specs.declared.settings.Settings.{Settings}
+use Rattle.services.specs.State as services
+use Rattle.services.specs.declared.announcement.Role.TheVariants as role
+use Rattle.station.specs.Beside.{beside}
+use Rattle.station.specs.Leaps.{due_beside}
 use Rattle.controller_core.specs.declared.event.Event.{Event as ControllerEvent}
 use Rattle.controller_core.specs.declared.event.Event.TheVariants as heard
 use Rattle.controller_core.specs.State.{Controlling}
@@ -19,19 +27,56 @@ use Rattle.script_lines.specs.declared.command.Choice.{Choice}
 use Rattle.script_lines.specs.declared.command.Choice.TheVariants.{InputsBad, ReadyLater, Interval}
 use Rattle.script_lines.specs.Text.{out_lines}
 
--- A device without its flash: what is fixed, and what changes.
+-- A device without its flash: what is fixed, and what changes; and the services beside it, once there are any.
 pub record Station : Type 0 where
   pub device : Device
   pub live : Live
+  pub services : Option services.State
 
--- The fixed part of the device stays.
-abbrev pub turned_to : Station → Live → Station
-turned_to station live = record { device = station.device; live = live }
+-- Services that begin beside a device with these running settings, or none.
+abbrev pub services_at : Bool → Device → Settings → Option services.State
+services_at true device running = Some (services.started role.Device device.identity.mac running.suite.address)
+services_at false device running = None
 
--- What is kept besides the device: the options of its next start, and the other end: the plan of the next controller, the
--- controller once there is one, and the frames that wait at either end, in order.
+-- A step of a station: the station after it, the frames that it sends, and its note.
+pub record Turned : Type 0 where
+  pub station : Station
+  pub frames : List (List ℕ)
+  pub note : Note
+
+-- A step of the device, and what the services do beside it. The fixed part of the device stays, and the services' frames
+-- follow the device's.
+abbrev pub turned : Option services.State → Device → Event → Stepped → Turned
+turned None device event step = record {
+  station = record { device = device; live = step.live; services = None };
+  frames = step.frames;
+  note = step.note;
+}
+turned (Some state) device event step =
+    let after = beside device.identity state step.live.values step.note event in
+    record {
+      station = record { device = device; live = step.live; services = Some after.services };
+      frames = step.frames ++ after.sent;
+      note = after.note;
+    }
+
+-- The number of units up to and with the next one that brings something to the station.
+abbrev pub due_with : Option services.State → Live → ℕ
+due_with None live = live_due_in live
+due_with (Some state) live = due_beside live state
+
+abbrev pub due_of : Station → ℕ
+due_of station = due_with station.services station.live
+
+-- A step of the station, whose flash never fails.
+abbrev pub station_step : Station → Event → Turned
+station_step station event = turned station.services station.device event (step_of [] station.device station.live event)
+
+-- What is kept besides the station: the options of its next start, whether services begin with that, and the other end: the
+-- plan of the next controller, the controller once there is one, and the frames that wait at either end, in order.
 pub record Other : Type 0 where
   pub options : DeviceOptions
+  pub serves : Bool
   pub plan : Option Parts
   pub controller : Option Controlling
   pub to_device : List (List ℕ)
@@ -62,11 +107,27 @@ KnowsTheRefusal = (plans : List ℕ → Option Parts) (catalogue : List ℕ) (fa
 
 -- The other end before a catalogue was read. All options have their defaults.
 abbrev pub nobody : Other
-nobody = record { options = default_options; plan = None; controller = None; to_device = []; to_controller = [] }
+nobody = record { options = default_options; serves = false; plan = None; controller = None; to_device = []; to_controller = [] }
 
 -- ---- events, one after another, and the frames that they send
 
--- A run of events at the device, whose flash never fails.
+-- A station with its flash.
+pub record Running : Type 0 where
+  pub flash : MemoryFlash 4096
+  pub station : Device
+  pub live : Live
+  pub services : Option services.State
+
+-- The station of a device that starts, with services that begin with it or without any.
+abbrev pub begun : Bool → State (MemoryFlash 4096) → Running
+begun serves device = record {
+  flash = device.flash;
+  station = device.station;
+  live = device.live;
+  services = services_at serves device.station device.live.values.running;
+}
+
+-- A run of events at the station, whose flash never fails.
 pub record DeviceRun : Type 0 where
   pub station : Station
   pub frames : List (List ℕ)
@@ -74,8 +135,8 @@ pub record DeviceRun : Type 0 where
 abbrev pub device_run : Station → List Event → DeviceRun
 device_run station [] = record { station = station; frames = [] }
 device_run station (event ∷ events) =
-    let step = step_of [] station.device station.live event in
-    let later = device_run (turned_to station step.live) events in
+    let step = station_step station event in
+    let later = device_run step.station events in
     record { station = later.station; frames = step.frames ++ later.frames }
 
 -- A run of events at the controller.
@@ -130,6 +191,10 @@ with_choice options (Interval units) = record options { smallest_interval = unit
 
 abbrev pub chosen : Other → Choice → Other
 chosen other choice = record other { options = with_choice other.options choice }
+
+-- Services begin with the next start.
+abbrev pub serving : Other → Other
+serving other = record other { serves = true }
 
 -- The other end without frames that wait.
 abbrev pub cleared : Other → Other

@@ -4,7 +4,7 @@ use Rattle.std.specs.Prelude.{◌≡◌, ℕ, Bool, true, false, List, [], ◌++
 use Rattle.flash_model.specs.declared.flash.Order.{Order}
 use Rattle.configurator.specs.declared.fault.PlanFault.{PlanFault}
 use Rattle.configurator.specs.declared.fault.PlanFault.TheVariants.{OutOfMemory}
-use Rattle.script_lines.specs.Line.{Command, Frame, Restart, Tick, Elapse, Show, Due, Choose, Ready, Arm, Input, Alarm, Status, Provider, Config, Start, Give, OutputStatus, Stop, Deliver, Line, Unfit, Skipped, Asks, Unknown}
+use Rattle.script_lines.specs.Line.{Command, Frame, Restart, Tick, Elapse, Show, Due, Choose, Ready, Arm, Input, Alarm, Status, Provider, Config, Start, Give, OutputStatus, Stop, Deliver, Serve, Line, Unfit, Skipped, Asks, Unknown}
 use Rattle.script_lines.specs.Text.{boot_line, lost_line, off_line}
 use Rattle.script_runner.specs.session.Ends.{Other, cleared}
 use Rattle.script_runner.specs.declared.session.power.Power.{Power}
@@ -27,7 +27,7 @@ PrintsOff text before now (Err fault) = fault ≡ OutOfMemory
 -- Power was switched on again, with the options that were set, no frame waits, and the result of the start is printed; or
 -- memory was refused.
 abbrev pub GivesBack : Held → Held → List ℕ → List ℕ → Result Bool PlanFault → Type 0
-GivesBack old new before now (Ok true) = IsBack old.other.options old.power new.power × (new.other ≡ cleared old.other) × (now ≡ before ++ boot_line (refusal_of new.power))
+GivesBack old new before now (Ok true) = IsBack old.other.options old.other.serves old.power new.power × (new.other ≡ cleared old.other) × (now ≡ before ++ boot_line (refusal_of new.power))
 GivesBack old new before now (Ok false) = ⊥
 GivesBack old new before now (Err fault) = fault ≡ OutOfMemory
 
@@ -66,6 +66,7 @@ hands (Give slot subslot bytes) = false
 hands (OutputStatus slot subslot is_good) = false
 hands Stop = false
 hands Deliver = true
+hands Serve = false
 
 -- A line that hands something to the device.
 abbrev pub is_handed : Line → Bool

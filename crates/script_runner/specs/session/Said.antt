@@ -12,34 +12,38 @@ use Rattle.plans.specs.declared.parts.Parts.{Parts}
 use Rattle.device_frames.specs.declared.event.Event.{Event}
 use Rattle.device_frames.specs.declared.event.Event.TheVariants as event
 use Rattle.device_frames.specs.declared.note.Note.TheVariants.{Done}
-use Rattle.device_core.specs.Machine.{Stepped, step_of}
 use Rattle.device_core.specs.Cycle.{started}
-use Rattle.device_core.specs.Leaps.{live_due_in}
 use Rattle.controller_core.specs.declared.event.Event.{Event as ControllerEvent}
 use Rattle.controller_core.specs.declared.event.Event.TheVariants as heard
 use Rattle.controller_core.specs.Machine.{step_of as controller_step}
 use Rattle.controller_core.specs.State.{Controlling}
 use Rattle.script_runner.specs.session.Demo.{demo_device}
-use Rattle.script_runner.specs.session.Ends.{Station, turned_to, Other, Network, DeviceRun, with_ends, arrived_at, chosen, cleared, device_run, frames_for_device, nobody, printed_for, ticked_by, with_fresh, with_plan, with_run, with_sent}
-use Rattle.script_lines.specs.Line.{Command, Frame, Restart, Tick, Elapse, Show, Due, Choose, Ready, Arm, Input, Alarm, Status, Provider, Config, Start, Give, OutputStatus, Stop, Deliver, Line, Unfit, Skipped, Asks, Unknown}
+use Rattle.script_runner.specs.session.Ends.{Station, Turned, due_of, serving, services_at, station_step, Other, Network, DeviceRun, with_ends, arrived_at, chosen, cleared, device_run, frames_for_device, nobody, printed_for, ticked_by, with_fresh, with_plan, with_run, with_sent}
+use Rattle.services.specs.State as services
+use Rattle.script_lines.specs.Line.{Command, Frame, Restart, Tick, Elapse, Show, Due, Choose, Ready, Arm, Input, Alarm, Status, Provider, Config, Start, Give, OutputStatus, Stop, Deliver, Serve, Line, Unfit, Skipped, Asks, Unknown}
 use Rattle.script_lines.specs.declared.command.Choice.{Choice}
 use Rattle.script_lines.specs.Show.{shown, outputs_shown, controller_shown, due_line, provider_line}
 use Rattle.script_lines.specs.Text.{boot_line, moved_line, note_line, printed}
 
--- The demo device, started with these options from these settings.
-abbrev pub demo_started : DeviceOptions → Settings → ℕ → Station
-demo_started options settings room = record { device = demo_device options; live = started settings room }
+-- The demo device, started with these options from these settings, with services that begin with it or without any.
+abbrev pub demo_started : DeviceOptions → Bool → Settings → ℕ → Station
+demo_started options serves settings room = record { device = demo_device options; live = started settings room; services = services_at serves (demo_device options) settings }
+
+-- Services beside the device, if there are none yet.
+abbrev pub served : Option services.State → Station → Station
+served None station = record station { services = services_at true station.device station.live.values.running }
+served (Some state) station = station
 
 -- Both ends after a line, and the text that the line prints.
 pub record Answer : Type 0 where
   pub network : Network
   pub text : List ℕ
 
--- The answer to a step of the device: a line for each frame that it sends, as long as there is no controller, and one for
--- its note.
-abbrev pub step_answer : Network → Stepped → Answer
+-- The answer to a step of the station: a line for each frame that it sends, as long as there is no controller, and one
+-- for its note.
+abbrev pub step_answer : Network → Turned → Answer
 step_answer network step = record {
-  network = with_ends (turned_to network.station step.live) (with_sent network.other step.frames);
+  network = with_ends step.station (with_sent network.other step.frames);
   text = printed_for network.other.controller step.frames ++ note_line step.note;
 }
 
@@ -48,13 +52,13 @@ abbrev pub handed : List ℕ → ArrayVec ℕ
 handed bytes = record { items = take 1519 bytes }
 
 abbrev pub event_answer : Network → Event → Answer
-event_answer network event = step_answer network (step_of [] network.station.device network.station.live event)
+event_answer network event = step_answer network (station_step network.station event)
 
 -- A restart starts the device from what is stored, with the options that were set; no frame waits afterwards, and the
--- controller is as it was.
+-- controller is as it was. Services that are on begin again.
 abbrev pub restart_answer : Network → Answer
 restart_answer network = record {
-  network = with_ends (demo_started network.other.options network.station.live.values.stored network.station.live.values.room) (cleared network.other);
+  network = with_ends (demo_started network.other.options network.other.serves network.station.live.values.stored network.station.live.values.room) (cleared network.other);
   text = boot_line None;
 }
 
@@ -76,9 +80,9 @@ show_answer network =
           ++ (outputs_shown network.station.device.real live.rest.link ++ controller_shown network.other.controller);
     }
 
--- The number of units up to and with the next one with which something happens at the device.
+-- The number of units up to and with the next one with which something happens at the station.
 abbrev pub due_answer : Network → Answer
-due_answer network = record { network = network; text = due_line (live_due_in network.station.live) }
+due_answer network = record { network = network; text = due_line (due_of network.station) }
 
 -- What the controller says of the output of a submodule in its last accepted frame.
 abbrev pub provider_answer : Network → ℕ → ℕ → Answer
@@ -91,6 +95,10 @@ choose_answer network choice = record { network = with_ends network.station (cho
 -- An order to the flash changes nothing at either end.
 abbrev pub unchanged : Network → Answer
 unchanged network = record { network = network; text = [] }
+
+-- The services beside the device are on, also after a restart, and nothing is printed.
+abbrev pub serve_answer : Network → Answer
+serve_answer network = record { network = with_ends (served network.station.services network.station) (serving network.other); text = [] }
 
 -- ---- lines that are valid only at some times
 
@@ -158,6 +166,7 @@ said plans network (Give slot subslot bytes) = heard_outcome network (heard.Give
 said plans network (OutputStatus slot subslot is_good) = heard_outcome network (heard.Status slot subslot is_good) network.other.controller
 said plans network Stop = heard_outcome network heard.Stop network.other.controller
 said plans network Deliver = deliver_outcome network network.other.controller
+said plans network Serve = Answers (serve_answer network)
 
 -- The outcome of a line.
 abbrev pub outcome_of : (List ℕ → Option Parts) → Network → Line → Outcome
@@ -187,6 +196,7 @@ arms (Give slot subslot bytes) = false
 arms (OutputStatus slot subslot is_good) = false
 arms Stop = false
 arms Deliver = false
+arms Serve = false
 
 -- A line that orders a failure of the flash.
 abbrev pub is_order : Line → Bool
@@ -197,7 +207,7 @@ is_order Unknown = false
 
 -- The demo device with the factory settings and all options at their defaults.
 abbrev pub factory_device : Station
-factory_device = demo_started default_options factory_settings (capacity 4096)
+factory_device = demo_started default_options false factory_settings (capacity 4096)
 
 abbrev pub alone : Network
 alone = with_ends factory_device nobody

@@ -1,16 +1,14 @@
 -- The effect of a line at both ends, and the text that it prints.
 use Rattle.std.specs.Prelude.{◌≡◌, ◌⊎◌, ℕ, Bool, true, false, List, ◌++◌, length, Option, Result, Ok, Err}
 use Rattle.arrayvec.specs.ArrayVec.{ArrayVec}
-use Rattle.flash_model.specs.declared.memory.MemoryFlash.{MemoryFlash}
 use Rattle.plans.specs.declared.parts.Parts.{Parts}
 use Rattle.configurator.specs.declared.fault.PlanFault.{PlanFault}
 use Rattle.configurator.specs.declared.fault.PlanFault.TheVariants.{OutOfMemory}
 use Rattle.configurator.specs.Planned.{IsRefused}
 use Rattle.device_frames.specs.declared.note.Note.{Note}
-use Rattle.device_core.specs.Machine.{Stepped}
-use Rattle.device_core.specs.State.{State}
+use Rattle.station.specs.State.{Frames, in_order}
 use Rattle.script_lines.specs.Line.{Config, Line, Asks}
-use Rattle.script_runner.specs.session.Ends.{DeviceRun, IsRightFor, Network, Other, Station, octets_of, printed_for, turned_to, with_sent}
+use Rattle.script_runner.specs.session.Ends.{DeviceRun, IsRightFor, Network, Other, Running, Turned, octets_of, printed_for, with_sent}
 use Rattle.script_runner.specs.session.Power.{Held, IsRunning, Runs}
 use Rattle.script_runner.specs.session.Said.{Answer, Outcome, Answers, Refuses, HasNoPlan, handed_over}
 
@@ -50,36 +48,41 @@ Obeys outcome held before now (Err fault) = (fault ≡ OutOfMemory) ⊎ IsWithou
 
 -- A step was made: the device runs on, the outbox holds the frames that it sends, and the note is the result of the
 -- event.
-pub record IsStepped (station : Station) (step : Stepped) (device : State (MemoryFlash 4096)) (outbox : ArrayVec (ArrayVec ℕ)) (note : Note) : Type 0 where
-  pub runs : Runs (turned_to station step.live) device
-  pub frames : octets_of outbox.items ≡ step.frames
+pub record IsStepped (step : Turned) (device : Running) (outbox : Frames) (note : Note) : Type 0 where
+  pub runs : Runs step.station device
+  pub frames : in_order outbox ≡ step.frames
   pub note_is : note ≡ step.note
 
+-- Several units of time passed at once: the device runs on, and the outbox holds the frames that it sends.
+pub record IsLeapt (run : DeviceRun) (device : Running) (outbox : Frames) : Type 0 where
+  pub runs : Runs run.station device
+  pub frames : in_order outbox ≡ run.frames
+
 -- A step was made: the device runs on, and the frames that it sent are rendered or wait.
-pub record IsTurned (station : Station) (step : Stepped) (device : State (MemoryFlash 4096)) (far other : Other) (before now : List ℕ) : Type 0 where
-  pub runs : Runs (turned_to station step.live) device
+pub record IsTurned (step : Turned) (device : Running) (far other : Other) (before now : List ℕ) : Type 0 where
+  pub runs : Runs step.station device
   pub waits : other ≡ with_sent far step.frames
   pub text : now ≡ before ++ printed_for far.controller step.frames
 
 -- Several steps were made: the device runs on, and the frames that it sent are rendered or wait.
-pub record IsRunOf (run : DeviceRun) (device : State (MemoryFlash 4096)) (far other : Other) (before now : List ℕ) : Type 0 where
+pub record IsRunOf (run : DeviceRun) (device : Running) (far other : Other) (before now : List ℕ) : Type 0 where
   pub runs : Runs run.station device
   pub waits : other ≡ with_sent far run.frames
   pub text : now ≡ before ++ printed_for far.controller run.frames
 
 -- Frames were handed to the device: it runs on, and what it sent waits after the frames that waited already.
-pub record IsHandedTo (run : DeviceRun) (device : State (MemoryFlash 4096)) (before now : List (ArrayVec ℕ)) : Type 0 where
+pub record IsHandedTo (run : DeviceRun) (device : Running) (before now : List (ArrayVec ℕ)) : Type 0 where
   pub runs : Runs run.station device
   pub waits : octets_of now ≡ octets_of before ++ run.frames
 
 -- All frames that waited for the device were handed to it.
-pub record IsHandedOver (run : DeviceRun) (device : State (MemoryFlash 4096)) (far other : Other) (delivered : ℕ) : Type 0 where
+pub record IsHandedOver (run : DeviceRun) (device : Running) (far other : Other) (delivered : ℕ) : Type 0 where
   pub runs : Runs run.station device
   pub waits : other ≡ handed_over far run
   pub delivered_is : delivered ≡ length far.to_device
 
 -- The device carried this out: it runs on, the other end is as the answer says, and its text is rendered.
-pub record IsDone (answer : Answer) (device : State (MemoryFlash 4096)) (other : Other) (before now : List ℕ) : Type 0 where
+pub record IsDone (answer : Answer) (device : Running) (other : Other) (before now : List ℕ) : Type 0 where
   pub runs : Runs answer.network.station device
   pub waits : other ≡ answer.network.other
   pub text : now ≡ before ++ answer.text

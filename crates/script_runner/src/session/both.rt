@@ -1,31 +1,28 @@
 // The effect of a line at both ends.
-ghost use Rattle.std.specs.Prelude.{◌≡◌, ◌≤◌, ◌++◌, [], true, OnOk, replicate};
+ghost use Rattle.std.specs.Prelude.{◌≡◌, ◌≤◌, ◌++◌, true, OnOk, replicate};
 ghost use Rattle.flash_model.specs.Memory.{is_powerless};
 ghost use Rattle.device_frames.specs.declared.event.Event.TheVariants as event;
-ghost use Rattle.device_core.specs.Leaps.{live_due_in};
-ghost use Rattle.device_core.specs.Machine.{step_of};
 ghost use Rattle.script_lines.specs.Text.{lost_line};
-ghost use Rattle.script_runner.specs.session.Ends.{Network, Station, device_run};
+ghost use Rattle.script_runner.specs.session.Ends.{Network, Station, device_run, due_with, station_step};
 ghost use Rattle.script_runner.specs.session.Said.{deliver_answer, event_answer};
 ghost use Rattle.script_runner.specs.session.Off.{Delivers};
 ghost use Rattle.script_runner.specs.session.Power.{Runs};
 ghost use Rattle.script_runner.specs.session.Session.{IsDone, IsRunOf, IsTurned};
 
-use crate::session::device::step;
 use crate::session::other_end::OtherEnd;
-use crate::session::power::DemoDevice;
+use crate::session::power::DemoStation;
 use device_core::Event;
 use flash_model::Flash;
-use frame_codec::Outbox;
 use script_lines::render;
+use station::StationOutbox;
 use std::alloc::AllocError;
 
 /// Makes a step of the device, and renders the result of the event, or that power was lost. The frames that the device
 /// sends are rendered, or wait for the controller once there is one.
 pub(crate) fn respond(
-    device: &mut DemoDevice<'_>,
+    device: &mut DemoStation<'_>,
     event: &Event,
-    outbox: &mut Outbox,
+    outbox: &mut StationOutbox,
     other: &mut OtherEnd,
     text: &mut Vec<u8>,
 ) -> Result<(), AllocError>
@@ -35,11 +32,11 @@ pub(crate) fn respond(
         OnOk result ((text.new.items ≡ text.old.items ++ lost_line) × (other.new ≡ other.old)) }
     ensures same { device.new.station ≡ device.old.station }
 {
-    let note = step(device, event, outbox);
-    if device.flash().is_lost() {
+    let note = device.step(event, outbox);
+    if device.device().flash().is_lost() {
         return lost(text);
     }
-    other.send(outbox.as_slice(), text)?;
+    other.send_all(outbox, text)?;
     render::note(note, text)
 }
 
@@ -52,25 +49,25 @@ fn lost(text: &mut Vec<u8>) -> Result<(), AllocError>
 
 /// Lets a unit of time pass at the device.
 fn tick(
-    device: &mut DemoDevice<'_>,
-    outbox: &mut Outbox,
+    device: &mut DemoStation<'_>,
+    outbox: &mut StationOutbox,
     other: &mut OtherEnd,
     text: &mut Vec<u8>,
 ) -> Result<(), AllocError>
     ensures ticked { (station : Station) → Runs station device.old →
-        OnOk result (IsTurned station (step_of [] station.device station.live event.Tick) device.new other.old other.new text.old.items
+        OnOk result (IsTurned (station_step station event.Tick) device.new other.old other.new text.old.items
         text.new.items) }
     ensures same { device.new.station ≡ device.old.station }
 {
-    step(device, &Event::Tick, outbox);
-    other.send(outbox.as_slice(), text)
+    device.step(&Event::Tick, outbox);
+    other.send_all(outbox, text)
 }
 
 /// Lets units of time pass at the device.
 pub(crate) fn ticks(
-    device: &mut DemoDevice<'_>,
+    device: &mut DemoStation<'_>,
     units: u32,
-    outbox: &mut Outbox,
+    outbox: &mut StationOutbox,
     other: &mut OtherEnd,
     text: &mut Vec<u8>,
 ) -> Result<(), AllocError>
@@ -89,27 +86,27 @@ pub(crate) fn ticks(
 
 /// Lets several units of time pass at the device at once, at most as many as are due.
 fn leap(
-    device: &mut DemoDevice<'_>,
+    device: &mut DemoStation<'_>,
     units: u32,
-    outbox: &mut Outbox,
+    outbox: &mut StationOutbox,
     other: &mut OtherEnd,
     text: &mut Vec<u8>,
 ) -> Result<(), AllocError>
-    requires { units ≤ live_due_in device.old.live }
+    requires { units ≤ due_with device.old.services device.old.live }
     ensures leapt { (station : Station) → Runs station device.old →
         OnOk result (IsRunOf (device_run station (replicate units event.Tick)) device.new other.old other.new text.old.items
         text.new.items) }
     ensures same { device.new.station ≡ device.old.station }
 {
     device.elapse(units, outbox);
-    other.send(outbox.as_slice(), text)
+    other.send_all(outbox, text)
 }
 
 /// Lets units of time pass at the device, by leaps.
 pub(crate) fn leaps(
-    device: &mut DemoDevice<'_>,
+    device: &mut DemoStation<'_>,
     units: u32,
-    outbox: &mut Outbox,
+    outbox: &mut StationOutbox,
     other: &mut OtherEnd,
     text: &mut Vec<u8>,
 ) -> Result<(), AllocError>
@@ -130,8 +127,8 @@ pub(crate) fn leaps(
 /// Hands over the frames that wait at either end, and renders how many they were and the state of the controller, or that
 /// power was lost.
 pub(crate) fn exchange(
-    device: &mut DemoDevice<'_>,
-    outbox: &mut Outbox,
+    device: &mut DemoStation<'_>,
+    outbox: &mut StationOutbox,
     other: &mut OtherEnd,
     text: &mut Vec<u8>,
 ) -> Result<(), AllocError>
@@ -142,7 +139,7 @@ pub(crate) fn exchange(
     ensures same { device.new.station ≡ device.old.station }
 {
     let to_device = other.hand_over(device, outbox)?;
-    if device.flash().is_lost() {
+    if device.device().flash().is_lost() {
         return lost(text);
     }
     let to_controller = other.deliver()?;

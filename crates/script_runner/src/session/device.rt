@@ -1,18 +1,18 @@
 // Steps of the demo device.
 ghost use Rattle.std.specs.Prelude.{◌≡◌, [], OnOk};
 ghost use Rattle.device_frames.specs.declared.event.Event.TheVariants as event;
-ghost use Rattle.device_core.specs.Machine.{step_of};
 ghost use Rattle.script_runner.specs.session.Ends.{Station, device_run, frames_for_device, octets_of};
 ghost use Rattle.script_runner.specs.session.Said.{handed};
 ghost use Rattle.script_runner.specs.session.Power.{Runs};
-ghost use Rattle.script_runner.specs.session.Session.{IsHandedTo, IsStepped};
+ghost use Rattle.script_runner.specs.session.Session.{IsHandedTo};
 
 use crate::session::bytes::copied;
-use crate::session::power::DemoDevice;
-use crate::session::waiting::append;
-use device_core::{Event, Note};
+use crate::session::power::DemoStation;
+use crate::session::waiting::append_all;
+use device_core::Event;
 use flash_model::Flash;
-use frame_codec::{Frame, Outbox};
+use frame_codec::Frame;
+use station::StationOutbox;
 use std::alloc::AllocError;
 use wire::at_most;
 
@@ -33,20 +33,11 @@ pub(crate) fn receive(received: &mut Event, bytes: &[u8])
     }
 }
 
-/// Makes a step of the device.
-pub(crate) fn step(device: &mut DemoDevice<'_>, event: &Event, outbox: &mut Outbox) -> Note
-    ensures steps { (station : Station) → Runs station device.old →
-        IsStepped station (step_of [] station.device station.live event.now) device.new outbox.new result }
-    ensures same { device.new.station ≡ device.old.station }
-{
-    device.step(event, outbox)
-}
-
 /// Hands frames to the device, until power is lost. What the device sends waits for the controller.
 pub(crate) fn hand_over(
-    device: &mut DemoDevice<'_>,
+    device: &mut DemoStation<'_>,
     frames: &[Frame],
-    outbox: &mut Outbox,
+    outbox: &mut StationOutbox,
     to_controller: &mut Vec<Frame>,
 ) -> Result<(), AllocError>
     ensures handed { (station : Station) → Runs station device.old →
@@ -56,11 +47,11 @@ pub(crate) fn hand_over(
 {
     for frame in frames {
         let event = Event::Frame(copied(frame.as_slice()));
-        step(device, &event, outbox);
-        if device.flash().is_lost() {
+        device.step(&event, outbox);
+        if device.device().flash().is_lost() {
             return Ok(());
         }
-        append(outbox.as_slice(), to_controller)?;
+        append_all(outbox, to_controller)?;
     }
     Ok(())
 }

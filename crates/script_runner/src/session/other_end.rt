@@ -13,7 +13,7 @@ ghost use Rattle.script_runner.specs.session.Session.{IsHandedOver};
 use crate::session::bytes::copied;
 use crate::session::copies::plan_copy;
 use crate::session::device::hand_over;
-use crate::session::power::DemoDevice;
+use crate::session::power::DemoStation;
 use crate::session::waiting::append;
 use configurator::{PlanFault, plan_from_json};
 use controller_core::{Controller, Event};
@@ -21,16 +21,19 @@ use frame_codec::{Frame, Outbox};
 use plans::Plan;
 use relations::DeviceOptions;
 use script_lines::{Choice, render, show};
+use station::StationOutbox;
 use std::alloc::{AllocError, Global};
 use std::marker::Model;
 use uuid::Uuid;
 
-/// What is kept besides the device: the options of its next start, and the other end of the wire: the plan of the next
-/// controller, the controller once there is one, and the frames that wait at either end. In clauses it is these five.
+/// What is kept besides the station: the options of its next start, whether services begin with that, and the other end of
+/// the wire: the plan of the next controller, the controller once there is one, and the frames that wait at either end. In
+/// clauses it is these six.
 #[derive(Drop)]
 pub(crate) struct OtherEnd {
     alloc: Global,
     options: DeviceOptions,
+    serves: bool,
     plan: Option<Plan>,
     controller: Option<Controller>,
     to_device: Vec<Frame>,
@@ -45,6 +48,7 @@ impl Model for OtherEnd {
 
     ghost view = { λ end. record {
       options = end.options;
+      serves = end.serves;
       plan = end.plan;
       controller = end.controller;
       to_device = octets_of end.to_device.items;
@@ -55,15 +59,19 @@ impl Model for OtherEnd {
 impl OtherEnd {
     ghost use Rattle.std.specs.Prelude.{is_some, length};
     ghost use Rattle.script_lines.specs.Show.{controller_shown};
-    ghost use Rattle.script_runner.specs.session.Ends.{Hears, Plans, Starts, arrived_at, chosen, cleared, nobody, printed_for, ticked_by, with_sent};
+    ghost use Rattle.station.specs.State.{in_order};
+    ghost use Rattle.script_runner.specs.session.Ends.{Hears, Plans, Starts, arrived_at, chosen, cleared, nobody, printed_for, serving, ticked_by};
+    ghost use Rattle.script_runner.specs.session.Ends.{with_sent};
 
-    /// The other end before a catalogue was read: no plan, no controller and no frames. All options have their defaults.
+    /// The other end before a catalogue was read: no plan, no controller and no frames. All options have their defaults, and
+    /// there are no services.
     pub(crate) fn new(alloc: Global) -> OtherEnd
         ensures { result ≡ nobody }
     {
         OtherEnd {
             alloc,
             options: DeviceOptions::default(),
+            serves: false,
             plan: None,
             controller: None,
             to_device: Vec::new(alloc),
@@ -88,6 +96,20 @@ impl OtherEnd {
             Choice::ReadyLater(is_on) => self.options.ready_by_application = is_on,
             Choice::Interval(units) => self.options.smallest_interval = units,
         }
+    }
+
+    /// Whether services begin with the device's next start.
+    pub(crate) fn serves(&self) -> bool
+        ensures { result ≡ self.now.serves }
+    {
+        self.serves
+    }
+
+    /// Lets services begin with each further start.
+    pub(crate) fn serve(&mut self)
+        ensures { self.new ≡ serving self.old }
+    {
+        self.serves = true;
     }
 
     /// Drops the frames that wait.
@@ -124,6 +146,19 @@ impl OtherEnd {
             Some(_) => append(frames, &mut self.to_controller),
             None => render::outs(frames, text),
         }
+    }
+
+    /// Prints the frames of a step of the station, or lets them wait once there is a controller.
+    pub(crate) fn send_all(
+        &mut self,
+        outbox: &StationOutbox,
+        text: &mut Vec<u8>,
+    ) -> Result<(), AllocError>
+        ensures { OnOk result ((self.new ≡ with_sent self.old (in_order outbox.now))
+            × (text.new.items ≡ text.old.items ++ printed_for self.old.controller (in_order outbox.now))) }
+    {
+        self.send(outbox.device(), text)?;
+        self.send(outbox.services(), text)
     }
 
     /// Makes the plan of a catalogue, for the next controller.
@@ -163,8 +198,8 @@ impl OtherEnd {
     /// controller. Returns how many frames waited.
     pub(crate) fn hand_over(
         &mut self,
-        device: &mut DemoDevice<'_>,
-        outbox: &mut Outbox,
+        device: &mut DemoStation<'_>,
+        outbox: &mut StationOutbox,
     ) -> Result<usize, AllocError>
         ensures handed { (station : Station) → Runs station device.old →
             IfOk result (λ delivered. IsHandedOver (device_run station (frames_for_device self.old.to_device)) device.new self.old self.new

@@ -20,8 +20,9 @@ use configurator::PlanFault;
 use controller_core::Event as ControllerEvent;
 use device_core::{Event, Note};
 use flash_model::{Flash, Lent, MemoryFlash, Order};
-use frame_codec::{Bytes, Outbox};
+use frame_codec::Bytes;
 use script_lines::{Command, Line, meaning, render, show};
+use station::StationOutbox;
 use std::alloc::{AllocError, Global};
 use std::marker::Model;
 use std::mem;
@@ -35,7 +36,7 @@ pub struct Session<'a> {
     power: Power<'a>,
     other: OtherEnd,
     received: Event,
-    outbox: Outbox,
+    outbox: StationOutbox,
 }
 
 impl<'a> Model for Session<'a> {
@@ -56,7 +57,7 @@ impl<'a> Session<'a> {
     ghost use Rattle.script_lines.specs.Text.{boot_line};
     ghost use Rattle.script_runner.specs.session.Ends.{IsRightFor, cleared, nobody};
     ghost use Rattle.script_runner.specs.session.Said.{arms, config_outcome, deliver_answer, deliver_outcome, factory_device};
-    ghost use Rattle.script_runner.specs.session.Said.{heard_outcome, is_order, outcome_of, restart_answer, said, show_answer, start_outcome};
+    ghost use Rattle.script_runner.specs.session.Said.{heard_outcome, is_order, outcome_of, restart_answer, said, serve_answer, show_answer, start_outcome};
     ghost use Rattle.script_runner.specs.session.Said.{due_answer, provider_answer, tick_answer};
     ghost use Rattle.script_runner.specs.session.Power.{IsArmed, IsBack, is_off, refusal_of};
     ghost use Rattle.script_runner.specs.session.Session.{Are, AreRightFor, Comes, Obeys};
@@ -70,10 +71,10 @@ impl<'a> Session<'a> {
     {
         let other = OtherEnd::new(alloc);
         Session {
-            power: Power::start(other.options(), Lent::new(flash)),
+            power: Power::start(other.options(), false, Lent::new(flash)),
             other,
             received: Event::Tick,
-            outbox: Outbox::new(),
+            outbox: StationOutbox::new(),
         }
     }
 
@@ -174,6 +175,11 @@ impl<'a> Session<'a> {
             }
             Command::Stop => if_there(self.stop(text)),
             Command::Deliver => if_there(self.deliver(text)),
+            Command::Serve => {
+                self.power.serve();
+                self.other.serve();
+                always(Ok(()))
+            }
         }
     }
 
@@ -286,12 +292,12 @@ impl<'a> Session<'a> {
     fn restart(&mut self, text: &mut Vec<u8>) -> Result<(), AllocError>
         ensures obeys { (network : Network) → Are network self.old →
             OnOk result (IsObeyed (restart_answer network) self.new text.old.items text.new.items) }
-        ensures back { IsBack self.old.other.options self.old.power self.new.power }
+        ensures back { IsBack self.old.other.options self.old.other.serves self.old.power self.new.power }
         ensures other { self.new.other ≡ cleared self.old.other }
         ensures printed { OnOk result (text.new.items ≡ text.old.items ++ boot_line (refusal_of self.new.power)) }
     {
         let power = mem::replace(&mut self.power, Power::Away);
-        self.power = power.restart(self.other.options());
+        self.power = power.restart(self.other.options(), self.other.serves());
         self.other.clear();
         render::boot(self.power.refusal(), text)
     }
@@ -345,8 +351,8 @@ impl<'a> Session<'a> {
             OnOk result (IsObeyed (provider_answer network slot subslot) self.now text.old.items text.new.items) }
     {
         match &self.power {
-            Power::On(device) => {
-                show::provider(slot, subslot, device.provider(slot, subslot), text)
+            Power::On(demo) => {
+                show::provider(slot, subslot, demo.device().provider(slot, subslot), text)
             }
             Power::Off(_, _) | Power::Away => text.extend_from_slice(b"off\n"),
         }
@@ -358,7 +364,8 @@ impl<'a> Session<'a> {
             OnOk result (IsObeyed (show_answer network) self.now text.old.items text.new.items) }
     {
         match &self.power {
-            Power::On(device) => {
+            Power::On(demo) => {
+                let device = demo.device();
                 let (phase, lamp) = (device.phase(), device.lamp());
                 show::all(device.running(), device.stored(), phase, lamp, text)?;
                 outputs(device, text)?;
@@ -495,7 +502,7 @@ impl<'a> Session<'a> {
 fn answered(
     power: &mut Power<'_>,
     event: &Event,
-    outbox: &mut Outbox,
+    outbox: &mut StationOutbox,
     other: &mut OtherEnd,
     text: &mut Vec<u8>,
 ) -> Result<(), AllocError>

@@ -5,7 +5,7 @@ use Rattle.startup_law.specs.Played.{last_world}
 use Rattle.exchange_laws.proofs.alarms.worlds_take_alarms.Goals as goal
 
 device_so : (g : _) → goal.After-alarms_are_taken_in_order g → DeviceSo
-device_so g c = record { begins_sized = c.messages_can_be_sent.ensures.first; goes_sized = c.messages_can_be_sent.ensures.next; goes_on = c.device_goes_on.ensures; turns = c.device_turns.ensures.turn; raises = c.device_turns.ensures.raises }
+device_so g c = record { begins_sized = c.messages_can_be_sent.ensures.first; goes_sized = c.messages_can_be_sent.ensures.next; goes_on = c.device_goes_on.ensures; kinds = c.turns_are_of_a_kind.ensures.event; turns = c.device_turns.ensures.turn; raises = c.device_turns.ensures.raises }
 
 hears_so : (g : _) → goal.After-alarms_are_taken_in_order g → HearsSo
 hears_so g c = record {
@@ -17,12 +17,15 @@ hears_so g c = record {
   nack = c.alarms_are_heard.ensures.nack;
   end_heard = c.ends_are_heard.ensures.controller;
   confirms = c.confirmations_are_heard.ensures.confirms;
+  low = c.confirmations_are_heard.ensures.low;
+  unheard = c.confirmations_are_heard.ensures.unheard;
   acks = c.confirmations_are_heard.ensures.ack;
   nacks = c.confirmations_are_heard.ensures.nack;
   ends = c.ends_are_heard.ensures.device;
   identify = c.requests_are_heard.ensures.identify;
   address = c.requests_are_heard.ensures.address;
   call_can = c.calls_can_be_sent.ensures.call;
+  record_can = c.calls_can_be_sent.ensures.record_call;
   call_at_device = c.calls_are_heard.ensures.device;
   call_at_controller = c.calls_are_heard.ensures.controller;
   agreed_at_device = c.ready_answers_are_heard.ensures.device;

@@ -44,3 +44,12 @@ returns-in-Give g c =
     (c.bytes_of-in-Give.ensures ∙ c.as_slice-in-Give.ensures.value)
     (given_at before (controller.Give c.in-Give.slot c.in-Give.subslot c.bytes_of-in-Give.result) c.happen_at_controller.new.controller c.happen_at_controller.new.sent.frames
     c.happen_at_controller.ensures.state c.happen_at_controller.ensures.frames))
+
+pub returns-in-Write : goal.returns-in-Write
+returns-in-Write g c =
+    let before = world_of c.args.device.now c.args.controller.now c.args.sent.now in
+    rw c.in-Write.is (subst (λ (octets : List ℕ). world_of c.args.device.now c.happen_at_controller-in-Write.new.controller c.happen_at_controller-in-Write.new.sent
+    ≡ at_controller before (controller.Write c.in-Write.slot c.in-Write.subslot c.in-Write.index (record { items = octets })))
+    (c.bytes_of-in-Write.ensures ∙ c.as_slice-in-Write.ensures.value)
+    (given_at before (controller.Write c.in-Write.slot c.in-Write.subslot c.in-Write.index c.bytes_of-in-Write.result) c.happen_at_controller-in-Write.new.controller c.happen_at_controller-in-Write.new.sent.frames
+    c.happen_at_controller-in-Write.ensures.state c.happen_at_controller-in-Write.ensures.frames))

@@ -4,7 +4,7 @@ use Rattle.codec_laws.proofs.AlarmsPdus.{alarm_said}
 use Rattle.codec_laws.proofs.alarms.alarm_law.alarms_are_read.Goals as goal
 
 pub returns-clause-read : goal.returns-clause-read
-returns-clause-read c = alarm_said c.fitting_pdus_are_read.ensures.read c.blocks_are_read.ensures.alone c.blocks_are_read.ensures.long
+returns-clause-read c = alarm_said c.fitting_pdus_are_read.ensures.read c.reports_are_read.ensures.ours c.blocks_are_read.ensures.long
 
 pub returns-clause-long : goal.returns-clause-long
 returns-clause-long c = alarm_long c.blocks_are_read.ensures.long

@@ -1,5 +1,6 @@
 -- This follows from the laws of the formats.
-use Rattle.pn_alarms.specs.Carried.{ack_of, notification_of}
+use Rattle.pn_alarms.specs.Carried.{ack_of}
+use Rattle.pn_alarms.specs.Report.{report_of}
 use Rattle.codec_laws.proofs.AlarmsPdus.{end_said}
 use Rattle.codec_laws.proofs.alarms.alarm_law.ends_are_read.Goals as goal
 
@@ -7,4 +8,4 @@ pub returns-clause-device : goal.returns-clause-device
 returns-clause-device c = end_said c.fitting_pdus_are_read.ensures.read ack_of
 
 pub returns-clause-controller : goal.returns-clause-controller
-returns-clause-controller c = end_said c.fitting_pdus_are_read.ensures.read notification_of
+returns-clause-controller c = end_said c.fitting_pdus_are_read.ensures.read report_of

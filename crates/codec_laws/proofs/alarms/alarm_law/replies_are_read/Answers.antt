@@ -1,5 +1,6 @@
 -- This follows from the laws of the formats.
-use Rattle.pn_alarms.specs.Carried.{ack_of, notification_of}
+use Rattle.pn_alarms.specs.Carried.{ack_of}
+use Rattle.pn_alarms.specs.Report.{report_of}
 use Rattle.codec_laws.proofs.AlarmsPdus.{ack_replied, nack_replied}
 use Rattle.codec_laws.proofs.alarms.alarm_law.replies_are_read.Goals as goal
 
@@ -7,10 +8,10 @@ pub returns-clause-device_ack : goal.returns-clause-device_ack
 returns-clause-device_ack c = ack_replied c.fitting_pdus_are_read.ensures.read ack_of
 
 pub returns-clause-controller_ack : goal.returns-clause-controller_ack
-returns-clause-controller_ack c = ack_replied c.fitting_pdus_are_read.ensures.read notification_of
+returns-clause-controller_ack c = ack_replied c.fitting_pdus_are_read.ensures.read report_of
 
 pub returns-clause-device_nack : goal.returns-clause-device_nack
 returns-clause-device_nack c = nack_replied c.fitting_pdus_are_read.ensures.read ack_of
 
 pub returns-clause-controller_nack : goal.returns-clause-controller_nack
-returns-clause-controller_nack c = nack_replied c.fitting_pdus_are_read.ensures.read notification_of
+returns-clause-controller_nack c = nack_replied c.fitting_pdus_are_read.ensures.read report_of

@@ -1,6 +1,6 @@
 -- A leap: units with which nothing is due, and then one more.
-use Rattle.std.proofs.Common.{◌≡◌, ◌-◌, suc, refl, arith}
-use Rattle.device_core.proofs.Leaping.{leap_device, leap_frames, leap_last}
+use Rattle.std.proofs.Common.{refl, rules, arith}
+use Rattle.device_core.proofs.Leaping.{leap_frames_to}
 use Rattle.device_core.proofs.device.Device.elapse.Goals as goal
 
 pub returns-then-units-eq0-clause-device : goal.returns-then-units-eq0-clause-device
@@ -12,17 +12,5 @@ returns-then-units-eq0-clause-frames g c = rw (c.if-units-eq0.true, c.clear.ensu
 pub returns-then-units-eq0-clause-last : goal.returns-then-units-eq0-clause-last
 returns-then-units-eq0-clause-last g c before earlier = absurd (omega (arith, c.if-units-eq0.true, earlier))
 
-pub returns-clause-device : goal.returns-clause-device
-returns-clause-device g c =
-    let count : c.args.units ≡ suc (c.args.units - 1) = omega arith in
-    leap_device c.args.self.now c.pass.new.self c.tick.new.self c.args.units (c.args.units - 1) count c.pass.ensures.device c.tick.ensures.state
-
 pub returns-clause-frames : goal.returns-clause-frames
-returns-clause-frames g c =
-    let count : c.args.units ≡ suc (c.args.units - 1) = omega arith in
-    leap_frames c.args.self.now c.pass.new.self _ c.args.units (c.args.units - 1) count c.pass.ensures.device c.pass.ensures.none c.tick.ensures.frames
-
-pub returns-clause-last : goal.returns-clause-last
-returns-clause-last g c =
-    let count : c.args.units ≡ suc (c.args.units - 1) = omega arith in
-    leap_last c.args.self.now.station c.args.self.now.live c.args.units (c.args.units - 1) count c.pass.ensures.none
+returns-clause-frames g c = leap_frames_to c.args.self.now c.pass.new.self _ c.args.units (omega (arith, c.if-units-eq0.false)) (search (rules, c.pass.ensures.device)) (search (rules, c.pass.ensures.none)) c.tick.ensures.frames

@@ -23,7 +23,7 @@ returns-in_err-load-clause-reliable g c =
     let p = err_from_is_err_and c.from_residual.result c.from_residual.ensures.1 in rw (← c.self.view_is) (λ reliable. rw (p.1, p.2) (c.in_err-load.ensures.reliable reliable))
 
 pub returns-clause-starts : goal.returns-clause-starts
-returns-clause-starts g c = rw (← c.self.view_is) c.in_ok-load.ensures.starts
+returns-clause-starts g c = rw (← c.self.view_is) (rw c.forget.ensures c.in_ok-load.ensures.starts)
 
 pub returns-clause-blank : goal.returns-clause-blank
 returns-clause-blank g c = rw (← c.self.view_is) c.in_ok-load.ensures.blank
@@ -34,4 +34,4 @@ returns-clause-strange g c = rw (← c.self.view_is) c.in_ok-load.ensures.strang
 pub returns-clause-known : goal.returns-clause-known
 returns-clause-known g c = rw (← c.self.view_is) (λ settings room starts.
     let known = c.in_ok-load.ensures.known settings room starts in
-    as_started c.load.new.self.values _ _ _ settings room c.in_ok-load.ensures.running c.in_ok-load.ensures.fresh.0 c.in_ok-load.ensures.fresh.1 c.new-self-inside.ensures c.end.ensures.state c.clear.ensures known.0 known.1)
+    rw c.forget.ensures (as_started c.load.new.self.values settings room c.in_ok-load.ensures.running c.in_ok-load.ensures.fresh.0 c.in_ok-load.ensures.fresh.1 known.0 known.1))

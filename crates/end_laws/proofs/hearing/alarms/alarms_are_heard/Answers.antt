@@ -1,5 +1,12 @@
 -- This follows from the laws of the crates below.
-use Rattle.std.proofs.Common.{arith}
+use Rattle.std.proofs.Common.{◌∙◌, ap, arith}
+use Rattle.pn_alarms.specs.declared.pdu.PduType.{PduType}
+use Rattle.pn_alarms.specs.declared.priority.Priority.{Priority}
+use Rattle.pn_alarms.specs.Format.{frame_id_of}
+use Rattle.pn_alarms.specs.Priority.{priority_of}
+use Rattle.pn_alarms.specs.Report.{ours}
+use Rattle.controller_frames.specs.Heard.{Alarms}
+use Rattle.end_laws.specs.hearing.Hearing.{mine_hears}
 use Rattle.pn_alarms.specs.declared.message.Notice.TheVariants as notice
 use Rattle.pn_alarms.specs.declared.pdu.PduType.TheVariants as pdu
 use Rattle.pn_alarms.specs.Carried.{alarm_pdu}
@@ -10,7 +17,7 @@ use Rattle.end_laws.proofs.hearing.alarms.alarms_are_heard.Goals as goal
 pub returns-clause-alarm : goal.returns-clause-alarm
 returns-clause-alarm c =
     λ mine identity route header alarm is way kind good whole.
-    pdu_at_controller c.frames_are_read.ensures.real_time c.pdus_are_read.ensures.long mine route.partner identity.mac route.alarm_tag pdu.Data (alarm_pdu header alarm) header (notice.Data header.send_number alarm)
+    pdu_at_controller c.frames_are_read.ensures.real_time c.pdus_are_read.ensures.long mine route.partner identity.mac route.alarm_tag pdu.Data (alarm_pdu header alarm) header (notice.Data header.send_number (ours alarm))
     way.partner is way.alarm_tag (omega (arith, c.alarms_are_read.ensures.long alarm, whole.few)) (λ more. c.alarms_are_read.ensures.read header alarm more kind good whole)
 
 pub returns-clause-ack : goal.returns-clause-ack
@@ -18,9 +25,11 @@ returns-clause-ack c =
     λ mine identity route header is way kind good.
     pdu_at_controller c.frames_are_read.ensures.real_time c.pdus_are_read.ensures.long mine route.partner identity.mac route.alarm_tag header.kind (empty_pdu header) header (notice.Ack header.ack_number)
     way.partner is way.alarm_tag (omega arith) (λ more. c.replies_are_read.ensures.controller_ack header more kind good)
+    ∙ ap (λ (p : Priority). mine_hears mine route.partner (Alarms identity.mac p header (notice.Ack header.ack_number))) (ap (λ (k : PduType). priority_of (frame_id_of k)) kind)
 
 pub returns-clause-nack : goal.returns-clause-nack
 returns-clause-nack c =
     λ mine identity route header is way kind good.
     pdu_at_controller c.frames_are_read.ensures.real_time c.pdus_are_read.ensures.long mine route.partner identity.mac route.alarm_tag header.kind (empty_pdu header) header notice.Nack
     way.partner is way.alarm_tag (omega arith) (λ more. c.replies_are_read.ensures.controller_nack header more kind good)
+    ∙ ap (λ (p : Priority). mine_hears mine route.partner (Alarms identity.mac p header notice.Nack)) (ap (λ (k : PduType). priority_of (frame_id_of k)) kind)

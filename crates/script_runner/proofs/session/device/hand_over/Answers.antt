@@ -11,7 +11,7 @@ pub returns-then-is_lost-clause-handed : goal.returns-then-is_lost-clause-handed
 returns-then-is_lost-clause-handed c station runs =
     let handing = c.loop-frame.invariant.1 station runs in
     let stepped = c.step.ensures.steps handing.0 handing.1.runs in
-    absurd (false≢true (sym stepped.runs.reliable.0 ∙ sym (ap is_powerless c.flash.ensures) ∙ sym c.is_lost.ensures ∙ c.if-is_lost.true))
+    absurd (false≢true (sym stepped.runs.reliable.0 ∙ sym (ap is_powerless (c.flash.ensures ∙ ap (λ d. d.flash) c.device.ensures)) ∙ sym c.is_lost.ensures ∙ c.if-is_lost.true))
 
 pub loop-frame-preserved : goal.loop-frame-preserved
 loop-frame-preserved c = (
@@ -24,7 +24,7 @@ loop-frame-preserved c = (
       let stepped = rw event_is at (c.step.ensures.steps handing.0 first.runs) in (
         _,
         handing_on _ (event.Frame (record { items = c.frame-item.result.items })) _ handing.0 _ _ _ _ _ first stepped.runs
-            (c.in_ok-append.ensures ∙ ap (λ frames. octets_of c.loop-frame.to_controller.items ++ frames) (ap octets_of c.as_slice-in-loop-frame.ensures.value ∙ stepped.frames)),
+            (c.in_ok-append_all.ensures ∙ ap (λ frames. octets_of c.loop-frame.to_controller.items ++ frames) stepped.frames),
       ),
 )
 

@@ -5,7 +5,7 @@ use Rattle.device_abi.specs.recorded.Entry.{call_of}
 use Rattle.device_abi.specs.recorded.Record.{record_of}
 use Rattle.device_abi.specs.port.State.{advanced}
 use Rattle.device_abi.specs.contracts.port.device.Port.{the_view}
-use Rattle.device_abi.proofs.PortLeft.{call_taken, frame_taken, steady_call, steady_frame}
+use Rattle.device_abi.proofs.PortLeft.{call_taken, counted_call, frame_taken, steady_call, steady_frame}
 use Rattle.device_abi.proofs.port.device.Port.advance.Goals as goal
 
 pub invariant_of-self : goal.invariant_of-self
@@ -15,7 +15,7 @@ invariant_of-self c =
     let long = length-map c.recent.result.now call_of in
     let all = ap length same in
     let some : port.calls_past < length (record_of port.device.flash).recent = omega (arith, c.if-self-recent.true, long, all) in
-    (omega (arith, some), c.self.invariant.1, steady_call port.stage port.device.live.values.has_failed port.calls_past (record_of port.device.flash).recent _ some c.self.invariant.2)
+    (omega (arith, some), c.self.invariant.1, steady_call port.stage port.device.live.values.has_failed port.calls_past (record_of port.device.flash).recent _ some c.self.invariant.2, counted_call port.due port.device.live port.stage port.calls_past (record_of port.device.flash).recent some c.self.invariant.3)
 
 pub invariant_of-self-then-self-len : goal.invariant_of-self-then-self-len
 invariant_of-self-then-self-len c =
@@ -23,7 +23,7 @@ invariant_of-self-then-self-len c =
     let frames : List (List ℕ) = map (λ frame. frame.items) port.outbox.items in
     let long = length-map port.outbox.items (λ frame. frame.items) in
     let some : port.frames_past < length frames = omega (arith, c.if-self-len.true, c.len.ensures.value, long) in
-    (c.self.invariant.0, omega (arith, some, long), steady_frame port.stage port.device.live.values.has_failed port.frames_past _ frames some c.self.invariant.2)
+    (c.self.invariant.0, omega (arith, some, long), steady_frame port.stage port.device.live.values.has_failed port.frames_past _ frames some c.self.invariant.2, c.self.invariant.3)
 
 pub returns-then-self-recent : goal.returns-then-self-recent
 returns-then-self-recent c =

@@ -1,16 +1,18 @@
--- The units so far passed, one step each.
-use Rattle.std.proofs.Common.{◌≡◌, ◌-◌, ◌≤◌, []}
-use Rattle.device_abi.specs.declared.port.stage.Stage.TheVariants.{Booted}
+-- The units so far passed, one step each, and what is due is known.
+use Rattle.std.proofs.Common.{◌≡◌, ◌-◌, ◌≤◌, ◌<◌, None}
+use Rattle.device_core.specs.Leaps.{live_due_in}
+use Rattle.device_abi.specs.port.State.{barred}
 use Rattle.device_abi.specs.port.Steps.{Ticks}
 use Rattle.device_abi.proofs.port.device.Port.pass_all.Given as goal
 
-abbrev pub invariant-loop-left : goal.invariant-loop-left
-invariant-loop-left l = record {
+abbrev pub invariant-loop-due : goal.invariant-loop-due
+invariant-loop-due l = record {
   few : l.left ≤ l.units;
   ticks : Ticks (l.units - l.left) l.initial.self l.self;
-  stage : l.self.stage ≡ Booted;
-  quiet : l.self.calls ≡ [];
+  free : barred l.self ≡ None;
+  due : l.due ≡ live_due_in l.self.device.live;
+  some : 0 < l.due;
 }
 
-abbrev pub decreases-loop-left : goal.decreases-loop-left
-decreases-loop-left l = l.left
+abbrev pub decreases-loop-due : goal.decreases-loop-due
+decreases-loop-due l = l.left

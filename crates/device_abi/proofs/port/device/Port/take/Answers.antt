@@ -34,4 +34,5 @@ invariant_of-self c =
       subst (λ f. c.older-self-inside.result ≤ length (record_of f).recent) c.flash-2.ensures c.older-self-inside.ensures.most,
       omega arith,
       steady_of port.stage _ _ _ (booted_of port.stage _ free) c.step-note.ensures.going,
+      tt,
     )

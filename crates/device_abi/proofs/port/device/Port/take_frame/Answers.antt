@@ -34,4 +34,5 @@ invariant_of-self c =
       subst (λ f. c.older-past.result ≤ length (record_of f).recent) c.flash-2.ensures c.older-past.ensures.most,
       omega arith,
       steady_of port.stage _ _ _ (booted_of port.stage _ free) c.step_frame-note.ensures.going,
+      tt,
     )

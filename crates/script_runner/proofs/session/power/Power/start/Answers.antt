@@ -1,5 +1,9 @@
-use Rattle.std.proofs.Common.{◌∙◌, subst, sym, ap}
+use Rattle.std.proofs.Common.{◌∙◌, refl, subst, sym, ap}
 use Rattle.settings_journal.specs.Image.{LeftByDevice, IsForeign, StartsWith}
+use Rattle.script_runner.specs.declared.session.power.Power.TheVariants.{On}
+use Rattle.script_runner.specs.session.Power.{IsOver, Runs}
+use Rattle.script_runner.specs.session.Said.{demo_started}
+use Rattle.script_runner.proofs.SessionBegins.{begun_runs}
 use Rattle.script_runner.proofs.session.power.Power.start.Goals as goal
 
 -- What is loaded is what the device starts with.
@@ -7,13 +11,10 @@ pub returns-in-Ok-clause-stored : goal.returns-in-Ok-clause-stored
 returns-in-Ok-clause-stored c settings room reliable left starts =
     let made = c.unstarted-device.ensures.flash in
     let live = (rw made at c.in-Ok.ensures.known) settings room starts in
-    record {
-      station_is = c.in-Ok.ensures.station ∙ rw (c.demo_identity-identity.ensures, c.demo_modules-modules.ensures) at c.unstarted-device.ensures.station;
-      live_is = live;
-      reliable = ((rw made at c.in-Ok.ensures.reliable) reliable).0;
-      unfailed = ap (λ l. l.values.has_failed) live;
-      left = subst LeftByDevice (sym (rw made at c.in-Ok.ensures.same)) left;
-    }
+    subst (Runs (demo_started c.args.options c.args.serves settings room)) (sym c.begin.ensures)
+    (begun_runs c.args.options c.args.serves settings room c.load.new.self
+    (c.in-Ok.ensures.station ∙ rw (c.demo_identity-identity.ensures, c.demo_modules-modules.ensures) at c.unstarted-device.ensures.station)
+    live ((rw made at c.in-Ok.ensures.reliable) reliable).0 (subst LeftByDevice (sym (rw made at c.in-Ok.ensures.same)) left))
 
 pub returns-in-Ok-clause-blank : goal.returns-in-Ok-clause-blank
 returns-in-Ok-clause-blank c reliable blank =
@@ -33,9 +34,11 @@ returns-in-Err-clause-back c =
 pub returns-in-Ok-clause-back : goal.returns-in-Ok-clause-back
 returns-in-Ok-clause-back c =
     let made = c.unstarted-device.ensures.flash in
-    let same = rw made at c.in-Ok.ensures.same in (
+    let same = rw made at c.in-Ok.ensures.same in
+    subst (λ demo. IsOver c.args.options c.args.serves c.args.flash (On demo)) (sym c.begin.ensures) (
       c.in-Ok.ensures.station ∙ rw (c.demo_identity-identity.ensures, c.demo_modules-modules.ensures) at c.unstarted-device.ensures.station,
       c.in-Ok.ensures.fresh,
+      refl,
       subst (λ image. StartsWith image c.load.new.self.live.values.stored c.load.new.self.live.values.room) (sym same) (rw made at c.in-Ok.ensures.starts),
       (same, ap (λ chip. chip.armed) (rw made at c.in-Ok.ensures.calls)),
     )

@@ -10,4 +10,4 @@ returns-clause-runs c settings room reliable left starts =
     (subst LeftByDevice same left) (subst (λ image. StartsWith image settings room) same starts)
 
 pub returns-clause-back : goal.returns-clause-back
-returns-clause-back c = over_same c.args.options c.args.flash c.power_up.new.self c.start.result c.power_up.ensures.image c.power_up.ensures.failures c.power_up.ensures.armed c.start.ensures.back
+returns-clause-back c = over_same c.args.options c.args.serves c.args.flash c.power_up.new.self c.start.result c.power_up.ensures.image c.power_up.ensures.failures c.power_up.ensures.armed c.start.ensures.back

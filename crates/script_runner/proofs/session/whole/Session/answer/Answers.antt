@@ -2,7 +2,7 @@ use Rattle.std.proofs.Common.{subst, sym}
 use Rattle.script_runner.specs.session.Said.{said}
 use Rattle.script_runner.specs.session.Session.{Are}
 use Rattle.script_runner.proofs.SessionFlashes.{back_demo}
-use Rattle.script_runner.proofs.SessionObeying.{always_obeys, always_tells, chosen_obeyed, if_there_obeys, if_there_tells}
+use Rattle.script_runner.proofs.SessionObeying.{always_obeys, always_tells, chosen_obeyed, if_there_obeys, if_there_tells, serve_obeyed}
 use Rattle.script_runner.proofs.session.whole.Session.answer.Goals as goal
 
 pub returns-in-Frame-clause-obeys : goal.returns-in-Frame-clause-obeys
@@ -68,7 +68,7 @@ unfolding said
 returns-in-OutputStatus-clause-obeys c plans network right are plain = rw c.in-OutputStatus.is (if_there_obeys _ _ _ _ _ _ (c.output_status.ensures.obeys network are) c.if_there-in-OutputStatus.ensures)
 
 pub returns-in-Restart-clause-demo : goal.returns-in-Restart-clause-demo
-returns-in-Restart-clause-demo c demo = back_demo _ _ _ demo c.restart.ensures.back
+returns-in-Restart-clause-demo c demo = back_demo _ _ _ _ demo c.restart.ensures.back
 
 pub returns-in-Frame-clause-lost : goal.returns-in-Frame-clause-lost
 returns-in-Frame-clause-lost c handed there gone = rw c.in-Frame.is (always_tells _ _ _ (c.hand_in.ensures.lost there gone) c.always.ensures)
@@ -87,3 +87,9 @@ returns-in-Status-clause-lost c handed there gone = rw c.in-Status.is (always_te
 
 pub returns-in-Deliver-clause-lost : goal.returns-in-Deliver-clause-lost
 returns-in-Deliver-clause-lost c handed there gone = rw c.in-Deliver.is (if_there_tells _ _ _ (c.deliver.ensures.lost there gone) c.if_there-in-Deliver.ensures)
+
+pub returns-in-Serve-clause-obeys : goal.returns-in-Serve-clause-obeys
+unfolding said
+returns-in-Serve-clause-obeys c plans network right are plain =
+    let ends = subst (Are network) (sym c.self-in-Serve.view_is) are in
+    rw c.in-Serve.is (always_obeys _ _ _ _ _ _ (serve_obeyed network _ _ _ c.args.text.now.items (c.serve.ensures.runs network.station ends.0) ends.1 c.serve-in-Serve.ensures) c.always-in-Serve.ensures)

@@ -13,7 +13,10 @@ returns-clause-obeys c network are =
     let ends = subst (Are network) (sym c.self.view_is) are in
     let values = network.station.live.values in
     let set : c.options.result ≡ network.other.options = c.options.ensures ∙ ap (λ (o : Other). o.options) ends.1 in
-    let runs = subst (λ options. IsRunning (demo_started options values.stored values.room) c.restart-self-inside.result) set (c.restart-self-inside.ensures.runs network.station (subst (IsRunning network.station) (sym c.replace-power.ensures.value) ends.0)) in
+    let serves : c.serves.result ≡ network.other.serves = c.serves.ensures ∙ ap (λ (o : Other). o.serves) ends.1 in
+    let runs = subst (λ options. IsRunning (demo_started options network.other.serves values.stored values.room) c.restart-self-inside.result) set
+    (subst (λ serves. IsRunning (demo_started c.options.result serves values.stored values.room) c.restart-self-inside.result) serves
+    (c.restart-self-inside.ensures.runs network.station (subst (IsRunning network.station) (sym c.replace-power.ensures.value) ends.0))) in
     let unrefused : c.refusal.result ≡ None = c.refusal.ensures ∙ unrefused _ _ runs in
     on_ok_weaker c.boot.result (λ text. record {
       runs = runs;

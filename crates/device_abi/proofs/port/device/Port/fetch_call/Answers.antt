@@ -1,0 +1,51 @@
+-- A flash call is fetched and handed out.
+use Rattle.std.proofs.Common.{◌≡◌, ◌<◌, ◌∙◌, true, length, refl, sym, ap, subst, arith}
+use Rattle.std.proofs.lemmas.List.{length-map}
+use Rattle.device_abi.specs.recorded.Entry.{call_of}
+use Rattle.device_abi.specs.recorded.Record.{record_of}
+use Rattle.device_abi.specs.port.State.{advanced, has_some}
+use Rattle.device_abi.specs.contracts.port.device.Port.{the_view}
+use Rattle.device_abi.proofs.PortLeft.{call_taken, counted_call, next_of, some_there, steady_call}
+use Rattle.device_abi.proofs.port.device.Port.fetch_call.Goals as goal
+
+pub overflow_add-self : goal.overflow_add-self
+overflow_add-self c =
+    let port = c.self.inside in
+    let left : has_some (the_view port).calls ≡ true = subst (λ p. has_some p.calls ≡ true) (sym c.self.view_is) c.requires in
+    let some = some_there port.calls_past (record_of port.device.flash).recent left in
+    let same = c.recent.ensures ∙ ap (λ f. (record_of f).recent) c.flash.ensures in
+    let long = length-map c.recent.result.now call_of in
+    let all = ap length same in
+    omega (arith, some, long, all, c.recent.type_inv.0)
+
+pub invariant_of-self : goal.invariant_of-self
+invariant_of-self c =
+    let port = c.self.inside in
+    let left : has_some (the_view port).calls ≡ true = subst (λ p. has_some p.calls ≡ true) (sym c.self.view_is) c.requires in
+    let some = some_there port.calls_past (record_of port.device.flash).recent left in (
+      omega (arith, some),
+      c.self.invariant.1,
+      steady_call port.stage port.device.live.values.has_failed port.calls_past (record_of port.device.flash).recent _ some c.self.invariant.2,
+      counted_call port.due port.device.live port.stage port.calls_past (record_of port.device.flash).recent some c.self.invariant.3,
+    )
+
+pub returns : goal.returns
+returns c =
+    let port = c.self.inside in
+    let left : has_some (the_view port).calls ≡ true = subst (λ p. has_some p.calls ≡ true) (sym c.self.view_is) c.requires in
+    let some = some_there port.calls_past (record_of port.device.flash).recent left in
+    let same = c.recent-2.ensures ∙ ap (λ f. (record_of f).recent) c.flash-2.ensures in
+    let count = length-map c.recent-2.result.now call_of in
+    let these = ap length same in
+    let there : port.calls_past < length c.recent-2.result.now = omega (arith, some, count, these) in (
+      (
+        refl,
+        (λ _. tt),
+        (
+          rw (← c.self.view_is) (next_of call_of c.recent-2.result.now (record_of port.device.flash).recent port.calls_past c.index-recent-past.result same there c.index-recent-past.is),
+          sym (call_taken (the_view port) port.calls_past (record_of port.device.flash).recent some) ∙ ap advanced c.self.view_is,
+          c.waiting.ensures,
+        ),
+      ),
+      tt,
+    )

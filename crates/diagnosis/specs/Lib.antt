@@ -1,0 +1,3 @@
+pub mod Existing
+pub mod Notices
+pub mod Record

@@ -1,0 +1,85 @@
+-- A device cannot read an AlarmAck of low priority.
+use Rattle.std.proofs.Common.{◌≡◌, ◌++◌, ℕ, Bool, true, false, List, [], length, nat_lt, drop, Result, Ok, Err, if◌then◌else◌, refl, ap, subst, sym, arith}
+use Rattle.std.specs.Prelude.{IsErr}
+use Rattle.std.proofs.lemmas.Bool.{false≢true}
+use Rattle.wire.specs.Codec.{◌>>=◌}
+use Rattle.wire.specs.Formats.{framed, number, raw}
+use Rattle.block_fields.specs.declared.fault.BlockFault.{BlockFault}
+use Rattle.block_fields.specs.declared.fault.BlockFault.TheVariants.{Truncated}
+use Rattle.block_fields.specs.Fields.{body, number_bytes, version}
+use Rattle.record_blocks.specs.declared.alarm_ack.AlarmAck.{AlarmAck}
+use Rattle.record_blocks.specs.AlarmAck.{alarm_ack}
+use Rattle.block_codec.specs.declared.block.Block.{Block}
+use Rattle.block_codec.specs.Block.{block, block_of, body_of, in_alarm_ack}
+use Rattle.block_codec.specs.Kinds.{type_of}
+use Rattle.pn_alarms.specs.declared.fault.AlarmFault.{AlarmFault}
+use Rattle.pn_alarms.specs.declared.pdu.Header.{Header}
+use Rattle.pn_alarms.specs.declared.pdu.PduType.{PduType}
+use Rattle.pn_alarms.specs.declared.pdu.PduType.TheVariants as pdu
+use Rattle.pn_alarms.specs.declared.priority.Priority.TheVariants.{Low}
+use Rattle.pn_alarms.specs.Carried.{ack_of, wanted}
+use Rattle.pn_alarms.specs.Format.{Said, is_long, pdu_bytes, pdu_of}
+use Rattle.pn_alarms.specs.declared.message.Notice.TheVariants as notice
+use Rattle.pn_alarms.specs.Message.{ToDevice, message_of, notice_in}
+use Rattle.pn_alarms.specs.Report.{low_ack}
+use Rattle.controller_frames.specs.Sent.{ack_pdu}
+use Rattle.codec_laws.specs.alarms.Sendable.{CanBeSaid, IsHeader}
+
+-- a written PDU is read back
+abbrev pub PdusAreRead : Type 0
+PdusAreRead = (said : Said) (more : List ℕ) → CanBeSaid said → pdu_of (pdu_bytes said ++ more) ≡ Ok said
+
+-- it has 22 octets
+pub low_long : (ack : AlarmAck) → length (low_ack.write ack []) ≡ 22
+unfolding low_ack body alarm_ack number_bytes version
+low_long ack = refl
+
+-- a reading that fails, whatever was read before
+fails : {A B E : Type 0} (first : Result A E) (next : A → Result B E) → ((value : A) → first ≡ Ok value → IsErr (next value)) → IsErr (first >>= next)
+fails (Ok value) next each = each value refl
+fails (Err fault) next each = refl
+
+-- what BlockLength counts of a block of an unknown type is refused
+framed_fails : (bytes : List ℕ) → IsErr ((framed (number Truncated 2) Truncated (body_of (type_of 0x8002))).read bytes)
+unfolding body_of type_of
+framed_fails bytes = fails ((number Truncated 2).read bytes) _ (λ size e. fails ((raw Truncated size.0).read size.1) _ (λ cut f. refl))
+
+-- the number at the front
+number_is : (short : Bool) (value : ℕ) (rest : List ℕ) (read : ℕ × List ℕ) → ◌≡◌ {A = Result (ℕ × List ℕ) BlockFault} (if short then Err Truncated else Ok (value, rest)) (Ok read) → read.0 ≡ value
+number_is true value rest read e = absurd cc
+number_is false value rest read e = cc
+
+first_is : (ack : AlarmAck) (read : ℕ × List ℕ) → (number Truncated 2).read (low_ack.write ack []) ≡ Ok read → read.0 ≡ 0x8002
+unfolding low_ack
+first_is ack read e = number_is (nat_lt (length (low_ack.write ack [])) 2) 0x8002 (drop 2 (low_ack.write ack [])) read e
+
+-- a reading goes on after a fault with that fault
+faults : {A B E : Type 0} (first : Result A E) (next : A → Result B E) → IsErr first → IsErr (first >>= next)
+faults (Ok value) next none = absurd (false≢true none)
+faults (Err fault) next none = refl
+
+block_fails : (ack : AlarmAck) → IsErr (block_of (low_ack.write ack []))
+unfolding block_of block
+block_fails ack =
+    faults ((number Truncated 2).read (low_ack.write ack []) >>= λ x. (framed (number Truncated 2) Truncated (body_of (type_of x.0))).read x.1 >>= λ y. Ok ((x.0, y.0), y.1)) _
+    (fails ((number Truncated 2).read (low_ack.write ack [])) _
+    (λ x e. faults ((framed (number Truncated 2) Truncated (body_of (type_of x.0))).read x.1) _
+    (subst (λ (n : ℕ). IsErr ((framed (number Truncated 2) Truncated (body_of (type_of n))).read x.1)) (sym (first_is ack x e)) (framed_fails x.1))))
+
+wanted_fails : (read : Result (Block × List ℕ) BlockFault) → IsErr read → IsErr (wanted in_alarm_ack read)
+wanted_fails (Ok x) none = absurd (false≢true none)
+wanted_fails (Err fault) none = refl
+
+-- what a device reads of a PDU
+abbrev said_in : Result Said AlarmFault → Result (Header × ToDevice) AlarmFault
+said_in read = read >>= λ said. notice_in ack_of said.header.kind said >>= λ notice. Ok (said.header, notice)
+
+pub low_unread : PdusAreRead → (header : Header) (ack : AlarmAck) (more : List ℕ) → header.kind ≡ pdu.Data → IsHeader header
+    → IsErr (message_of (pdu_bytes (ack_pdu Low header ack) ++ more))
+low_unread reads header ack more kind good =
+    let said = ack_pdu Low header ack in
+    let can : CanBeSaid said = record { header = good; long = ap (λ (k : PduType). is_long k (length (low_ack.write ack []))) kind; few = omega (arith, low_long ack) } in
+    subst (λ (r : Result Said AlarmFault). IsErr (said_in r)) (sym (reads said more can))
+    (subst (λ (k : PduType). IsErr {T = Header × ToDevice} (notice_in ack_of k said >>= λ notice. Ok (header, notice))) (sym kind)
+    (faults (ack_of said.body >>= λ carried. Ok (notice.Data header.send_number carried)) _
+    (faults (ack_of said.body) _ (wanted_fails (block_of (low_ack.write ack [])) (block_fails ack)))))

@@ -1,0 +1,9 @@
+pub mod Tlv
+pub mod Message
+pub mod Peer
+pub mod Frame
+pub mod Announcement
+pub mod State
+pub mod Views
+pub mod Run
+pub mod Leaps

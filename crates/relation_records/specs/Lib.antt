@@ -1,0 +1,4 @@
+pub mod Expected
+pub mod Found
+pub mod Own
+pub mod Reading

@@ -1,0 +1,120 @@
+#define _GNU_SOURCE
+#include "access.h"
+#include "lines.h"
+#include "reasons.h"
+#include "relation.h"
+#include "statuses.h"
+#include "words.h"
+#include <inttypes.h>
+#include <stdio.h>
+#include <string.h>
+
+#define RECORD_LONGEST 1308 /* octets of a record */
+#define FIRST_PAUSE (5 * SECOND)
+
+static const char *verb(const struct access *access)
+{
+    return access->is_write ? "write" : "read";
+}
+
+/* Reads the words SLOT SUBSLOT INDEX; the index may also be `0x` and hex digits. Returns whether they are that. */
+static int read_place(char *words[], struct access *access)
+{
+    unsigned long slot, subslot, index;
+    if (!words_number(words[0], 65535, &slot) || !words_number(words[1], 65535, &subslot) || !words_index(words[2], &index))
+        return 0;
+    access->slot = (uint16_t)slot;
+    access->subslot = (uint16_t)subslot;
+    access->index = (uint16_t)index;
+    return 1;
+}
+
+/* Hands in a request, unless another one waits. */
+static void ask(struct relation *relation, const struct access *wanted, const uint8_t *octets, size_t length)
+{
+    struct lines *lines = &relation->loop->lines;
+    const struct access *access = &relation->access;
+    if (relation->state != PN_DATA_EXCHANGE) {
+        lines_answer(lines, "wrong: no data is exchanged, the state is %s", relation_state(relation));
+    } else if (access->is_waiting) {
+        lines_answer(lines, "wrong: the %s of index %u in slot %u subslot %u waits for its answer", verb(access), access->index, access->slot,
+                     access->subslot);
+    } else if (!relation_request(relation, wanted, octets, length)) {
+        lines_answer(lines, "wrong: no data is exchanged, the relation has ended");
+    } else {
+        relation->access = *wanted;
+        relation->access.is_waiting = 1;
+        relation->access.since = ticker_now();
+        relation->access.pause = FIRST_PAUSE;
+        lines_answer(lines, "state %s", relation_state(relation));
+    }
+}
+
+void access_read(struct relation *relation, char *words[])
+{
+    struct access wanted = {.is_write = 0};
+    if (read_place(words + 1, &wanted))
+        ask(relation, &wanted, NULL, 0);
+    else
+        lines_answer(&relation->loop->lines, "wrong: read SLOT SUBSLOT INDEX");
+}
+
+void access_write(struct relation *relation, char *words[])
+{
+    struct access wanted = {.is_write = 1};
+    uint8_t octets[RECORD_LONGEST];
+    long length = strcmp(words[4], "-") == 0 ? 0 : words_octets(words[4], octets, sizeof octets);
+    if (read_place(words + 1, &wanted) && length >= 0)
+        ask(relation, &wanted, octets, (size_t)length);
+    else
+        lines_answer(&relation->loop->lines, "wrong: write SLOT SUBSLOT INDEX HEX, at most %d octets, - for none", RECORD_LONGEST);
+}
+
+/* Reports an answer: its octets, or why the request was refused. */
+static void tell(struct relation *relation, const struct relation_answer *answer)
+{
+    const struct access *access = &relation->access;
+    struct lines *lines = &relation->loop->lines;
+    char label[64], text[2 * RECORD_LONGEST + 96];
+    snprintf(label, sizeof label, "%s %u %u %u", verb(access), access->slot, access->subslot, access->index);
+    if (answer->is_refused) {
+        reasons_status(answer->status, text, sizeof text);
+        lines_tell(lines, "%s refused: %s", label, text);
+    } else if (access->is_write) {
+        lines_tell(lines, "%s done", label);
+    } else if (answer->length == 0) {
+        lines_tell(lines, "%s -", label);
+    } else {
+        words_labelled(text, sizeof text, label, answer->octets, answer->length);
+        lines_tell(lines, "%s", text);
+    }
+}
+
+void access_look(struct relation *relation)
+{
+    struct relation_answer answer;
+    if (!relation->access.is_waiting || !relation_answer(relation, &answer))
+        return;
+    relation->access.is_waiting = 0;
+    tell(relation, &answer);
+}
+
+void access_tell_waiting(struct relation *relation)
+{
+    struct access *access = &relation->access;
+    uint64_t passed = ticker_now() - access->since;
+    if (!access->is_waiting || passed < access->pause)
+        return;
+    access->pause *= 2;
+    lines_tell(&relation->loop->lines, "waiting %" PRIu64 " s: no answer to the %s of index %u in slot %u subslot %u", passed / SECOND, verb(access),
+               access->index, access->slot, access->subslot);
+}
+
+void access_drop(struct relation *relation)
+{
+    const struct access *access = &relation->access;
+    if (!access->is_waiting)
+        return;
+    relation->access.is_waiting = 0;
+    lines_tell(&relation->loop->lines, "%s %u %u %u dropped: the relation has ended", verb(access), access->slot, access->subslot, access->index);
+}

@@ -1,0 +1,35 @@
+/* Reads and writes of records by the application while data is exchanged, one at a time: the lines `read` and `write`. */
+#ifndef HOST_ACCESS_H
+#define HOST_ACCESS_H
+
+#include "nandutable_controller.h"
+
+struct relation;
+
+/* The request that waits for its answer. */
+struct access {
+    int is_waiting;
+    int is_write;
+    uint16_t slot;
+    uint16_t subslot;
+    uint16_t index;
+    uint64_t since; /* when it was made */
+    uint64_t pause; /* how long it waits until the next line about it, in nanoseconds */
+};
+
+/* The line `read SLOT SUBSLOT INDEX`, with its words. */
+void access_read(struct relation *relation, char *words[]);
+
+/* The line `write SLOT SUBSLOT INDEX HEX`, with its words. */
+void access_write(struct relation *relation, char *words[]);
+
+/* Reports the answer if there is one. */
+void access_look(struct relation *relation);
+
+/* Reports now and then that there is no answer yet. */
+void access_tell_waiting(struct relation *relation);
+
+/* The relation has ended: reports that there will be no answer. */
+void access_drop(struct relation *relation);
+
+#endif
