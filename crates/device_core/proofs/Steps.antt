@@ -23,7 +23,7 @@ use Rattle.device_core.specs.State.{Station, State, Rest, Live, at_start, store_
 use Rattle.device_frames.specs.Heard.{Heard, Asks}
 use Rattle.device_frames.specs.Sendable.{AreSendable, IsSendable}
 use Rattle.device_frames.specs.Sent.{Sent, GetAnswer, SetAnswer, Again, bytes_of}
-use Rattle.device_core.specs.Handled.{Handled, Refuses, Sets, Writes, Moves, identified, handled_request, handled_looked, handled_blocks, handled_call, handled}
+use Rattle.device_core.specs.Handled.{Handled, Refuses, Sets, Writes, WritesEach, Moves, identified, handled_request, handled_looked, handled_blocks, handled_call, handled}
 use Rattle.device_core.specs.Machine.{Finished, Stepped, items_in, items_of, farewells_at, resets, finished, end_of, handled_step, heard_step}
 use Rattle.device_core.specs.Steps.{Steps, Identifies, IsIdentified, IsServed, IsAgain}
 use Rattle.device_core.proofs.Machine.{is_asking, nothing_asked, inactive_step, is_inactive, handled_as}
@@ -235,6 +235,7 @@ unfolding handled_step
 refused_handled outcomes station live (Refuses why) refused = record { live_is = refl; none_sent = refl; none_accepted = refl }
 refused_handled outcomes station live (Sets asker request in_operation) refused = absurd (refused refl)
 refused_handled outcomes station live (Writes caller address call header value) refused = absurd (refused refl)
+refused_handled outcomes station live (WritesEach caller address call header judged) refused = absurd (refused refl)
 refused_handled outcomes station live (Moves rest sent) refused = absurd (refused refl)
 
 refused_heard : (outcomes : List Outcome) (station : Station) (live : Live) (heard : Heard) → (heard_step outcomes station live heard).note ≢ note.Done → IsNothing live (heard_step outcomes station live heard)

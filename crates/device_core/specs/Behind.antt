@@ -8,7 +8,7 @@ use Rattle.records.specs.declared.status.operation.Operation.{Operation}
 use Rattle.record_blocks.specs.declared.write_record.IodWriteReq.{IodWriteReq}
 use Rattle.records.specs.declared.writes.taken.TakenRecord.{TakenRecord}
 use Rattle.records.specs.declared.writes.write.Effect.TheVariants.{Keeps}
-use Rattle.records.specs.declared.writes.write.Write.{Write as Asking}
+use Rattle.records.specs.declared.writes.writing.Writing.{Writing}
 use Rattle.relations.specs.Ready.{answer_of}
 use Rattle.relations.specs.declared.time.Elapsed.{Elapsed}
 use Rattle.relations.specs.Timers.{due_behind, left_behind}
@@ -53,7 +53,7 @@ abbrev pub call_of : Serving → Call
 call_of serving = asked serving.call.now
 
 -- The outcome of a Write whose blocks were read as this.
-abbrev pub wrote : {F : Type 0} → State F → Serving → Result Asking CallFault → Handled
+abbrev pub wrote : {F : Type 0} → State F → Serving → Result Writing CallFault → Handled
 wrote old serving handled = handled_write old.station old.live serving.caller.now (call_of serving) handled
 
 -- The outcome of a parameter record from a Write with this header.

@@ -30,9 +30,10 @@ use Rattle.records.specs.reads.Within.{names_relation}
 use Rattle.records.specs.declared.writes.taken.TakenRecord.{TakenRecord}
 use Rattle.records.specs.declared.writes.write.Effect.{Effect}
 use Rattle.records.specs.declared.writes.write.Effect.TheVariants.{Stores, Keeps}
-use Rattle.records.specs.declared.writes.write.Write.{Write as Asking}
+use Rattle.records.specs.declared.writes.writing.Writing.{Writing}
+use Rattle.records.specs.declared.writes.writing.Writing.TheVariants.{One, Each}
 use Rattle.records.specs.writes.Answer.{answer_of}
-use Rattle.records.specs.writes.Handled.{write_of}
+use Rattle.records.specs.writes.Asked.{writing_of}
 use Rattle.pn_alarms.specs.Message.{ToDevice}
 use Rattle.pn_alarms.specs.declared.device.PduFate.{PduFate}
 use Rattle.pn_alarms.specs.declared.device.PduFate.TheVariants as fate
@@ -58,17 +59,20 @@ use Rattle.device_frames.specs.declared.note.Note.{Note}
 use Rattle.device_frames.specs.declared.note.Note.TheVariants as note
 use Rattle.frame_codec.specs.declared.udp.Caller.{Caller}
 use Rattle.device_core.specs.State.{Station, Rest, Live}
+use Rattle.device_core.specs.Several.{Judged, judged_each}
 use Rattle.device_frames.specs.Relation.{alarms_of, due_frames, ready_calls, replies_of}
 use Rattle.device_frames.specs.Sent.{Sent, IdentifyAnswer, GetAnswer, ArpReply, CallAnswer, Again, Ends, bytes_of}
 use Rattle.device_frames.specs.Heard.{Heard, Ticks, Unreadable, Elsewhere, Asks, Resolves, Reported, Cyclic, Alarms, Given, Raised, Rated, Readied, Said, Calls, Responds, Garbled}
 
 -- The outcome of an event: it is refused, with the note that says why; a Set, whose blocks are asked of the settings; a
 -- Write of an I&M text, which is asked of the settings, with the caller, the address that was called, the call, its
--- header and the text; or a move, after which the rest has changed and these messages are sent.
+-- header and the text; a Write of several records, each of which was judged; or a move, after which the rest has changed
+-- and these messages are sent.
 pub data Handled : Type 0 where
   Refuses : (note : Note) → Handled
   Sets : (asker : Mac) → (request : Asked) → (in_operation : Bool) → Handled
   Writes : (caller : Caller) → (address : List ℕ) → (call : Call) → (header : IodWriteReq) → (value : ImValue) → Handled
+  WritesEach : (caller : Caller) → (address : List ℕ) → (call : Call) → (header : IodWriteReq) → (judged : List Judged) → Handled
   Moves : (rest : Rest) → (sent : List Sent) → Handled
 
 -- ---- DCP
@@ -161,8 +165,10 @@ handled_effect station live caller call header (Keeps parameter) =
     let kept = keeping parameter live.rest.link in
     served station live caller call Write (kept_answer header kept) (updated (answered Named kept) (updated (taking kept) live.rest.link)) []
 
-abbrev pub handled_write : Station → Live → Caller → Call → Result Asking CallFault → Handled
-handled_write station live caller call (Ok write) = handled_effect station live caller call write.request write.effect
+abbrev pub handled_write : Station → Live → Caller → Call → Result Writing CallFault → Handled
+handled_write station live caller call (Ok (One write)) = handled_effect station live caller call write.request write.effect
+handled_write station live caller call (Ok (Each header entries)) =
+    WritesEach caller live.values.running.suite.address call header (judged_each (uuid_of live.rest.link) station.real entries)
 handled_write station live caller call (Err fault) = served station live caller call Write (Err fault) live.rest.link []
 
 -- What the application says of its inputs as a relation begins.
@@ -180,7 +186,7 @@ handled_new station live caller call blocks Release =
 handled_new station live caller call blocks Read =
     let read = relation_read live.rest.link station.identity station.real live.values.running blocks in
     served station live caller call Read read (updated (answered Named read) live.rest.link) []
-handled_new station live caller call blocks Write = handled_write station live caller call (write_of (uuid_of live.rest.link) station.real blocks)
+handled_new station live caller call blocks Write = handled_write station live caller call (writing_of (uuid_of live.rest.link) station.real blocks)
 handled_new station live caller call blocks Control =
     let ended = prm_end_of live.rest.link blocks in
     let by_application = station.options.ready_by_application in

@@ -1,4 +1,5 @@
 pub mod State
+pub mod Several
 pub mod Handled
 pub mod Machine
 pub mod Faults

@@ -1,5 +1,7 @@
 // Calls, and their stored answers (IEC 61158-6-10, 4.10; C706, 9.5).
-ghost use Rattle.std.specs.Prelude.{◌≡◌, ◌<◌, ◌&&◌, [], ◌∷◌, Err, is_ok, not};
+ghost use Rattle.std.specs.Prelude.{◌≡◌, ◌<◌, ◌≤◌, ◌&&◌, [], ◌∷◌, Err, is_ok, length, not};
+ghost use Rattle.relations.specs.RelationState.{uuid_of};
+ghost use Rattle.device_core.specs.Several.{judged_each};
 ghost use Rattle.arrayvec.specs.ArrayVec.{array_vec_len};
 ghost use Rattle.settings_store.specs.Carries.{Holds};
 ghost use Rattle.rpc_core.specs.Call.{asked};
@@ -12,22 +14,24 @@ ghost use Rattle.records.specs.status.Operation.{operation_of};
 ghost use Rattle.device_frames.specs.Heard.{Heard as Hears, Reported, said_by};
 ghost use Rattle.device_frames.specs.Sendable.{IsSendable};
 ghost use Rattle.device_frames.specs.Sent.{bytes_of};
-ghost use Rattle.device_core.specs.Handled.{Writes, answer_from, came_with, kept_for, handled, handled_call, outcome_of};
+ghost use Rattle.device_core.specs.Handled.{Writes, WritesEach, answer_from, came_with, kept_for, handled, handled_call, outcome_of};
 ghost use Rattle.device_core.specs.Behind.{CanSend, answer_to, behind, brings, called, frames_of, responded, wrote};
 ghost use Rattle.device_core.specs.Machine.{end_of, written_as as comes_out};
 ghost use Rattle.device_core.specs.Steps.{StaysReliable, Steps};
 ghost use Rattle.frame_codec.specs.Outbox.{boxed};
 
 use crate::arp::is_running;
+use crate::several::{fill_texts, put_outcomes};
 use crate::{Device, Note};
+use arrayvec::ArrayVec;
 use block_codec::IodWriteReq;
 use device_frames::{Caller, send_farewell, send_ready_again, send_response};
 use flash_model::Flash;
 use frame_codec::Outbox;
 use pn_values::{BlockError, Command, Identity, ImValue, SetItem};
 use records::{
-    Blocks, CallFault, Effect, Operation, TakenRecord, Write, done, judge_write, names_relation,
-    put_write_answer, read_implicit,
+    Blocks, CallFault, Effect, Entries, Operation, TakenRecord, Write, Writing, done, judge_write,
+    names_relation, put_write_answer, read_implicit,
 };
 use relation_records::read_within;
 use relations::{Application, Partner, ReadyAnswer};
@@ -294,12 +298,58 @@ impl<F: Flash<S>, const S: usize> Device<F, S> {
         ensures reliable { StaysReliable F.Flash self.old self.new }
     {
         match judge_write(serving.blocks, self.relation.uuid(), &self.real) {
-            Ok(Write { request, effect }) => match effect {
+            Ok(Writing::One(Write { request, effect })) => match effect {
                 Effect::Stores(value) => self.store_text(serving, &request, value, outbox),
                 Effect::Keeps(taken) => self.keep_parameter(serving, &request, taken, outbox),
             },
+            Ok(Writing::Each(request, entries)) => {
+                self.write_each(serving, &request, &entries, outbox)
+            }
             Err(fault) => self.refuse_write(serving, fault, outbox),
         }
+    }
+
+    // Several records: I&M texts are stored in the flash, parameter records are kept in the relation, each by itself. The
+    // answer has the outcome of each.
+    fn write_each(
+        &mut self,
+        serving: &Serving<'_>,
+        header: &IodWriteReq,
+        entries: &Entries<'_>,
+        outbox: &mut Outbox,
+    ) -> Note
+        requires operation { serving.now.operation ≡ operation.Write }
+        requires empty { outbox.old.items ≡ [] }
+        requires few { length entries.now ≤ 16 }
+        ensures steps { (heard : Hears) → handled self.old.station self.old.live heard
+            ≡ WritesEach serving.now.caller.now self.old.live.values.running.suite.address (asked serving.now.call.now) header.now
+            (judged_each (uuid_of self.old.live.rest.link) self.old.station.real entries.now) →
+            Steps F.Flash self.old heard (boxed outbox.new) result self.new }
+        ensures reliable { StaysReliable F.Flash self.old self.new }
+    {
+        let standing = self.relation.uuid().copied();
+        fill_texts(
+            &mut entries.again(),
+            standing.as_ref(),
+            &self.real,
+            &mut self.plan,
+        );
+        let answers: ArrayVec<BlockError, 16> = self.store.carry_out(self.plan.as_slice());
+        self.answers.blocks.clear();
+        put_write_answer(&mut self.answers.blocks, header);
+        put_outcomes(
+            &mut entries.again(),
+            standing.as_ref(),
+            &self.real,
+            answers.as_slice(),
+            &mut self.relation,
+            &mut self.answers.blocks,
+        );
+        self.relation.hear_controller(true, Ok(()));
+        let address = self.store.running().suite.address();
+        self.answers
+            .give(&self.identity, address, serving, Ok(()), outbox);
+        Note::Done
     }
 
     // A Write that is refused.
@@ -434,7 +484,7 @@ fn is_ready_due(came: Result<(), CallFault>, by_application: bool) -> bool
 }
 
 // The outcome of a Write whose command has this answer.
-fn written_as(answer: BlockError) -> Result<(), CallFault>
+pub(crate) fn written_as(answer: BlockError) -> Result<(), CallFault>
     ensures { (header : Header) → came_with result (answer_of header) ≡ comes_out header answer }
 {
     match answer {

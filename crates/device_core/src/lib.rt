@@ -9,6 +9,7 @@ mod headline;
 mod law;
 mod leaps;
 mod run;
+mod several;
 mod sink;
 mod start;
 mod step;

@@ -16,4 +16,7 @@ pub use reads::{
     serve_listing, serve_within,
 };
 pub use status::{CallFault, Operation, Status, done, refusals_are_not_done};
-pub use writes::{Effect, TakenRecord, TakenRecords, Write, judge_write, put_write_answer};
+pub use writes::{
+    Effect, Entries, Entry, TakenRecord, TakenRecords, Write, Writing, judge_record, judge_write,
+    put_write_answer, put_write_outcome,
+};

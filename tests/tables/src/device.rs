@@ -3,7 +3,7 @@
 use pn_values::{Command, Identity, Mac, Real, Settings};
 use relation_records::read_within;
 use records::{
-    Blocks, CallFault, Effect, Operation, Write, judge_write, names_relation, put_write_answer,
+    Blocks, CallFault, Effect, Operation, Write, Writing, judge_write, names_relation, put_write_answer,
     read_implicit,
 };
 use relations::{Application, DeviceOptions, Partner, Relation};
@@ -97,7 +97,12 @@ impl Device {
 
     /// A Write within the relation.
     fn write(&mut self, blocks: &[u8], answer: &mut Blocks) -> Result<(), CallFault> {
-        let Write { request, effect } = judge_write(blocks, self.relation.uuid(), &self.real)?;
+        let Writing::One(Write { request, effect }) =
+            judge_write(blocks, self.relation.uuid(), &self.real)?
+        else {
+            // The tables have no list of records.
+            return Err(CallFault::Index);
+        };
         match effect {
             Effect::Stores(value) => self.carry(&Command::SetIm(value)),
             Effect::Keeps(taken) => self.relation.keep(taken)?,

@@ -1,0 +1,46 @@
+-- The list of a Write, from its front.
+use Rattle.std.proofs.Common.{◌≡◌, ◌<◌, ◌+◌, ◌-◌, ℕ, zero, suc, Bool, true, false, List, [], ◌∷◌, length, Option, Some, None, refl, sym, ap, ◌∙◌, arith}
+use Rattle.records.specs.writes.Entry.{Entry}
+use Rattle.records.specs.writes.Several.{entries_in, entries_then, entry_of, is_list, is_then}
+
+pub none_left : (left : ℕ) (octets : List ℕ) → left ≡ 0 → entries_in left octets ≡ []
+unfolding entries_in
+none_left zero octets e = refl
+none_left (suc left) octets e = absurd (omega (arith, e))
+
+pub none_read : (left : ℕ) (octets : List ℕ) → entry_of octets ≡ None → entries_in left octets ≡ []
+unfolding entries_in
+none_read zero octets e = refl
+none_read (suc left) octets e = ap (λ (x : Option (Entry × List ℕ)). entries_then x (λ behind. entries_in left behind)) e
+
+pub next_read : (left : ℕ) (octets : List ℕ) (entry : Entry) (behind : List ℕ) → 0 < left → entry_of octets ≡ Some (entry, behind) → entries_in left octets ≡ entry ∷ entries_in (left - 1) behind
+unfolding entries_in
+next_read zero octets entry behind more e = absurd (omega (arith, more))
+next_read (suc left) octets entry behind more e =
+    let same : suc left - 1 ≡ left = omega arith in
+    ap (λ (x : Option (Entry × List ℕ)). entries_then x (λ others. entries_in left others)) e ∙ ap (λ (n : ℕ). entry ∷ entries_in n behind) (sym same)
+
+pub empty_is : (left : ℕ) (octets : List ℕ) → length octets ≡ 0 → is_list left octets ≡ true
+unfolding is_list
+empty_is zero [] e = refl
+empty_is (suc left) [] e = refl
+empty_is left (octet ∷ octets) e = absurd (omega (arith, e))
+
+pub broken_is : (left : ℕ) (octets : List ℕ) → 0 < length octets → entry_of octets ≡ None → is_list left octets ≡ false
+unfolding is_list
+broken_is left [] some e = absurd (omega (arith, some))
+broken_is zero (octet ∷ octets) some e = refl
+broken_is (suc left) (octet ∷ octets) some e = ap (λ (x : Option (Entry × List ℕ)). is_then x (λ behind. is_list left behind)) e
+
+pub more_is : (left : ℕ) (octets : List ℕ) (entry : Entry) (behind : List ℕ) → 0 < left → 0 < length octets → entry_of octets ≡ Some (entry, behind) → is_list left octets ≡ is_list (left - 1) behind
+unfolding is_list
+more_is zero octets entry behind more some e = absurd (omega (arith, more))
+more_is (suc left) [] entry behind more some e = absurd (omega (arith, some))
+more_is (suc left) (octet ∷ octets) entry behind more some e =
+    let same : suc left - 1 ≡ left = omega arith in
+    ap (λ (x : Option (Entry × List ℕ)). is_then x (λ others. is_list left others)) e ∙ ap (λ (n : ℕ). is_list n behind) (sym same)
+
+pub full_is : (octets : List ℕ) → 0 < length octets → is_list 0 octets ≡ false
+unfolding is_list
+full_is [] some = absurd (omega (arith, some))
+full_is (octet ∷ octets) some = refl
