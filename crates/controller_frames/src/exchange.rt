@@ -31,7 +31,13 @@ pub fn send_outputs(setup: &Setup, counter: u16, exchange: &CyclicExchange, outb
         ≡ boxed outbox.old ++ bytes_of setup.now (Cycles exchange.now.route exchange.now.shown counter) ∷ [] }
     ensures len { array_vec_len outbox.new ≡ array_vec_len outbox.old + 1 }
 {
-    send_cyclic(setup.plan.controller().mac, counter, exchange, outbox);
+    send_cyclic(
+        setup.plan.controller().mac,
+        counter,
+        false,
+        exchange,
+        outbox,
+    );
 }
 
 /// The tag of alarms of a priority.

@@ -1,7 +1,7 @@
 //! One end of cyclic data.
 ghost use Rattle.std.specs.Prelude.{◌≡◌, ◌≤◌, ◌++◌, IfSome, [], false, is_some, length, option_map, unwrap_or};
 ghost use Rattle.arrayvec.specs.ArrayVec.{array_vec_len};
-ghost use Rattle.cyclic_exchange.specs.Frames.{cyclic_body};
+ghost use Rattle.cyclic_exchange.specs.Frames.{body_at};
 ghost use Rattle.cyclic_exchange.specs.Opening.{begun_of, ended_of, opened, related};
 ghost use Rattle.cyclic_exchange.specs.Process.{given_at, provided_at, provider_at, stated_at, value_at};
 
@@ -194,14 +194,17 @@ impl CyclicExchange {
         }
     }
 
-    /// The octets that follow the FrameID of a frame that is sent at this CycleCounter: the data, at most 1,440 octets,
-    /// and the four octets after it.
+    /// The octets that follow the FrameID of a frame that is sent at this CycleCounter by a station with or without a
+    /// problem: the data, at most 1,440 octets, and the four octets after it.
     #[inline(always)]
-    pub fn data(&self, counter: u16) -> (&[u8], ArrayVec<u8, 4>)
-        ensures exact { result.0.now ++ result.1.items ≡ cyclic_body self.now.shown counter }
+    pub fn data(&self, counter: u16, has_problem: bool) -> (&[u8], ArrayVec<u8, 4>)
+        ensures exact { result.0.now ++ result.1.items ≡ body_at has_problem self.now.shown counter }
         ensures few { length result.0.now ≤ 1440 }
         ensures tail { array_vec_len result.1 ≡ 4 }
     {
-        (self.sent.bytes(), CyclicTail::running(counter).octets())
+        (
+            self.sent.bytes(),
+            CyclicTail::running(counter, has_problem).octets(),
+        )
     }
 }

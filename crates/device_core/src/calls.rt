@@ -21,7 +21,9 @@ ghost use Rattle.frame_codec.specs.Outbox.{boxed};
 use crate::arp::is_running;
 use crate::{Device, Note};
 use block_codec::IodWriteReq;
-use device_frames::{Caller, send_farewell, send_ready_again, send_response};
+use device_frames::{
+    Caller, send_farewell, send_low_alarm, send_ready_again, send_response,
+};
 use flash_model::Flash;
 use frame_codec::Outbox;
 use pn_values::{BlockError, Command, Identity, ImValue, SetItem};
@@ -73,7 +75,15 @@ impl<F: Flash<S>, const S: usize> Device<F, S> {
         match self.relation.hear_ready(response) {
             ReadyAnswer::NotWanted => Note::NoRelation,
             ReadyAnswer::Garbled => Note::Fault,
-            ReadyAnswer::Confirmed => Note::Done,
+            ReadyAnswer::Confirmed => {
+                if self
+                    .relation
+                    .begin_diagnosis(&self.real, &self.diagnoses)
+                {
+                    send_low_alarm(&self.identity, &self.relation, outbox);
+                }
+                Note::Done
+            }
             ReadyAnswer::Refused(farewell) => {
                 send_farewell(&self.identity, &farewell, outbox);
                 Note::Done
@@ -175,6 +185,7 @@ impl<F: Flash<S>, const S: usize> Device<F, S> {
         let application = Application {
             options: &self.options,
             statuses: self.statuses.as_slice(),
+            diagnoses: &self.diagnoses,
         };
         self.answers.blocks.clear();
         let came = self.relation.connect(
@@ -246,6 +257,7 @@ impl<F: Flash<S>, const S: usize> Device<F, S> {
             &self.relation,
             &self.identity,
             &self.real,
+            &self.diagnoses,
             running,
             serving.blocks,
             &mut self.answers.blocks,
@@ -271,6 +283,7 @@ impl<F: Flash<S>, const S: usize> Device<F, S> {
         let came = read_implicit(
             &self.identity,
             &self.real,
+            &self.diagnoses,
             running,
             serving.blocks,
             &mut self.answers.blocks,

@@ -14,6 +14,7 @@ ghost use Rattle.device_core.specs.State.{plain};
 
 use crate::calls::Answering;
 use arrayvec::ArrayVec;
+use diagnosis::Diagnoses;
 use flash_model::{Flash, Order};
 use pn_values::{Identity, Real, SetItem, Settings};
 use records::TakenRecord;
@@ -40,6 +41,8 @@ pub struct Device<F: Flash<S>, const S: usize> {
     pub(crate) units: u16,
     // The statuses that the application gave to its inputs.
     pub(crate) statuses: ArrayVec<InputStatus, 64>,
+    // The diagnoses that exist.
+    pub(crate) diagnoses: Diagnoses,
     // Room for the plan of a Set; it holds the last one.
     pub(crate) plan: ArrayVec<SetItem, 16>,
 }
@@ -251,6 +254,7 @@ impl<F: Flash<S>, const S: usize> Device<F, S> {
             relation: _,
             units: _,
             statuses: _,
+            diagnoses: _,
             plan: _,
         } = self;
         (identity, real, store.into_flash())

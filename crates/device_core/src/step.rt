@@ -28,14 +28,17 @@ use crate::{Device, Event, Note};
 use dcp_core::Service;
 use device_frames::{
     Caller, RealTimeKind, is_asked, is_called, kind_of, open_frame, real_time_in, send_alarm,
-    send_alarm_again, send_alarm_reply, send_farewell, send_inputs, send_inputs_of, send_ready,
-    send_ready_again,
+    send_alarm_again, send_alarm_reply, send_farewell, send_inputs, send_inputs_of, send_low_alarm,
+    send_low_reply, send_ready, send_ready_again,
 };
 use flash_model::Flash;
 use frame_codec::{ContentKind, OpenFrame, Outbox, RealTimeFrame, datagram_at, packet_at};
-use pn_alarms::{Abort, Header, Message, PduFate, read_message};
+use diagnosis::{Change, Diagnosis};
+use pn_alarms::{Abort, Header, Message, PduFate, Priority, read_low_message, read_message};
 use pn_values::Mac;
-use relations::{DataExchange, Elapsed, InputStatus, Received, put_status};
+use relations::{
+    DataExchange, Elapsed, InputStatus, Received, Repeated, is_plugged, put_status,
+};
 
 impl<F: Flash<S>, const S: usize> Device<F, S> {
     /// Handles an event, and replaces the content of the outbox by the frames to be sent.
@@ -105,6 +108,15 @@ impl<F: Flash<S>, const S: usize> Device<F, S> {
             }
             Event::Status(slot, subslot, is_good) => self.rate(*slot, *subslot, *is_good),
             Event::Ready => self.get_ready(outbox),
+            Event::Diagnosis(slot, subslot, channel, error, appears) => {
+                let diagnosis = Diagnosis {
+                    slot: *slot,
+                    subslot: *subslot,
+                    channel: *channel,
+                    error: *error,
+                };
+                self.diagnose(diagnosis, *appears, outbox)
+            }
             Event::Frame(bytes) => self.hear(bytes.as_slice(), outbox),
         }
     }
@@ -138,7 +150,7 @@ impl<F: Flash<S>, const S: usize> Device<F, S> {
         let (source, frame_id, body) = (frame.source, frame.frame_id, frame.body);
         match kind_of(&self.identity, frame.destination, frame_id) {
             RealTimeKind::Cyclic => self.hear_cyclic(source, frame_id, body),
-            RealTimeKind::Alarm => self.read_alarm(source, body, outbox),
+            RealTimeKind::Alarm => self.read_alarm(source, frame_id, body, outbox),
             RealTimeKind::Request => self.read_and_serve(source, frame_id, body, outbox),
             RealTimeKind::Elsewhere => Note::NotMine,
         }
@@ -207,16 +219,92 @@ impl<F: Flash<S>, const S: usize> Device<F, S> {
 
     // The octets that follow the FrameID of an alarm frame.
     #[inline(never)]
-    fn read_alarm(&mut self, source: Mac, body: &[u8], outbox: &mut Outbox) -> Note
+    fn read_alarm(
+        &mut self,
+        source: Mac,
+        frame_id: u16,
+        body: &[u8],
+        outbox: &mut Outbox,
+    ) -> Note
         requires stored { Holds (F.image self.old.flash) self.old.live.values }
         requires empty { outbox.old.items ≡ [] }
         ensures steps { Steps F.Flash self.old (heard_alarm source (message_of body.now)) (boxed outbox.new) result self.new }
         ensures reliable { StaysReliable F.Flash self.old self.new }
     {
         match read_message(body) {
+            Ok((header, Message::Ack(number)))
+                if Priority::of(frame_id) == Priority::Low && self.relation.has_sent_low() =>
+            {
+                self.hear_low_ack(source, &header, &Message::Ack(number))
+            }
             Ok((header, message)) => self.hear_alarm(source, &header, &message, outbox),
-            Err(_) => Note::Fault,
+            Err(_) => self.read_low_alarm(source, body, outbox),
         }
+    }
+
+    // The octets that follow the FrameID of an alarm frame, if they carry an AlarmAck of low priority. It can be read once an
+    // alarm of low priority was sent in the relation.
+    #[inline(never)]
+    fn read_low_alarm(&mut self, source: Mac, body: &[u8], outbox: &mut Outbox) -> Note {
+        if !self.relation.has_sent_low() {
+            return Note::Fault;
+        }
+        let Ok((header, message)) = read_low_message(body) else {
+            return Note::Fault;
+        };
+        if !self
+            .relation
+            .is_alarm(source, header.destination, header.source)
+        {
+            return Note::NoRelation;
+        }
+        if let PduFate::Data(taken) = self.relation.hear_low(&message) {
+            // The ACK has the numbers before the next alarm, which follows it.
+            send_low_reply(&self.identity, taken, &self.relation, outbox);
+            self.report_next(outbox);
+        }
+        Note::Done
+    }
+
+    // An ACK of low priority.
+    #[inline(never)]
+    fn hear_low_ack(&mut self, source: Mac, header: &Header, message: &Message) -> Note {
+        if !self
+            .relation
+            .is_alarm(source, header.destination, header.source)
+        {
+            return Note::NoRelation;
+        }
+        match self.relation.hear_low(message) {
+            PduFate::Done => Note::Done,
+            _ => Note::Filter,
+        }
+    }
+
+    // The first change of diagnosis that waits is reported, if no alarm of low priority is active.
+    fn report_next(&mut self, outbox: &mut Outbox) {
+        if self.relation.report_next(&self.real) {
+            send_low_alarm(&self.identity, &self.relation, outbox);
+        }
+    }
+
+    // A diagnosis appears or disappears.
+    #[inline(never)]
+    fn diagnose(&mut self, diagnosis: Diagnosis, appears: bool, outbox: &mut Outbox) -> Note {
+        let change = Change { diagnosis, appears };
+        if !is_plugged(&self.real, diagnosis.slot, diagnosis.subslot)
+            || self.relation.is_full()
+            || !self.diagnoses.change(&change)
+        {
+            return Note::Refused;
+        }
+        if self
+            .relation
+            .diagnose(&self.real, &change, &self.diagnoses)
+        {
+            send_low_alarm(&self.identity, &self.relation, outbox);
+        }
+        Note::Done
     }
 
     // A unit of time is over: the timers advance. If a timeout ends the relation, nothing more is done.
@@ -255,7 +343,7 @@ impl<F: Flash<S>, const S: usize> Device<F, S> {
         match elapsed.tick.ending() {
             Some(reason) => self.end(reason, outbox),
             None => self.send_each(
-                elapsed.tick.is_alarm(),
+                elapsed.repeated,
                 elapsed.is_ready,
                 elapsed.tick.is_cyclic(),
                 outbox,
@@ -310,14 +398,17 @@ impl<F: Flash<S>, const S: usize> Device<F, S> {
 
     // An alarm, ApplicationReady and inputs, each if it is due.
     #[inline(never)]
-    fn send_each(&self, is_alarm: bool, is_ready: bool, is_cyclic: bool, outbox: &mut Outbox)
+    fn send_each(&self, repeated: Repeated, is_ready: bool, is_cyclic: bool, outbox: &mut Outbox)
         requires { outbox.old.items ≡ [] }
         ensures frames { boxed outbox.new ≡ map (bytes_of self.now.station.identity) (due_in self.now is_alarm is_ready is_cyclic) }
         ensures sendable { AreSendable self.now.station.identity (due_in self.now is_alarm is_ready is_cyclic) }
     {
         let address = self.store.running().suite.address();
         let counter = self.units;
-        send_alarm_again(&self.identity, is_alarm, &self.relation, outbox);
+        send_alarm_again(&self.identity, repeated.high, &self.relation, outbox);
+        if repeated.low {
+            send_low_alarm(&self.identity, &self.relation, outbox);
+        }
         send_ready_again(&self.identity, address, is_ready, &self.relation, outbox);
         send_inputs(&self.identity, counter, is_cyclic, &self.relation, outbox);
     }

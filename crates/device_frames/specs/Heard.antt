@@ -13,15 +13,18 @@ use Rattle.frame_codec.specs.Frame.{frame_of}
 use Rattle.dcp_core.specs.declared.request.DcpFault.{DcpFault}
 use Rattle.dcp_core.specs.Request.{Asked}
 use Rattle.dcp_core.specs.Reading.{request_of}
+use Rattle.diagnosis.specs.declared.diagnosis.Change.{Change}
 use Rattle.rpc_core.specs.declared.fault.RpcFault.{RpcFault}
 use Rattle.rpc_core.specs.declared.interface.Interface.TheVariants.{Device}
 use Rattle.rpc_core.specs.Call.{Asked as Call, call_of}
 use Rattle.rpc_core.specs.Response.{Answered, response_of}
 use Rattle.pn_alarms.specs.declared.fault.AlarmFault.{AlarmFault}
 use Rattle.pn_alarms.specs.declared.pdu.Header.{Header}
-use Rattle.pn_alarms.specs.Message.{ToDevice, message_of}
+use Rattle.pn_alarms.specs.declared.priority.Priority.{Priority}
+use Rattle.pn_alarms.specs.Priority.{priority_of}
+use Rattle.pn_alarms.specs.Message.{ToDevice, low_message_of, message_of}
 use Rattle.device_frames.specs.declared.event.Event.{Event}
-use Rattle.device_frames.specs.declared.event.Event.TheVariants.{Frame, Tick, Input, Alarm, Status, Ready}
+use Rattle.device_frames.specs.declared.event.Event.TheVariants.{Frame, Tick, Input, Alarm, Status, Diagnosis, Ready}
 
 -- What the body of a datagram says: a call to the device, else a response, else neither.
 pub data Said : Type 0 where
@@ -32,7 +35,8 @@ pub data Said : Type 0 where
 -- What an event is: a unit of time, a frame that cannot be read, a frame for another station, a DCP request and who
 -- sends it, an ARP packet and who sends it, a datagram: who sends it, to which address, and what it says; a cyclic
 -- frame; an alarm frame: who sends it, between which endpoints, and what it says; or, from the application, the input
--- of a submodule, an alarm of one, whether its inputs are good, or that it is ready.
+-- of a submodule, an alarm of one, whether its inputs are good, a diagnosis of one that appears or disappears, or that it is
+-- ready. An alarm frame has the priority of its FrameID; one that confirms carries an AlarmAck of low priority.
 pub data Heard : Type 0 where
   Ticks : Heard
   Unreadable : Heard
@@ -41,10 +45,12 @@ pub data Heard : Type 0 where
   Resolves : (asker : Mac) → (arp : Arp) → Heard
   Reported : (caller : Caller) → (address : List ℕ) → (said : Said) → Heard
   Cyclic : (source : Mac) → (frame_id : ℕ) → (body : List ℕ) → Heard
-  Alarms : (source : Mac) → (header : Header) → (message : ToDevice) → Heard
+  Alarms : (source : Mac) → (priority : Priority) → (header : Header) → (message : ToDevice) → Heard
+  Confirms : (source : Mac) → (header : Header) → (message : ToDevice) → Heard
   Given : (slot : ℕ) → (subslot : ℕ) → (value : List ℕ) → Heard
   Raised : (slot : ℕ) → (subslot : ℕ) → (octets : List ℕ) → Heard
   Rated : (slot : ℕ) → (subslot : ℕ) → (is_good : Bool) → Heard
+  Diagnosed : (change : Change) → Heard
   Readied : Heard
 
 -- The multicast address of Identify requests.
@@ -67,9 +73,13 @@ is_taken identity destination frame_id =
     || (frame_id == 65278 && (is_own identity destination || pointwise nat_eq destination.octets identify_multicast))
 
 -- Data without a complete AlarmAck cannot be read either, from any sender.
-abbrev pub heard_alarm : Mac → Result (Header × ToDevice) AlarmFault → Heard
-heard_alarm source (Ok x) = Alarms source x.0 x.1
-heard_alarm source (Err fault) = Unreadable
+abbrev pub heard_low : Mac → Result (Header × ToDevice) AlarmFault → Heard
+heard_low source (Ok x) = Confirms source x.0 x.1
+heard_low source (Err fault) = Unreadable
+
+abbrev pub heard_alarm : Mac → ℕ → List ℕ → Result (Header × ToDevice) AlarmFault → Heard
+heard_alarm source frame_id body (Ok x) = Alarms source (priority_of frame_id) x.0 x.1
+heard_alarm source frame_id body (Err fault) = heard_low source (low_message_of body)
 
 abbrev pub heard_request : Mac → Result Asked DcpFault → Heard
 heard_request source (Ok request) = Asks source request
@@ -93,7 +103,7 @@ said_by body = said_first (call_of Device body) (response_of body)
 abbrev pub heard_content : Identity → Mac → Mac → Content → Heard
 heard_content identity destination source (RealTime frame_id body) =
     if is_taken identity destination frame_id then heard_request source (request_of frame_id body)
-    else if is_own identity destination && is_alarm frame_id then heard_alarm source (message_of body)
+    else if is_own identity destination && is_alarm frame_id then heard_alarm source frame_id body (message_of body)
     else if is_own identity destination && is_cyclic frame_id then Cyclic source frame_id body
     else Elsewhere
 heard_content identity destination source (ArpPacket arp) =
@@ -117,4 +127,8 @@ heard_of identity Tick = Ticks
 heard_of identity (Input slot subslot value) = Given slot subslot value.items
 heard_of identity (Alarm slot subslot octets) = Raised slot subslot octets.items
 heard_of identity (Status slot subslot is_good) = Rated slot subslot is_good
+heard_of identity (Diagnosis slot subslot channel error appears) = Diagnosed (record {
+  diagnosis = record { slot = slot; subslot = subslot; channel = channel; error = error };
+  appears = appears;
+})
 heard_of identity Ready = Readied

@@ -27,7 +27,7 @@ use Rattle.pn_alarms.specs.declared.priority.Priority.{Priority}
 use Rattle.pn_alarms.specs.declared.priority.Priority.TheVariants.{High, Low}
 use Rattle.pn_alarms.specs.declared.report.Report.{Report}
 use Rattle.pn_alarms.specs.Priority.{block_type_of, priority_of_block}
-use Rattle.pn_alarms.specs.Report.{IsReport, blamed, block_priority, front, low_ack, ours, payload, payload_bytes, payload_fits, payload_size, report, report_fields, report_of, spells_payload, structured}
+use Rattle.pn_alarms.specs.Report.{IsReport, blamed, block_priority, front, IsLowAck, diagnosed, low_ack, low_ack_of, ours, payload, payload_bytes, payload_fits, payload_size, report, report_fields, report_of, spells_payload, structured}
 
 front_sound : IsSound front
 unfolding front
@@ -126,6 +126,14 @@ report_takes bytes meaning e = (loose_sound report report_sound).takes bytes mea
 pub report_again : (bytes : List ℕ) (meaning : Report) → IsReport bytes meaning → report_of bytes ≡ Ok meaning
 unfolding report_of IsReport
 report_again bytes meaning s = ap (λ (r : Result Report BlockFault). blamed r) ((loose_sound report report_sound).again bytes meaning s)
+
+pub low_ack_takes : (bytes : List ℕ) (meaning : AlarmAck) → low_ack_of bytes ≡ Ok meaning → IsLowAck bytes meaning
+unfolding low_ack_of IsLowAck
+low_ack_takes bytes meaning e = (loose_sound low_ack low_ack_sound).takes bytes meaning (blamed_ok ((loose low_ack).read bytes) meaning e)
+
+pub low_ack_again : (bytes : List ℕ) (meaning : AlarmAck) → IsLowAck bytes meaning → low_ack_of bytes ≡ Ok meaning
+unfolding low_ack_of IsLowAck
+low_ack_again bytes meaning s = ap (λ (r : Result AlarmAck BlockFault). blamed r) ((loose_sound low_ack low_ack_sound).again bytes meaning s)
 
 -- ---- writing
 

@@ -11,7 +11,7 @@ use Rattle.pn_alarms.specs.declared.message.Notice.{Notice}
 use Rattle.pn_alarms.specs.declared.message.Notice.TheVariants.{Data, Nack, Ack, Abort}
 use Rattle.pn_alarms.specs.Format.{Said, pdu_of}
 use Rattle.pn_alarms.specs.Carried.{ack_of}
-use Rattle.pn_alarms.specs.Report.{report_of}
+use Rattle.pn_alarms.specs.Report.{low_ack_of, report_of}
 
 -- What a PDU says to a device, and what it says to a controller.
 abbrev pub ToDevice : Type 0
@@ -31,13 +31,21 @@ notice_in block pdu.Error said = Ok Abort
 abbrev pub notice_of : {B : Type 0} → (List ℕ → Result B AlarmFault) → List ℕ → Result (Header × Notice B) AlarmFault
 notice_of block bytes = pdu_of bytes >>= λ said. notice_in block said.header.kind said >>= λ notice. Ok (said.header, notice)
 
--- The same at a device, and at a controller.
+-- The same at a device.
 abbrev pub message_in : PduType → Said → Result ToDevice AlarmFault
 message_in kind said = notice_in ack_of kind said
 
 abbrev pub message_of : List ℕ → Result (Header × ToDevice) AlarmFault
 message_of bytes = notice_of ack_of bytes
 
+-- The same of a PDU of low priority at a device.
+abbrev pub low_message_in : PduType → Said → Result ToDevice AlarmFault
+low_message_in kind said = notice_in low_ack_of kind said
+
+abbrev pub low_message_of : List ℕ → Result (Header × ToDevice) AlarmFault
+low_message_of bytes = notice_of low_ack_of bytes
+
+-- And at a controller, of both priorities.
 abbrev pub alarm_in : PduType → Said → Result ToController AlarmFault
 alarm_in kind said = notice_in report_of kind said
 

@@ -19,6 +19,8 @@ use Rattle.pn_alarms.specs.declared.priority.Priority.{Priority}
 use Rattle.pn_alarms.specs.declared.priority.Priority.TheVariants.{High, Low}
 use Rattle.pn_alarms.specs.declared.report.Front.{Front}
 use Rattle.pn_alarms.specs.declared.report.Report.{Report}
+use Rattle.pn_alarms.specs.declared.pdu.Header.{Header}
+use Rattle.pn_alarms.specs.Format.{Said}
 use Rattle.pn_alarms.specs.Priority.{block_type_of, priority_of_block}
 
 -- ---- AlarmNotification
@@ -144,11 +146,27 @@ report_of bytes = blamed ((loose report).read bytes)
 abbrev pub ours : AlarmNotification → Report
 ours alarm = record { priority = High; notification = alarm; user_structure = Some 1 }
 
+-- An alarm of low priority with the UserStructureIdentifier 0x8000: what a device of this product sends as a change of
+-- diagnosis.
+abbrev pub diagnosed : AlarmNotification → Report
+diagnosed alarm = record { priority = Low; notification = alarm; user_structure = Some 0x8000 }
+
+-- Data that carries such an alarm.
+abbrev pub diagnosis_pdu : Header → AlarmNotification → Said
+diagnosis_pdu header alarm = record { header = header; body = report.write (diagnosed alarm) [] }
+
 -- ---- AlarmAck
 
 -- The AlarmAck of low priority: BlockType 0x8002, and otherwise as that of high priority.
 unfoldable pub low_ack : Codec BlockFault AlarmAck
 low_ack = seen (λ x. x.1) (λ ack. (tt, ack)) (fixed Kind 2 0x8002 ⨾ framed (number Truncated 2) Truncated (body alarm_ack))
+
+-- These octets begin with this AlarmAck of low priority, and the one at the start of these octets.
+unfoldable pub IsLowAck : List ℕ → AlarmAck → Type 0
+IsLowAck bytes ack = (loose low_ack).Spells bytes ack
+
+unfoldable pub low_ack_of : List ℕ → Result AlarmAck AlarmFault
+low_ack_of bytes = blamed ((loose low_ack).read bytes)
 
 -- The octets of an AlarmAck of a priority.
 abbrev pub ack_bytes : Priority → AlarmAck → List ℕ

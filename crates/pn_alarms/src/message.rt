@@ -1,9 +1,9 @@
 //! What a PDU says to the station that receives it.
 ghost use Rattle.std.specs.Prelude.{◌≡◌};
 ghost use Rattle.pn_alarms.specs.Format.{said};
-ghost use Rattle.pn_alarms.specs.Message.{alarm_in, alarm_of, message_in, message_of};
+ghost use Rattle.pn_alarms.specs.Message.{alarm_in, alarm_of, low_message_in, low_message_of, message_in, message_of};
 
-use crate::{AlarmFault, Header, Pdu, PduType, Report, read_ack, read_pdu, read_report};
+use crate::{AlarmFault, Header, Pdu, PduType, Report, read_ack, read_low_ack, read_pdu, read_report};
 use block_codec::AlarmAck;
 
 /// What a PDU says to the station that receives it. `B` is the type of block that this station reads from data.
@@ -44,6 +44,30 @@ pub fn read_message(bytes: &[u8]) -> Result<(Header, Message), AlarmFault>
 {
     let pdu = read_pdu(bytes)?;
     let message = message_in_pdu(&pdu)?;
+    Ok((pdu.header, message))
+}
+
+/// What this PDU of low priority says.
+fn low_message_in_pdu(pdu: &Pdu) -> Result<Message, AlarmFault>
+    ensures { result ≡ low_message_in pdu.now.header.kind (said pdu.now) }
+{
+    match pdu.header.kind {
+        PduType::Data => {
+            let ack = read_low_ack(pdu.body)?;
+            Ok(Message::Data(pdu.header.send_number, ack))
+        }
+        PduType::Nack => Ok(Message::Nack),
+        PduType::Ack => Ok(Message::Ack(pdu.header.ack_number)),
+        PduType::Error => Ok(Message::Abort),
+    }
+}
+
+/// The same as `read_message` for a frame of low priority: data carries an AlarmAck of low priority.
+pub fn read_low_message(bytes: &[u8]) -> Result<(Header, Message), AlarmFault>
+    ensures { result ≡ low_message_of bytes.now }
+{
+    let pdu = read_pdu(bytes)?;
+    let message = low_message_in_pdu(&pdu)?;
     Ok((pdu.header, message))
 }
 

@@ -3,13 +3,15 @@
 //! UserStructureIdentifier 1.
 ghost use Rattle.std.specs.Prelude.{◌≡◌, ◌+◌, ◌-◌, ◌≤◌, [], length, IfOk, Ok};
 ghost use Rattle.wire.specs.Codec.{Gives};
+ghost use Rattle.record_blocks.specs.declared.alarm_ack.AlarmAck.{AlarmAck as Ack};
 ghost use Rattle.block_fields.specs.Fields.{open_body};
 ghost use Rattle.pn_alarms.specs.declared.report.Report.{Report as Meaning};
-ghost use Rattle.pn_alarms.specs.Report.{IsReport, block_priority, front, low_ack, payload, report, report_fields, report_of};
+ghost use Rattle.pn_alarms.specs.Report.{IsLowAck, IsReport, block_priority, front, low_ack, low_ack_of, payload, report, report_fields, report_of};
 
 use crate::{AlarmFault, Priority};
 use block_codec::{AlarmAck, AlarmData, AlarmNotification, BlockFault};
 use block_fields::{read_fields, version_at};
+use record_blocks::alarm_ack_at;
 use wire::split;
 
 /// An alarm that a controller takes (IEC 61158-6-10, 5.2.5).
@@ -143,6 +145,44 @@ pub fn read_report(body: &[u8]) -> Result<Report<'_>, AlarmFault>
     ensures exact { result ≡ report_of body.now }
 {
     report_in(body)
+}
+
+/// Reads the AlarmAck of low priority at the start of the octets. Returns it and the rest.
+#[tactic(auto, unfolding(crate::specs::Report::low_ack))]
+fn low_ack_at(bytes: &[u8]) -> Result<(AlarmAck, &[u8]), BlockFault>
+    ensures { Gives (λ x. (x.0, x.1.now)) result (low_ack.read bytes.now) }
+{
+    let (kind, rest) = wire::u16_at(bytes, BlockFault::Truncated)?;
+    if kind != 0x8002 {
+        return Err(BlockFault::Kind);
+    }
+    let (size, rest) = wire::u16_at(rest, BlockFault::Truncated)?;
+    let (body, rest) = split(rest, size as usize, BlockFault::Truncated)?;
+    let ack = alarm_ack_at(body)?;
+    Ok((ack, rest))
+}
+
+/// The AlarmAck of low priority at the start of the octets. Octets after the block are ignored.
+#[tactic(auto, unfolding(crate::specs::Report::low_ack_of))]
+fn low_ack_in(body: &[u8]) -> Result<AlarmAck, AlarmFault>
+    ensures { result ≡ low_ack_of body.now }
+{
+    match low_ack_at(body) {
+        Ok((ack, _behind)) => Ok(ack),
+        Err(_) => Err(AlarmFault::Block),
+    }
+}
+
+/// Reads the AlarmAck of low priority that data carries to a device. Octets after the block are ignored.
+pub fn read_low_ack(body: &[u8]) -> Result<AlarmAck, AlarmFault>
+    // If a value is read, the octets encode that value.
+    ensures found { IfOk result (λ found. IsLowAck body.now found) }
+    // Octets that encode a value are read as that value, and as no other.
+    ensures only { (meaning : Ack) → IsLowAck body.now meaning → result ≡ Ok meaning }
+    // The result is the block or the fault that the format defines for these octets.
+    ensures exact { result ≡ low_ack_of body.now }
+{
+    low_ack_in(body)
 }
 
 /// The octets of an AlarmAck of low priority.

@@ -11,6 +11,7 @@ mod writes;
 
 pub use calls::{check_relation, is_relation, single_block};
 pub use reads::{
+    Covered, put_diagnosis,
     Blocks, Level, Listing, check_place, listing_of, names_relation, parameter_length,
     put_identification, put_read_answer, read_implicit, read_request, request_within,
     serve_listing, serve_within,

@@ -1,6 +1,7 @@
 //! Records that are read (IEC 61158-6-10, 5.2.3): the order in which a call is checked, and its response.
 
 mod answering;
+mod diagnosis;
 mod implicit;
 mod judging;
 mod listing;
@@ -10,6 +11,7 @@ mod serving;
 mod within;
 
 pub use answering::put_read_answer;
+pub use diagnosis::{Covered, put_diagnosis};
 pub use implicit::read_implicit;
 pub use judging::{check_place, read_request};
 pub use listing::{Level, Listing, listing_of, put_identification, serve_listing};

@@ -8,6 +8,7 @@ ghost use Rattle.relations.specs.RelationState.{request_of};
 use crate::own::put_own;
 use arrayvec::ArrayVec;
 use block_codec::IodReadReq;
+use diagnosis::Diagnoses;
 use pn_values::{Identity, Real, Settings};
 use records::{
     Blocks, CallFault, Level, Listing, listing_of, request_within, serve_listing, serve_within,
@@ -22,6 +23,7 @@ pub fn read_within(
     relation: &Relation,
     identity: &Identity,
     real: &Real,
+    diagnoses: &Diagnoses,
     settings: &Settings,
     blocks: &[u8],
     answer: &mut Blocks,
@@ -35,7 +37,7 @@ pub fn read_within(
 {
     let request = request_within(relation.uuid(), blocks)?;
     match listing_of(real, &request) {
-        Some(listing) => serve_own(relation, real, &request, listing, answer),
+        Some(listing) => serve_own(relation, real, diagnoses, &request, listing, answer),
         None => serve_within(
             relation.differing(),
             identity,
@@ -53,6 +55,7 @@ pub fn read_within(
 fn serve_own(
     relation: &Relation,
     real: &Real,
+    diagnoses: &Diagnoses,
     request: &IodReadReq,
     listing: (Level, Listing),
     answer: &mut Blocks,
@@ -72,6 +75,9 @@ fn serve_own(
         &mut out,
         relation.request(),
         real,
+        diagnoses,
+        relation,
+        request.header.index,
         level,
         slot,
         subslot,

@@ -8,12 +8,14 @@
 mod alarms;
 mod cyclic;
 mod data_exchange;
+mod diagnosis;
 mod laws;
 mod marks;
 mod opening;
 
 pub use alarms::OWN_REFERENCE;
 pub use cyclic_exchange::{Received, Route, Tick};
+pub use cyclic::Repeated;
 pub use data_exchange::DataExchange;
 pub use laws::exchange_is_kept;
 pub use marks::{Mark, Starting};

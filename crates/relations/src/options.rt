@@ -1,5 +1,6 @@
 //! What the application of a device decides where the device is made.
 use crate::statuses::InputStatus;
+use diagnosis::Diagnoses;
 
 /// What the application of a device says: its options, and the statuses that it gave to its inputs.
 #[derive(Clone, Copy)]
@@ -8,6 +9,8 @@ pub struct Application<'a> {
     pub options: &'a DeviceOptions,
     /// The statuses.
     pub statuses: &'a [InputStatus],
+    /// The diagnoses that exist.
+    pub diagnoses: &'a Diagnoses,
 }
 
 /// The options of a device. The default is a device that decides everything by itself.

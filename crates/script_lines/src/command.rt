@@ -47,6 +47,8 @@ pub enum Command<'a> {
     Ready,
     /// Orders the flash to fail at a later call.
     Arm(Order),
+    /// A diagnosis of the submodule in this slot and subslot, of this channel and error, appears or disappears.
+    Diagnosis(u16, u16, u16, u16, bool),
     /// Sets the input of the submodule in this slot and subslot.
     Input(u16, u16, &'a [u8]),
     /// Raises an alarm of the submodule in this slot and subslot, with these octets.
@@ -101,7 +103,8 @@ enum Words<'a> {
     Two(&'a [u8], &'a [u8]),
     Three(&'a [u8], &'a [u8], &'a [u8]),
     Four(&'a [u8], &'a [u8], &'a [u8], &'a [u8]),
-    More,
+    /// Four words, and what follows them.
+    More(&'a [u8], &'a [u8], &'a [u8], &'a [u8], &'a [u8]),
 }
 
 /// The bytes up to the first separator, and the bytes after it if there is one.
@@ -168,7 +171,7 @@ fn words_in(line: &[u8]) -> Words<'_>
     let (fourth, rest) = cut_at(rest, b' ');
     match rest {
         None => Words::Four(first, second, third, fourth),
-        Some(_) => Words::More,
+        Some(rest) => Words::More(first, second, third, fourth, rest),
     }
 }
 
@@ -242,7 +245,9 @@ fn asked_by<'a>(
         Words::Two(word, first) => with_one(word, first, buffer),
         Words::Three(word, first, second) => with_two(word, first, second, buffer),
         Words::Four(word, first, second, third) => with_three(word, first, second, third, buffer),
-        Words::More => Ok(None),
+        Words::More(word, first, second, third, rest) => {
+            Ok(with_five(word, first, second, third, rest))
+        }
     }
 }
 
@@ -472,6 +477,37 @@ fn with_three<'a>(
         Ok(output_status(slot, subslot, third))
     } else {
         targeted(word, slot, subslot, third, buffer)
+    }
+}
+
+/// The command of six words: a diagnosis that appears or disappears.
+fn with_five(
+    word: &[u8],
+    first: &[u8],
+    second: &[u8],
+    third: &[u8],
+    rest: &[u8],
+) -> Option<Command<'static>> {
+    if word != b"diagnosis".as_slice() {
+        return None;
+    }
+    let (fourth, fifth) = cut_at(rest, b' ');
+    let slot = place_number(first)?;
+    let subslot = place_number(second)?;
+    let channel = place_number(third)?;
+    let error = place_number(fourth)?;
+    let appears = appearance(fifth?)?;
+    Some(Command::Diagnosis(slot, subslot, channel, error, appears))
+}
+
+/// Whether a diagnosis appears.
+fn appearance(word: &[u8]) -> Option<bool> {
+    if word == b"appears".as_slice() {
+        Some(true)
+    } else if word == b"disappears".as_slice() {
+        Some(false)
+    } else {
+        None
     }
 }
 

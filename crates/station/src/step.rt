@@ -105,7 +105,11 @@ fn attend(
             services.tick(outbox);
             note
         }
-        Event::Input(..) | Event::Alarm(..) | Event::Status(..) | Event::Ready => note,
+        Event::Input(..)
+        | Event::Alarm(..)
+        | Event::Status(..)
+        | Event::Ready
+        | Event::Diagnosis(..) => note,
     }
 }
 

@@ -4,7 +4,9 @@ ghost use Rattle.records.specs.reads.Implicit.{implicit_read};
 
 use crate::CallFault;
 use crate::reads::judging::read_request;
-use crate::reads::listing::{listing_of, serve_listing};
+use crate::reads::diagnosis::serve_device_listing;
+use crate::reads::listing::listing_of;
+use diagnosis::Diagnoses;
 use crate::reads::serving::{Blocks, serve};
 use pn_values::{Identity, Real, Settings};
 
@@ -15,6 +17,7 @@ use pn_values::{Identity, Real, Settings};
 pub fn read_implicit(
     identity: &Identity,
     real: &Real,
+    diagnoses: &Diagnoses,
     settings: &Settings,
     blocks: &[u8],
     answer: &mut Blocks,
@@ -28,7 +31,7 @@ pub fn read_implicit(
 {
     let request = read_request(blocks)?;
     match listing_of(real, &request) {
-        Some(listing) => serve_listing(false, real, None, &request, listing, answer),
+        Some(listing) => serve_device_listing(real, diagnoses, &request, listing, answer),
         None => serve(identity, real, settings, &request, answer),
     }
 }

@@ -285,7 +285,7 @@ pub fn serve_listing(
             request,
             &[0x00, 0x1A, 0x00, 0x08, 0x01, 0x00, 0x00, 0x01, 0, 0, 0, 0],
         ),
-        Listing::Diagnosis => put_read_answer(answer, request, &[]),
+        Listing::Diagnosis => put_read_answer(answer, request, own.unwrap_or(&[])),
         Listing::Expected | Listing::Found => match own {
             Some(octets) => put_read_answer(answer, request, octets),
             None => return Err(CallFault::Index),

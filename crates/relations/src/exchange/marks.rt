@@ -6,6 +6,7 @@ ghost use Rattle.cyclic_data.specs.declared.place.PlaceKind.TheVariants.{Data};
 
 use crate::statuses::{InputStatus, is_bad};
 use arrayvec::ArrayVec;
+use diagnosis::Diagnoses;
 use cyclic_data::{GOOD, Place, PlaceKind};
 use module_diff::DiffRows;
 
@@ -29,12 +30,14 @@ pub struct Starting<'a> {
     pub begin_bad: bool,
     /// The statuses that it gave.
     pub statuses: &'a [InputStatus],
+    /// The diagnoses that exist.
+    pub diagnoses: &'a Diagnoses,
 }
 
 impl Mark {
     /// The first mark of a place.
     fn first(place: &Place, rows: &DiffRows, starting: Starting<'_>) -> Mark
-        ensures { result ≡ first_mark (record { begin_bad = starting.entry.begin_bad; statuses = starting.entry.statuses.now }) rows.now place.now }
+        ensures { result ≡ first_mark (record { begin_bad = starting.entry.begin_bad; statuses = starting.entry.statuses.now; diagnoses = starting.entry.diagnoses.now }) rows.now place.now }
     {
         Mark {
             place: *place,
@@ -90,7 +93,7 @@ pub(crate) fn begin(
 )
     requires { length places.now ≤ 128 }
     ensures { marks.new.items
-        ≡ map (first_mark (record { begin_bad = starting.entry.begin_bad; statuses = starting.entry.statuses.now }) rows.now) places.now }
+        ≡ map (first_mark (record { begin_bad = starting.entry.begin_bad; statuses = starting.entry.statuses.now; diagnoses = starting.entry.diagnoses.now }) rows.now) places.now }
 {
     marks.clear();
     for place in places {

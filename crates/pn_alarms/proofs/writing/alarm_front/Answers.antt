@@ -1,22 +1,14 @@
 -- The header, VarPartLen and the block up to its data, followed by the data, are the PDU.
-use Rattle.std.proofs.Common.{◌≡◌, ◌<◌, ◌^◌, ℕ, ◌+◌, List, [], ◌++◌, length, true, append_assoc, arith, refl, sym, ap, ◌∙◌}
-use Rattle.std.proofs.lemmas.List.{length-append}
+use Rattle.std.proofs.Common.{◌≡◌, ◌<◌, ◌^◌, ℕ, ◌+◌, List, [], ◌++◌, length, true, arith, refl, sym, ap, ◌∙◌}
 use Rattle.wire.specs.Formats.{big_bytes}
 use Rattle.block_codec.specs.declared.block.Block.TheVariants.{AlarmNotification}
 use Rattle.block_codec.specs.Block.{block_bytes}
 use Rattle.pn_alarms.specs.Carried.{alarm_pdu}
 use Rattle.pn_alarms.specs.Format.{header, is_long, pdu_bytes}
 use Rattle.pn_alarms.proofs.Carried.{carried}
+use Rattle.pn_alarms.proofs.Fronts.{apart, counted}
 use Rattle.pn_alarms.proofs.Sound.{pdu_parts, pdu_spelled, pdu_again, pdu_behind}
 use Rattle.pn_alarms.proofs.writing.alarm_front.Goals as goal
-
--- The number of octets of the block.
-counted : (front value block : List ℕ) → front ++ value ≡ block → length front ≡ 28 → length block ≡ 28 + length value
-counted front value block e n = omega (arith, ap (λ (xs : List ℕ). length xs) e, length-append front value, n)
-
--- Four parts, one after the other.
-apart : (first lengths front value : List ℕ) → ((first ++ lengths) ++ front) ++ value ≡ first ++ (lengths ++ (front ++ value))
-apart first lengths front value = append_assoc (first ++ lengths) front value ∙ append_assoc first lengths (front ++ value)
 
 pub returns-clause-exact : goal.returns-clause-exact
 returns-clause-exact c =
