@@ -179,6 +179,20 @@ impl CyclicExchange {
         self.taken.output(slot, subslot)
     }
 
+    /// The content of the frames that are sent.
+    pub fn sent(&self) -> &Image
+        ensures { result.now ≡ self.now.shown }
+    {
+        &self.sent
+    }
+
+    /// The content of the last accepted frame: zeros before.
+    pub fn received(&self) -> &ReceivedImage
+        ensures { result.now ≡ self.now.taken }
+    {
+        &self.taken
+    }
+
     /// What the partner says of the data of a submodule in its last accepted frame, if the submodule has data there.
     /// `None` if no frame was accepted yet.
     pub fn provider(&self, slot: u16, subslot: u16) -> Option<ProviderStatus>

@@ -1,3 +1,4 @@
+pub mod Elements
 pub mod Expected
 pub mod Found
 pub mod Own

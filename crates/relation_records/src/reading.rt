@@ -1,9 +1,8 @@
 //! Read within a relation.
-ghost use Rattle.std.specs.Prelude.{◌≡◌, [], IfErr, IfOk, Err, Ok, true};
+ghost use Rattle.std.specs.Prelude.{◌≡◌, ◌≤◌, [], IfErr, IfOk, Err, Ok, length, option_map, take, true};
 ghost use Rattle.relation_records.specs.Own.{own_at};
 ghost use Rattle.relation_records.specs.Reading.{relation_read};
 ghost use Rattle.records.specs.reads.Listing.{listed_at};
-ghost use Rattle.relations.specs.RelationState.{request_of};
 
 use crate::own::put_own;
 use arrayvec::ArrayVec;
@@ -47,8 +46,16 @@ pub fn read_within(
     }
 }
 
+/// As many octets of a record as a frame has room for.
+fn cut(octets: &[u8]) -> &[u8]
+    ensures cut { result.now ≡ take 1308 octets.now }
+    ensures few { length result.now ≤ 1308 }
+{
+    &octets[..octets.len().min(1308)]
+}
+
 /// Puts the response to a request for a record that lists something into an empty list, or returns why it is refused. A
-/// record of the relation is built first, in thirteen hundred octets of stack, so this is a function of its own.
+/// record of the relation is built first, in three thousand octets of stack, so this is a function of its own.
 #[inline(never)]
 fn serve_own(
     relation: &Relation,
@@ -58,25 +65,21 @@ fn serve_own(
     answer: &mut Blocks,
 ) -> Result<(), CallFault>
     requires empty { answer.old.items ≡ [] }
-    ensures done { IfOk result (λ _. listed_at true real.now (own_at (request_of relation.now) real.now listing.0
-        request.now.header.slot_number request.now.header.subslot_number listing.1) request.now listing.0 listing.1
+    ensures done { IfOk result (λ _. listed_at true real.now (option_map (take 1308) (own_at relation.now real.now
+        listing.0 request.now.header.slot_number request.now.header.subslot_number listing.1)) request.now listing.0 listing.1
         ≡ Ok answer.new.items) }
-    ensures refused { IfErr result (λ fault. (listed_at true real.now (own_at (request_of relation.now) real.now listing.0
-        request.now.header.slot_number request.now.header.subslot_number listing.1) request.now listing.0 listing.1
+    ensures refused { IfErr result (λ fault. (listed_at true real.now (option_map (take 1308) (own_at relation.now real.now
+        listing.0 request.now.header.slot_number request.now.header.subslot_number listing.1)) request.now listing.0 listing.1
         ≡ Err fault) × (answer.new.items ≡ [])) }
 {
     let (level, kind) = listing;
     let (slot, subslot) = (request.header.slot_number, request.header.subslot_number);
     let mut out = ArrayVec::new();
-    let has_own = put_own(
-        &mut out,
-        relation.request(),
-        real,
-        level,
-        slot,
-        subslot,
-        kind,
-    );
-    let own = if has_own { Some(out.as_slice()) } else { None };
+    let has_own = put_own(&mut out, relation, real, level, slot, subslot, kind);
+    let own = if has_own {
+        Some(cut(out.as_slice()))
+    } else {
+        None
+    };
     serve_listing(true, real, own, request, listing, answer)
 }

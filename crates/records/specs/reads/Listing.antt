@@ -18,7 +18,7 @@ use Rattle.im_records.specs.Records.{is_real}
 use Rattle.records.specs.declared.status.call_fault.CallFault.{CallFault}
 use Rattle.records.specs.declared.status.call_fault.CallFault.TheVariants as fault
 use Rattle.records.specs.declared.reads.listing.Listing.{Listing}
-use Rattle.records.specs.declared.reads.listing.Listing.TheVariants.{Identification, Apis, Diagnosis, Expected, Found}
+use Rattle.records.specs.declared.reads.listing.Listing.TheVariants.{Identification, Apis, Diagnosis, Expected, Found, Input, Output}
 use Rattle.records.specs.declared.reads.listing.Level.{Level}
 use Rattle.records.specs.declared.reads.listing.Level.TheVariants.{Subslot, Slot, Relation, Device}
 use Rattle.records.specs.calls.Handled.{handled}
@@ -53,6 +53,8 @@ kind_of index =
     else if index == 0xC000 then Some Expected
     else if index == 0xE000 then Some Expected
     else if index == 0xE001 then Some Found
+    else if index == 0x8028 then Some Input
+    else if index == 0x8029 then Some Output
     else if is_diagnosis index then Some Diagnosis
     else None
 
@@ -120,6 +122,8 @@ octets_of real own level slot subslot Apis = Some api_bytes
 octets_of real own level slot subslot Diagnosis = Some []
 octets_of real own level slot subslot Expected = own
 octets_of real own level slot subslot Found = own
+octets_of real own level slot subslot Input = own
+octets_of real own level slot subslot Output = own
 
 -- ---- the order of the checks
 
