@@ -180,7 +180,7 @@ class Scenarios:
         self.lines.append(word)
 
     def passes(self, units, *sent):
-        """So many units; cyclic frames are not listed."""
+        """That number of units; cyclic frames are not listed."""
         self.lines += [f"pass {units}", *(f"out {padded(frame).hex()}" for frame in sent)]
 
     def reports(self, priority, *words):

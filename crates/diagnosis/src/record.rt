@@ -113,7 +113,7 @@ fn put_channels(octets: &mut ArrayVec<u8, 1308>, own: &[Diagnosis])
     }
 }
 
-/// The octets of a block with so many diagnoses, up to the first of them.
+/// The octets of a block with this number of diagnoses, up to the first of them.
 fn head_octets(slot: u16, subslot: u16, count: u16) -> [u8; 20]
     requires { count ≤ 32 }
     ensures { result ≡ head_bytes slot subslot count }

@@ -38,7 +38,7 @@ link_tlvs (Some link) = tlv_of 127 (0 ∷ 18 ∷ 15 ∷ 1 ∷ link.support ∷ (
 abbrev pub address_tlvs : List ℕ → List Tlv
 address_tlvs address = if is_zero address then [] else tlv_of 8 (5 ∷ 1 ∷ (address ++ 2 ∷ 0 ∷ 0 ∷ 0 ∷ 1 ∷ 0 ∷ [])) ∷ []
 
--- What a station says of itself. It is to be remembered for 20 seconds.
+-- What a station says of itself. It is valid for 20 seconds (TTL).
 abbrev pub announced : Station → Message
 announced station = record {
   chassis = chassis_of station;

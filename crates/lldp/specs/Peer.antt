@@ -15,7 +15,7 @@ pub record Peer : Type 0 where
   pub port : List ℕ
   pub mac : Mac
 
--- What a message tells: the neighbour, and for how many seconds it is to be remembered.
+-- What a message says: the neighbour, and for how many seconds it is valid (TTL).
 pub record Told : Type 0 where
   pub peer : Peer
   pub lifetime : ℕ

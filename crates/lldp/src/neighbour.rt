@@ -30,7 +30,7 @@ pub struct Neighbour {
 #[derive(Drop)]
 pub(crate) struct Notice {
     pub(crate) neighbour: Neighbour,
-    /// For how many seconds the neighbour is to be remembered.
+    /// For how many seconds the neighbour is valid (TTL).
     pub(crate) lifetime: u16,
 }
 

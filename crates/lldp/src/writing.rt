@@ -28,7 +28,7 @@ const ORGANIZATION: u16 = 127;
 /// The type of the management address.
 const MANAGEMENT_ADDRESS: u16 = 8;
 
-/// For how many seconds the station is to be remembered.
+/// For how many seconds the announcement is valid (TTL).
 const SECONDS: u16 = 20;
 
 /// The octets of an announcement without the Ethernet header: at most 307.

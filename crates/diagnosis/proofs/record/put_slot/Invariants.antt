@@ -1,4 +1,4 @@
--- What is left, with what was appended before it.
+-- The octets so far followed by those of the remaining ones, cut to the room, are those of all.
 use Rattle.std.proofs.Common.{◌≡◌, ◌≤◌, ◌++◌, length, take, drop}
 use Rattle.diagnosis.specs.Record.{slot_bytes}
 use Rattle.diagnosis.proofs.record.put_slot.Given as goal
