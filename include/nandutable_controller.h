@@ -32,6 +32,8 @@ extern "C" {
 #define PN_CONTROLLER_SIZE 40960u
 /* The maximum number of parameter records of a plan. */
 #define PN_RECORDS 32u
+/* The maximum number of diagnoses in the list of a controller. */
+#define PN_DIAGNOSES 256u
 
 /* The state of a controller (pn_op.phase). */
 enum {
@@ -455,6 +457,32 @@ static inline uint32_t pn_controller_report(const pn_controller *controller, pn_
         return PN_NULL;
     op->place = is_low != 0;
     return pn_controller_read(controller, op, 34);
+}
+
+/* How many diagnoses exist at the device, as its alarms reported them in this relation: `count`, at most PN_DIAGNOSES; and for how many more
+ * the list had no room: `left_out`. If that is not 0, a read of the record 0xF80C shows all. Both are also in `units` and `more` of the
+ * operation. Both are 0 before the relation and after its end. */
+static inline uint32_t pn_controller_diagnoses(const pn_controller *controller, pn_op *op, uint32_t *count, uint32_t *left_out)
+{
+    uint32_t answer;
+    if (count == NULL || left_out == NULL)
+        return PN_NULL;
+    answer = pn_controller_read(controller, op, 35);
+    if (answer == PN_OK) {
+        *count = op->units;
+        *left_out = op->more;
+    }
+    return answer;
+}
+
+/* One of these diagnoses, by its place in the list from 0 on, in the order in which they appeared: its `slot` and `subslot`, its ChannelNumber
+ * in `more` (0x8000: the submodule itself) and its ChannelErrorType in `note`. PN_NO_SLOT if the list is shorter. */
+static inline uint32_t pn_controller_diagnosis(const pn_controller *controller, pn_op *op, uint32_t number)
+{
+    if (op == NULL)
+        return PN_NULL;
+    op->place = number;
+    return pn_controller_read(controller, op, 36);
 }
 
 #ifdef __cplusplus

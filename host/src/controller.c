@@ -1,6 +1,7 @@
 /* nandutable-controller: the controllers of stations on a network interface, each by the plan of a catalogue. */
 #define _GNU_SOURCE
 #include "arp.h"
+#include "diagnosis.h"
 #include "naming.h"
 #include "options.h"
 #include "reasons.h"
@@ -329,6 +330,11 @@ static void take_write(void *context, char *words[])
     take_for_one(context, words, access_write, "write SLOT SUBSLOT INDEX HEX");
 }
 
+static void take_diagnosis(void *context, char *words[])
+{
+    take_for_one(context, words, diagnosis_take, "diagnosis reported|relation|device");
+}
+
 static void take_restart(void *context, char *words[])
 {
     take_for_one(context, words, relation_restart, "restart");
@@ -350,6 +356,7 @@ static const struct command commands[] = {
     {"status", 4, take_status, "status SLOT SUBSLOT good|bad   sets whether an output is good: its IOPS"},
     {"read", 4, take_read, "read SLOT SUBSLOT INDEX   reads a record, while data is exchanged"},
     {"write", 5, take_write, "write SLOT SUBSLOT INDEX HEX   writes a record, while data is exchanged"},
+    {"diagnosis", 2, take_diagnosis, "diagnosis reported|relation|device   lists the diagnoses that alarms reported, and compares them with a record"},
     {"show", 1, show, "show                    state, status, inputs and outputs"},
     {"statistics", 1, NULL, "statistics              counts since the start"},
     {"restart", 1, take_restart, "restart                 releases the relation and starts it again, with all its parameters"},
@@ -361,6 +368,8 @@ static const struct command commands_of_several[] = {
     {"status", 4, take_status, "NAME status SLOT SUBSLOT good|bad   sets whether an output of this station is good: its IOPS"},
     {"read", 4, take_read, "NAME read SLOT SUBSLOT INDEX   reads a record of this station, while data is exchanged"},
     {"write", 5, take_write, "NAME write SLOT SUBSLOT INDEX HEX   writes a record of this station, while data is exchanged"},
+    {"diagnosis", 2, take_diagnosis,
+     "NAME diagnosis reported|relation|device   lists the diagnoses that alarms of this station reported, and compares them with a record"},
     {"show", 1, show, "[NAME] show                  state, status, inputs and outputs"},
     {"statistics", 1, NULL, "[NAME] statistics            counts since the start"},
     {"restart", 1, take_restart, "NAME restart                 releases the relation of this station and starts it again, with all its parameters"},
@@ -404,9 +413,9 @@ static void usage(void)
          "  echo 'give 2 1 00ff' | nandutable-controller eth1 pump.json\n"
          "\n"
          "Lines that it accepts: `give SLOT SUBSLOT HEX`, `status SLOT SUBSLOT good|bad`, `read SLOT SUBSLOT INDEX`,\n"
-         "`write SLOT SUBSLOT INDEX HEX`, `restart`, `show`, `statistics`, `stop`, `help`. With several plans the name of a station and a\n"
-         "blank are in front of each line that it prints about this station, and of the lines `give`, `status`, `read`, `write`, `restart`,\n"
-         "`show`, `statistics` and `stop` that are for one station. On SIGUSR1 it prints its statistics; SIGTERM stops it, and a second one\n"
+         "`write SLOT SUBSLOT INDEX HEX`, `diagnosis reported|relation|device`, `restart`, `show`, `statistics`, `stop`, `help`. With several\n"
+         "plans the name of a station and a blank are in front of each line that it prints about this station, and of the lines `give`,\n"
+         "`status`, `read`, `write`, `diagnosis`, `restart`, `show`, `statistics` and `stop` that are for one station. On SIGUSR1 it prints its statistics; SIGTERM stops it, and a second one\n"
          "ends it at once. Its status is the cause of its end (with several plans the lowest): 1 another device, 2 refused, 3 other\n"
          "modules, 4 data hold, 5 ended by the device, 6 an alarm without answer, 7 stopped; 64 and more: it did not start (64: the plans do\n"
          "not fit together; 75: another station has the name or the address).");

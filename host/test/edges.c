@@ -199,7 +199,7 @@ static void sends(const char *what, uint32_t units, const char *destination)
 
 static void misuse(void)
 {
-    uint32_t number = 0;
+    uint32_t number = 0, more = 0;
     wants("a frame before it was made", pn_controller_frame(&controller, &op, octets, 60), PN_NOT_MADE);
     wants("a state before it was made", pn_controller_state(&controller, &op), PN_NOT_MADE);
     wants("no room", pn_controller_start(NULL, &plan, ar, activity), PN_NULL);
@@ -238,6 +238,15 @@ static void misuse(void)
     wants("no alarm of high priority", pn_controller_report(&controller, &op, 0), PN_NO_SLOT);
     wants("no alarm of low priority", pn_controller_report(&controller, &op, 1), PN_NO_SLOT);
     wants("no operation for a report", pn_controller_report(&controller, NULL, 1), PN_NULL);
+    wants("diagnoses", pn_controller_diagnoses(&controller, &op, &number, &more), PN_OK);
+    if (number != 0 || more != 0)
+        exit(1);
+    wants("no number of diagnoses", pn_controller_diagnoses(&controller, &op, NULL, &more), PN_NULL);
+    wants("no number of further diagnoses", pn_controller_diagnoses(&controller, &op, &number, NULL), PN_NULL);
+    wants("no operation for diagnoses", pn_controller_diagnoses(&controller, NULL, &number, &more), PN_NULL);
+    wants("no diagnosis", pn_controller_diagnosis(&controller, &op, 0), PN_NO_SLOT);
+    wants("no diagnosis past all", pn_controller_diagnosis(&controller, &op, UINT32_MAX), PN_NO_SLOT);
+    wants("no operation for a diagnosis", pn_controller_diagnosis(&controller, NULL, 0), PN_NULL);
     wants("a read without data", pn_controller_read_record(&controller, &op, 1, 1, 1), PN_BUSY);
     wants("a write without data", pn_controller_write_record(&controller, &op, 1, 1, 1, octets, 1308), PN_BUSY);
     wants("a write that is too long", pn_controller_write_record(&controller, &op, 1, 1, 1, octets, 1309), PN_BAD_LENGTH);

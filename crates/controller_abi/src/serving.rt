@@ -1,24 +1,24 @@
 //! One operation of the host.
-ghost use Rattle.std.specs.Prelude.{◌≡◌, ◌==◌, Some, length, not, take};
+ghost use Rattle.std.specs.Prelude.{◌≡◌, ◌==◌, Some, length, not, slice_get, take};
 ghost use Rattle.cyclic_exchange.specs.Process.{value_at};
 ghost use Rattle.controller_core.specs.declared.event.Event.TheVariants.{Frame as Framed, Give as Given, Read as Reads, Status as Rated, Write as Writes};
-ghost use Rattle.controller_core.specs.Access.{record_of};
+ghost use Rattle.record_access.specs.Access.{record_of};
 ghost use Rattle.controller_core.specs.Machine.{can_request, end_of, provider_of, report_in};
 ghost use Rattle.c_layout.specs.Places.{place_in};
 ghost use Rattle.controller_abi.specs.Outputs.{why_not_fit, why_not_rated, why_not_read, why_not_set, why_not_written};
 ghost use Rattle.controller_abi.specs.State.{has_frames, port_due_in};
-ghost use Rattle.controller_abi.specs.Serves.{IsAlarm, IsAnswered, IsEvent, IsGift, IsHandOut, IsInput, IsProvider, IsProviderAt, IsRead, IsRefusal, IsRefusedRecord, IsReported, IsSet, IsStatus, IsTick, IsValue, IsWrite, Serves};
+ghost use Rattle.controller_abi.specs.Serves.{IsAlarm, IsAnswered, IsDiagnosis, IsEvent, IsGift, IsHandOut, IsInput, IsProvider, IsProviderAt, IsRead, IsRefusal, IsRefusedRecord, IsReported, IsSet, IsStatus, IsTick, IsValue, IsWrite, Serves};
 ghost use Rattle.controller_abi.specs.Serves.{index_in, priority_in, status_number as status_number_in, structure_number as structure_number_in};
 ghost use Rattle.controller_abi.specs.Serves.{cause_number, operation_of as operation_in, phase_number, planned_output, why_no_place};
-ghost use Rattle.controller_abi.specs.Serves.{status_number as status_number_in, with_alarm, with_conflicts, with_next, with_state};
+ghost use Rattle.controller_abi.specs.Serves.{status_number as status_number_in, with_alarm, with_conflicts, with_diagnoses, with_next, with_state};
 
 use crate::operation::{Operation, operation_of};
 use crate::port::Port;
+use alarm_reports::{Priority, Report};
 use block_codec::AlarmNotification;
 use c_layout::{BAD_LENGTH, HAS_WORK, NO_FRAME, NO_SLOT, Op, UNKNOWN, place_of, put};
 use controller_core::{Event, ProviderStatus, State};
 use frame_codec::Bytes;
-use pn_alarms::{Priority, Report};
 use rpc_core::Status;
 use wire::at_most;
 
@@ -67,6 +67,8 @@ fn perform(operation: Operation, port: &mut Port, op: &mut Op, given: &[u8]) -> 
         Operation::Answer => answer(port, op),
         Operation::RefusedRecord => refused_record(port, op),
         Operation::Report => report(port, op),
+        Operation::Diagnoses => diagnoses(port, op),
+        Operation::Diagnosis => diagnosis(port, op),
     }
 }
 
@@ -486,6 +488,34 @@ fn structure_number(structure: Option<u16>) -> u32
     match structure {
         Some(structure) => u32::from(structure),
         None => 65_536,
+    }
+}
+
+// ---- the device's diagnosis
+
+// How many diagnoses exist, and how many found no room in the list.
+fn diagnoses(port: &Port, op: &mut Op) -> u32
+    ensures answer { result ≡ 0 }
+    ensures reported { op.new ≡ with_diagnoses port.now.controller.live.diagnosis op.old }
+{
+    op.units = port.controller().diagnoses().len() as u32;
+    op.more = port.controller().diagnoses_left_out();
+    0
+}
+
+// The diagnosis at a place of the list.
+fn diagnosis(port: &Port, op: &mut Op) -> u32
+    ensures { IsDiagnosis (slice_get port.now.controller.live.diagnosis.existing op.old.place) op.old result op.new }
+{
+    match port.controller().diagnoses().get(op.place as usize) {
+        Some(diagnosis) => {
+            op.slot = u32::from(diagnosis.slot);
+            op.subslot = u32::from(diagnosis.subslot);
+            op.more = u32::from(diagnosis.channel);
+            op.note = u32::from(diagnosis.error);
+            0
+        }
+        None => NO_SLOT,
     }
 }
 

@@ -1,5 +1,3 @@
-pub mod Blocks
-pub mod Found
 pub mod Leaping
 pub mod Quiet
 pub mod OutputsGiven

@@ -7,7 +7,6 @@ ghost use Rattle.controller_frames.specs.Requests.{writing_from};
 ghost use Rattle.controller_core.specs.Answers.{ident_bytes, is_addressed, is_found, is_right, is_set_answer, is_reported};
 ghost use Rattle.controller_core.specs.Machine.{cause_of, next_sequence, phase_for, ready_in};
 
-use crate::access::call_number;
 use crate::{Cause, State};
 use arrayvec::ArrayVec;
 use block_codec::{Block, ControlBlock, read_block};
@@ -15,6 +14,7 @@ use controller_frames::Request;
 use dcp_core::{Kind, Service};
 use plans::{Plan, Station};
 use pn_alarms::Abort;
+use record_access::call_number;
 use rpc_core::Call;
 
 /// Operation of Control.

@@ -8,7 +8,7 @@ ghost use Rattle.controller_frames.specs.Heard.{heard_of, heard_real_time as hea
 ghost use Rattle.controller_frames.specs.Sent.{bytes_of};
 ghost use Rattle.controller_frames.specs.Reported.{reported};
 ghost use Rattle.controller_core.specs.Answers.{is_answer, is_ready, is_refused};
-ghost use Rattle.controller_core.specs.Connect.{chosen_by, nothing, found_in as all_found};
+ghost use Rattle.connect_answers.specs.Connect.{chosen_by, nothing, found_in as all_found};
 ghost use Rattle.controller_core.specs.State.{with_live};
 ghost use Rattle.controller_core.specs.Machine.{accesses_of, accessing, failed, granted, pending_of, rejected, replied, replied_by, requested, written};
 ghost use Rattle.controller_core.specs.Machine.{acks_of, addressed, alarmed, answered, asking, called, come, connected, connected_by};
@@ -20,17 +20,17 @@ ghost use Rattle.frame_codec.specs.Outbox.{boxed};
 ghost use Rattle.pn_alarms.specs.Sending.{due};
 ghost use Rattle.pn_alarms.specs.Sending.{is_again as is_repeated};
 
-use crate::access::{call_number, is_rejected, is_reply, record_in};
 use crate::alarms::{header_of, is_alarm};
 use crate::answers::{
     cause_of, is_addressed, is_found, is_right, is_set_answer, next_sequence, phase_for, ready_in,
     request_behind,
 };
-use crate::connect::{Found, found_in};
 use crate::controller::route_of;
 use crate::outputs::{awaits, change, iops_in};
 use crate::{Cause, Controller, Event, RefusedRecord, State};
+use alarm_reports::{Priority, Report};
 use block_codec::ControlBlock;
+use connect_answers::{Found, found_in};
 use controller_frames::{
     Hearing, MOST_RECORD_OCTETS, RecordRequest, RecordService, Refusal, Request, heard,
     heard_real_time, real_time_in, send_alarm_end, send_outputs, send_ready_answer,
@@ -40,8 +40,9 @@ use cyclic_data::Provider;
 use cyclic_exchange::Tick;
 use frame_codec::{Bytes, Caller, Outbox, is_cyclic};
 use plans::SESSION_KEY;
-use pn_alarms::{Abort, Due, Header, Notice, PduType, Priority, Report};
+use pn_alarms::{Abort, Due, Header, Notice, PduType};
 use pn_values::Mac;
+use record_access::{call_number, is_rejected, is_reply, record_in};
 use rpc_core::{Call, Response, Status};
 
 /// The maximum number of blocks in the answer to a Connect: more than a frame holds.

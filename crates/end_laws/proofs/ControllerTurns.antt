@@ -11,9 +11,9 @@ use Rattle.rpc_core.specs.Response.{Answered as Response, is_done}
 use Rattle.connect_blocks.specs.declared.control.ControlBlock.{ControlBlock}
 use Rattle.record_blocks.specs.declared.alarm_ack.AlarmAck.{AlarmAck}
 use Rattle.record_blocks.specs.declared.alarm_notification.AlarmNotification.{AlarmNotification}
-use Rattle.pn_alarms.specs.declared.priority.Priority.{Priority}
-use Rattle.pn_alarms.specs.declared.priority.Priority.TheVariants.{High, Low}
-use Rattle.pn_alarms.specs.declared.report.Report.{Report}
+use Rattle.alarm_reports.specs.declared.priority.Priority.{Priority}
+use Rattle.alarm_reports.specs.declared.priority.Priority.TheVariants.{High, Low}
+use Rattle.alarm_reports.specs.declared.report.Report.{Report}
 use Rattle.pn_alarms.specs.declared.receiver.Taken.{Taken}
 use Rattle.pn_alarms.specs.declared.receiver.Taken.TheVariants.{New, Again, Refused}
 use Rattle.pn_alarms.specs.Controller.{confirmed, with_ack, with_data}
@@ -37,7 +37,7 @@ use Rattle.controller_core.specs.declared.event.Event.TheVariants.{Frame}
 use Rattle.controller_core.specs.State.{Live}
 use Rattle.controller_core.specs.Alarms.{ack_of, kept_alarm}
 use Rattle.controller_core.specs.Answers.{is_answer, is_call}
-use Rattle.controller_core.specs.Machine.{Turn, stays, next_sequence, noted, released, writing, standing, end_of, with_end, keeping, acking, behind_data, behind_ack, confirming, taken, is_again, later, where_due, requests_of, accesses_by, pending_by, pending_of, acks_in, acks_of, outputs_of, flow_later, due_frames, brought, turn_of}
+use Rattle.controller_core.specs.Machine.{Turn, stays, next_sequence, noted, released, writing, standing, end_of, with_end, keeping, acking, behind_data, behind_ack, diagnosing, confirming, taken, is_again, later, where_due, requests_of, accesses_by, pending_by, pending_of, acks_in, acks_of, outputs_of, flow_later, due_frames, brought, turn_of}
 use Rattle.end_laws.specs.turns.Ended.{IsReleased}
 use Rattle.end_laws.specs.turns.Turns.{Came, Hears, IsGranted, IsKind, IsReadied, IsSkipped, IsTurn, Kind, Rests, Connects, Addresses, Ends, Releases, Relates, Writes, Skips, Waits, Forgets, Begins, Repeats, Takes, IsAcked, Asks, IsReplied, Flows, Breaks, Idles, came_by, turn_by}
 use Rattle.end_laws.specs.both.Small as small
@@ -202,12 +202,16 @@ module _ (setup : Setup) where
   alike_on : (live next after : Live) → IsAlike live next → IsAlike next after → IsAlike live after
   alike_on live next after one other = record { phase = other.phase ∙ one.phase; asked = other.asked ∙ one.asked; waits = other.waits ∙ one.waits }
 
+  diagnosing_alike : (live after : Live) (report : Report) → IsAlike live after → IsAlike live (diagnosing report after)
+  diagnosing_alike live after report is = record { phase = is.phase; asked = is.asked; waits = is.waits }
+
   confirming_alike : (live after : Live) (report : Report) → IsAlike live after → IsAlike live (confirming after report)
   confirming_alike live after report is =
       let acked = acking after report.priority (ack_of report.notification) in
-      alike_on live acked (confirming after report)
+      let kept = keeping acked report.priority (kept_alarm report.notification) report.user_structure in
+      diagnosing_alike live kept report (alike_on live acked kept
       (alike_on live after acked is (end_alike after report.priority (confirmed (end_of after report.priority) (ack_of report.notification))))
-      (keeping_alike acked report.priority (kept_alarm report.notification) report.user_structure)
+      (keeping_alike acked report.priority (kept_alarm report.notification) report.user_structure))
 
   alike_goes : (heard : ToController) (live after : Live) (sent : List Sent) → IsSteady setup.plan live → IsAlike live after → AllByRecursion (IsInactive setup.plan) sent
       → GoesOn setup.plan heard live (record { live = after; sent = sent })

@@ -30,7 +30,7 @@ use Rattle.controller_frames.specs.declared.request.Request.TheVariants as asks
 use Rattle.controller_frames.specs.Heard.{Heard}
 use Rattle.controller_frames.specs.Requests.{writing_from}
 use Rattle.controller_frames.specs.Sent.{Sent, ready_answer, ready_done}
-use Rattle.controller_core.specs.Access.{call_number}
+use Rattle.record_access.specs.Access.{call_number}
 use Rattle.controller_core.specs.Machine.{next_sequence, where_due}
 use Rattle.end_laws.specs.turns.Turns.{Came, Hears, Passes, Gets, GetsStatus, AsksRead, AsksWrite, Halts}
 use Rattle.rpc_core.specs.Sendable.{CanBeAnswered, IsHeader}

@@ -14,8 +14,8 @@ use Rattle.block_codec.specs.Block.{block_of}
 use Rattle.pn_alarms.specs.declared.abort.Abort.{Abort}
 use Rattle.pn_alarms.specs.declared.message.Notice.TheVariants as notice
 use Rattle.pn_alarms.specs.declared.pdu.Header.{Header}
-use Rattle.pn_alarms.specs.declared.priority.Priority.{Priority}
-use Rattle.pn_alarms.specs.Message.{ToController}
+use Rattle.alarm_reports.specs.declared.priority.Priority.{Priority}
+use Rattle.alarm_reports.specs.Message.{ToController}
 use Rattle.pn_alarms.specs.Sending.{due}
 use Rattle.cyclic_exchange.specs.Received.{behind_frame}
 use Rattle.controller_frames.specs.declared.record_request.RecordRequest.{RecordRequest}
@@ -36,10 +36,10 @@ use Rattle.controller_core.specs.declared.state.Cause.TheVariants as why
 use Rattle.controller_core.specs.declared.state.State.{State}
 use Rattle.controller_core.specs.declared.state.State.TheVariants.{Looking, Addressing, Ending, Waiting, Exchanging, Ended}
 use Rattle.controller_core.specs.State.{Live}
-use Rattle.controller_core.specs.Access.{answered_with, is_rejected, is_reply, record_in}
+use Rattle.record_access.specs.Access.{answered_with, is_rejected, is_reply, record_in}
 use Rattle.controller_core.specs.Alarms.{is_alarm}
 use Rattle.controller_core.specs.Answers.{is_addressed, is_answer, is_found, is_ready, is_refused, is_right, is_set_answer}
-use Rattle.controller_core.specs.Connect.{Chosen, chosen_of, found_in, is_whole, nothing}
+use Rattle.connect_answers.specs.Connect.{Chosen, chosen_of, found_in, is_whole, nothing}
 use Rattle.controller_core.specs.Machine.{Turn, acked_under, answered, brings, brought, called, can_request, connected, decided, done, failed, flow_later, flowed, granted, is_again, is_exchanging, handled, later, noticed, readied, ready_in, past_record, refused, refused_by, rejected, related_by, replied, replied_by, request_for, requested, requests_of, responded, stays, stopped, turn_of, turned, undone, noted, where_due, written}
 use Rattle.end_laws.specs.turns.Turns.{Came, Hears, Passes, Gets, GetsStatus, AsksRead, AsksWrite, Halts, Found, IsGoing, IsGranted, IsKind, IsReadied, IsSought, IsReported, IsTurn, Kind, Rests, Connects, Addresses, Ends, Releases, Relates, Writes, Skips, Waits, Forgets, Begins, Repeats, Follows, Takes, IsAcked, Gives, GivesStatus, Asks, IsReplied, Flows, Breaks, Idles, came_by, chosen_in, turn_by, turn_for}
 
@@ -249,7 +249,7 @@ module _ (setup : Setup) (live : Live) where
   noticed_is source under header (notice.Data number report) up = as_kind _ (Takes number report) (up, source, under, header, refl)
   noticed_is source under header (notice.Ack number) up = as_kind _ (IsAcked (acked_under live under) number) (up, source, under, header, refl, refl)
   noticed_is source under header notice.Nack up = rests _
-  noticed_is source under header notice.Abort up = as_kind _ (Ends why.Aborted live.refusal live.refused_record) (up_going up)
+  noticed_is source under header (notice.Abort status) up = as_kind _ (Ends why.Aborted live.refusal live.refused_record) (up_going up)
 
   come_is : (source : Mac) (frame_id : ℕ) (body : List ℕ) (is : Bool) → live.stands ≡ is
       → IsTurn setup live (Hears (Comes source frame_id body)) (stays (if is then record live { cyclic = behind_frame live.cyclic source frame_id body } else live))

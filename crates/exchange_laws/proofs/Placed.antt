@@ -22,13 +22,13 @@ use Rattle.pn_alarms.specs.declared.message.Notice.TheVariants as notice
 use Rattle.pn_alarms.specs.declared.pdu.Header.{Header}
 use Rattle.pn_alarms.specs.declared.receiver.Taken.{Taken}
 use Rattle.pn_alarms.specs.declared.receiver.Taken.TheVariants.{New, Again, Refused}
-use Rattle.pn_alarms.specs.Message.{ToController}
+use Rattle.alarm_reports.specs.Message.{ToController}
 use Rattle.pn_alarms.specs.Receiver.{taken_as}
 use Rattle.pn_alarms.specs.Ends.{ControllerEnd}
-use Rattle.pn_alarms.specs.declared.priority.Priority.{Priority}
-use Rattle.pn_alarms.specs.declared.priority.Priority.TheVariants.{High, Low}
+use Rattle.alarm_reports.specs.declared.priority.Priority.{Priority}
+use Rattle.alarm_reports.specs.declared.priority.Priority.TheVariants.{High, Low}
 use Rattle.pn_alarms.specs.declared.repeats.Due.{Due}
-use Rattle.pn_alarms.specs.declared.report.Report.{Report}
+use Rattle.alarm_reports.specs.declared.report.Report.{Report}
 use Rattle.pn_alarms.specs.Sending.{due}
 use Rattle.pn_alarms.specs.Sending.{is_again as is_repeated}
 use Rattle.plans.specs.declared.parts.Parts.{Parts}
@@ -49,11 +49,11 @@ use Rattle.controller_core.specs.declared.event.Event.TheVariants as event
 use Rattle.controller_core.specs.declared.state.Cause.{Cause}
 use Rattle.controller_core.specs.declared.state.State.{State}
 use Rattle.controller_core.specs.declared.state.State.TheVariants.{Looking, Addressing, Ending, Waiting, Exchanging, Ended}
-use Rattle.controller_core.specs.Access.{Accessing, is_rejected, is_reply, record_in}
-use Rattle.controller_core.specs.Alarms.{ack_of, is_alarm as is_of_relation}
+use Rattle.record_access.specs.Access.{Accessing, is_rejected, is_reply, record_in}
+use Rattle.controller_core.specs.Alarms.{ack_of, is_alarm as is_of_relation, kept_alarm}
 use Rattle.controller_core.specs.Answers.{is_addressed, is_answer, is_found, is_ready, is_refused, is_right, is_set_answer}
-use Rattle.controller_core.specs.Connect.{Chosen, chosen_of, found_in, is_whole, nothing}
-use Rattle.controller_core.specs.Machine.{Turn, accesses_by, accessing, acked_under, acking, acks_in, acks_of, addressed, answered, behind_ack, behind_data, brings, brought, can_request, confirming, end_of, failed, granted, keeping, pending_by, pending_of, rejected, replied, replied_by, requested, with_end, called, come, connected, decided, denied, done, first, flow_later, flowed, found, given, is_again, handled, later, noted, noticed, outputs_of, over, rated, readied, ready_in, refused, refused_by, related_by, released, requests_of, responded, standing, stays, stopped, taken, turn_of, turned, undone, where_due, writing}
+use Rattle.connect_answers.specs.Connect.{Chosen, chosen_of, found_in, is_whole, nothing}
+use Rattle.controller_core.specs.Machine.{Turn, accesses_by, accessing, acked_under, acking, acks_in, acks_of, addressed, answered, behind_ack, behind_data, brings, brought, can_request, confirming, diagnosing, end_of, failed, granted, keeping, pending_by, pending_of, rejected, replied, replied_by, requested, with_end, called, come, connected, decided, denied, done, first, flow_later, flowed, found, given, is_again, handled, later, noted, noticed, outputs_of, over, rated, readied, ready_in, refused, refused_by, related_by, released, requests_of, responded, standing, stays, stopped, taken, turn_of, turned, undone, where_due, writing}
 use Rattle.controller_core.specs.State.{Live}
 use Rattle.end_laws.specs.sending.Sized.{Found}
 use Rattle.exchange_laws.specs.Sized.{IsChosenWell}
@@ -270,9 +270,14 @@ module _ (setup : Setup) (mac : Mac) (apart : mac ≡ setup.plan.controller.mac 
   keeping_up live High alarm structure up = up
   keeping_up live Low alarm structure up = up
 
+  diagnosing_placed : (live : Live) (report : Report) → IsPlaced mac live → IsPlaced mac (diagnosing report live)
+  diagnosing_placed live report p = record { plain = p.plain; partner = p.partner; asking = p.asking; giving = p.giving; addressing = p.addressing }
+
   confirming_placed : (live : Live) (report : Report) → IsPlaced mac live → IsPlaced mac (confirming live report)
   confirming_placed live report p =
-      keeping_placed (acking live report.priority (ack_of report.notification)) report.priority _ report.user_structure (with_end_placed live report.priority _ p)
+      let acked = acking live report.priority (ack_of report.notification) in
+      diagnosing_placed (keeping acked report.priority (kept_alarm report.notification) report.user_structure) report
+      (keeping_placed acked report.priority (kept_alarm report.notification) report.user_structure (with_end_placed live report.priority _ p))
 
   confirming_up : (live : Live) (report : Report) → live.stands ≡ true → (confirming live report).stands ≡ true
   confirming_up live report up =
@@ -290,7 +295,7 @@ module _ (setup : Setup) (mac : Mac) (apart : mac ≡ setup.plan.controller.mac 
       taken_placed (behind_data live report.priority number) report (taken_as (end_of live report.priority).seen number) (with_end_up live report.priority _ up) (with_end_placed live report.priority _ p)
   noticed_placed live under (notice.Ack number) up p = stays_placed (behind_ack live (acked_under live under) number) (with_end_placed live (acked_under live under) _ p)
   noticed_placed live under notice.Nack up p = stays_placed live p
-  noticed_placed live under notice.Abort up p = ends_placed _ live p
+  noticed_placed live under (notice.Abort status) up p = ends_placed _ live p
 
   and_first : (a b : Bool) → (a && b) ≡ true → a ≡ true
   and_first true b e = refl

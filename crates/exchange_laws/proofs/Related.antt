@@ -21,9 +21,9 @@ use Rattle.controller_core.specs.declared.state.Cause.{Cause}
 use Rattle.controller_core.specs.declared.state.Cause.TheVariants as cause
 use Rattle.controller_core.specs.declared.state.State.{State}
 use Rattle.controller_core.specs.declared.state.State.TheVariants.{Ended, Waiting}
-use Rattle.controller_core.specs.Access.{Accessing, is_reply, record_in}
+use Rattle.record_access.specs.Access.{Accessing, is_reply, record_in}
 use Rattle.controller_core.specs.Answers.{is_answer}
-use Rattle.controller_core.specs.Connect.{Chosen, chosen_of, found_in, is_whole, nothing}
+use Rattle.connect_answers.specs.Connect.{Chosen, chosen_of, found_in, is_whole, nothing}
 use Rattle.controller_core.specs.Machine.{Turn, asking, brings, connected, decided, denied, done, failed, granted, handled, next_sequence, noted, over, phase_for, related_by, released, replied, replied_by, responded, standing, stays, undone, writing}
 use Rattle.controller_core.specs.State.{Live}
 use Rattle.end_laws.specs.hearing.Stations.{IsNumbered, IsSetup}

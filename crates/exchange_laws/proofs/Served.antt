@@ -22,7 +22,7 @@ use Rattle.device_frames.specs.Sent.{Sent, CallAnswer, Again}
 use Rattle.device_core.specs.State.{Station, Live, Rest}
 use Rattle.device_core.specs.Handled.{answer_from, outcome_of}
 use Rattle.controller_frames.specs.declared.setup.Setup.{Setup}
-use Rattle.controller_core.specs.Connect.{found_in, is_whole, nothing}
+use Rattle.connect_answers.specs.Connect.{found_in, is_whole, nothing}
 use Rattle.end_laws.specs.sending.Sized.{Found}
 use Rattle.end_laws.specs.device.Does.{Does, IsEffect, IsOther, Serves, readied_from}
 use Rattle.end_laws.specs.both.Small as small

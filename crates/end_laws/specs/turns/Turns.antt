@@ -10,8 +10,8 @@ use Rattle.connect_blocks.specs.declared.control.ControlBlock.{ControlBlock}
 use Rattle.pn_alarms.specs.declared.abort.Abort.{Abort}
 use Rattle.pn_alarms.specs.declared.message.Notice.TheVariants as notice
 use Rattle.pn_alarms.specs.declared.pdu.Header.{Header}
-use Rattle.pn_alarms.specs.declared.priority.Priority.{Priority}
-use Rattle.pn_alarms.specs.declared.report.Report.{Report}
+use Rattle.alarm_reports.specs.declared.priority.Priority.{Priority}
+use Rattle.alarm_reports.specs.declared.report.Report.{Report}
 use Rattle.pn_alarms.specs.Receiver.{taken_as}
 use Rattle.pn_alarms.specs.Sending.{due}
 use Rattle.pn_alarms.specs.Sending.{is_again as is_repeated}
@@ -32,9 +32,9 @@ use Rattle.controller_core.specs.declared.state.Cause.{Cause}
 use Rattle.controller_core.specs.declared.state.State.TheVariants.{Looking, Addressing, Connecting, Ending, Waiting, Exchanging, Ended}
 use Rattle.controller_core.specs.declared.state.RefusedRecord.{RefusedRecord}
 use Rattle.controller_core.specs.State.{Live}
-use Rattle.controller_core.specs.Access.{Accessing, call_number}
+use Rattle.record_access.specs.Access.{Accessing, call_number}
 use Rattle.controller_core.specs.Answers.{is_answer, is_ready}
-use Rattle.controller_core.specs.Connect.{Chosen, chosen_of, found_in, nothing}
+use Rattle.connect_answers.specs.Connect.{Chosen, chosen_of, found_in, nothing}
 use Rattle.controller_core.specs.Machine.{Turn, accessing, acked_under, asking, behind_ack, behind_data, brought, due_frames, end_of, ended_by, flow_later, given, is_again, later, noted, over, rated, ready_in, released, requested, requests_of, standing, stays, stopped, taken, ticked, turned, where_due, writing, written}
 use Rattle.end_laws.specs.turns.Ended.{IsReleased, may_release}
 

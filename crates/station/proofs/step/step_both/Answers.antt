@@ -1,6 +1,6 @@
 use Rattle.std.proofs.Common.{ℕ, sym, ap, ◌∙◌}
 use Rattle.arrayvec.specs.ArrayVec.{ArrayVec}
-use Rattle.services.specs.State.{observed}
+use Rattle.station.specs.Serving.{observed}
 use Rattle.station.specs.Beside.{has_any}
 use Rattle.station.specs.State.{Frames}
 use Rattle.station.proofs.Answered.{undisputed}
@@ -21,6 +21,6 @@ returns-then-is_lost-clause-beside g c =
 
 pub returns-clause-beside : goal.returns-clause-beside
 returns-clause-beside g c =
-    observed_beside c.args.device.now.station.identity c.identity.result.now c.args.services.now c.attend-said.new.services c.observe.new.self c.step_alone-note.new.device.live.values c.step_alone-note.result c.attend-said.result c.args.event.now
+    observed_beside c.args.device.now.station.identity c.identity.result.now c.args.services.now c.attend-said.new.self c.observe.new.self c.step_alone-note.new.device.live.values c.step_alone-note.result c.attend-said.result c.args.event.now
     _ (c.identity.ensures ∙ ap (λ s. s.identity) c.step_alone-note.ensures.alone.steps.same) (sym c.is_lost.ensures ∙ c.if-is_lost.false) c.attend-said.ensures.state c.attend-said.ensures.frames c.attend-said.ensures.note
-    (c.observe.ensures.state ∙ ap (λ a. observed c.attend-said.new.services a) (c.address.ensures.value ∙ ap (λ s. s.suite.address) c.running.ensures))
+    (c.observe.ensures ∙ ap (observed c.attend-said.new.self) c.running.ensures)
