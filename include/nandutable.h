@@ -96,7 +96,8 @@ enum {
     PN_OP_DUE = 15,
     PN_OP_STATUS = 16,
     PN_OP_READY = 17,
-    PN_OP_PROVIDER = 18
+    PN_OP_PROVIDER = 18,
+    PN_OP_CONFLICTS = 19
 };
 
 /* A parameter record that a submodule accepts: its index, 0 to 32,767 and no other record's of the submodule, and its exact length, 1 to
@@ -125,7 +126,11 @@ typedef struct pn_module {
     pn_submodule submodules[PN_SUBMODULES];
 } pn_module;
 
-/* The factory data of a device, and what is plugged in it. The first octet of `mac` is even. Texts are padded with spaces. The access point
+/* Beside a device are the services of its IP address. They answer echo requests (ping), the endpoint mapper's lookups, pings of RPC and calls
+ * that nobody serves; they announce the address, count its conflicts (pn_conflicts) and defend it. They hear only what the device does not
+ * accept, and ARP. With `without_services` the device is alone, and all of these are silent; it answers ARP by itself in both cases.
+ *
+ * The factory data of a device, and what is plugged in it. The first octet of `mac` is even. Texts are padded with spaces. The access point
  * is slot 0: subslot 1, its interface 0x8000 and its ports from 0x8001 on. */
 typedef struct pn_station {
     uint8_t mac[6];
@@ -140,11 +145,13 @@ typedef struct pn_station {
     uint8_t order_id[20];
     uint8_t serial_number[16];
     uint8_t software_revision[4]; /* a letter and three numbers */
-    /* What the application decides. Zeros: any interval, inputs that are good from the start, ready when the parameters have ended. */
+    /* What the application decides. Zeros: any interval, inputs that are good from the start, ready when the parameters have ended, and
+     * services beside the device. */
     uint32_t smallest_interval;    /* of cyclic frames, in units of PN_UNIT_NS, at most 65,536: a Connect with a smaller one is refused */
     uint16_t inputs_begin_bad;     /* not 0: the IOPS of a submodule with inputs is bad until its first pn_input in the relation */
     uint16_t ready_by_application; /* not 0: ApplicationReady is sent at pn_ready, and not with the answer to PrmEnd */
-    uint32_t module_count;        /* at most PN_MODULES */
+    uint32_t without_services;     /* not 0: the device alone, without the services of its IP address */
+    uint32_t module_count;         /* at most PN_MODULES */
     pn_module modules[PN_MODULES];
 } pn_station;
 
@@ -182,9 +189,9 @@ typedef struct pn_device {
 
 /* The sizes that the library was built with. */
 #if defined(__cplusplus)
-static_assert(offsetof(pn_op, data) == PN_OP_LENGTH && sizeof(pn_station) == 1508, "another layout than the library's");
+static_assert(offsetof(pn_op, data) == PN_OP_LENGTH && sizeof(pn_station) == 1512, "another layout than the library's");
 #else
-_Static_assert(offsetof(pn_op, data) == PN_OP_LENGTH && sizeof(pn_station) == 1508, "another layout than the library's");
+_Static_assert(offsetof(pn_op, data) == PN_OP_LENGTH && sizeof(pn_station) == 1512, "another layout than the library's");
 #endif
 
 /* The settings that survive a power failure. */
@@ -469,8 +476,8 @@ static inline uint32_t pn_provider(const pn_device *device, pn_op *op, uint16_t 
     return answer;
 }
 
-/* How many units may pass until something is due: with the last of them, and with none before it, the device sends a frame, gives up an
- * alarm, ends the relation, or turns the lamp off. It is at least 1, and also in `units` of the operation. 4,294,967,295 if no unit ever does any of these.
+/* How many units may pass until something is due: with the last of them, and with none before it, the device or its services send a frame, or
+ * it gives up an alarm, ends the relation, or turns the lamp off. It is at least 1, and also in `units` of the operation. 4,294,967,295 if no unit ever does any of these.
  * An event may change it. So a host sleeps until that unit is over, or until the next event. */
 static inline uint32_t pn_due(const pn_device *device, pn_op *op, uint32_t *due)
 {
@@ -480,6 +487,19 @@ static inline uint32_t pn_due(const pn_device *device, pn_op *op, uint32_t *due)
     answer = pn_read(device, op, PN_OP_DUE);
     if (answer == PN_OK)
         *due = op->units;
+    return answer;
+}
+
+/* How many ARP frames came from another station that uses the running IP address, at most 4,294,967,295: also in `units` of the operation.
+ * 0 without services. After each of them the device announces its address once more, at most once in 10 seconds. */
+static inline uint32_t pn_conflicts(const pn_device *device, pn_op *op, uint32_t *conflicts)
+{
+    uint32_t answer;
+    if (conflicts == NULL)
+        return PN_NULL;
+    answer = pn_read(device, op, PN_OP_CONFLICTS);
+    if (answer == PN_OK)
+        *conflicts = op->units;
     return answer;
 }
 

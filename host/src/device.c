@@ -1,5 +1,6 @@
 /* nandutable-device: a PROFINET IO device on a network interface, whose settings are in a file. */
 #define _GNU_SOURCE
+#include "arp.h"
 #include "chip.h"
 #include "identity.h"
 #include "loop.h"
@@ -15,6 +16,8 @@
 
 /* With a period: without a relation nothing is due at a unit of time, so many units may pass at once. */
 #define IDLE_MOST 320000u /* units: ten seconds */
+/* Another station that uses the device's address is reported at most once in this time. */
+#define CONFLICT_PAUSE (10 * SECOND)
 
 struct options {
     struct shared_options shared;
@@ -27,6 +30,7 @@ struct options {
     uint32_t smallest_interval;
     int inputs_begin_bad;
     int is_ready_by_application;
+    int is_without_services;
 };
 
 /* A status that was given by a line. */
@@ -56,6 +60,8 @@ struct device {
     int is_lamp_on;
     int is_stopped; /* the controller; -1: it is not known */
     uint32_t due;   /* units until something is due, as the last pn_tick said; 0: an event came since, or it did not say */
+    uint32_t conflicts;     /* of the address, that were seen */
+    uint64_t conflict_told; /* when the last one was reported; 0: none yet */
     /* Statistics. */
     uint64_t notes[8];
     struct histogram intervals;
@@ -93,6 +99,7 @@ static int transmit(void *context, const uint8_t *octets, uint32_t length)
 static void start(struct device *device)
 {
     uint32_t answer;
+    device->conflicts = 0;
     if (chip_settle(&device->chip) != 0)
         fail(STATUS_INPUT, "the flash file '%s' cannot be read and written: %s. Nothing was sent of the step in which it failed; correct this and start again",
              device->chip.path, device->chip.why);
@@ -265,6 +272,23 @@ static void look(struct device *device, int is_first)
     look_at_outputs(device);
 }
 
+/* Reports another station that uses the device's address, which an ARP packet has shown. */
+static void look_at_conflicts(struct device *device, const uint8_t *octets, size_t length)
+{
+    struct arp_packet packet;
+    char mac[WORDS_MAC];
+    uint32_t conflicts = 0;
+    loop_must(pn_conflicts(&device->room, &device->op, &conflicts), "pn_conflicts");
+    if (conflicts == device->conflicts || !arp_read(octets, length, &packet))
+        return;
+    device->conflicts = conflicts;
+    if (device->conflict_told != 0 && ticker_now() < device->conflict_told + CONFLICT_PAUSE)
+        return;
+    device->conflict_told = ticker_now();
+    lines_tell(&device->loop.lines, "warning: another station, %s, uses the device's address %u.%u.%u.%u", words_show_mac(mac, packet.sender),
+               packet.sender_address[0], packet.sender_address[1], packet.sender_address[2], packet.sender_address[3]);
+}
+
 /* --- Events --- */
 
 static uint32_t tick(void *context, uint32_t units)
@@ -302,8 +326,10 @@ static void take_frame(void *context, const uint8_t *octets, size_t length)
     carry_out(device);
     if (note != PN_DONE)
         return;
-    if (!is_cyclic)
+    if (!is_cyclic) {
         look_at_news(device, 0);
+        look_at_conflicts(device, octets, length);
+    }
     look_at_state(device);
     if (is_cyclic) {
         look_at_outputs(device);
@@ -345,12 +371,14 @@ static void statistics(void *context, lines_writer tell)
 {
     struct device *device = context;
     struct lines *lines = &device->loop.lines;
-    uint32_t left = 0;
+    uint32_t left = 0, conflicts = 0;
     loop_must(pn_left(&device->room, &device->op, &left), "pn_left");
+    loop_must(pn_conflicts(&device->room, &device->op, &conflicts), "pn_conflicts");
     loop_tell_frames(&device->loop, tell);
     for (unsigned i = 0; i < sizeof notes / sizeof notes[0]; i++)
         tell(lines, "note %s %" PRIu64, notes[i], device->notes[i]);
     tell(lines, "sets dropped %" PRIu64, device->sets.dropped);
+    tell(lines, "address conflicts %" PRIu32, conflicts);
     tell(lines, "flash programs %" PRIu64 " erases %" PRIu64 " faults %" PRIu64 " commits-left %" PRIu32, device->chip.programs, device->chip.erases,
          device->chip.faults, left);
     loop_tell_time(&device->loop, tell);
@@ -462,7 +490,7 @@ static void usage(void)
 {
     puts("Usage: nandutable-device IFACE --flash FILE [--station FILE] [--identity FILE] [--mac MAC] [--socket PATH]\n"
          "                         [--socket-group GROUP] [--period US] [--realtime N] [--sets-per-second N] [--smallest-interval N]\n"
-         "                         [--inputs-begin-bad] [--ready-by-application]\n"
+         "                         [--inputs-begin-bad] [--ready-by-application] [--no-services]\n"
          "\n"
          "A PROFINET IO device on the network interface IFACE. Its name, address and I&M texts are in the flash file, and survive a power\n"
          "failure at any moment.\n"
@@ -484,6 +512,7 @@ static void usage(void)
          "  --smallest-interval N  refuses a relation with a shorter interval, in units of 31.25 microseconds, 1 to 65536 (default: 32, 1 ms)\n"
          "  --inputs-begin-bad    the IOPS of an input is bad until its first `input` in a relation\n"
          "  --ready-by-application  the device is ready at the line `ready` after `parameters end`, and not by itself\n"
+         "  --no-services         answers no ping, no endpoint mapper's lookup and no call that nobody serves, and does not announce its address\n"
          "  --help, --version\n"
          "\n"
          "It needs the capability CAP_NET_RAW: run it as root, or run `setcap cap_net_raw+ep nandutable-device` once.\n"
@@ -526,6 +555,7 @@ static int take_option(void *context, int option, const char *word)
     case 'n': take_interval(options, word); return 1;
     case 'b': options->inputs_begin_bad = 1; return 1;
     case 'a': options->is_ready_by_application = 1; return 1;
+    case 'w': options->is_without_services = 1; return 1;
     case 'f': options->flash = word; return 1;
     case 's': options->station = word; return 1;
     case 'i': options->identity = word; return 1;
@@ -543,6 +573,7 @@ static const struct option known[] = {{"flash", required_argument, NULL, 'f'},
                                       {"smallest-interval", required_argument, NULL, 'n'},
                                       {"inputs-begin-bad", no_argument, NULL, 'b'},
                                       {"ready-by-application", no_argument, NULL, 'a'},
+                                      {"no-services", no_argument, NULL, 'w'},
                                       SHARED_OPTIONS};
 
 /* Checks only the flash file's name, before any message is printed: a message could go into that file. */
@@ -591,6 +622,7 @@ static int read_station(struct device *device, const struct options *options)
     device->station.smallest_interval = options->smallest_interval;
     device->station.inputs_begin_bad = options->inputs_begin_bad != 0;
     device->station.ready_by_application = options->is_ready_by_application != 0;
+    device->station.without_services = options->is_without_services != 0;
     station_places(&device->inputs, device->station.modules, device->station.module_count, OF_INPUT);
     station_places(&device->outputs, device->station.modules, device->station.module_count, OF_OUTPUT);
     return has_mac;

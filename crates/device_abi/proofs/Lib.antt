@@ -8,5 +8,4 @@ pub mod PortHosted
 pub mod PortLeaps
 pub mod PortLeft
 pub mod PortStages
-pub mod OperationsCounts
-pub mod OperationsReported
+pub mod PortReported

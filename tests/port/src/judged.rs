@@ -1,6 +1,6 @@
 //! Stations as a host in C writes them: which are refused, and with which number.
 use c_layout::{Module, Parameter, Submodule};
-use device_abi::{Station, judge};
+use station_abi::{Station, judge};
 
 fn submodule(subslot: u16) -> Submodule {
     Submodule {
@@ -31,6 +31,7 @@ fn station() -> Station {
         smallest_interval: 0,
         inputs_begin_bad: 0,
         ready_by_application: 0,
+        without_services: 0,
         module_count: 3,
         modules: std::array::from_fn(|slot| Module {
             ident: 1,

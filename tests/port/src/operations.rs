@@ -1,11 +1,11 @@
 //! Operations as a host in C calls them: numbers, answers, and where the reported values are.
-use crate::stations::{booted, busy, lost, made};
-use device_abi::{Port, hand_out, serve};
+use crate::served::{alone, booted, busy, lost, made};
 use c_layout::Op;
+use station_abi::{ServedPort, hand_out, serve};
 use test_stations::SET;
 
 /// An operation of this number, with nothing else in it.
-fn asked(what: u32) -> Op {
+pub(crate) fn asked(what: u32) -> Op {
     Op {
         what,
         slot: 0,
@@ -24,7 +24,7 @@ fn asked(what: u32) -> Op {
 }
 
 /// What it is answered with.
-fn answer(port: &mut Port, what: u32) -> u32 {
+fn answer(port: &mut ServedPort, what: u32) -> u32 {
     let mut op = asked(what);
     serve(port, &mut op, &[])
 }
@@ -33,7 +33,7 @@ fn answer(port: &mut Port, what: u32) -> u32 {
 fn before_a_start_and_behind_a_loss() {
     let mut early = made();
     let mut late = lost();
-    for what in (3..19).filter(|what| *what != 7) {
+    for what in (3..20).filter(|what| *what != 7) {
         assert_eq!(answer(&mut early, what), 5);
         assert_eq!(answer(&mut late, what), 14);
     }
@@ -49,7 +49,7 @@ fn before_a_start_and_behind_a_loss() {
 #[test]
 fn no_such_operation_sector_or_slot() {
     let mut port = made();
-    for what in [0, 7, 19, u32::MAX] {
+    for what in [0, 7, 20, u32::MAX] {
         assert_eq!(answer(&mut port, what), 10);
     }
     let mut op = asked(1);
@@ -94,13 +94,13 @@ fn a_frame_is_handed_out_where_it_lies() {
     // The answer to the Set goes to its sender, from the device, and is padded to the shortest frame.
     assert_eq!((octets.len(), &octets[..6], &octets[12..18]), (60, &SET[6..12], &[0x88, 0x92, 0xFE, 0xFD, 0x04, 0x01][..]));
     let place = octets.as_ptr().addr();
-    assert!(begin < place && place + 60 <= begin + size_of::<Port>());
+    assert!(begin < place && place + 60 <= begin + size_of::<ServedPort>());
     assert_eq!(op.octets, [0; 1520]);
 }
 
 #[test]
 fn an_event_without_work_tells_none() {
-    let mut port = booted();
+    let mut port = alone();
     for what in [3, 4, 5] {
         let mut op = asked(what);
         op.work = 3;
@@ -116,7 +116,7 @@ fn an_event_without_work_tells_none() {
 #[test]
 fn what_is_due_is_told() {
     let mut op = asked(15);
-    assert_eq!(serve(&mut booted(), &mut op, &[]), 0);
+    assert_eq!(serve(&mut alone(), &mut op, &[]), 0);
     assert_eq!((op.units, op.work), (u32::MAX, 0));
     let mut op = asked(4);
     (op.units, op.due) = (9, 8);
@@ -129,7 +129,7 @@ fn what_is_due_is_told() {
 #[test]
 fn a_tick_tells_what_is_due() {
     let signal: Vec<u8> = [&SET[..6], &SET[6..12], b"\x88\x92\xfe\xfd\x04\x00\0\0\0\x09\0\0\0\x08\x05\x03\0\x04\0\0\x01\0"].concat();
-    let mut port = booted();
+    let mut port = alone();
     let mut op = asked(4);
     for (units, due) in [(0, u32::MAX), (9, u32::MAX), (1, u32::MAX)] {
         op.units = units;

@@ -364,8 +364,8 @@ impl Port {
         self.waiting_frame()
     }
 
-    // The same if no flash call remains.
-    pub(crate) fn waiting_frame(&self) -> u32
+    /// The same if no flash call remains.
+    pub fn waiting_frame(&self) -> u32
         requires { self.now.calls ≡ [] }
         ensures { result ≡ kind_in self.now.calls self.now.frames }
     {
@@ -373,6 +373,13 @@ impl Port {
     }
 
     // ---- what it reports
+
+    /// The device.
+    pub fn device(&self) -> &Device<RecordedFlash<4096>, 4096>
+        ensures { result.now ≡ self.now.device }
+    {
+        &self.device
+    }
 
     /// The running settings.
     pub fn running(&self) -> Result<&Settings, Refusal>
@@ -643,11 +650,14 @@ impl Port {
         due
     }
 
-    // Lets units of time pass with which nothing is sent. Returns what is due then.
-    fn skip(&mut self, units: u32) -> u32
+    /// Lets units of time pass with which nothing is due, while events are accepted: fewer than `due` returns. Returns what
+    /// is due then.
+    pub fn skip(&mut self, units: u32) -> u32
         requires free { barred self.old ≡ None }
         requires few { units < live_due_in self.old.device.live }
         ensures ticks { Ticks units self.old self.new }
+        // No work remains: nothing was sent.
+        ensures free { barred self.new ≡ None }
         ensures due { result ≡ live_due_in self.new.device.live }
         ensures quiet { self.new.calls ≡ [] }
     {
