@@ -40,8 +40,13 @@ use Rattle.device_frames.specs.declared.event.Event.{Event}
 use Rattle.frame_codec.specs.declared.udp.Caller.{Caller}
 use Rattle.device_core.specs.State.{Station, Live, alias_in}
 use Rattle.device_frames.specs.Sent.{Sent}
-use Rattle.device_frames.specs.Heard.{Heard, Ticks, Unreadable, Elsewhere, Asks, Resolves, Reported, Cyclic, Alarms, Given, Raised, Rated, Met, Readied, Said, Calls, Responds, Garbled, heard_of}
-use Rattle.device_core.specs.Handled.{Handled, is_running, is_request, answer_from, kept_for, kept_answer, handled_request, handled_effect, handled_write, handled_new, handled_looked, handled_blocks, handled_call, handled_answer, handled_said, handled_pdu, handled_received, handled_input, handled_notice, kept_status, handled, known_of}
+use Rattle.module_diff.specs.Plugged.{submodule_ident}
+use Rattle.diagnosis.specs.Existing.{changed}
+use Rattle.diagnosis.specs.declared.diagnosis.Change.{Change}
+use Rattle.diagnosis.specs.declared.diagnosis.Diagnosis.{Diagnosis}
+use Rattle.relations.specs.Diagnosed.{has_sent_low, heard_low, hearing_low, is_full_in}
+use Rattle.device_frames.specs.Heard.{Heard, Ticks, Unreadable, Elsewhere, Asks, Resolves, Reported, Cyclic, Alarms, LowReplies, LowConfirms, Given, Raised, Rated, Met, Diagnosed, Readied, Said, Calls, Responds, Garbled, heard_of}
+use Rattle.device_core.specs.Handled.{Handled, is_running, is_request, answer_from, kept_for, kept_answer, handled_request, handled_effect, handled_write, handled_new, handled_looked, handled_blocks, handled_call, handled_answer, handled_said, handled_pdu, handled_received, handled_input, handled_notice, kept_status, handled, known_of, handled_alarm, handled_change, handled_low, handled_low_pdu}
 use Rattle.device_core.specs.Several.{judged_each}
 use Rattle.device_core.specs.Machine.{items_in, first_answer, several_answer, written_as, finished, heard_step, handled_step, step_of, first_step, later_steps, run_of}
 use Rattle.device_core.specs.Steps.{IsBehindCalls}
@@ -118,7 +123,7 @@ call_called : (station : Station) (live : Live) (answers : List BlockError) (cal
 call_called station live answers caller call None = ([], refl)
 call_called station live answers caller call (Some operation) = blocks_called station live answers caller call operation call.blocks
 
-answer_called : (station : Station) (live : Live) (answers : List BlockError) (answer : ReadyAnswer) → IsKept station live answers (handled_answer live answer)
+answer_called : (station : Station) (live : Live) (answers : List BlockError) (answer : ReadyAnswer) → IsKept station live answers (handled_answer station live answer)
 answer_called station live answers to_ready.NotWanted = ([], refl)
 answer_called station live answers to_ready.Garbled = ([], refl)
 answer_called station live answers to_ready.Confirmed = ([], refl)
@@ -134,6 +139,26 @@ pdu_called station live answers (fate.Data taken) link = ([], refl)
 pdu_called station live answers fate.Done link = ([], refl)
 pdu_called station live answers fate.Ignored link = ([], refl)
 pdu_called station live answers (fate.Aborted status) link = ([], refl)
+
+alarm_called : (station : Station) (live : Live) (answers : List BlockError) (source : Mac) (header : Header) (message : ToDevice) → IsKept station live answers (handled_alarm live source header message)
+alarm_called station live answers source header message =
+    cond_both (is_alarm_of source header.destination header.source live.rest.link) _ _ (IsKept station live answers)
+    (λ _. pdu_called station live answers (heard_by message live.rest.link) (updated (hearing message live.rest.link) live.rest.link)) (λ _. ([], refl))
+
+low_pdu_called : (station : Station) (live : Live) (answers : List BlockError) (came : PduFate) (link : Option RelationState) → IsKept station live answers (handled_low_pdu station live came link)
+low_pdu_called station live answers (fate.Data taken) link = ([], refl)
+low_pdu_called station live answers fate.Done link = ([], refl)
+low_pdu_called station live answers fate.Ignored link = ([], refl)
+low_pdu_called station live answers (fate.Aborted status) link = ([], refl)
+
+low_called : (station : Station) (live : Live) (answers : List BlockError) (source : Mac) (header : Header) (message : ToDevice) → IsKept station live answers (handled_low station live source header message)
+low_called station live answers source header message =
+    cond_both (is_alarm_of source header.destination header.source live.rest.link) _ _ (IsKept station live answers)
+    (λ _. low_pdu_called station live answers (heard_low message live.rest.link) (updated (hearing_low message live.rest.link) live.rest.link)) (λ _. ([], refl))
+
+change_called : (station : Station) (live : Live) (answers : List BlockError) (change : Change) (diagnoses : Option (List Diagnosis)) → IsKept station live answers (handled_change station live change diagnoses)
+change_called station live answers change (Some diagnoses) = ([], refl)
+change_called station live answers change None = ([], refl)
 
 received_called : (station : Station) (live : Live) (answers : List BlockError) (came : Received) (link : Option RelationState) → IsKept station live answers (handled_received live came link)
 received_called station live answers received.Foreign link = ([], refl)
@@ -160,8 +185,12 @@ handled_called station live answers (Resolves asker packet) =
     cond_both (is_request packet.operation && is_running live.values.running packet.target.address) _ _ (IsKept station live answers) (λ _. ([], refl)) (λ _. ([], refl))
 handled_called station live answers (Reported caller address said) =
     cond_both (is_running live.values.running address) _ _ (IsKept station live answers) (λ _. said_called station live answers caller said) (λ _. ([], refl))
-handled_called station live answers (Alarms source header message) =
-    cond_both (is_alarm_of source header.destination header.source live.rest.link) _ _ (IsKept station live answers) (λ _. pdu_called station live answers (heard_by message live.rest.link) (updated (hearing message live.rest.link) live.rest.link)) (λ _. ([], refl))
+handled_called station live answers (Alarms source header message) = alarm_called station live answers source header message
+handled_called station live answers (LowReplies source header message) =
+    cond_both (has_sent_low live.rest.link) _ _ (IsKept station live answers) (λ _. low_called station live answers source header message)
+    (λ _. alarm_called station live answers source header message)
+handled_called station live answers (LowConfirms source header message) =
+    cond_both (has_sent_low live.rest.link) _ _ (IsKept station live answers) (λ _. low_called station live answers source header message) (λ _. ([], refl))
 handled_called station live answers (Cyclic source frame_id body) =
     received_called station live answers (received_by source frame_id body live.rest.link) (updated (receiving source frame_id body live.rest.link) live.rest.link)
 handled_called station live answers (Given slot subslot value) = input_called station live answers (given_to slot subslot value live.rest.link)
@@ -169,6 +198,9 @@ handled_called station live answers (Raised slot subslot octets) = notice_called
 handled_called station live answers (Rated slot subslot is_good) =
     status_called station live answers slot subslot is_good (statuses_at station.real.modules.items (record { slot = slot; subslot = subslot; is_good = is_good }) live.rest.statuses)
 handled_called station live answers (Met peer) = ([], refl)
+handled_called station live answers (Diagnosed change) =
+    cond_both (is_some (submodule_ident station.real.modules.items change.diagnosis.slot change.diagnosis.subslot) && not (is_full_in live.rest.link)) _ _
+    (IsKept station live answers) (λ _. change_called station live answers change (changed change live.rest.diagnoses)) (λ _. ([], refl))
 handled_called station live answers Readied = cond_both (is_preparing (phase_of live.rest.link)) _ _ (IsKept station live answers) (λ _. ([], refl)) (λ _. ([], refl))
 handled_called station live answers Ticks = ([], refl)
 handled_called station live answers Unreadable = ([], refl)

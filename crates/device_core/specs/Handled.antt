@@ -1,5 +1,5 @@
 -- The outcome of an event, from the state before it.
-use Rattle.std.specs.Prelude.{◌+◌, ◌%◌, ◌-◌, ◌&&◌, ℕ, Bool, true, false, not, nat_eq, List, [], ◌∷◌, if◌then◌else◌, Option, Some, None, is_some, Result, Ok, Err}
+use Rattle.std.specs.Prelude.{◌+◌, ◌++◌, ◌%◌, ◌-◌, ◌&&◌, ℕ, Bool, true, false, not, nat_eq, List, [], ◌∷◌, if◌then◌else◌, Option, Some, None, is_some, Result, Ok, Err}
 use Rattle.std.specs.Cmp.Lexicographic.{pointwise}
 use Rattle.pn_values.specs.declared.mac.Mac.{Mac}
 use Rattle.pn_values.specs.declared.identity.Identity.{Identity}
@@ -43,6 +43,11 @@ use Rattle.relations.specs.exchange.Flow.{Flow}
 use Rattle.relations.specs.declared.statuses.InputStatus.{InputStatus}
 use Rattle.relations.specs.Statuses.{statuses_at}
 use Rattle.relations.specs.exchange.Marks.{Starting}
+use Rattle.module_diff.specs.Plugged.{submodule_ident}
+use Rattle.diagnosis.specs.Existing.{changed}
+use Rattle.diagnosis.specs.declared.diagnosis.Change.{Change}
+use Rattle.diagnosis.specs.declared.diagnosis.Diagnosis.{Diagnosis}
+use Rattle.relations.specs.Diagnosed.{begin_one, beginning, diagnose_one, diagnosing, has_sent_low, heard_low, hearing_low, is_full_in, report_one, reporting}
 use Rattle.relations.specs.Exchanged.{given_to, heard_by, hearing, raised_to, rating, received_by, receiving}
 use Rattle.relations.specs.declared.hearing.ReadyAnswer.{ReadyAnswer}
 use Rattle.relations.specs.declared.hearing.ReadyAnswer.TheVariants as to_ready
@@ -62,9 +67,9 @@ use Rattle.lldp.specs.Peer.{Peer}
 use Rattle.device_core.specs.State.{Station, Rest, Live, alias_in, counter_of, units_after}
 use Rattle.device_core.specs.Several.{Judged, judged_each}
 use Rattle.device_core.specs.Log.{arguments_log, but_rest, connect_log, end_log, err_log, release_log, with_log}
-use Rattle.device_frames.specs.Relation.{alarms_of, due_frames, ready_calls, replies_of}
+use Rattle.device_frames.specs.Relation.{alarms_of, due_frames, low_alarms_of, low_replies_of, ready_calls, replies_of, where_due}
 use Rattle.device_frames.specs.Sent.{Sent, IdentifyAnswer, GetAnswer, ArpReply, CallAnswer, Again, Ends, bytes_of}
-use Rattle.device_frames.specs.Heard.{Heard, Ticks, Unreadable, Elsewhere, Asks, Resolves, Reported, Cyclic, Alarms, Given, Raised, Rated, Met, Readied, Said, Calls, Responds, Garbled}
+use Rattle.device_frames.specs.Heard.{Heard, Ticks, Unreadable, Elsewhere, Asks, Resolves, Reported, Cyclic, Alarms, LowReplies, LowConfirms, Given, Raised, Rated, Met, Diagnosed, Readied, Said, Calls, Responds, Garbled}
 
 -- The outcome of an event: it is refused, with the note that says why; a Set, whose blocks are asked of the settings; a
 -- Write of an I&M text, which is asked of the settings, with the caller, the address that was called, the call, its
@@ -176,7 +181,7 @@ handled_write station live caller call (Err fault) = served station live caller 
 -- What a relation begins with.
 abbrev pub starting_of : Station → Live → Starting
 starting_of station live =
-    record { begin_bad = station.options.inputs_begin_bad; statuses = live.rest.statuses; units = live.rest.units }
+    record { begin_bad = station.options.inputs_begin_bad; statuses = live.rest.statuses; units = live.rest.units; diagnoses = live.rest.diagnoses }
 
 -- What the records of the device are made of.
 abbrev pub known_of : Station → Live → Known
@@ -187,6 +192,7 @@ known_of station live = record {
   identity = station.identity;
   settings = live.values.running;
   peer = live.rest.peer;
+  diagnoses = live.rest.diagnoses;
 }
 
 -- A new call, by its operation.
@@ -234,18 +240,25 @@ abbrev pub handled_call : Station → Live → Caller → Call → Option Operat
 handled_call station live caller call None = Refuses note.Fault
 handled_call station live caller call (Some operation) = handled_blocks station live caller call operation call.blocks
 
+-- ApplicationReady is confirmed: what exists of diagnosis is reported, and the first alarm of it is sent.
+abbrev pub handled_beginning : Station → Live → Option RelationState → Handled
+handled_beginning station live link =
+    let real = station.real.modules.items in
+    let reported = updated (beginning real live.rest.diagnoses link) link in
+    Moves (record live.rest { link = reported }) (where_due (begin_one real live.rest.diagnoses link) (low_alarms_of (flow_of reported)))
+
 -- The answer to ApplicationReady, by what it means to the relation.
-abbrev pub handled_answer : Live → ReadyAnswer → Handled
-handled_answer live to_ready.NotWanted = Refuses note.NoRelation
-handled_answer live to_ready.Garbled = Refuses note.Fault
-handled_answer live to_ready.Confirmed = Moves (record live.rest { link = updated (handled_by to_ready.Confirmed) live.rest.link }) []
-handled_answer live (to_ready.Refused farewell) =
+abbrev pub handled_answer : Station → Live → ReadyAnswer → Handled
+handled_answer station live to_ready.NotWanted = Refuses note.NoRelation
+handled_answer station live to_ready.Garbled = Refuses note.Fault
+handled_answer station live to_ready.Confirmed = handled_beginning station live (updated (handled_by to_ready.Confirmed) live.rest.link)
+handled_answer station live (to_ready.Refused farewell) =
     Moves (with_log (err_log (Some farewell)) (record live.rest { link = updated (handled_by (to_ready.Refused farewell)) live.rest.link }))
     (Ends farewell ∷ [])
 
 abbrev pub handled_said : Station → Live → Caller → Said → Handled
 handled_said station live caller (Calls call) = handled_call station live caller call (operation_of call.header.operation)
-handled_said station live caller (Responds response) = handled_answer live (ready_answer response live.rest.link)
+handled_said station live caller (Responds response) = handled_answer station live (ready_answer response live.rest.link)
 handled_said station live caller Garbled = Refuses note.Fault
 
 -- The address is checked first.
@@ -294,6 +307,23 @@ handled_rated station live slot subslot is_good =
 abbrev pub handled_met : Live → Option Peer → Handled
 handled_met live peer = Moves (record live.rest { peer = peer }) []
 
+-- A diagnosis appears or disappears, and these exist after it: the relation reports the change, and its alarm is sent if none of
+-- low priority is active. Or the change is refused.
+abbrev pub handled_change : Station → Live → Change → Option (List Diagnosis) → Handled
+handled_change station live change (Some diagnoses) =
+    let real = station.real.modules.items in
+    let link = updated (diagnosing real change diagnoses live.rest.link) live.rest.link in
+    Moves (record live.rest { link = link; diagnoses = diagnoses })
+    (where_due (diagnose_one real change diagnoses live.rest.link) (low_alarms_of (flow_of link)))
+handled_change station live change None = Refuses note.Refused
+
+-- It is refused for what is not plugged, and while no further change can wait.
+abbrev pub handled_diagnosed : Station → Live → Change → Handled
+handled_diagnosed station live change =
+    if is_some (submodule_ident station.real.modules.items change.diagnosis.slot change.diagnosis.subslot) && not (is_full_in live.rest.link)
+    then handled_change station live change (changed change live.rest.diagnoses)
+    else Refuses note.Refused
+
 -- An alarm is raised and sent, or refused.
 abbrev pub handled_notice : Live → Option Flow → Handled
 handled_notice live (Some flow) =
@@ -327,6 +357,33 @@ abbrev pub handled_alarm : Live → Mac → Header → ToDevice → Handled
 handled_alarm live source header message =
     if is_alarm_of source header.destination header.source live.rest.link then handled_message live message else Refuses note.NoRelation
 
+-- A PDU of low priority of the partner, by what happens to it: data is answered, and after that the next change is reported;
+-- an ACK counts or does not.
+abbrev pub handled_low_pdu : Station → Live → PduFate → Option RelationState → Handled
+handled_low_pdu station live (fate.Data taken) link =
+    let real = station.real.modules.items in
+    let next = updated (reporting real link) link in
+    goes_on_with live next (low_replies_of taken (flow_of link) ++ where_due (report_one real link) (low_alarms_of (flow_of next)))
+handled_low_pdu station live fate.Done link = goes_on_with live link []
+handled_low_pdu station live fate.Ignored link = Refuses note.Filter
+handled_low_pdu station live (fate.Aborted status) link = Refuses note.Filter
+
+abbrev pub handled_low : Station → Live → Mac → Header → ToDevice → Handled
+handled_low station live source header message =
+    if is_alarm_of source header.destination header.source live.rest.link
+    then handled_low_pdu station live (heard_low message live.rest.link) (updated (hearing_low message live.rest.link) live.rest.link)
+    else Refuses note.NoRelation
+
+-- An ACK under the FrameID of low priority is one of high priority until data of low priority was sent. An AlarmAck of low
+-- priority cannot be read until then.
+abbrev pub handled_low_reply : Station → Live → Mac → Header → ToDevice → Handled
+handled_low_reply station live source header message =
+    if has_sent_low live.rest.link then handled_low station live source header message else handled_alarm live source header message
+
+abbrev pub handled_low_confirm : Station → Live → Mac → Header → ToDevice → Handled
+handled_low_confirm station live source header message =
+    if has_sent_low live.rest.link then handled_low station live source header message else Refuses note.Fault
+
 -- ---- events
 
 -- The state after a unit of time.
@@ -343,11 +400,14 @@ handled station live (Asks asker request) = handled_request station live asker r
 handled station live (Resolves asker packet) = handled_arp live asker packet
 handled station live (Reported caller address said) = handled_datagram station live caller address said
 handled station live (Alarms source header message) = handled_alarm live source header message
+handled station live (LowReplies source header message) = handled_low_reply station live source header message
+handled station live (LowConfirms source header message) = handled_low_confirm station live source header message
 handled station live (Cyclic source frame_id body) = handled_cyclic live source frame_id body
 handled station live (Given slot subslot value) = handled_given live slot subslot value
 handled station live (Raised slot subslot octets) = handled_raised station live slot subslot octets
 handled station live (Rated slot subslot is_good) = handled_rated station live slot subslot is_good
 handled station live (Met peer) = handled_met live peer
+handled station live (Diagnosed change) = handled_diagnosed station live change
 handled station live Readied = handled_ready live
 handled station live Ticks = ticked live
 handled station live Unreadable = Refuses note.Fault

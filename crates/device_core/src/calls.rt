@@ -29,7 +29,7 @@ use crate::several::{fill_texts, put_outcomes};
 use crate::{Device, Note};
 use arrayvec::ArrayVec;
 use block_codec::IodWriteReq;
-use device_frames::{Caller, send_farewell, send_ready_again, send_response};
+use device_frames::{Caller, send_farewell, send_low_alarm, send_ready_again, send_response};
 use flash_model::Flash;
 use frame_codec::Outbox;
 use pn_values::{BlockError, Command, Identity, ImValue, SetItem};
@@ -84,7 +84,11 @@ impl<F: Flash<S>, const S: usize> Device<F, S> {
         match heard {
             ReadyAnswer::NotWanted => Note::NoRelation,
             ReadyAnswer::Garbled => Note::Fault,
-            ReadyAnswer::Confirmed => Note::Done,
+            ReadyAnswer::Confirmed => {
+                let is_sent = self.relation.begin_diagnosis(&self.real, &self.diagnoses);
+                send_low_alarm(&self.identity, is_sent, &self.relation, outbox);
+                Note::Done
+            }
             ReadyAnswer::Refused(farewell) => {
                 send_farewell(&self.identity, &farewell, outbox);
                 Note::Done
@@ -189,6 +193,7 @@ impl<F: Flash<S>, const S: usize> Device<F, S> {
             options: &self.options,
             statuses: self.statuses.as_slice(),
             units: self.units,
+            diagnoses: &self.diagnoses,
         };
         self.answers.blocks.clear();
         let came = self.relation.connect(
@@ -266,6 +271,7 @@ impl<F: Flash<S>, const S: usize> Device<F, S> {
             identity: &self.identity,
             settings,
             neighbour: &self.neighbour,
+            diagnoses: &self.diagnoses,
         };
         let came = read_within(
             &sources,
@@ -300,6 +306,7 @@ impl<F: Flash<S>, const S: usize> Device<F, S> {
             identity: &self.identity,
             settings,
             neighbour: &self.neighbour,
+            diagnoses: &self.diagnoses,
         };
         let came = read_implicit(
             &sources,

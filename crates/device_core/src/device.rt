@@ -15,6 +15,7 @@ ghost use Rattle.device_core.specs.State.{plain};
 use crate::calls::Answering;
 use arrayvec::ArrayVec;
 use device_log::Log;
+use diagnosis::Diagnoses;
 use flash_model::{Flash, Order};
 use lldp::Neighbour;
 use pn_values::{Identity, Real, SetItem, Settings};
@@ -46,6 +47,8 @@ pub struct Device<F: Flash<S>, const S: usize> {
     pub(crate) log: Log,
     // The neighbour of the station, if one is known.
     pub(crate) neighbour: Option<Neighbour>,
+    // The diagnoses that exist.
+    pub(crate) diagnoses: Diagnoses,
     // Room for the plan of a Set; it holds the last one.
     pub(crate) plan: ArrayVec<SetItem, 16>,
 }
@@ -71,6 +74,7 @@ impl<F: Flash<S>, const S: usize> Model for Device<F, S> {
           statuses = device.statuses.items;
           log = device.log;
           peer = option_map peer_as device.neighbour;
+          diagnoses = device.diagnoses;
         };
       };
     } };
@@ -263,6 +267,7 @@ impl<F: Flash<S>, const S: usize> Device<F, S> {
             statuses: _,
             log: _,
             neighbour: _,
+            diagnoses: _,
             plan: _,
         } = self;
         (identity, real, store.into_flash())

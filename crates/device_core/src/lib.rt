@@ -9,6 +9,7 @@ mod headline;
 mod law;
 mod leaps;
 mod logging;
+mod low;
 mod neighbour;
 mod run;
 mod several;

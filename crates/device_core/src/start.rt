@@ -12,6 +12,7 @@ use crate::Device;
 use crate::calls::Answering;
 use arrayvec::ArrayVec;
 use device_log::Log;
+use diagnosis::Diagnoses;
 use flash_model::Flash;
 use pn_alarms::Abort;
 use pn_values::{Identity, Real};
@@ -43,6 +44,7 @@ impl<F: Flash<S>, const S: usize> Device<F, S> {
             statuses: ArrayVec::new(),
             log: Log::new(),
             neighbour: None,
+            diagnoses: Diagnoses::new(),
             plan: ArrayVec::new(),
         }
     }
@@ -103,6 +105,7 @@ impl<F: Flash<S>, const S: usize> Device<F, S> {
         self.statuses.clear();
         self.log = Log::new();
         self.neighbour = None;
+        self.diagnoses = Diagnoses::new();
         self.answers.kept = CallCache::new();
         // No frame is sent: the controller that had the relation hears nothing, and notices by its own data hold.
         let _ = self.relation.end(Abort::Other);

@@ -2,7 +2,7 @@
 ghost use Rattle.std.specs.Prelude.{◌≡◌, ◌≢◌, ◌<◌, ◌-◌, ◌^◌, [], true, false, List, ℕ, Option, Some, map, option_map};
 ghost use Rattle.settings_store.specs.Carries.{Holds};
 ghost use Rattle.dcp_core.specs.Request.{Asked};
-ghost use Rattle.device_frames.specs.Heard.{Asks, heard_alarm, heard_by, heard_content, heard_of};
+ghost use Rattle.device_frames.specs.Heard.{Asks, heard_alarm, heard_by, heard_content, heard_of, heard_reply};
 ghost use Rattle.frame_codec.specs.Frame.{arp, datagram, frame_of};
 ghost use Rattle.frame_codec.specs.Meaning.{IsNoRealTime, RealTime};
 ghost use Rattle.pn_alarms.specs.Message.{message_of};
@@ -27,17 +27,19 @@ ghost use Rattle.frame_codec.specs.Outbox.{boxed};
 
 use crate::logging::{log_err, log_fate, uuid_of};
 use crate::{Device, Event, Note};
+use alarm_reports::Priority;
 use dcp_core::Service;
 use device_frames::{
     Caller, RealTimeKind, is_asked, is_called, kind_of, open_frame, real_time_in, send_alarm,
-    send_alarm_again, send_alarm_reply, send_farewell, send_inputs, send_inputs_of, send_ready,
-    send_ready_again,
+    send_alarm_again, send_alarm_reply, send_farewell, send_inputs, send_inputs_of, send_low_alarm,
+    send_ready, send_ready_again,
 };
+use diagnosis::{Change, Diagnosis};
 use flash_model::Flash;
 use frame_codec::{ContentKind, OpenFrame, Outbox, RealTimeFrame, datagram_at, packet_at};
 use pn_alarms::{Abort, Header, Message, PduFate, read_message};
 use pn_values::Mac;
-use relations::{DataExchange, Elapsed, InputStatus, Received, put_status};
+use relations::{DataExchange, Elapsed, InputStatus, Received, Repeated, put_status};
 
 impl<F: Flash<S>, const S: usize> Device<F, S> {
     /// Handles an event, and replaces the content of the outbox by the frames to be sent.
@@ -108,6 +110,18 @@ impl<F: Flash<S>, const S: usize> Device<F, S> {
             Event::Status(slot, subslot, is_good) => self.rate(*slot, *subslot, *is_good),
             Event::Neighbour(neighbour) => self.meet(neighbour),
             Event::Ready => self.get_ready(outbox),
+            Event::Diagnosis(slot, subslot, channel, error, appears) => self.diagnose(
+                &Change {
+                    diagnosis: Diagnosis {
+                        slot: *slot,
+                        subslot: *subslot,
+                        channel: *channel,
+                        error: *error,
+                    },
+                    appears: *appears,
+                },
+                outbox,
+            ),
             Event::Frame(bytes) => self.hear(bytes.as_slice(), outbox),
         }
     }
@@ -141,7 +155,7 @@ impl<F: Flash<S>, const S: usize> Device<F, S> {
         let (source, frame_id, body) = (frame.source, frame.frame_id, frame.body);
         match kind_of(&self.identity, frame.destination, frame_id) {
             RealTimeKind::Cyclic => self.hear_cyclic(source, frame_id, body),
-            RealTimeKind::Alarm => self.read_alarm(source, body, outbox),
+            RealTimeKind::Alarm => self.read_alarm(source, frame_id, body, outbox),
             RealTimeKind::Request => self.read_and_serve(source, frame_id, body, outbox),
             RealTimeKind::Elsewhere => Note::NotMine,
         }
@@ -210,15 +224,39 @@ impl<F: Flash<S>, const S: usize> Device<F, S> {
 
     // The octets that follow the FrameID of an alarm frame.
     #[inline(never)]
-    fn read_alarm(&mut self, source: Mac, body: &[u8], outbox: &mut Outbox) -> Note
+    fn read_alarm(&mut self, source: Mac, frame_id: u16, body: &[u8], outbox: &mut Outbox) -> Note
         requires stored { Holds (F.image self.old.flash) self.old.live.values }
         requires empty { outbox.old.items ≡ [] }
-        ensures steps { Steps F.Flash self.old (heard_alarm source (message_of body.now)) (boxed outbox.new) result self.new }
+        ensures steps { Steps F.Flash self.old (heard_alarm source frame_id body.now (message_of body.now)) (boxed outbox.new) result self.new }
         ensures reliable { StaysReliable F.Flash self.old self.new }
     {
         match read_message(body) {
-            Ok((header, message)) => self.hear_alarm(source, &header, &message, outbox),
-            Err(_) => Note::Fault,
+            Ok((header, message)) => {
+                self.hear_under(source, Priority::of(frame_id), &header, &message, outbox)
+            }
+            Err(_) => self.read_low_confirm(source, body, outbox),
+        }
+    }
+
+    // What an alarm frame says, under the FrameID of this priority.
+    fn hear_under(
+        &mut self,
+        source: Mac,
+        priority: Priority,
+        header: &Header,
+        message: &Message,
+        outbox: &mut Outbox,
+    ) -> Note
+        requires stored { Holds (F.image self.old.flash) self.old.live.values }
+        requires empty { outbox.old.items ≡ [] }
+        ensures steps { Steps F.Flash self.old (heard_reply source priority header.now message.now) (boxed outbox.new) result self.new }
+        ensures reliable { StaysReliable F.Flash self.old self.new }
+    {
+        match (priority, message) {
+            (Priority::Low, Message::Ack(_)) => self.hear_low_reply(
+                source, header, message, outbox,
+            ),
+            _ => self.hear_alarm(source, header, message, outbox),
         }
     }
 
@@ -266,12 +304,14 @@ impl<F: Flash<S>, const S: usize> Device<F, S> {
     {
         match elapsed.tick.ending() {
             Some(reason) => self.end(reason, outbox),
-            None => self.send_each(
-                elapsed.tick.is_alarm(),
-                elapsed.is_ready,
-                elapsed.tick.is_cyclic(),
-                outbox,
-            ),
+            None => {
+                let is_alarm = elapsed.tick.is_alarm();
+                let repeated = Repeated {
+                    high: is_alarm && elapsed.repeated.high,
+                    low: is_alarm && elapsed.repeated.low,
+                };
+                self.send_each(repeated, elapsed.is_ready, elapsed.tick.is_cyclic(), outbox);
+            }
         }
         Note::Done
     }
@@ -325,14 +365,15 @@ impl<F: Flash<S>, const S: usize> Device<F, S> {
 
     // An alarm, ApplicationReady and inputs, each if it is due.
     #[inline(never)]
-    fn send_each(&self, is_alarm: bool, is_ready: bool, is_cyclic: bool, outbox: &mut Outbox)
+    fn send_each(&self, repeated: Repeated, is_ready: bool, is_cyclic: bool, outbox: &mut Outbox)
         requires { outbox.old.items ≡ [] }
-        ensures frames { boxed outbox.new ≡ map (bytes_of self.now.station.identity) (due_in self.now is_alarm is_ready is_cyclic) }
-        ensures sendable { AreSendable self.now.station.identity (due_in self.now is_alarm is_ready is_cyclic) }
+        ensures frames { boxed outbox.new ≡ map (bytes_of self.now.station.identity) (due_in self.now repeated is_ready is_cyclic) }
+        ensures sendable { AreSendable self.now.station.identity (due_in self.now repeated is_ready is_cyclic) }
     {
         let address = self.store.running().suite.address();
         let counter = self.counter();
-        send_alarm_again(&self.identity, is_alarm, &self.relation, outbox);
+        send_alarm_again(&self.identity, repeated.high, &self.relation, outbox);
+        send_low_alarm(&self.identity, repeated.low, &self.relation, outbox);
         send_ready_again(&self.identity, address, is_ready, &self.relation, outbox);
         send_inputs(&self.identity, counter, is_cyclic, &self.relation, outbox);
     }
@@ -416,7 +457,7 @@ impl<F: Flash<S>, const S: usize> Device<F, S> {
     // An alarm frame: it belongs to the relation or not. Data is answered, and the ERR of the controller ends the
     // relation.
     #[inline(always)]
-    fn hear_alarm(
+    pub(crate) fn hear_alarm(
         &mut self,
         source: Mac,
         header: &Header,

@@ -18,6 +18,9 @@ pub enum Event {
     Status(u16, u16, bool),
     /// This is the neighbour of the station from now on: what its port leads to, or nothing that is known.
     Neighbour(Option<Neighbour>),
+    /// A diagnosis of the submodule in this slot and subslot, of this channel (0 to 0x7FFF, or 0x8000 for the submodule
+    /// itself) and with this ChannelErrorType, appears or disappears.
+    Diagnosis(u16, u16, u16, u16, bool),
     /// The application is ready. It counts once in a relation: after PrmEnd, at a device whose application says when it is
     /// ready.
     Ready,

@@ -13,7 +13,7 @@ use Rattle.rpc_core.specs.Cache.{Kept as Answer}
 use Rattle.cyclic_data.specs.Image.{Shown as Image}
 use Rattle.relations.specs.RelationState.{RelationState}
 use Rattle.device_frames.specs.declared.event.Event.TheVariants.{Frame}
-use Rattle.device_frames.specs.Heard.{Heard, Ticks, Given, Raised, Rated, Met, Readied, heard_of}
+use Rattle.device_frames.specs.Heard.{Heard, Ticks, Given, Raised, Rated, Met, Readied, diagnosed, heard_of}
 use Rattle.device_core.specs.State.{Live, Station}
 use Rattle.device_core.specs.Machine.{heard_step}
 use Rattle.controller_frames.specs.declared.setup.Setup.{Setup}
@@ -230,6 +230,7 @@ module _ (turns : TurnsSo) (kinds : KindsSo) (sound : IsSound ethernet) (whole :
       happens_shows (move.Alarm slot subslot octets) meant happens = does before after _ _ _ _ (λ steps. steps) (at_device_shows before after (Raised slot subslot octets.items) holds meant happens)
       happens_shows (move.Status slot subslot is_good) meant happens = does before after _ _ _ _ (λ steps. steps) (at_device_shows before after (Rated slot subslot is_good) holds meant happens)
       happens_shows (move.Neighbour neighbour) meant happens = does before after _ _ _ _ (λ steps. steps) (at_device_shows before after (Met (option_map peer_as neighbour)) holds meant happens)
+      happens_shows (move.Diagnosis slot subslot channel error appears) meant happens = does before after _ _ _ _ (λ steps. steps) (at_device_shows before after (diagnosed slot subslot channel error appears) holds meant happens)
       happens_shows move.Ready meant happens = does before after _ _ _ _ (λ steps. steps) (at_device_shows before after Readied holds meant happens)
       happens_shows (move.Give slot subslot value) meant happens =
           does before after _ _ _ _ (λ steps. steps) (at_controller_gives before after (controller.Give slot subslot value) holds happens)

@@ -205,6 +205,10 @@ fn happen<F: Flash<S>, const S: usize>(
             let met = DeviceEvent::Neighbour(copied(neighbour));
             happen_at_device(device, sent, &met);
         }
+        Move::Diagnosis(slot, subslot, channel, error, appears) => {
+            let change = DeviceEvent::Diagnosis(*slot, *subslot, *channel, *error, *appears);
+            happen_at_device(device, sent, &change);
+        }
         Move::Give(slot, subslot, value) => {
             let output = ControllerEvent::Give(*slot, *subslot, bytes_of(value.as_slice()));
             happen_at_controller(controller, sent, &output);

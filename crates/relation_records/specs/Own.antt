@@ -17,12 +17,14 @@ use Rattle.relation_records.specs.Expected.{expected_bytes}
 use Rattle.relation_records.specs.Found.{found_bytes}
 use Rattle.relation_records.specs.Place.{place_with}
 use Rattle.relation_records.specs.Sources.{Known}
+use Rattle.relation_records.specs.Standing.{standing_with}
 
 -- The record of this kind that a device has without a relation too, and that anybody may read.
 abbrev pub public_with : Known → Listing → Option (List ℕ)
 public_with known listing.Identification = None
 public_with known listing.Apis = None
 public_with known listing.Diagnosis = None
+public_with known listing.Maintenance = None
 public_with known listing.Expected = None
 public_with known listing.Found = None
 public_with known listing.Input = None
@@ -39,6 +41,7 @@ abbrev pub own_with : Request → Cyclic → Real → Level → ℕ → ℕ → 
 own_with request cyclic real level slot subslot listing.Identification = None
 own_with request cyclic real level slot subslot listing.Apis = None
 own_with request cyclic real level slot subslot listing.Diagnosis = None
+own_with request cyclic real level slot subslot listing.Maintenance = None
 own_with request cyclic real level slot subslot listing.Expected = Some (expected_bytes request.expected level slot subslot)
 own_with request cyclic real level slot subslot listing.Found = Some (found_bytes request.expected real)
 own_with request cyclic real level slot subslot listing.Input = input_of cyclic slot subslot
@@ -50,15 +53,16 @@ own_with request cyclic real level slot subslot listing.Interface = None
 own_with request cyclic real level slot subslot listing.Network = None
 
 -- The record, if there is a relation.
-abbrev pub own_in : Option (Request × Cyclic × ℕ) → Real → Level → ℕ → ℕ → Listing → Option (List ℕ)
+abbrev pub own_in : Option (Request × Cyclic × ℕ × Bool) → Real → Level → ℕ → ℕ → Listing → Option (List ℕ)
 own_in None real level slot subslot kind = None
 own_in (Some parts) real level slot subslot kind = own_with parts.0 parts.1 real level slot subslot kind
 
 -- The record of this kind, at a level, slot and subslot. `is_within` says whether it is read within the relation: only then
--- there are those of the relation. Those of the place anybody may read.
+-- there are those of the relation. Those of the place and of diagnosis anybody may read.
 abbrev pub own_at : Bool → Known → Real → Level → ℕ → ℕ → Listing → Option (List ℕ)
 own_at is_within known real level slot subslot kind =
-    option_or (public_with known kind) (option_or (place_with known real slot subslot kind) (if is_within then own_in (parts_of known.link) real level slot subslot kind else None))
+    option_or (public_with known kind) (option_or (place_with known real slot subslot kind) (option_or (standing_with known real level slot subslot kind)
+    (if is_within then own_in (parts_of known.link) real level slot subslot kind else None)))
 
 -- The record that a request asks for, if it lists something, as far as a frame has room: 1,308 octets.
 abbrev pub own_asked : Bool → Known → Real → IodReadReq → Option (Level × Listing) → Option (List ℕ)

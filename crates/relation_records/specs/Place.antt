@@ -15,6 +15,7 @@ place_with known real slot subslot listing.Network = Some (network_bytes known.i
 place_with known real slot subslot listing.Identification = None
 place_with known real slot subslot listing.Apis = None
 place_with known real slot subslot listing.Diagnosis = None
+place_with known real slot subslot listing.Maintenance = None
 place_with known real slot subslot listing.Expected = None
 place_with known real slot subslot listing.Found = None
 place_with known real slot subslot listing.Input = None

@@ -14,6 +14,7 @@ mod own;
 mod place;
 mod reading;
 mod sources;
+mod standing;
 
 pub use reading::{read_implicit, read_within};
 pub use sources::Sources;

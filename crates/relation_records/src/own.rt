@@ -9,6 +9,7 @@ use crate::elements::{put_input, put_output};
 use crate::expected::put_expected;
 use crate::found::put_found;
 use crate::place::put_place;
+use crate::standing::put_standing;
 use arrayvec::ArrayVec;
 use device_log::put_log_data;
 use pn_values::Real;
@@ -34,7 +35,10 @@ pub(crate) fn put_own(
     ensures { (if result then Some out.new.items else None)
         ≡ own_at is_within (known sources.now) real.now level slot subslot kind }
 {
-    if put_public(out, sources, kind) || put_place(out, sources, real, slot, subslot, kind) {
+    if put_public(out, sources, kind)
+        || put_place(out, sources, real, slot, subslot, kind)
+        || put_standing(out, sources, real, level, slot, subslot, kind)
+    {
         return true;
     }
     // A record of the relation is for its controller alone.
@@ -59,6 +63,7 @@ fn put_public(out: &mut Own, sources: &Sources<'_>, kind: Listing) -> bool
         Listing::Identification
         | Listing::Apis
         | Listing::Diagnosis
+        | Listing::Maintenance
         | Listing::Expected
         | Listing::Found
         | Listing::Input
@@ -93,6 +98,7 @@ fn put_own_with(
         Listing::Identification
         | Listing::Apis
         | Listing::Diagnosis
+        | Listing::Maintenance
         | Listing::Relations
         | Listing::Log
         | Listing::Port

@@ -63,6 +63,7 @@ pub(crate) fn put_place(
         Listing::Identification
         | Listing::Apis
         | Listing::Diagnosis
+        | Listing::Maintenance
         | Listing::Expected
         | Listing::Found
         | Listing::Input

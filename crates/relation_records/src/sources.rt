@@ -1,5 +1,6 @@
 //! What the records of a device are made of.
 use device_log::Log;
+use diagnosis::Diagnoses;
 use lldp::Neighbour;
 use pn_values::{Identity, Settings};
 use relations::Relation;
@@ -19,4 +20,6 @@ pub struct Sources<'a> {
     pub settings: &'a Settings,
     /// The neighbour of the station, if one is known.
     pub neighbour: &'a Option<Neighbour>,
+    /// The diagnoses that exist.
+    pub diagnoses: &'a Diagnoses,
 }

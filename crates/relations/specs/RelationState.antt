@@ -37,9 +37,10 @@ phase_of link = option_map (λ l. l.phase) link
 abbrev pub uuid_of : Option RelationState → Option (List ℕ)
 uuid_of link = option_map (λ l. l.request.ar.uuid) link
 
--- The content that is read of it: what its Connect asked for, its end of cyclic data, and when it began.
-abbrev pub parts_of : Option RelationState → Option (Request × Cyclic × ℕ)
-parts_of link = option_map (λ l. (l.request, l.flow.cyclic, l.began)) link
+-- The content that is read of it: what its Connect asked for, its end of cyclic data, when it began, and whether one of its
+-- submodules has a diagnosis.
+abbrev pub parts_of : Option RelationState → Option (Request × Cyclic × ℕ × Bool)
+parts_of link = option_map (λ l. (l.request, l.flow.cyclic, l.began, l.flow.low.has_problem)) link
 
 -- The records that it accepted, and its ModuleDiffBlock.
 abbrev pub taken_of : Option RelationState → List TakenRecord

@@ -1,5 +1,6 @@
 //! What the application of a device decides where the device is made.
 use crate::statuses::InputStatus;
+use diagnosis::Diagnoses;
 
 /// What a relation of a device begins with: what its application says, which are its options and the statuses that it gave to
 /// its inputs, and the time.
@@ -11,6 +12,8 @@ pub struct Application<'a> {
     pub statuses: &'a [InputStatus],
     /// The units since the start of the device.
     pub units: u64,
+    /// The diagnoses that exist.
+    pub diagnoses: &'a Diagnoses,
 }
 
 /// The options of a device. The default is a device that decides everything by itself.

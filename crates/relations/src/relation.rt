@@ -70,6 +70,8 @@ pub struct RelationParts<'a> {
     pub cyclic: &'a CyclicExchange,
     /// The units from the start of the device to the answer to its Connect.
     pub began: u64,
+    /// Whether one of its submodules has a diagnosis.
+    pub has_problem: bool,
 }
 
 impl Relation {
@@ -114,13 +116,14 @@ impl Relation {
 
     /// The content of the relation, if there is one.
     pub fn parts(&self) -> Option<RelationParts<'_>>
-        ensures { option_map (λ parts. (parts.request.now, parts.cyclic.now, parts.began)) result ≡ parts_of self.now }
+        ensures { option_map (λ parts. (parts.request.now, parts.cyclic.now, parts.began, parts.has_problem)) result ≡ parts_of self.now }
     {
         match self.phase {
             Some(_) => Some(RelationParts {
                 request: &self.request,
                 cyclic: self.exchange.cyclic(),
                 began: self.began,
+                has_problem: self.exchange.has_problem(),
             }),
             None => None,
         }

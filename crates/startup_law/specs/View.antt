@@ -10,7 +10,7 @@ use Rattle.records.specs.declared.writes.taken.TakenRecord.{TakenRecord}
 use Rattle.plans.specs.declared.parts.PlanRecord.{PlanRecord}
 use Rattle.startup_law.specs.request.Request.{request_for}
 use Rattle.device_frames.specs.declared.event.Event.TheVariants.{Frame}
-use Rattle.device_frames.specs.Heard.{Calls, Heard, Ticks, Given, Raised, Rated, Met, Readied, heard_of}
+use Rattle.device_frames.specs.Heard.{Calls, Heard, Ticks, Given, Raised, Rated, Met, Readied, diagnosed, heard_of}
 use Rattle.device_frames.specs.Sendable.{AreSendable}
 use Rattle.device_core.specs.State.{Station}
 use Rattle.device_core.specs.Machine.{heard_step}
@@ -75,6 +75,7 @@ move_of (move.Input slot subslot value) = small.AtDevice
 move_of (move.Alarm slot subslot octets) = small.AtDevice
 move_of (move.Status slot subslot is_good) = small.AtDevice
 move_of (move.Neighbour neighbour) = small.AtDevice
+move_of (move.Diagnosis slot subslot channel error appears) = small.AtDevice
 move_of move.Ready = small.AtDevice
 move_of (move.Give slot subslot value) = small.AtController
 move_of (move.OutputStatus slot subslot is_good) = small.AtController
@@ -122,6 +123,7 @@ IsMeant world (move.Input slot subslot value) = IsMeantAtDevice world (Given slo
 IsMeant world (move.Alarm slot subslot octets) = IsMeantAtDevice world (Raised slot subslot octets.items)
 IsMeant world (move.Status slot subslot is_good) = IsMeantAtDevice world (Rated slot subslot is_good)
 IsMeant world (move.Neighbour neighbour) = IsMeantAtDevice world (Met (option_map peer_as neighbour))
+IsMeant world (move.Diagnosis slot subslot channel error appears) = IsMeantAtDevice world (diagnosed slot subslot channel error appears)
 IsMeant world move.Ready = IsMeantAtDevice world Readied
 IsMeant world (move.Give slot subslot value) = IsMeantAtController world (controller.Give slot subslot value)
 IsMeant world (move.OutputStatus slot subslot is_good) = IsMeantAtController world (controller.Status slot subslot is_good)

@@ -4,7 +4,7 @@ use Rattle.std.specs.Prelude.{if◌then◌else◌}
 use Rattle.flash_model.specs.declared.flash.Flash.{Ghosts as Flash}
 use Rattle.pn_values.specs.declared.identity.Identity.{Identity}
 use Rattle.device_frames.specs.declared.event.Event.{Event}
-use Rattle.device_frames.specs.declared.event.Event.TheVariants.{Frame, Tick, Input, Alarm, Status, Neighbour, Ready}
+use Rattle.device_frames.specs.declared.event.Event.TheVariants.{Frame, Tick, Input, Alarm, Status, Neighbour, Diagnosis, Ready}
 use Rattle.device_frames.specs.declared.note.Note.{Note}
 use Rattle.device_frames.specs.declared.note.Note.TheVariants.{Done, NotMine, Fault, Filter, OldCall, NoRelation, StaleCycle, Refused}
 use Rattle.device_frames.specs.Heard.{Ticks, heard_of}
@@ -63,6 +63,7 @@ sparing_by true identity state running note (Input slot subslot value) frames e 
 sparing_by true identity state running note (Alarm slot subslot octets) frames e silent = e
 sparing_by true identity state running note (Status slot subslot is_good) frames e silent = e
 sparing_by true identity state running note (Neighbour neighbour) frames e silent = e
+sparing_by true identity state running note (Diagnosis slot subslot channel error appears) frames e silent = e
 sparing_by true identity state running note Ready frames e silent = e
 sparing_by false identity state running note (Frame bytes) frames e silent =
     sparing_frame (is_dropped note) (answered identity state bytes.items) frames e (λ dropped. silent (not_done note dropped)) bytes
@@ -71,6 +72,7 @@ sparing_by false identity state running note (Input slot subslot value) frames e
 sparing_by false identity state running note (Alarm slot subslot octets) frames e silent = e
 sparing_by false identity state running note (Status slot subslot is_good) frames e silent = e
 sparing_by false identity state running note (Neighbour neighbour) frames e silent = e
+sparing_by false identity state running note (Diagnosis slot subslot channel error appears) frames e silent = e
 sparing_by false identity state running note Ready frames e silent = e
 
 -- ---- power that was lost
@@ -112,6 +114,7 @@ refused_by false identity state running note said (Input slot subslot value) sen
 refused_by false identity state running note said (Alarm slot subslot octets) sent e f refused tick = (e, λ done. refused (f ∙ done))
 refused_by false identity state running note said (Status slot subslot is_good) sent e f refused tick = (e, λ done. refused (f ∙ done))
 refused_by false identity state running note said (Neighbour neighbour) sent e f refused tick = (e, λ done. refused (f ∙ done))
+refused_by false identity state running note said (Diagnosis slot subslot channel error appears) sent e f refused tick = (e, λ done. refused (f ∙ done))
 refused_by false identity state running note said Ready sent e f refused tick = (e, λ done. refused (f ∙ done))
 
 module _ {F : Type 0} {S : ℕ} (as_flash : Flash F S) (old new : State F) (event : Event) (frames : Frames) (said : Note) (steps : StationSteps as_flash old event frames said new) where

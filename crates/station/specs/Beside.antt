@@ -6,7 +6,7 @@ use Rattle.settings_store.specs.Machine.{Outcome}
 use Rattle.device_core.specs.Machine.{step_of}
 use Rattle.device_core.specs.State.{Live, Station}
 use Rattle.device_frames.specs.declared.event.Event.{Event}
-use Rattle.device_frames.specs.declared.event.Event.TheVariants.{Frame, Tick, Input, Alarm, Status, Neighbour, Ready}
+use Rattle.device_frames.specs.declared.event.Event.TheVariants.{Frame, Tick, Input, Alarm, Status, Neighbour, Diagnosis, Ready}
 use Rattle.device_frames.specs.declared.note.Note.{Note}
 use Rattle.device_frames.specs.declared.note.Note.TheVariants.{Done, NotMine, Fault, Filter, OldCall, NoRelation, StaleCycle, Refused}
 use Rattle.pn_values.specs.declared.settings.Settings.{Settings}
@@ -60,6 +60,7 @@ event_beside identity state note (Input slot subslot value) = idle state note
 event_beside identity state note (Alarm slot subslot octets) = idle state note
 event_beside identity state note (Status slot subslot is_good) = idle state note
 event_beside identity state note (Neighbour neighbour) = idle state note
+event_beside identity state note (Diagnosis slot subslot channel error appears) = idle state note
 event_beside identity state note Ready = idle state note
 
 -- At the end of a step the services see the running settings.
@@ -84,6 +85,7 @@ IsUndisputed state (Input slot subslot value) = ⊤
 IsUndisputed state (Alarm slot subslot octets) = ⊤
 IsUndisputed state (Status slot subslot is_good) = ⊤
 IsUndisputed state (Neighbour neighbour) = ⊤
+IsUndisputed state (Diagnosis slot subslot channel error appears) = ⊤
 IsUndisputed state Ready = ⊤
 
 -- A step that neither drops its event nor sends a frame was no conflict.

@@ -7,7 +7,7 @@ use Rattle.dcp_core.specs.Request.{Asked}
 use Rattle.rpc_core.specs.Call.{Asked as Called}
 use Rattle.rpc_core.specs.Cache.{looked, again}
 use Rattle.device_frames.specs.declared.event.Event.{Event}
-use Rattle.device_frames.specs.declared.event.Event.TheVariants.{Frame, Tick, Input, Alarm, Status, Neighbour, Ready}
+use Rattle.device_frames.specs.declared.event.Event.TheVariants.{Frame, Tick, Input, Alarm, Status, Neighbour, Diagnosis, Ready}
 use Rattle.device_frames.specs.declared.note.Note.{Note}
 use Rattle.device_frames.specs.declared.note.Note.TheVariants.{Done}
 use Rattle.device_frames.specs.Heard.{Asks, heard_of}
@@ -69,6 +69,7 @@ IsSparing (Input slot subslot value) frames = frames.services ≡ []
 IsSparing (Alarm slot subslot octets) frames = frames.services ≡ []
 IsSparing (Status slot subslot is_good) frames = frames.services ≡ []
 IsSparing (Neighbour neighbour) frames = frames.services ≡ []
+IsSparing (Diagnosis slot subslot channel error appears) frames = frames.services ≡ []
 IsSparing Ready frames = frames.services ≡ []
 
 -- The station is as it is once its device was told of its neighbour, if that changed.

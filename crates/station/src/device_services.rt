@@ -166,6 +166,7 @@ impl DeviceServices {
             | Event::Alarm(..)
             | Event::Status(..)
             | Event::Neighbour(..)
+            | Event::Diagnosis(..)
             | Event::Ready => note,
         }
     }

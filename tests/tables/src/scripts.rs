@@ -6,6 +6,8 @@
 //! meets that device. In `services` there are services beside the device: echo, endpoint mapper, pings and calls that nobody
 //! serves, announcements and conflicts of the address, and neighbours; and a controller reads the records for engineering tools.
 //!
+//! In `diagnosis` diagnoses appear and disappear, before a relation, within it and after it.
+//!
 //! Each `stdout` comes from a reference model of both ends that was written from the rules alone and shares no line with
 //! this repository. A script that a wrong line ends has the output of the lines before it. tshark read each answer of
 //! `services` without a malformed field.
@@ -57,5 +59,14 @@ fn with_services_each_script_prints_what_the_model_prints() {
     let wanted = include_str!("../services/stdout");
     is_same(&all_printed(scripts), wanted);
     // Leaps do what as many single units do, also beside services.
+    is_same(&all_printed(&scripts.replace("\ntick ", "\nelapse ")), wanted);
+}
+
+#[test]
+fn with_diagnosis_each_script_prints_what_the_model_prints() {
+    let scripts = include_str!("../diagnosis/stdin");
+    let wanted = include_str!("../diagnosis/stdout");
+    is_same(&all_printed(scripts), wanted);
+    // Leaps do what as many single units do, with alarms of both priorities.
     is_same(&all_printed(&scripts.replace("\ntick ", "\nelapse ")), wanted);
 }

@@ -23,7 +23,7 @@ use Rattle.relations.specs.declared.phase.Phase.{Phase}
 use Rattle.relations.specs.declared.phase.Phase.TheVariants.{Started, Preparing, Awaiting, Exchanging}
 use Rattle.relations.specs.RelationState.{RelationState}
 use Rattle.relations.specs.Ready.{confirmed_block}
-use Rattle.device_frames.specs.Heard.{Heard, Ticks, Unreadable, Elsewhere, Asks, Resolves, Reported, Cyclic, Alarms, Given, Raised, Rated, Met, Readied, Said, Calls, Responds, Garbled}
+use Rattle.device_frames.specs.Heard.{Heard, Ticks, Unreadable, Elsewhere, Asks, Resolves, Reported, Cyclic, Alarms, LowReplies, LowConfirms, Given, Raised, Rated, Met, Diagnosed, Readied, Said, Calls, Responds, Garbled}
 use Rattle.device_frames.specs.Sent.{Sent, IdentifyAnswer, GetAnswer, SetAnswer, ArpReply, CallAnswer, Again, ReadyCall, Ends, Exchanges, bytes_of}
 use Rattle.device_core.specs.State.{Live}
 use Rattle.end_laws.specs.both.Small as small
@@ -100,10 +100,13 @@ heard_as planned (Asks source request) = small.Idle
 heard_as planned (Resolves asker packet) = small.Idle
 heard_as planned (Cyclic source frame_id body) = small.Idle
 heard_as planned (Alarms source header message) = small.Idle
+heard_as planned (LowReplies source header message) = small.Idle
+heard_as planned (LowConfirms source header message) = small.Idle
 heard_as planned (Given slot subslot value) = small.Idle
 heard_as planned (Raised slot subslot octets) = small.Idle
 heard_as planned (Rated slot subslot is_good) = small.Idle
 heard_as planned (Met peer) = small.Idle
+heard_as planned (Diagnosed change) = small.Idle
 heard_as planned Readied = small.Idle
 
 -- ---- the calls of a start-up
@@ -152,10 +155,13 @@ IsPlanned rules activity real (Asks source request) = Unit {0}
 IsPlanned rules activity real (Resolves asker packet) = Unit {0}
 IsPlanned rules activity real (Cyclic source frame_id body) = Unit {0}
 IsPlanned rules activity real (Alarms source header message) = Unit {0}
+IsPlanned rules activity real (LowReplies source header message) = Unit {0}
+IsPlanned rules activity real (LowConfirms source header message) = Unit {0}
 IsPlanned rules activity real (Given slot subslot value) = Unit {0}
 IsPlanned rules activity real (Raised slot subslot octets) = Unit {0}
 IsPlanned rules activity real (Rated slot subslot is_good) = Unit {0}
 IsPlanned rules activity real (Met peer) = Unit {0}
+IsPlanned rules activity real (Diagnosed change) = Unit {0}
 IsPlanned rules activity real Readied = Unit {0}
 
 -- ---- what it says

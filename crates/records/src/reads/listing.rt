@@ -6,7 +6,7 @@ ghost use Rattle.std.specs.List.{list_any};
 ghost use Rattle.std.specs.Option.{option_map};
 ghost use Rattle.arrayvec.specs.ArrayVec.{array_vec_len};
 ghost use Rattle.record_blocks.specs.FilterData.{filter_data};
-ghost use Rattle.records.specs.reads.Listing.{api_bytes, covers_slot, covers_subslot, identification_bytes, is_diagnosis};
+ghost use Rattle.records.specs.reads.Listing.{api_bytes, covers_slot, covers_subslot, identification_bytes, is_diagnosis, is_maintenance};
 ghost use Rattle.records.specs.reads.Listing.{is_of_relation, is_there, kind_of, level_of, listed_at, listing_of, modules_at};
 ghost use Rattle.records.specs.reads.Listing.{parts_at, plugged_of, submodules_at};
 
@@ -28,8 +28,10 @@ pub enum Listing {
     Identification,
     /// APIData: the APIs of the device.
     Apis,
-    /// Diagnosis, of which there is none.
+    /// DiagnosisData: the diagnoses that exist.
     Diagnosis,
+    /// Diagnoses of maintenance, of which there are none.
+    Maintenance,
     /// ExpectedIdentificationData: the modules and submodules that the relation expects.
     Expected,
     /// RealIdentificationData: the modules and submodules that are plugged where the relation expects some.
@@ -136,9 +138,16 @@ fn is_diagnosis(index: u16) -> bool
     ensures { result ≡ is_diagnosis index }
 {
     let number = index % 4096;
-    let is_buffer = number == 0x00A || number == 0x00B || number == 0x00C;
-    let is_other = number == 0x010 || number == 0x011 || number == 0x012 || number == 0x013;
-    index == 0xF80C || is_buffer || is_other
+    index == 0xF80C || number == 0x00A || number == 0x00B || number == 0x00C
+}
+
+/// Whether the record with this index tells diagnosis of maintenance.
+#[tactic(auto, unfolding(crate::specs::reads::Listing::is_maintenance))]
+fn is_maintenance(index: u16) -> bool
+    ensures { result ≡ is_maintenance index }
+{
+    let number = index % 4096;
+    number == 0x010 || number == 0x011 || number == 0x012 || number == 0x013
 }
 
 /// What the record with this index lists.
@@ -159,6 +168,7 @@ fn kind_of(index: u16) -> Option<Listing>
         0x8080 => Some(Listing::Interface),
         0xF841 => Some(Listing::Network),
         _ if is_diagnosis(index) => Some(Listing::Diagnosis),
+        _ if is_maintenance(index) => Some(Listing::Maintenance),
         _ => None,
     }
 }
@@ -306,8 +316,9 @@ pub fn serve_listing(
             request,
             &[0x00, 0x1A, 0x00, 0x08, 0x01, 0x00, 0x00, 0x01, 0, 0, 0, 0],
         ),
-        Listing::Diagnosis => put_read_answer(answer, request, &[]),
-        Listing::Expected
+        Listing::Maintenance => put_read_answer(answer, request, &[]),
+        Listing::Diagnosis
+        | Listing::Expected
         | Listing::Found
         | Listing::Input
         | Listing::Output

@@ -20,7 +20,7 @@ use Rattle.controller_core.specs.State.{Controlling}
 use Rattle.script_runner.specs.session.Demo.{demo_device}
 use Rattle.script_runner.specs.session.Ends.{Station, Turned, due_of, serving, services_at, station_step, Other, Network, DeviceRun, with_ends, arrived_at, chosen, cleared, device_run, frames_for_device, nobody, printed_for, ticked_by, with_fresh, with_plan, with_run, with_sent}
 use Rattle.station.specs.Serving.{Serving}
-use Rattle.script_lines.specs.Line.{Command, Frame, Restart, Tick, Elapse, Show, Due, Choose, Ready, Arm, Input, Alarm, Status, Provider, Config, Start, Give, OutputStatus, Stop, Deliver, Serve, Line, Unfit, Skipped, Asks, Unknown}
+use Rattle.script_lines.specs.Line.{Command, Frame, Restart, Tick, Elapse, Show, Due, Choose, Ready, Arm, Input, Alarm, Status, Diagnosis, Provider, Config, Start, Give, OutputStatus, Stop, Deliver, Serve, Line, Unfit, Skipped, Asks, Unknown}
 use Rattle.script_lines.specs.declared.command.Choice.{Choice}
 use Rattle.script_lines.specs.Show.{shown, outputs_shown, controller_shown, due_line, provider_line}
 use Rattle.script_lines.specs.Text.{boot_line, moved_line, note_line, printed}
@@ -159,6 +159,7 @@ said plans network (Arm order) = Answers (unchanged network)
 said plans network (Input slot subslot bytes) = Answers (event_answer network (event.Input slot subslot (handed bytes)))
 said plans network (Alarm slot subslot bytes) = Answers (event_answer network (event.Alarm slot subslot (handed bytes)))
 said plans network (Status slot subslot is_good) = Answers (event_answer network (event.Status slot subslot is_good))
+said plans network (Diagnosis slot subslot channel error appears) = Answers (event_answer network (event.Diagnosis slot subslot channel error appears))
 said plans network (Provider slot subslot) = Answers (provider_answer network slot subslot)
 said plans network (Config catalogue) = config_outcome network catalogue (plans catalogue)
 said plans network (Start ar activity) = start_outcome network ar activity network.other.plan
@@ -189,6 +190,7 @@ arms (Arm order) = true
 arms (Input slot subslot bytes) = false
 arms (Alarm slot subslot bytes) = false
 arms (Status slot subslot is_good) = false
+arms (Diagnosis slot subslot channel error appears) = false
 arms (Provider slot subslot) = false
 arms (Config catalogue) = false
 arms (Start ar activity) = false

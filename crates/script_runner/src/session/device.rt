@@ -32,6 +32,7 @@ pub(crate) fn receive(received: &mut Event, bytes: &[u8])
         | Event::Alarm(..)
         | Event::Status(..)
         | Event::Neighbour(..)
+        | Event::Diagnosis(..)
         | Event::Ready => *received = Event::Frame(copied(bytes)),
     }
 }

@@ -161,6 +161,9 @@ impl<'a> Session<'a> {
                 always(Ok(()))
             }
             Command::Ready => always(self.ready(text)),
+            Command::Diagnosis(slot, subslot, channel, error, appears) => {
+                always(self.diagnose(slot, subslot, channel, error, appears, text))
+            }
             Command::Arm(order) => {
                 self.arm(order);
                 Ok(true)
@@ -263,6 +266,32 @@ impl<'a> Session<'a> {
         ensures lost { TellsLoss (self.new.other ≡ self.old.other) self.old.power self.new.power text.old.items text.new.items result }
     {
         let event = Event::Status(slot, subslot, is_good);
+        answered(
+            &mut self.power,
+            &event,
+            &mut self.outbox,
+            &mut self.other,
+            text,
+        )
+    }
+
+    /// A diagnosis appears or disappears.
+    fn diagnose(
+        &mut self,
+        slot: u16,
+        subslot: u16,
+        channel: u16,
+        error: u16,
+        appears: bool,
+        text: &mut Vec<u8>,
+    ) -> Result<(), AllocError>
+        ensures obeys { (network : Network) → Are network self.old →
+            OnOk result (IsObeyed (event_answer network (event.Diagnosis slot subslot channel error appears)) self.new text.old.items
+            text.new.items) }
+        ensures demo { IsDemo self.old.power → IsDemo self.new.power }
+        ensures lost { TellsLoss (self.new.other ≡ self.old.other) self.old.power self.new.power text.old.items text.new.items result }
+    {
+        let event = Event::Diagnosis(slot, subslot, channel, error, appears);
         answered(
             &mut self.power,
             &event,

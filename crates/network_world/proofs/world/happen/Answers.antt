@@ -28,6 +28,10 @@ pub returns-in-Status : goal.returns-in-Status
 unfolding heard_of
 returns-in-Status g c = rw c.in-Status.is (record { hears = c.happen_at_device-in-Status.ensures; controller = refl })
 
+pub returns-in-Diagnosis : goal.returns-in-Diagnosis
+unfolding heard_of
+returns-in-Diagnosis g c = rw c.in-Diagnosis.is (record { hears = c.happen_at_device-in-Diagnosis.ensures; controller = refl })
+
 pub returns-in-Ready : goal.returns-in-Ready
 unfolding heard_of
 returns-in-Ready g c = rw c.in-Ready.is (record { hears = c.happen_at_device-in-Ready.ensures; controller = refl })

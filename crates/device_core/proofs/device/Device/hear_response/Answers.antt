@@ -19,16 +19,16 @@ returns-clause-frames g c =
     elim c.match-heard.branch [
       | in-NotWanted w ↦
           let is : answer_of (answered c.args.response.now) old.live.rest.link ≡ to_ready.NotWanted = rw (← c.self.view_is) (sym c.hear_ready-heard.ensures.heard ∙ w.in-NotWanted.is) in
-          ap boxed w.outbox-is ∙ left ∙ sym (ap (λ (a : Answer). frames_of old (handled_answer old.live a)) is)
+          ap boxed w.outbox-is ∙ left ∙ sym (ap (λ (a : Answer). frames_of old (handled_answer old.station old.live a)) is)
       | in-Garbled w ↦
           let is : answer_of (answered c.args.response.now) old.live.rest.link ≡ to_ready.Garbled = rw (← c.self.view_is) (sym c.hear_ready-heard.ensures.heard ∙ w.in-Garbled.is) in
-          ap boxed w.outbox-is ∙ left ∙ sym (ap (λ (a : Answer). frames_of old (handled_answer old.live a)) is)
+          ap boxed w.outbox-is ∙ left ∙ sym (ap (λ (a : Answer). frames_of old (handled_answer old.station old.live a)) is)
       | in-Confirmed w ↦
           let is : answer_of (answered c.args.response.now) old.live.rest.link ≡ to_ready.Confirmed = rw (← c.self.view_is) (sym c.hear_ready-heard.ensures.heard ∙ w.in-Confirmed.is) in
-          ap boxed w.outbox-is ∙ left ∙ sym (ap (λ (a : Answer). frames_of old (handled_answer old.live a)) is)
+          ap boxed w.outbox-is ∙ left ∙ sym (ap (λ (a : Answer). frames_of old (handled_answer old.station old.live a)) is)
       | in-Refused w ↦
           let farewell = w.in-Refused.farewell in
           let is : answer_of (answered c.args.response.now) old.live.rest.link ≡ to_ready.Refused farewell = rw (← c.self.view_is) (sym c.hear_ready-heard.ensures.heard ∙ w.in-Refused.is) in
           ap boxed w.outbox-is ∙ rw c.requires.empty at w.send_farewell.ensures.frames ∙ ap (λ i. farewell_frame i farewell ∷ []) own
-          ∙ sym (ap (λ (a : Answer). frames_of old (handled_answer old.live a)) is)
+          ∙ sym (ap (λ (a : Answer). frames_of old (handled_answer old.station old.live a)) is)
     ]
