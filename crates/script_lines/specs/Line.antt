@@ -18,7 +18,7 @@ use Rattle.script_lines.specs.declared.command.Words.TheVariants.{One, Two, Thre
 -- leaps, show the settings or when something is due, set an option for the next restart, say that the application is ready,
 -- order the flash to fail, set the input of the submodule in a slot and subslot, raise an alarm of it with these octets, say
 -- whether its inputs are good, or show what the controller says of its output; make a plan, start a controller with this
--- ARUUID and activity UUID at the other end, set an output of the controller or say whether it is good, end the relation,
+-- ARUUID and activity UUID at the other end, set an output of the controller or say whether it is good, end the relation, show the diagnoses that the controller knows of,
 -- hand over the frames that wait, start the services beside the device.
 pub data Command : Type 0 where
   Frame : (bytes : List ℕ) → Command
@@ -39,6 +39,7 @@ pub data Command : Type 0 where
   Give : (slot : ℕ) → (subslot : ℕ) → (bytes : List ℕ) → Command
   OutputStatus : (slot : ℕ) → (subslot : ℕ) → (is_good : Bool) → Command
   Stop : Command
+  Stands : Command
   Deliver : Command
   Serve : Command
 
@@ -80,7 +81,9 @@ abbrev pub bytes_of : List ℕ → Option (List ℕ)
 bytes_of digits = if length digits == 0 then None else if_decoded (decode_of digits)
 
 abbrev pub bare_of_both : List ℕ → Option Command
-bare_of_both word = if is_text word (codes "deliver") then Some Deliver else (if is_text word (codes "stop") then Some Stop else None)
+bare_of_both word =
+    if is_text word (codes "deliver") then Some Deliver
+    else (if is_text word (codes "stop") then Some Stop else (if is_text word (codes "stands") then Some Stands else None))
 
 abbrev pub bare : List ℕ → Option Command
 bare word =

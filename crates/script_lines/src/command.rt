@@ -65,6 +65,8 @@ pub enum Command<'a> {
     OutputStatus(u16, u16, bool),
     /// Makes the controller end the relation.
     Stop,
+    /// Show the diagnoses that the controller knows of.
+    Stands,
     /// Hands over the frames that wait: those for the device, then those for the controller.
     Deliver,
     /// Starts the services beside the device.
@@ -270,6 +272,8 @@ fn bare_of_both(word: &[u8]) -> Option<Command<'static>>
         Some(Command::Deliver)
     } else if word == b"stop".as_slice() {
         Some(Command::Stop)
+    } else if word == b"stands".as_slice() {
+        Some(Command::Stands)
     } else {
         None
     }

@@ -4,7 +4,7 @@ use Rattle.std.specs.Prelude.{◌≡◌, ℕ, Bool, true, false, List, [], ◌++
 use Rattle.flash_model.specs.declared.flash.Order.{Order}
 use Rattle.configurator.specs.declared.fault.PlanFault.{PlanFault}
 use Rattle.configurator.specs.declared.fault.PlanFault.TheVariants.{OutOfMemory}
-use Rattle.script_lines.specs.Line.{Command, Frame, Restart, Tick, Elapse, Show, Due, Choose, Ready, Arm, Input, Alarm, Status, Provider, Config, Start, Give, OutputStatus, Stop, Deliver, Serve, Line, Unfit, Skipped, Asks, Unknown}
+use Rattle.script_lines.specs.Line.{Command, Frame, Restart, Tick, Elapse, Show, Due, Choose, Ready, Arm, Input, Alarm, Status, Provider, Config, Start, Give, OutputStatus, Stop, Stands, Deliver, Serve, Line, Unfit, Skipped, Asks, Unknown}
 use Rattle.script_lines.specs.Text.{boot_line, lost_line, off_line}
 use Rattle.script_runner.specs.session.Ends.{Other, cleared}
 use Rattle.script_runner.specs.declared.session.power.Power.{Power}
@@ -65,6 +65,7 @@ hands (Start ar activity) = false
 hands (Give slot subslot bytes) = false
 hands (OutputStatus slot subslot is_good) = false
 hands Stop = false
+hands Stands = false
 hands Deliver = true
 hands Serve = false
 

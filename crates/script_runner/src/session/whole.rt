@@ -57,7 +57,7 @@ impl<'a> Session<'a> {
     ghost use Rattle.script_lines.specs.Text.{boot_line};
     ghost use Rattle.script_runner.specs.session.Ends.{IsRightFor, cleared, nobody};
     ghost use Rattle.script_runner.specs.session.Said.{arms, config_outcome, deliver_answer, deliver_outcome, factory_device};
-    ghost use Rattle.script_runner.specs.session.Said.{heard_outcome, is_order, outcome_of, restart_answer, said, serve_answer, show_answer, start_outcome};
+    ghost use Rattle.script_runner.specs.session.Said.{heard_outcome, is_order, outcome_of, restart_answer, said, serve_answer, show_answer, stands_outcome, start_outcome};
     ghost use Rattle.script_runner.specs.session.Said.{due_answer, provider_answer, tick_answer};
     ghost use Rattle.script_runner.specs.session.Power.{IsArmed, IsBack, is_off, refusal_of};
     ghost use Rattle.script_runner.specs.session.Session.{Are, AreRightFor, Comes, Obeys};
@@ -174,6 +174,7 @@ impl<'a> Session<'a> {
                 if_there(self.output_status(slot, subslot, is_good, text))
             }
             Command::Stop => if_there(self.stop(text)),
+            Command::Stands => if_there(self.stands(text)),
             Command::Deliver => if_there(self.deliver(text)),
             Command::Serve => {
                 self.power.serve();
@@ -454,6 +455,20 @@ impl<'a> Session<'a> {
         ensures same { self.new.power ≡ self.old.power }
     {
         self.hear(&ControllerEvent::Stop, text)
+    }
+
+    /// Shows the diagnoses that the controller knows of. Returns whether there is a controller.
+    #[inline(never)]
+    fn stands(&mut self, text: &mut Vec<u8>) -> Result<bool, AllocError>
+        ensures obeys { (network : Network) → Are network self.old →
+            IfOk result (Comes (stands_outcome network network.other.controller) self.new text.old.items text.new.items) }
+        ensures same { self.new ≡ self.old }
+    {
+        if !self.other.is_started() {
+            return Ok(false);
+        }
+        self.other.show_diagnoses(text)?;
+        Ok(true)
     }
 
     /// Hands an event of its application to the controller. Returns whether there is a controller.
