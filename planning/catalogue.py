@@ -132,16 +132,6 @@ class Choice:
             raise WrongWords(f"address {self.address}, mask {self.mask} and gateway {self.gateway} are no IP suite of a station")
         if not is_host(self.controller_address):
             raise WrongWords(f"--controller-address {self.controller_address} is no address of a host")
-        for word, given in (("--address", self.address), ("--controller-address", self.controller_address)):
-            self.judge_subnet(word, int(ipaddress.IPv4Address(given)), mask)
-
-    def judge_subnet(self, word, given, mask):
-        """An address of the subnet is one of a host there, not that of all of its hosts or of the subnet itself."""
-        hosts = mask ^ 0xFFFFFFFF
-        is_inside = given & mask == int(ipaddress.IPv4Address(self.address)) & mask
-        if self.address != "0.0.0.0" and hosts > 1 and is_inside and given & hosts in (0, hosts):
-            which = "the broadcast address" if given & hosts else "the address"
-            raise WrongWords(f"{word} {ipaddress.IPv4Address(given)} is {which} of its subnet, with the mask {self.mask}")
 
 
 def is_host(text):
@@ -157,8 +147,7 @@ def address(word, value):
 
 
 def mac(word, value):
-    is_made = re.fullmatch(r"[0-9A-Fa-f]{2}([:-])[0-9A-Fa-f]{2}(\1[0-9A-Fa-f]{2}){4}", value)
-    if not is_made or int(value[:2], 16) % 2 or not value.strip("0:-"):
+    if not re.fullmatch(r"[0-9A-Fa-f]{2}([:-])[0-9A-Fa-f]{2}(\1[0-9A-Fa-f]{2}){4}", value) or int(value[:2], 16) % 2:
         raise WrongWords(f"{word} is the MAC address of one station, as 02-00-00-00-00-02, and '{value}' is not")
     return value.replace(":", "-")
 

@@ -15,22 +15,6 @@ VIRTUAL, PORT = "VirtualSubmoduleItem", "PortSubmoduleItem"
 PLUGGABLE = ("SubmoduleItem", PORT)
 
 
-MOST_MEANT = 5
-
-
-def meant(wanted, known):
-    """Which of the known words may be meant by another one: the nearest, whether in capitals or not, and those that are as near."""
-    lower = wanted.lower()
-    near = {word: difflib.SequenceMatcher(None, word.lower(), lower).ratio() for word in known}
-    best = max(near.values(), default=0.0)
-    words = [shown(word) for word, ratio in near.items() if ratio == best and ratio >= 0.6]
-    if not words:
-        return ""
-    if len(words) > MOST_MEANT:
-        return f"; {', '.join(words[:MOST_MEANT])} or {len(words) - MOST_MEANT} others are meant?"
-    return f"; {' or '.join(part for part in (', '.join(words[:-1]), words[-1]) if part)} is meant?"
-
-
 class Record:
     """A parameter record: its index, the place in the order of writing, and its octets by default."""
 
@@ -201,13 +185,6 @@ class AccessPoint(Item):
         if "Legacy" not in modes.split(";"):
             raise Refused(relations.line, f"its StartupMode is {shown(modes)}, and the controller starts up as Legacy alone")
 
-    def limits(self):
-        """The element that says how long the frames of the device may be, and its numbers by name."""
-        element = self.element.first("IOConfigData")
-        if element is None:
-            return self.element, {}
-        return element, {name: number(element, name, 0, 65_535) for name in ("MaxInputLength", "MaxOutputLength", "MaxDataLength") if name in element.attributes}
-
     def clocks(self):
         """The element that says the send clocks and reduction ratios, and both lists."""
         for path in ("SystemDefinedSubmoduleList/InterfaceSubmoduleItem/ApplicationRelations/TimingProperties", "ApplicationRelations/TimingProperties"):
@@ -283,5 +260,6 @@ class File:
     @staticmethod
     def found(elements, wanted, line, kind):
         if wanted not in elements:
-            raise Refused(line, f"there is no {kind} with the ID {shown(wanted)}{meant(wanted, elements)}")
+            near = difflib.get_close_matches(wanted, elements, 1)
+            raise Refused(line, f"there is no {kind} with the ID {shown(wanted)}" + (f"; {shown(near[0])} is meant?" if near else ""))
         return elements[wanted]

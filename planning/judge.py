@@ -27,9 +27,9 @@ MOST_DATA, MOST_BLOCKS = 1_440, 1_372
 class Fault(Exception):
     """A fault: its number, and the steps to the key, the last one first."""
 
-    def __init__(self, number, *place, where="", text=None):
+    def __init__(self, number, *place, where=""):
         super().__init__(number)
-        self.number, self.steps, self.where, self.text = number, list(place), where, text or WORDS[number]
+        self.number, self.steps, self.where = number, list(place), where
 
     def further(self, step):
         self.steps.append(step)
@@ -42,7 +42,7 @@ class Fault(Exception):
     def said(self):
         """The fault in words, with its place."""
         place = self.place()
-        return (f"at {place}: " if place else "") + self.text + (f" ({self.where})" if self.where else "")
+        return (f"at {place}: " if place else "") + WORDS[self.number] + (f" ({self.where})" if self.where else "")
 
 
 class NoWhole:
@@ -198,35 +198,27 @@ def module(before, tree):
     return {"id": name, "submodules": list_at(tree, "VirtualSubmoduleItem", submodule)}
 
 
-def shown(text):
-    """A text of the catalogue on one line, not too long."""
-    text = "".join(letter if letter.isprintable() else "?" for letter in text)
-    return text if len(text) <= 80 else f"{text[:77]}..."
-
-
-def record(target, submodules, tree):
+def record(submodules, tree):
     subslot = number_at(tree, "Subslot", 1, 36_863)
-    if submodules is None:
-        raise Fault(NUMBER, "Subslot", text=f"there is no ModuleItem with the ID '{shown(target)}', which ModuleItemTarget names")
     parameters = next((part["parameters"] for part in submodules if part["subslot"] == subslot), None)
     if parameters is None:
-        raise Fault(NUMBER, "Subslot", text=f"'{shown(target)}' has no submodule in subslot {subslot}")
+        raise Fault(NUMBER, "Subslot")
     index = number_at(tree, "Index", 0, 32_767)
     length = dict(parameters).get(index)
     if length is None:
-        raise Fault(NUMBER, "Index", text=f"subslot {subslot} of '{shown(target)}' has no record with the index {index} (ParameterRecordDataItem)")
+        raise Fault(NUMBER, "Index")
     data = text_at(tree, "Data")
     if not re.fullmatch(r"([0-9A-Fa-f]{2})*", data):
         raise Fault(KIND, "Data")
     if len(data) != 2 * length:
-        raise Fault(NUMBER, "Data", text=f"the record has {length} octets, and Data has {len(data) // 2}")
+        raise Fault(NUMBER, "Data")
 
 
 def slot(modules, tree):
     place = at("Slot", whole, member(tree, "Slot"))
     target = text_at(tree, "ModuleItemTarget")
-    submodules = next((item["submodules"] for item in modules if item["id"] == target), None)
-    records = list_at(tree, "Records", lambda _, entry: record(target, submodules, entry))
+    submodules = next((item["submodules"] for item in modules if item["id"] == target), [])
+    records = list_at(tree, "Records", lambda _, entry: record(submodules, entry))
     return {"slot": place, "target": target, "records": len(records)}
 
 
@@ -289,13 +281,8 @@ def judge_addresses(texts):
     controller, address = texts["Controller"], octets_in(texts["Controller"]["IPAddress"])
     is_mac = re.fullmatch(r"[0-9A-Fa-f]{2}(-[0-9A-Fa-f]{2}){5}", controller["MAC"]) and int(controller["MAC"][:2], 16) % 2 == 0
     suite = (octets_in(texts[key]) for key in ("IPAddress", "SubnetMask", "Gateway"))
-    if not is_suite(*suite):
-        raise Fault(ADDRESS, where=f"Project: IPAddress '{shown(texts['IPAddress'])}', SubnetMask '{shown(texts['SubnetMask'])}' and Gateway "
-                    f"'{shown(texts['Gateway'])}' are no IP suite of a station")
-    if not is_mac:
-        raise Fault(ADDRESS, where=f"Project.Controller: MAC '{shown(controller['MAC'])}' is not that of one station, as 02-00-00-00-00-02")
-    if address is None or not is_host(address):
-        raise Fault(ADDRESS, where=f"Project.Controller: IPAddress '{shown(controller['IPAddress'])}' is not that of a host")
+    if not is_suite(*suite) or not is_mac or address is None or not is_host(address):
+        raise Fault(ADDRESS)
 
 
 class Station:
@@ -305,19 +292,10 @@ class Station:
         self.point, self.slots = point, slots
         self.modules = {item["id"]: item["submodules"] for item in modules}
 
-    def why_not(self, place, target):
-        """Why a module may not be in a slot, or nothing if it may."""
+    def may_stand(self, place, target):
         takes = any(target == item["target"] and place in item["allowed"] + item["fixed"] for item in self.point["references"])
-        other = next((item["target"] for item in self.point["references"] if target != item["target"] and place in item["fixed"]), None)
-        if target not in self.modules:
-            return f"slot {place}: there is no ModuleItem with the ID '{shown(target)}'"
-        if place == 0:
-            return "slot 0 is that of the access point"
-        if place not in self.point["physical"]:
-            return f"slot {place} is not one of PhysicalSlots"
-        if other is not None:
-            return f"slot {place} has '{shown(other)}' fixed in it (FixedInSlots), and not '{shown(target)}'"
-        return "" if takes else f"slot {place} is none of AllowedInSlots and FixedInSlots of '{shown(target)}'"
+        has_other = any(target != item["target"] and place in item["fixed"] for item in self.point["references"])
+        return place != 0 and place in self.point["physical"] and target in self.modules and takes and not has_other
 
     def used(self):
         """Each slot that is used with its module: those that modules are put into, and those that they are fixed in."""
@@ -333,10 +311,8 @@ class Station:
     def judge(self):
         put, fixed = self.used()
         places = [place for place, _ in put]
-        reason = next((reason for one in put + fixed if (reason := self.why_not(*one))), "")
-        twice = next((place for index, place in enumerate(places) if place in places[:index]), None)
-        if reason or twice is not None:
-            raise Fault(ALLOWED, where=reason or f"slot {twice} is in Slots twice")
+        if not all(self.may_stand(*one) for one in put + fixed) or len(set(places)) < len(places):
+            raise Fault(ALLOWED)
         plugged = self.plugged()
         is_large = any(len(parts) > MOST_SUBMODULES or any(len(part["parameters"]) > MOST_PARAMETERS for part in parts) for parts in plugged.values())
         if any(place > LAST_SLOT for place, _ in put + fixed) or is_large or sum(entry["records"] for entry in self.slots) > MOST_RECORDS:

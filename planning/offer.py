@@ -38,10 +38,7 @@ def record_line(record):
     said = f"record {record.index}, {counted(record.length)}"
     if record.length > MOST_OCTETS:
         return f"{said}: not for a catalogue, line {record.line}: it has more than {MOST_OCTETS} octets"
-    try:
-        return f"{said}, by default {record.data().hex()}"
-    except Refused as fault:
-        return f"{said}: not for a catalogue, line {fault.line}: {fault.what}"
+    return f"{said}, by default {record.data().hex()}"
 
 
 def item_lines(file, item, margin):

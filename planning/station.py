@@ -150,14 +150,6 @@ class Station:
                 if connect > MOST_CONNECT:
                     raise Refused(part.line, f"with it the blocks of the Connect have {connect:,} octets, and {MOST_CONNECT:,} is the most")
         self.frames, self.connect = frames, connect
-        self.judge_limits()
-
-    def judge_limits(self):
-        """What the device says of its frames. Our reading of these lengths: data, IOPS and IOCS, as they are in a frame."""
-        element, limits = self.point.limits()
-        for name, length in (("MaxInputLength", self.frames["Input"]), ("MaxOutputLength", self.frames["Output"]), ("MaxDataLength", sum(self.frames.values()))):
-            if name in limits and length > limits[name]:
-                raise Refused(element.line, f"{name} is {limits[name]:,}, and what is plugged has {length:,} octets with IOPS and IOCS")
 
     def records_of(self, slot):
         """The records of a slot that are not left out: subslot, record and octets, in the order in which they are written."""
@@ -176,13 +168,7 @@ class Station:
         given = self.choice.records.get((slot, subslot, record.index))
         if given is not None and len(given) != record.length:
             raise Refused(record.line, f"the record has {record.length} octets, and {len(given)} were given")
-        if given is not None:
-            return given
-        try:
-            return record.data()
-        except Refused as fault:
-            way = f"--without {slot}:{subslot}:{record.index}"
-            raise Refused(fault.line, f"{fault.what}; {way} leaves the record out, --record {way[10:]}=HEX gives its octets") from None
+        return record.data() if given is None else given
 
     def way_out(self, slot, subslot, record):
         """The option that leaves a record out, and those that leave out all records that a catalogue cannot hold."""
@@ -214,12 +200,9 @@ class Station:
                     raise Refused(record.line, f"it is a record of the access point, and a catalogue writes none in slot 0; {self.way_out(slot, subslot, record)}")
                 if total > MOST_ALL_RECORDS:
                     raise Refused(record.line, f"it is one record more than the {MOST_ALL_RECORDS} of a catalogue; {self.way_out(slot, subslot, record)}")
-        there = {(slot, subslot, record.index) for slot, parts in self.parts.items() for subslot, part in parts for record in part.records()}
-        for place in sorted(set(self.choice.records) | self.choice.without - there):
-            if place not in there:
-                raise Refused(self.point.line, "no record {2} is in slot {0}, subslot {1}".format(*place))
-            if place in self.choice.without:
-                raise Refused(self.point.line, "record {2} of slot {0}, subslot {1} is left out, and cannot be given octets too".format(*place))
+        there = {(slot, subslot, record.index) for slot, records in self.records.items() for subslot, record, _ in records}
+        for place in sorted(set(self.choice.records) - there):
+            raise Refused(self.point.line, "no record {2} is in slot {0}, subslot {1}".format(*place))
 
     def judge_interval(self):
         """The send clock and the reduction ratio, chosen of those that the device offers."""

@@ -56,7 +56,7 @@ void access_read(struct relation *relation, char *words[])
     if (read_place(words + 1, &wanted))
         ask(relation, &wanted, NULL, 0);
     else
-        lines_answer(&relation->loop->lines, "wrong: read SLOT SUBSLOT INDEX, each from 0 to 65535; INDEX may be 0x and hex digits");
+        lines_answer(&relation->loop->lines, "wrong: read SLOT SUBSLOT INDEX");
 }
 
 void access_write(struct relation *relation, char *words[])
@@ -67,8 +67,7 @@ void access_write(struct relation *relation, char *words[])
     if (read_place(words + 1, &wanted) && length >= 0)
         ask(relation, &wanted, octets, (size_t)length);
     else
-        lines_answer(&relation->loop->lines, "wrong: write SLOT SUBSLOT INDEX HEX, each number from 0 to 65535, at most %d octets, - for none",
-                     RECORD_LONGEST);
+        lines_answer(&relation->loop->lines, "wrong: write SLOT SUBSLOT INDEX HEX, at most %d octets, - for none", RECORD_LONGEST);
 }
 
 /* Reports an answer: its octets, or why the request was refused. */

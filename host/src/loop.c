@@ -50,19 +50,10 @@ static void arm(struct loop *loop)
     ticker_arm(&loop->ticker, due < look ? due : look);
 }
 
-/* What is to be done about a link that is down. */
-static void tell_down(struct loop *loop)
-{
-    if (loop->wire.is_enabled)
-        lines_tell(&loop->lines, "link down (%s has no carrier: no cable, or the other end is off)", loop->wire.name);
-    else
-        lines_tell(&loop->lines, "link down (`ip link set %s up`)", loop->wire.name);
-}
-
 void loop_tell_link(struct loop *loop)
 {
     if (!loop->wire.is_up)
-        tell_down(loop);
+        lines_tell(&loop->lines, "link down (`ip link set %s up`)", loop->wire.name);
 }
 
 static void take_time(struct loop *loop)
@@ -179,10 +170,8 @@ static void look_around(struct loop *loop)
         return;
     loop->next_look = ticker_now() + loop->events->look_each;
     change = wire_look(&loop->wire);
-    if (change > 0)
-        lines_tell(&loop->lines, "link up");
-    else if (change < 0)
-        tell_down(loop);
+    if (change != 0)
+        lines_tell(&loop->lines, change > 0 ? "link up" : "link down");
     look_at_stalls(loop);
     if (loop->events->look_around != NULL)
         loop->events->look_around(loop->context);
@@ -227,7 +216,7 @@ void loop_tell_time(struct loop *loop, lines_writer tell)
 
 void loop_tell_intervals(struct loop *loop, const struct histogram *intervals, lines_writer tell)
 {
-    tell(&loop->lines, "interval count %" PRIu64 " p50 %" PRIu64 " p99 %" PRIu64 " max %" PRIu64 " us", intervals->total, histogram_within(intervals, 500),
+    tell(&loop->lines, "interval count %" PRIu64 " p50 %u p99 %u max %" PRIu64 " us", intervals->total, histogram_within(intervals, 500),
          histogram_within(intervals, 990), (intervals->most + 500) / 1000);
 }
 

@@ -42,7 +42,6 @@ static int transmit(void *context, const uint8_t *octets, uint32_t length)
         relation->has_device = 1;
     } else {
         waiting_sent(&relation->waiting, octets, length);
-        duplicate_sent(&relation->duplicate, &relation->loop->wire, octets, length);
     }
     return wire_send(&relation->loop->wire, octets, length);
 }
@@ -154,7 +153,6 @@ void relation_introduce(struct relation *relation)
 void relation_begin(struct relation *relation)
 {
     waiting_start(&relation->waiting, &relation->plan);
-    duplicate_start(&relation->duplicate, &relation->plan);
     send_all(relation);
     look_ahead(relation);
     for (unsigned i = 0; i < relation->outputs.count; i++)
@@ -225,7 +223,7 @@ static void tell_end(struct relation *relation)
 void relation_status(const struct relation *relation, char *text, size_t size)
 {
     const struct histogram *intervals = &relation->intervals;
-    snprintf(text, size, "%s %.*s | %" PRIu64 " frames | interval %" PRIu64 " us, p99 %" PRIu64 ", max %" PRIu64 " | jitter p99 %" PRIu64 " us | lost %" PRIu64,
+    snprintf(text, size, "%s %.*s | %" PRIu64 " frames | interval %u us, p99 %u, max %" PRIu64 " | jitter p99 %u us | lost %" PRIu64,
              states[relation->state], (int)relation->plan.name_length, (const char *)relation->plan.name, relation->cyclic,
              histogram_within(intervals, 500), histogram_within(intervals, 990), (intervals->most + 500) / 1000,
              histogram_within(&relation->jitter, 990), relation->lost);
@@ -359,7 +357,6 @@ void relation_serve(struct relation *relation, const uint8_t *octets, size_t len
 void relation_hear_arp(struct relation *relation, const uint8_t *octets, size_t length)
 {
     waiting_hear(&relation->waiting, octets, length);
-    duplicate_hear(&relation->duplicate, octets, length);
 }
 
 int relation_needs_time(const struct relation *relation)
@@ -414,17 +411,8 @@ static void tell_differences(struct relation *relation)
     differences->count = 0;
 }
 
-/* Reports another station that uses the address of the station. */
-static void tell_duplicate(struct relation *relation)
-{
-    char text[448];
-    if (duplicate_line(&relation->duplicate, text, sizeof text))
-        lines_tell(&relation->loop->lines, "%s", text);
-}
-
 void relation_tell_state(struct relation *relation)
 {
-    tell_duplicate(relation);
     if (relation->state != PN_ENDED) {
         look_at_refused(relation);
         lines_tell(&relation->loop->lines, "state %s", states[relation->state]);
@@ -443,8 +431,6 @@ void relation_tell_waiting(struct relation *relation)
 {
     char text[448];
     access_tell_waiting(relation);
-    duplicate_ask(&relation->duplicate, &relation->loop->wire);
-    tell_duplicate(relation);
     waiting_ask(&relation->waiting, &relation->loop->wire);
     if (waiting_line(&relation->waiting, &relation->loop->wire, text, sizeof text))
         lines_tell(&relation->loop->lines, "%s", text);
@@ -508,7 +494,7 @@ void relation_tell_cyclic(struct relation *relation, lines_writer tell)
 void relation_tell_times(struct relation *relation, lines_writer tell)
 {
     loop_tell_intervals(relation->loop, &relation->intervals, tell);
-    tell(&relation->loop->lines, "jitter p50 %" PRIu64 " p99 %" PRIu64 " max %" PRIu64 " us", histogram_within(&relation->jitter, 500),
+    tell(&relation->loop->lines, "jitter p50 %u p99 %u max %" PRIu64 " us", histogram_within(&relation->jitter, 500),
          histogram_within(&relation->jitter, 990), (relation->jitter.most + 500) / 1000);
 }
 

@@ -3,7 +3,6 @@
 #define HOST_RELATION_H
 
 #include "access.h"
-#include "duplicate.h"
 #include "histogram.h"
 #include "loop.h"
 #include "naming.h"
@@ -20,7 +19,6 @@ struct relation {
     uint64_t units;  /* of the loop's time that were handed in */
     uint64_t due_at; /* the unit of the loop's time with which something is due; the highest number for none */
     struct waiting waiting;
-    struct duplicate duplicate;
     /* The rest. */
     pn_controller room;
     pn_op op;
@@ -77,7 +75,7 @@ void relation_take(struct relation *relation, const uint8_t *octets, size_t leng
 /* Hands in a frame of ARP or ICMP, and sends the answer, at the relation that answers for the address. */
 void relation_serve(struct relation *relation, const uint8_t *octets, size_t length);
 
-/* Reads a packet of ARP whose sender has the address of the plan's station, for the lines `waiting` and for a report of another station. */
+/* Reads a packet of ARP from the station of the plan, for the lines `waiting`. */
 void relation_hear_arp(struct relation *relation, const uint8_t *octets, size_t length);
 
 /* Whether it gets time: its controller is not over, or it answers for the address. */

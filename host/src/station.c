@@ -57,25 +57,6 @@ static const char *fault_words(uint32_t fault)
     return fault < sizeof words / sizeof words[0] && words[fault] != NULL ? words[fault] : "it gives no plan";
 }
 
-static int ends_with(const char *text, const char *end)
-{
-    size_t length = strlen(text), size = strlen(end);
-    return length >= size && strcmp(text + length - size, end) == 0;
-}
-
-/* What is wrong with the number at a key, where the key says it. */
-static const char *number_words(uint32_t fault, const char *where)
-{
-    int is_record = strstr(where, "].Records[") != NULL;
-    if (fault == PN_PLAN_NUMBER && is_record && ends_with(where, ".Data"))
-        return "Data has another length than the record (Length of its ParameterRecordDataItem)";
-    if (fault == PN_PLAN_NUMBER && is_record && ends_with(where, ".Subslot"))
-        return "the module has no such subslot, or there is no ModuleItem with the ID that ModuleItemTarget names";
-    if (fault == PN_PLAN_NUMBER && is_record && ends_with(where, ".Index"))
-        return "the submodule has no record with this Index (ParameterRecordDataItem)";
-    return fault_words(fault);
-}
-
 void station_plan(pn_plan *plan, const char *path)
 {
     char where[256];
@@ -83,7 +64,7 @@ void station_plan(pn_plan *plan, const char *path)
     uint8_t *text = read_whole(path, &length);
     uint32_t fault = pn_plan_read(plan, text, length);
     if (fault != PN_OK && pn_plan_where(text, length, where, sizeof where) != 0)
-        fail(STATUS_DATA, "'%s': fault %u at %s: %s", path, (unsigned)(fault - PN_PLAN_FAULT), where, number_words(fault, where));
+        fail(STATUS_DATA, "'%s': fault %u at %s: %s", path, (unsigned)(fault - PN_PLAN_FAULT), where, fault_words(fault));
     if (fault != PN_OK)
         fail(STATUS_DATA, "'%s': fault %u: %s", path, (unsigned)(fault - PN_PLAN_FAULT), fault_words(fault));
     free(text);

@@ -225,8 +225,7 @@ int wire_look(struct wire *wire)
     int was_up = wire->is_up;
     if (ask(wire, SIOCGIFFLAGS, &request) != 0 || (int)if_nametoindex(wire->name) != wire->index)
         fail(STATUS_NO_INPUT, "the interface '%s' is gone", wire->name);
-    wire->is_enabled = (request.ifr_flags & IFF_UP) != 0;
-    wire->is_up = wire->is_enabled && has_carrier(wire);
+    wire->is_up = (request.ifr_flags & IFF_UP) != 0 && has_carrier(wire);
     return wire->is_up - was_up;
 }
 

@@ -14,8 +14,7 @@ struct wire {
     int index;
     char name[IF_NAMESIZE];
     uint8_t hardware[6]; /* the MAC address of the interface */
-    int is_enabled; /* the interface itself: `ip link set .. up` */
-    int is_up;      /* with a carrier */
+    int is_up;
     uint64_t received;
     uint64_t sent;
     uint64_t not_sent;

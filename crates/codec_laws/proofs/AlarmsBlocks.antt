@@ -10,7 +10,7 @@ use Rattle.block_codec.specs.declared.block.Block.TheVariants as is
 use Rattle.block_codec.specs.Block.{block_bytes, block_of, block_size, fields_of, front}
 use Rattle.codec_laws.specs.blocks.Writable.{CanBeWritten, IsAck, IsAlarm}
 use Rattle.pn_alarms.specs.Carried.{ack_of}
-use Rattle.pn_alarms.specs.Report.{block_priority, front as report_front, front_of, ours, payload, report, report_fields, report_of}
+use Rattle.alarm_reports.specs.Report.{block_priority, front as report_front, front_of, ours, payload, report, report_fields, report_of}
 
 -- a block that can be written is read back, and has as many octets as its format says
 abbrev pub BlocksAreRead : Type 0

@@ -10,13 +10,14 @@ use Rattle.pn_alarms.specs.declared.message.Notice.TheVariants as notice
 use Rattle.pn_alarms.specs.declared.pdu.Header.{Header}
 use Rattle.pn_alarms.specs.declared.pdu.PduType.{PduType}
 use Rattle.pn_alarms.specs.declared.pdu.PduType.TheVariants as pdu
-use Rattle.pn_alarms.specs.Abort.{abort_of}
+use Rattle.pn_alarms.specs.Abort.{abort_of, status_of}
 use Rattle.pn_alarms.specs.Carried.{ack_of, alarm_pdu}
 use Rattle.std.proofs.lemmas.Bool.{le-leb}
 use Rattle.wire.specs.Codec.{◌>>=◌}
 use Rattle.pn_alarms.specs.Format.{Said, flags_of, header, is_long, kind, pdu_bytes, pdu_of}
-use Rattle.pn_alarms.specs.Message.{alarm_of, message_of, notice_in, notice_of}
-use Rattle.pn_alarms.specs.Report.{ours, report_of}
+use Rattle.pn_alarms.specs.Message.{message_of, notice_in, notice_of}
+use Rattle.alarm_reports.specs.Message.{alarm_of}
+use Rattle.alarm_reports.specs.Report.{ours, report_of}
 use Rattle.codec_laws.specs.blocks.Writable.{IsAck, IsAlarm}
 use Rattle.codec_laws.specs.alarms.Sendable.{CanBeSaid, IsHeader, ack_pdu, empty_pdu}
 use Rattle.codec_laws.proofs.AlarmsBlocks.{BlocksAreLong, BlocksAreRead, OursIsRead, ack_long, ack_read, alarm_long, alarm_read}
@@ -93,6 +94,6 @@ nack_replied fitting block value more same is = says fitting block (empty_pdu va
 
 pub end_said : {B : Type 0} (fitting : FittingIsRead) (block : List ℕ → Result B AlarmFault) (reason : Abort) (destination source send_number ack_number : ℕ) (more : List ℕ)
     → IsHeader (abort_of reason destination source send_number ack_number).header
-    → notice_of block (pdu_bytes (abort_of reason destination source send_number ack_number) ++ more) ≡ Ok ((abort_of reason destination source send_number ack_number).header, notice.Abort)
+    → notice_of block (pdu_bytes (abort_of reason destination source send_number ack_number) ++ more) ≡ Ok ((abort_of reason destination source send_number ack_number).header, notice.Abort (status_of reason))
 end_said fitting block reason destination source send_number ack_number more is =
-    says fitting block (abort_of reason destination source send_number ack_number) more pdu.Error notice.Abort (record { header = is; long = refl; few = omega arith }) refl refl
+    says fitting block (abort_of reason destination source send_number ack_number) more pdu.Error (notice.Abort (status_of reason)) (record { header = is; long = refl; few = omega arith }) refl refl

@@ -8,9 +8,9 @@ use Rattle.controller_core.specs.Cause.{number_of}
 use Rattle.cyclic_exchange.specs.Process.{value_at}
 use Rattle.cyclic_exchange.specs.declared.exchange.ProviderStatus.{ProviderStatus}
 use Rattle.rpc_core.specs.declared.response.Status.{Status}
-use Rattle.pn_alarms.specs.declared.priority.Priority.{Priority}
-use Rattle.pn_alarms.specs.declared.priority.Priority.TheVariants.{High, Low}
-use Rattle.pn_alarms.specs.declared.report.Report.{Report}
+use Rattle.alarm_reports.specs.declared.priority.Priority.{Priority}
+use Rattle.alarm_reports.specs.declared.priority.Priority.TheVariants.{High, Low}
+use Rattle.alarm_reports.specs.declared.report.Report.{Report}
 use Rattle.controller_core.specs.Access.{record_of}
 use Rattle.controller_core.specs.Machine.{can_request, end_of, provider_of, report_in}
 use Rattle.controller_core.specs.declared.access.Answer.{Answer}

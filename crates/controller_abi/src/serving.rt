@@ -14,11 +14,11 @@ ghost use Rattle.controller_abi.specs.Serves.{status_number as status_number_in,
 
 use crate::operation::{Operation, operation_of};
 use crate::port::Port;
+use alarm_reports::{Priority, Report};
 use block_codec::AlarmNotification;
 use c_layout::{BAD_LENGTH, HAS_WORK, NO_FRAME, NO_SLOT, Op, UNKNOWN, place_of, put};
 use controller_core::{Event, ProviderStatus, State};
 use frame_codec::Bytes;
-use pn_alarms::{Priority, Report};
 use rpc_core::Status;
 use wire::at_most;
 

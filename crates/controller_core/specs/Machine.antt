@@ -22,16 +22,16 @@ use Rattle.pn_alarms.specs.declared.abort.Abort.{Abort}
 use Rattle.pn_alarms.specs.declared.abort.Abort.TheVariants as reason
 use Rattle.pn_alarms.specs.declared.message.Notice.TheVariants as notice
 use Rattle.pn_alarms.specs.declared.pdu.Header.{Header}
-use Rattle.pn_alarms.specs.declared.priority.Priority.{Priority}
-use Rattle.pn_alarms.specs.declared.priority.Priority.TheVariants.{High, Low}
+use Rattle.alarm_reports.specs.declared.priority.Priority.{Priority}
+use Rattle.alarm_reports.specs.declared.priority.Priority.TheVariants.{High, Low}
 use Rattle.pn_alarms.specs.declared.repeats.Due.{Due}
-use Rattle.pn_alarms.specs.declared.report.Report.{Report}
+use Rattle.alarm_reports.specs.declared.report.Report.{Report}
 use Rattle.pn_alarms.specs.declared.pdu.PduType.{PduType}
 use Rattle.pn_alarms.specs.declared.pdu.PduType.TheVariants as pdu
 use Rattle.pn_alarms.specs.declared.receiver.Taken.{Taken}
 use Rattle.pn_alarms.specs.declared.receiver.Taken.TheVariants.{New, Again, Refused}
 use Rattle.pn_alarms.specs.Controller.{confirmed, controller_later, unheard, with_ack, with_data}
-use Rattle.pn_alarms.specs.Message.{ToController}
+use Rattle.alarm_reports.specs.Message.{ToController}
 use Rattle.pn_alarms.specs.Receiver.{taken_as}
 use Rattle.pn_alarms.specs.Ends.{ControllerEnd}
 use Rattle.pn_alarms.specs.Sending.{due, either_due}
@@ -347,7 +347,7 @@ noticed live under (notice.Data number report) =
     taken (behind_data live report.priority number) report (taken_as (end_of live report.priority).seen number)
 noticed live under (notice.Ack number) = stays (behind_ack live (acked_under live under) number)
 noticed live under notice.Nack = stays live
-noticed live under notice.Abort = stays (over cause.Aborted live)
+noticed live under (notice.Abort status) = stays (over cause.Aborted live)
 
 -- An alarm frame counts if it belongs to the relation, while that is established.
 abbrev pub alarmed : Live → Mac → Priority → Header → ToController → Turn

@@ -11,12 +11,13 @@ ghost use Rattle.frame_codec.specs.Outbox.{boxed};
 
 use crate::kept::{KeptAlarm, ack_of};
 use crate::{Cause, Controller, State};
+use alarm_reports::{Priority, Report};
 use block_codec::AlarmAck;
 use controller_frames::{send_alarm_ack, send_alarm_reply};
 use cyclic_exchange::Route;
 use frame_codec::Outbox;
 use plans::ALARM_REFERENCE;
-use pn_alarms::{ControllerAlarms, Header, Notice, PduType, Priority, Report, Taken};
+use pn_alarms::{ControllerAlarms, Header, Notice, PduType, Taken};
 use pn_values::Mac;
 
 /// Whether an alarm frame of this station, with these endpoints, belongs to the relation.
@@ -187,7 +188,7 @@ impl Controller {
             // The AlarmAck is sent again after its interval anyway, and a NACK only says that its number was not
             // expected.
             Notice::Nack => {}
-            Notice::Abort => self.end(Cause::Aborted),
+            Notice::Abort(_) => self.end(Cause::Aborted),
         }
     }
 

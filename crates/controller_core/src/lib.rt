@@ -23,11 +23,11 @@ mod usable;
 
 pub use access::Answer;
 pub use alarm_relation::{AlarmRelation, put_alarm_relation};
+pub use alarm_reports::{Priority, Report};
 pub use controller::Controller;
 pub use controller_frames::{MOST_RECORD_OCTETS, RecordRequest, RecordService};
 pub use cyclic_exchange::ProviderStatus;
 pub use event::Event;
 pub use law::blocks_are_found;
 pub use leaps::leaps_are_ticks;
-pub use pn_alarms::{Priority, Report};
 pub use state::{Cause, RefusedRecord, State};

@@ -30,6 +30,7 @@ use crate::connect::{Found, found_in};
 use crate::controller::route_of;
 use crate::outputs::{awaits, change, iops_in};
 use crate::{Cause, Controller, Event, RefusedRecord, State};
+use alarm_reports::{Priority, Report};
 use block_codec::ControlBlock;
 use controller_frames::{
     Hearing, MOST_RECORD_OCTETS, RecordRequest, RecordService, Refusal, Request, heard,
@@ -40,7 +41,7 @@ use cyclic_data::Provider;
 use cyclic_exchange::Tick;
 use frame_codec::{Bytes, Caller, Outbox, is_cyclic};
 use plans::SESSION_KEY;
-use pn_alarms::{Abort, Due, Header, Notice, PduType, Priority, Report};
+use pn_alarms::{Abort, Due, Header, Notice, PduType};
 use pn_values::Mac;
 use rpc_core::{Call, Response, Status};
 

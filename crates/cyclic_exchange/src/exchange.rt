@@ -3,7 +3,7 @@ ghost use Rattle.std.specs.Prelude.{◌≡◌, ◌≤◌, ◌++◌, IfSome, [], 
 ghost use Rattle.arrayvec.specs.ArrayVec.{array_vec_len};
 ghost use Rattle.cyclic_exchange.specs.Frames.{cyclic_body};
 ghost use Rattle.cyclic_exchange.specs.Opening.{begun_of, ended_of, opened, related};
-ghost use Rattle.cyclic_exchange.specs.Process.{given_at, provided_at, provider_at, stated_at, value_at};
+ghost use Rattle.cyclic_exchange.specs.Process.{given_at, provided_at, provider_at, stated_at, taken_tail, value_at};
 
 use crate::opening::fill;
 use crate::{Route, Statuses};
@@ -177,6 +177,31 @@ impl CyclicExchange {
         ensures short { IfSome result (λ value. length value.now ≤ 1440) }
     {
         self.taken.output(slot, subslot)
+    }
+
+    /// The content of the frames that are sent.
+    pub fn sent(&self) -> &Image
+        ensures { result.now ≡ self.now.shown }
+    {
+        &self.sent
+    }
+
+    /// The content of the last accepted frame: zeros before.
+    pub fn received(&self) -> &ReceivedImage
+        ensures { result.now ≡ self.now.taken }
+    {
+        &self.taken
+    }
+
+    /// The fields after the data of the last accepted frame, whose TransferStatus is 0. Zeros if no frame was accepted yet.
+    pub fn taken_tail(&self) -> CyclicTail
+        ensures { result ≡ taken_tail self.now }
+    {
+        CyclicTail {
+            counter: self.consumer.last().unwrap_or(0),
+            data_status: self.data_status,
+            transfer_status: 0,
+        }
     }
 
     /// What the partner says of the data of a submodule in its last accepted frame, if the submodule has data there.

@@ -1,4 +1,3 @@
-pub mod RecordingAsked
 pub mod RecordingFew
 pub mod RecordingLegal
 pub mod RecordingPlaced

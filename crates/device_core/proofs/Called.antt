@@ -14,12 +14,12 @@ use Rattle.records.specs.declared.status.operation.Operation.{Operation}
 use Rattle.records.specs.declared.status.operation.Operation.TheVariants.{Connect, Release, Read, Write, Control, ReadImplicit}
 use Rattle.records.specs.declared.status.call_fault.CallFault.{CallFault}
 use Rattle.records.specs.status.Operation.{operation_of}
-use Rattle.records.specs.reads.Implicit.{implicit_read}
 use Rattle.record_blocks.specs.declared.write_record.IodWriteReq.{IodWriteReq}
 use Rattle.records.specs.declared.writes.write.Effect.{Effect}
 use Rattle.records.specs.declared.writes.write.Effect.TheVariants.{Stores, Keeps}
-use Rattle.records.specs.declared.writes.write.Write.{Write as Asking}
-use Rattle.records.specs.writes.Handled.{write_of}
+use Rattle.records.specs.declared.writes.writing.Writing.{Writing}
+use Rattle.records.specs.declared.writes.writing.Writing.TheVariants.{One, Each}
+use Rattle.records.specs.writes.Asked.{writing_of}
 use Rattle.pn_alarms.specs.declared.device.PduFate.{PduFate}
 use Rattle.pn_alarms.specs.declared.device.PduFate.TheVariants as fate
 use Rattle.cyclic_exchange.specs.declared.received.Received.{Received}
@@ -31,18 +31,19 @@ use Rattle.relations.specs.Exchanged.{given_to, heard_by, hearing, raised_to, re
 use Rattle.relations.specs.declared.hearing.ReadyAnswer.{ReadyAnswer}
 use Rattle.relations.specs.declared.hearing.ReadyAnswer.TheVariants as to_ready
 use Rattle.relations.specs.RelationState.{RelationState, uuid_of, is_alarm_of, is_preparing, phase_of}
-use Rattle.relation_records.specs.Reading.{relation_read}
+use Rattle.relation_records.specs.Reading.{implicit_read, relation_read}
 use Rattle.relations.specs.Phases.{keeping, updated}
 use Rattle.relations.specs.Calls.{prm_end_answer, release_answer}
 use Rattle.relations.specs.Connect.{connect_answer}
 use Rattle.relations.specs.Ready.{answer_of as ready_answer}
 use Rattle.device_frames.specs.declared.event.Event.{Event}
 use Rattle.frame_codec.specs.declared.udp.Caller.{Caller}
-use Rattle.device_core.specs.State.{Station, Live}
+use Rattle.device_core.specs.State.{Station, Live, alias_in}
 use Rattle.device_frames.specs.Sent.{Sent}
-use Rattle.device_frames.specs.Heard.{Heard, Ticks, Unreadable, Elsewhere, Asks, Resolves, Reported, Cyclic, Alarms, Given, Raised, Rated, Readied, Said, Calls, Responds, Garbled, heard_of}
-use Rattle.device_core.specs.Handled.{Handled, is_running, is_request, answer_from, kept_for, kept_answer, handled_request, handled_effect, handled_write, handled_new, handled_looked, handled_blocks, handled_call, handled_answer, handled_said, handled_pdu, handled_received, handled_input, handled_notice, kept_status, handled}
-use Rattle.device_core.specs.Machine.{items_in, first_answer, written_as, finished, heard_step, handled_step, step_of, first_step, later_steps, run_of}
+use Rattle.device_frames.specs.Heard.{Heard, Ticks, Unreadable, Elsewhere, Asks, Resolves, Reported, Cyclic, Alarms, Given, Raised, Rated, Met, Readied, Said, Calls, Responds, Garbled, heard_of}
+use Rattle.device_core.specs.Handled.{Handled, is_running, is_request, answer_from, kept_for, kept_answer, handled_request, handled_effect, handled_write, handled_new, handled_looked, handled_blocks, handled_call, handled_answer, handled_said, handled_pdu, handled_received, handled_input, handled_notice, kept_status, handled, known_of}
+use Rattle.device_core.specs.Several.{judged_each}
+use Rattle.device_core.specs.Machine.{items_in, first_answer, several_answer, written_as, finished, heard_step, handled_step, step_of, first_step, later_steps, run_of}
 use Rattle.device_core.specs.Steps.{IsBehindCalls}
 
 calls_then : (first later : List Kept) (cache : List Kept) → behind_calls 4 (first ++ later) cache ≡ behind_calls 4 later (behind_calls 4 first cache)
@@ -59,7 +60,7 @@ IsKept station live answers what = IsBehindCalls live.rest.calls (finished stati
 
 request_called : (station : Station) (live : Live) (answers : List BlockError) (asker : Mac) (asked : Service) (request : Asked) → IsKept station live answers (handled_request station live asker asked request)
 request_called station live answers asker service.Identify request =
-    cond_both (matches station.identity live.values.running request) _ _ (IsKept station live answers) (λ _. ([], refl)) (λ _. ([], refl))
+    cond_both (matches station.identity live.values.running (alias_in live.rest.peer) request) _ _ (IsKept station live answers) (λ _. ([], refl)) (λ _. ([], refl))
 request_called station live answers asker service.Get request = ([], refl)
 request_called station live answers asker service.Set request = ([], refl)
 
@@ -79,9 +80,12 @@ effect_called station live answers caller call header (Stores value) is_new =
     kept_called station live call (answer_from live.values.running.suite.address caller call Write (written_as header (first_answer answers))) is_new
 effect_called station live answers caller call header (Keeps parameter) is_new = served_called station live caller call Write (kept_answer header (keeping parameter live.rest.link)) is_new
 
-write_called : (station : Station) (live : Live) (answers : List BlockError) (caller : Caller) (call : Called) (write : Result Asking CallFault)
-    → looked call.header.activity call.header.sequence live.rest.calls ≡ new → IsKept station live answers (handled_write station live caller call write)
-write_called station live answers caller call (Ok write) is_new = effect_called station live answers caller call write.request write.effect is_new
+write_called : (station : Station) (live : Live) (answers : List BlockError) (caller : Caller) (call : Called) (writing : Result Writing CallFault)
+    → looked call.header.activity call.header.sequence live.rest.calls ≡ new → IsKept station live answers (handled_write station live caller call writing)
+write_called station live answers caller call (Ok (One write)) is_new = effect_called station live answers caller call write.request write.effect is_new
+write_called station live answers caller call (Ok (Each header entries)) is_new =
+    let judged = judged_each (uuid_of live.rest.link) station.real entries in
+    kept_called station live call (answer_from live.values.running.suite.address caller call Write (Ok (several_answer header judged answers live.rest.link))) is_new
 write_called station live answers caller call (Err fault) is_new = served_called station live caller call Write (Err fault) is_new
 
 new_called : (station : Station) (live : Live) (answers : List BlockError) (caller : Caller) (call : Called) (blocks : List ℕ) (operation : Operation)
@@ -91,13 +95,13 @@ new_called station live answers caller call blocks Connect is_new =
 new_called station live answers caller call blocks Release is_new =
     served_called station live caller call Release (release_answer live.rest.link blocks) is_new
 new_called station live answers caller call blocks Read is_new =
-    served_called station live caller call Read (relation_read live.rest.link station.identity station.real live.values.running blocks) is_new
+    served_called station live caller call Read (relation_read (known_of station live) station.identity station.real live.values.running blocks) is_new
 new_called station live answers caller call blocks Write is_new =
-    write_called station live answers caller call (write_of (uuid_of live.rest.link) station.real blocks) is_new
+    write_called station live answers caller call (writing_of (uuid_of live.rest.link) station.real blocks) is_new
 new_called station live answers caller call blocks Control is_new =
     served_called station live caller call Control (prm_end_answer live.rest.link blocks) is_new
 new_called station live answers caller call blocks ReadImplicit is_new =
-    served_called station live caller call ReadImplicit (implicit_read station.identity station.real live.values.running blocks) is_new
+    served_called station live caller call ReadImplicit (implicit_read (known_of station live) station.identity station.real live.values.running blocks) is_new
 
 looked_called : (station : Station) (live : Live) (answers : List BlockError) (caller : Caller) (call : Called) (blocks : List ℕ) (operation : Operation) (reported : Looked)
     → looked call.header.activity call.header.sequence live.rest.calls ≡ reported → IsKept station live answers (handled_looked station live caller call blocks operation reported)
@@ -129,7 +133,7 @@ pdu_called : (station : Station) (live : Live) (answers : List BlockError) (came
 pdu_called station live answers (fate.Data taken) link = ([], refl)
 pdu_called station live answers fate.Done link = ([], refl)
 pdu_called station live answers fate.Ignored link = ([], refl)
-pdu_called station live answers fate.Aborted link = ([], refl)
+pdu_called station live answers (fate.Aborted status) link = ([], refl)
 
 received_called : (station : Station) (live : Live) (answers : List BlockError) (came : Received) (link : Option RelationState) → IsKept station live answers (handled_received live came link)
 received_called station live answers received.Foreign link = ([], refl)
@@ -164,6 +168,7 @@ handled_called station live answers (Given slot subslot value) = input_called st
 handled_called station live answers (Raised slot subslot octets) = notice_called station live answers (raised_to station.real.modules.items slot subslot octets live.rest.link)
 handled_called station live answers (Rated slot subslot is_good) =
     status_called station live answers slot subslot is_good (statuses_at station.real.modules.items (record { slot = slot; subslot = subslot; is_good = is_good }) live.rest.statuses)
+handled_called station live answers (Met peer) = ([], refl)
 handled_called station live answers Readied = cond_both (is_preparing (phase_of live.rest.link)) _ _ (IsKept station live answers) (λ _. ([], refl)) (λ _. ([], refl))
 handled_called station live answers Ticks = ([], refl)
 handled_called station live answers Unreadable = ([], refl)

@@ -35,7 +35,7 @@ pdu_asks_nothing : (live : Live) (heard : PduFate) (link : Option RelationState)
 pdu_asks_nothing live (fate.Data taken) link = refl
 pdu_asks_nothing live fate.Done link = refl
 pdu_asks_nothing live fate.Ignored link = refl
-pdu_asks_nothing live fate.Aborted link = refl
+pdu_asks_nothing live (fate.Aborted status) link = refl
 
 pub alarm_asks_nothing : (live : Live) (source : Mac) (header : Header) (message : ToDevice) → is_asking (handled_alarm live source header message) ≡ false
 alarm_asks_nothing live source header message =

@@ -4,6 +4,7 @@ pub mod Handled
 pub mod OfKind
 pub mod Sendable
 pub mod Served
+pub mod Several
 pub mod Placed
 pub mod Steps
 pub mod Called

@@ -8,7 +8,7 @@ use Rattle.records.specs.declared.status.operation.Operation.{Operation}
 use Rattle.record_blocks.specs.declared.write_record.IodWriteReq.{IodWriteReq}
 use Rattle.records.specs.declared.writes.taken.TakenRecord.{TakenRecord}
 use Rattle.records.specs.declared.writes.write.Effect.TheVariants.{Keeps}
-use Rattle.records.specs.declared.writes.write.Write.{Write as Asking}
+use Rattle.records.specs.declared.writes.writing.Writing.{Writing}
 use Rattle.relations.specs.Ready.{answer_of}
 use Rattle.relations.specs.declared.time.Elapsed.{Elapsed}
 use Rattle.relations.specs.Timers.{due_behind, left_behind}
@@ -16,7 +16,7 @@ use Rattle.device_frames.specs.Relation.{due_frames}
 use Rattle.device_frames.specs.Sendable.{AreSendable}
 use Rattle.device_frames.specs.Sent.{Sent, bytes_of}
 use Rattle.device_core.specs.declared.calls.Serving.{Serving}
-use Rattle.device_core.specs.State.{State, with_rest}
+use Rattle.device_core.specs.State.{State, counter_of, with_rest}
 use Rattle.device_core.specs.Handled.{Handled, answer_from, handled_answer, handled_effect, handled_new, handled_write}
 use Rattle.device_core.specs.Machine.{end_of}
 
@@ -35,14 +35,14 @@ CanSend old what = AreSendable old.station.identity (end_of old.station old.live
 -- What is due if no timeout is over: the active alarm, ApplicationReady, inputs.
 abbrev pub due_in : {F : Type 0} → State F → Bool → Bool → Bool → List Sent
 due_in old is_alarm is_ready is_cyclic =
-    due_frames old.live.values.running.suite.address old.live.rest.units
+    due_frames old.live.values.running.suite.address (counter_of old.live.rest.units)
     (record { farewell = None; is_alarm = is_alarm; is_ready = is_ready; is_cyclic = is_cyclic }) old.live.rest.link
 
 -- What is sent after a unit of time that brought this.
 abbrev pub brought : {F : Type 0} → State F → Elapsed → List Sent
 brought old elapsed =
     let link = old.live.rest.link in
-    due_frames old.live.values.running.suite.address old.live.rest.units (due_behind elapsed link) (left_behind elapsed.tick.ending link)
+    due_frames old.live.values.running.suite.address (counter_of old.live.rest.units) (due_behind elapsed link) (left_behind elapsed.tick.ending link)
 
 -- The outcome of a call of this operation.
 abbrev pub called : {F : Type 0} → State F → Serving → Operation → Handled
@@ -53,7 +53,7 @@ abbrev pub call_of : Serving → Call
 call_of serving = asked serving.call.now
 
 -- The outcome of a Write whose blocks were read as this.
-abbrev pub wrote : {F : Type 0} → State F → Serving → Result Asking CallFault → Handled
+abbrev pub wrote : {F : Type 0} → State F → Serving → Result Writing CallFault → Handled
 wrote old serving handled = handled_write old.station old.live serving.caller.now (call_of serving) handled
 
 -- The outcome of a parameter record from a Write with this header.

@@ -9,8 +9,9 @@ ghost use Rattle.pn_alarms.specs.Message.{message_of};
 ghost use Rattle.device_frames.specs.declared.event.Event.TheVariants.{Frame};
 ghost use Rattle.relations.specs.Farewells.{farewell_of};
 ghost use Rattle.relations.specs.RelationState.{RelationState, flow_of};
-ghost use Rattle.relations.specs.Timers.{left_behind};
-ghost use Rattle.device_core.specs.State.{Live, Station, with_rest};
+ghost use Rattle.relations.specs.Timers.{farewell_for, left_behind};
+ghost use Rattle.device_core.specs.Log.{err_log, with_log};
+ghost use Rattle.device_core.specs.State.{Live, Station, counter_of, with_rest};
 ghost use Rattle.device_frames.specs.Sendable.{AreSendable};
 ghost use Rattle.device_frames.specs.Sent.{bytes_of};
 ghost use Rattle.device_core.specs.Handled.{handled_alarm, handled_message, handled_cyclic, handled_given, handled_raised, handled_rated, handled_received};
@@ -104,6 +105,7 @@ impl<F: Flash<S>, const S: usize> Device<F, S> {
                 self.raise(*slot, *subslot, octets.as_slice(), outbox)
             }
             Event::Status(slot, subslot, is_good) => self.rate(*slot, *subslot, *is_good),
+            Event::Neighbour(neighbour) => self.meet(neighbour),
             Event::Ready => self.get_ready(outbox),
             Event::Frame(bytes) => self.hear(bytes.as_slice(), outbox),
         }
@@ -219,6 +221,14 @@ impl<F: Flash<S>, const S: usize> Device<F, S> {
         }
     }
 
+    // CycleCounter.
+    #[inline(always)]
+    fn counter(&self) -> u16
+        ensures { result ≡ counter_of self.now.live.rest.units }
+    {
+        (self.units % 65_536) as u16
+    }
+
     // A unit of time is over: the timers advance. If a timeout ends the relation, nothing more is done.
     pub(crate) fn tick(&mut self, outbox: &mut Outbox) -> Note
         requires empty { outbox.old.items ≡ [] }
@@ -227,7 +237,8 @@ impl<F: Flash<S>, const S: usize> Device<F, S> {
         ensures sendable { CanSend self.old (ticked self.old.live) }
         ensures note { result ≡ Note.Done }
     {
-        // The lamp's time and CycleCounter continue when a relation ends: they belong to the station.
+        // The lamp's time and the units, of which CycleCounter is the end, continue when a relation ends: they belong to the
+        // station.
         self.lamp = self.lamp.saturating_sub(1);
         self.units = self.units.wrapping_add(1);
         let elapsed = self.relation.elapse();
@@ -246,8 +257,8 @@ impl<F: Flash<S>, const S: usize> Device<F, S> {
     #[inline(never)]
     fn bring(&mut self, elapsed: &Elapsed, outbox: &mut Outbox) -> Note
         requires empty { outbox.old.items ≡ [] }
-        ensures state { self.new ≡ with_rest self.old
-            (record self.old.live.rest { link = left_behind elapsed.now.tick.ending self.old.live.rest.link }) }
+        ensures state { self.new ≡ with_rest self.old (with_log (err_log (farewell_for elapsed.now.tick.ending self.old.live.rest.link))
+            (record self.old.live.rest { link = left_behind elapsed.now.tick.ending self.old.live.rest.link })) }
         ensures frames { boxed outbox.new ≡ map (bytes_of self.old.station.identity) (brought self.old elapsed.now) }
         ensures sendable { AreSendable self.old.station.identity (brought self.old elapsed.now) }
         ensures note { result ≡ Note.Done }
@@ -264,18 +275,19 @@ impl<F: Flash<S>, const S: usize> Device<F, S> {
         Note::Done
     }
 
-    // A timeout is over: the relation ends, and its ERR is sent.
+    // A timeout is over: the relation ends, which is logged, and its ERR is sent.
     #[inline(never)]
     fn end(&mut self, reason: Abort, outbox: &mut Outbox)
         requires empty { outbox.old.items ≡ [] }
-        ensures state { self.new ≡ with_rest self.old (record self.old.live.rest { link = None }) }
+        ensures state { self.new ≡ with_rest self.old (with_log (err_log (option_map (farewell_of reason) self.old.live.rest.link))
+            (record self.old.live.rest { link = None })) }
         ensures frames { boxed outbox.new
             ≡ map (bytes_of self.old.station.identity) (farewells_in (option_map (farewell_of reason) self.old.live.rest.link)) }
         ensures sendable { AreSendable self.old.station.identity (farewells_in (option_map (farewell_of reason) self.old.live.rest.link)) }
     {
-        match self.relation.end(reason) {
-            Some(farewell) => send_farewell(&self.identity, &farewell, outbox),
-            None => {}
+        if let Some(farewell) = self.relation.end(reason) {
+            self.log_err(Some(&farewell));
+            send_farewell(&self.identity, &farewell, outbox);
         }
     }
 
@@ -285,8 +297,8 @@ impl<F: Flash<S>, const S: usize> Device<F, S> {
         requires { outbox.old.items ≡ [] }
         ensures note { result ≡ Note.Done }
         ensures frames { boxed outbox.new
-            ≡ map (bytes_of self.now.station.identity) (inputs_of self.now.live.rest.units (flow_of self.now.live.rest.link)) }
-        ensures sendable { AreSendable self.now.station.identity (inputs_of self.now.live.rest.units (flow_of self.now.live.rest.link)) }
+            ≡ map (bytes_of self.now.station.identity) (inputs_of (counter_of self.now.live.rest.units) (flow_of self.now.live.rest.link)) }
+        ensures sendable { AreSendable self.now.station.identity (inputs_of (counter_of self.now.live.rest.units) (flow_of self.now.live.rest.link)) }
     {
         match self.relation.exchange() {
             Some(exchange) => self.send_inputs_of(exchange, outbox),
@@ -300,11 +312,11 @@ impl<F: Flash<S>, const S: usize> Device<F, S> {
     fn send_inputs_of(&self, exchange: &DataExchange, outbox: &mut Outbox) -> Note
         ensures note { result ≡ Note.Done }
         ensures frames { boxed outbox.new
-            ≡ map (bytes_of self.now.station.identity) (inputs_of self.now.live.rest.units (Some exchange.now)) }
-        ensures sendable { AreSendable self.now.station.identity (inputs_of self.now.live.rest.units (Some exchange.now)) }
+            ≡ map (bytes_of self.now.station.identity) (inputs_of (counter_of self.now.live.rest.units) (Some exchange.now)) }
+        ensures sendable { AreSendable self.now.station.identity (inputs_of (counter_of self.now.live.rest.units) (Some exchange.now)) }
     {
         outbox.clear();
-        send_inputs_of(&self.identity, self.units, exchange, outbox);
+        send_inputs_of(&self.identity, self.counter(), exchange, outbox);
         Note::Done
     }
 
@@ -316,7 +328,7 @@ impl<F: Flash<S>, const S: usize> Device<F, S> {
         ensures sendable { AreSendable self.now.station.identity (due_in self.now is_alarm is_ready is_cyclic) }
     {
         let address = self.store.running().suite.address();
-        let counter = self.units;
+        let counter = self.counter();
         send_alarm_again(&self.identity, is_alarm, &self.relation, outbox);
         send_ready_again(&self.identity, address, is_ready, &self.relation, outbox);
         send_inputs(&self.identity, counter, is_cyclic, &self.relation, outbox);
@@ -423,7 +435,8 @@ impl<F: Flash<S>, const S: usize> Device<F, S> {
         self.hear_message(message, outbox)
     }
 
-    // What an alarm frame of the relation says: data is answered, an ACK counts or does not, and ERR ends the relation.
+    // What an alarm frame of the relation says: data is answered, an ACK counts or does not, and ERR ends the relation, which
+    // is logged.
     #[tactic(auto, using(crate::proofs::Exchanged::stays_ignored))]
     fn hear_message(&mut self, message: &Message, outbox: &mut Outbox) -> Note
         requires empty { outbox.old.items ≡ [] }
@@ -432,12 +445,17 @@ impl<F: Flash<S>, const S: usize> Device<F, S> {
         ensures sendable { CanSend self.old (handled_message self.old.live message.now) }
         ensures note { result ≡ (end_of self.old.station self.old.live (handled_message self.old.live message.now)).note }
     {
+        let uuid = self.relation.uuid().copied();
         match self.relation.hear(message) {
             PduFate::Data(taken) => {
                 send_alarm_reply(&self.identity, taken, &self.relation, outbox);
                 Note::Done
             }
-            PduFate::Done | PduFate::Aborted => Note::Done,
+            PduFate::Done => Note::Done,
+            PduFate::Aborted(status) => {
+                self.log_end(uuid, status);
+                Note::Done
+            }
             // A NACK, or an ACK of another number, is not an error, and changes nothing.
             PduFate::Ignored => Note::Filter,
         }

@@ -1,5 +1,6 @@
 -- What an event means to a device.
-use Rattle.std.specs.Prelude.{◌==◌, ◌&&◌, ◌||◌, ℕ, Bool, nat_eq, nat_le, List, [], ◌∷◌, if◌then◌else◌, Result, Ok, Err}
+use Rattle.std.specs.Prelude.{◌==◌, ◌&&◌, ◌||◌, ℕ, Bool, nat_eq, nat_le, List, [], ◌∷◌, if◌then◌else◌, Option, Result, Ok, Err}
+use Rattle.std.specs.Option.{option_map}
 use Rattle.std.specs.Cmp.Lexicographic.{pointwise}
 use Rattle.pn_values.specs.declared.mac.Mac.{Mac}
 use Rattle.pn_values.specs.declared.identity.Identity.{Identity}
@@ -17,11 +18,13 @@ use Rattle.rpc_core.specs.declared.fault.RpcFault.{RpcFault}
 use Rattle.rpc_core.specs.declared.interface.Interface.TheVariants.{Device}
 use Rattle.rpc_core.specs.Call.{Asked as Call, call_of}
 use Rattle.rpc_core.specs.Response.{Answered, response_of}
+use Rattle.lldp.specs.Peer.{Peer}
+use Rattle.lldp.specs.Views.{peer_as}
 use Rattle.pn_alarms.specs.declared.fault.AlarmFault.{AlarmFault}
 use Rattle.pn_alarms.specs.declared.pdu.Header.{Header}
 use Rattle.pn_alarms.specs.Message.{ToDevice, message_of}
 use Rattle.device_frames.specs.declared.event.Event.{Event}
-use Rattle.device_frames.specs.declared.event.Event.TheVariants.{Frame, Tick, Input, Alarm, Status, Ready}
+use Rattle.device_frames.specs.declared.event.Event.TheVariants.{Frame, Tick, Input, Alarm, Status, Neighbour, Ready}
 
 -- What the body of a datagram says: a call to the device, else a response, else neither.
 pub data Said : Type 0 where
@@ -32,7 +35,7 @@ pub data Said : Type 0 where
 -- What an event is: a unit of time, a frame that cannot be read, a frame for another station, a DCP request and who
 -- sends it, an ARP packet and who sends it, a datagram: who sends it, to which address, and what it says; a cyclic
 -- frame; an alarm frame: who sends it, between which endpoints, and what it says; or, from the application, the input
--- of a submodule, an alarm of one, whether its inputs are good, or that it is ready.
+-- of a submodule, an alarm of one, whether its inputs are good, or that it is ready; or which neighbour it has.
 pub data Heard : Type 0 where
   Ticks : Heard
   Unreadable : Heard
@@ -45,6 +48,7 @@ pub data Heard : Type 0 where
   Given : (slot : ℕ) → (subslot : ℕ) → (value : List ℕ) → Heard
   Raised : (slot : ℕ) → (subslot : ℕ) → (octets : List ℕ) → Heard
   Rated : (slot : ℕ) → (subslot : ℕ) → (is_good : Bool) → Heard
+  Met : (peer : Option Peer) → Heard
   Readied : Heard
 
 -- The multicast address of Identify requests.
@@ -117,4 +121,5 @@ heard_of identity Tick = Ticks
 heard_of identity (Input slot subslot value) = Given slot subslot value.items
 heard_of identity (Alarm slot subslot octets) = Raised slot subslot octets.items
 heard_of identity (Status slot subslot is_good) = Rated slot subslot is_good
+heard_of identity (Neighbour neighbour) = Met (option_map peer_as neighbour)
 heard_of identity Ready = Readied

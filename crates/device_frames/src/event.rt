@@ -1,4 +1,5 @@
 use frame_codec::Bytes;
+use lldp::Neighbour;
 
 /// What happens to a device.
 #[derive(Drop)]
@@ -15,6 +16,8 @@ pub enum Event {
     /// The application says whether the inputs of the submodule in this slot and subslot are good. Without data, it is the
     /// IOPS of the submodule.
     Status(u16, u16, bool),
+    /// This is the neighbour of the station from now on: what its port leads to, or nothing that is known.
+    Neighbour(Option<Neighbour>),
     /// The application is ready. It counts once in a relation: after PrmEnd, at a device whose application says when it is
     /// ready.
     Ready,

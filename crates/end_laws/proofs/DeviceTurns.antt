@@ -16,6 +16,10 @@ use Rattle.records.specs.status.Status.{status_of}
 use Rattle.connect_requests.specs.Request.{Request}
 use Rattle.records.specs.declared.writes.taken.TakenRecord.{TakenRecord}
 use Rattle.records.specs.declared.writes.write.Effect.TheVariants.{Stores, Keeps}
+use Rattle.records.specs.declared.writes.write.Write.{Write}
+use Rattle.records.specs.declared.writes.writing.Writing.TheVariants.{One, Each}
+use Rattle.records.specs.writes.Entry.{Entry}
+use Rattle.record_blocks.specs.declared.write_record.IodWriteReq.{IodWriteReq}
 use Rattle.relations.specs.declared.ready.Ready.{Ready}
 use Rattle.relations.specs.RelationState.{RelationState, uuid_of}
 use Rattle.pn_values.specs.declared.im_value.ImValue.{ImValue}
@@ -30,7 +34,7 @@ use Rattle.end_laws.specs.both.Small.{Rules, ToDevice, ToController}
 use Rattle.end_laws.specs.both.Steps.{IsNew, Comes, SaysAtMost, IsReady, IsDull, DeviceSteps}
 use Rattle.relations.specs.Phases.{parameterized_from, restarted}
 use Rattle.end_laws.specs.device.Small.{Planned, phase_in, link_of, kept_in, small_of, written_by, asked_by, heard_as, IsPlannedAs, IsPlannedCall, IsPlanned, IsHeardAs}
-use Rattle.end_laws.specs.device.Does.{AreReadied, Confirms, Does, GoesBy, IsEffect, IsOther, IsReadied, Repeats, Rests, Serves, Stored, Written, readied_from}
+use Rattle.end_laws.specs.device.Does.{AreReadied, Confirms, Does, GoesBy, IsEffect, IsOther, IsReadied, Repeats, Rests, Serves, Stored, Written, WrittenEach, readied_from, with_more}
 use Rattle.end_laws.proofs.DeviceOwing.{same_request}
 
 some_is : {A : Type 0} (x y : A) → Some x ≡ Some y → x ≡ y
@@ -192,15 +196,27 @@ module _ (refusals_are_not_done : RefusalsAreNotDone) (rules : Rules TakenRecord
     restarted_small None = refl
     restarted_small (Some link) = refl
 
+    -- the records of several that a relation accepts
+    takes_more : (values : List TakenRecord) (link : Option RelationState) → Comes rules true small.Accesses (option_map link_of link) (option_map link_of (option_map (with_more values) link))
+    takes_more values None = inl refl
+    takes_more values (Some link) = inr (record { link = link_of link; values = values; was = refl; becomes = refl })
+
+    one_is : (x y : Write) → One x ≡ One y → x ≡ y
+    one_is x y e = cc
+
+    each_none : (header : IodWriteReq) (entries : List Entry) (write : Write) → Each header entries ≡ One write → ⊥
+    each_none header entries write e = absurd cc
+
     stores_none : (value : ImValue) (planned : TakenRecord) → Stores value ≡ Keeps planned → ⊥
     stores_none value planned e = absurd cc
 
     -- what a Write does, which is one of the start-up or not
     writes : (sequence : ℕ) (blocks : List ℕ) (b : Bool) → rules.is_planned sequence blocks ≡ b → IsPlannedAs rules station.real sequence blocks (Some operation.Write)
-        → Written station blocks live.rest.link after.link ⊎ Stored station blocks live.rest.link after.link
+        → Written station blocks live.rest.link after.link ⊎ (Stored station blocks live.rest.link after.link ⊎ WrittenEach station blocks live.rest.link after.link)
         → Comes rules true (written_ask b sequence) (option_map link_of live.rest.link) (option_map link_of after.link)
     writes sequence blocks true e asks (inl it) =
         let plan = asks e in
+        let keeps = plan.keeps _ (One it.write) it.judged in
         record {
           link = link_of it.link;
           value = it.value;
@@ -208,19 +224,26 @@ module _ (refusals_are_not_done : RefusalsAreNotDone) (rules : Rules TakenRecord
           is =
               let number : sequence - 1 ≡ plan.number = omega (arith, plan.is) in
               ap (λ (n : ℕ). slice_get rules.records n) number
-              ∙ (plan.there ∙ ap (λ (v : TakenRecord). Some v) (same_kept plan.value it.value (sym (plan.keeps _ it.write it.judged) ∙ it.keeps)));
+              ∙ (plan.there ∙ ap (λ (v : TakenRecord). Some v) (same_kept plan.value it.value (sym (ap (λ (w : Write). w.effect) (one_is it.write keeps.0 keeps.1) ∙ keeps.2) ∙ it.keeps)));
           becomes = ap (λ (l : Option RelationState). option_map link_of l) it.becomes;
         }
-    writes sequence blocks true e asks (inr it) =
+    writes sequence blocks true e asks (inr (inl it)) =
         let plan = asks e in
-        absurd (stores_none it.value plan.value (sym it.stores ∙ plan.keeps _ it.write it.judged))
+        let keeps = plan.keeps _ (One it.write) it.judged in
+        absurd (stores_none it.value plan.value (sym it.stores ∙ (ap (λ (w : Write). w.effect) (one_is it.write keeps.0 keeps.1) ∙ keeps.2)))
+    writes sequence blocks true e asks (inr (inr it)) =
+        let keeps = (asks e).keeps _ (Each it.header it.entries) it.judged in
+        absurd (each_none it.header it.entries keeps.0 keeps.1)
     writes sequence blocks false e asks (inl it) = inr (record {
       link = link_of it.link;
-      value = it.value;
+      values = it.value ∷ [];
       was = ap (λ (l : Option RelationState). option_map link_of l) it.was;
       becomes = ap (λ (l : Option RelationState). option_map link_of l) it.becomes;
     })
-    writes sequence blocks false e asks (inr it) = inl (ap (λ (l : Option RelationState). option_map link_of l) it.same ∙ restarted_small live.rest.link)
+    writes sequence blocks false e asks (inr (inl it)) = inl (ap (λ (l : Option RelationState). option_map link_of l) it.same ∙ restarted_small live.rest.link)
+    writes sequence blocks false e asks (inr (inr it)) =
+        let taken = takes_more it.values live.rest.link in
+        subst (λ (l : Option RelationState). Comes rules true small.Accesses (option_map link_of live.rest.link) (option_map link_of l)) (sym it.becomes) taken
 
     -- what a call does to the relation, as the small machine does it
     comes : (caller : Caller) (sequence : ℕ) (blocks : List ℕ) (outcome : Result (List ℕ) CallFault) (which : Operation) → IsPlannedAs rules station.real sequence blocks (Some which)

@@ -1,8 +1,9 @@
 -- One turn of a device: what it does, what becomes of its relation and of the responses that it stores, and where its
 -- messages come from.
-use Rattle.std.proofs.Common.{◌≡◌, ◌⊎◌, inl, inr, ap, ◌+◌, ◌-◌, ℕ, Bool, true, false, cond, List, [], ◌∷◌, ◌++◌, length, Option, Some, None, option_map, Result, Ok, Err, refl, sym, subst, not, ◌∙◌}
+use Rattle.std.proofs.Common.{◌≡◌, ◌⊎◌, inl, inr, ap, ◌+◌, ◌-◌, ℕ, Bool, true, false, cond, List, [], ◌∷◌, ◌++◌, length, Option, Some, None, option_map, Result, Ok, Err, refl, sym, subst, not, ◌∙◌, append_assoc}
 use Rattle.std.specs.Prelude.{◌%◌, ◌&&◌, is_some, nat_eq, nat_lt, ◌==◌}
 use Rattle.std.specs.List.{AllByRecursion}
+use Rattle.lldp.specs.Peer.{Peer}
 use Rattle.std.specs.Cmp.Lexicographic.{pointwise, same_text}
 use Rattle.wire.specs.Codec.{◌>>=◌}
 use Rattle.pn_values.specs.declared.mac.Mac.{Mac}
@@ -28,7 +29,10 @@ use Rattle.records.specs.declared.writes.taken.TakenRecord.{TakenRecord}
 use Rattle.records.specs.declared.writes.write.Effect.{Effect}
 use Rattle.records.specs.declared.writes.write.Effect.TheVariants.{Stores, Keeps}
 use Rattle.records.specs.declared.writes.write.Write.{Write}
-use Rattle.records.specs.writes.Handled.{write_of}
+use Rattle.records.specs.declared.writes.writing.Writing.{Writing}
+use Rattle.records.specs.declared.writes.writing.Writing.TheVariants.{One, Each}
+use Rattle.records.specs.writes.Asked.{writing_of}
+use Rattle.records.specs.writes.Entry.{Entry}
 use Rattle.relation_records.specs.Reading.{relation_read}
 use Rattle.pn_values.specs.declared.im_value.ImValue.{ImValue}
 use Rattle.pn_alarms.specs.declared.abort.Abort.{Abort}
@@ -48,19 +52,22 @@ use Rattle.relations.specs.Connect.{connect_blocks, connect_within, differing_of
 use Rattle.relations.specs.Ready.{answer_of as ready_answer, confirmed_block, confirmed_by, is_wanted, is_answer_to, ready_of}
 use Rattle.relations.specs.Timers.{due_by, due_of, ending_of, is_again, unit_later}
 use Rattle.relations.specs.Exchanged.{given_to, heard_by, hearing, raised_to, rating, received_by, receiving, hearing_as, receiving_as}
-use Rattle.device_frames.specs.Heard.{Heard, Ticks, Unreadable, Elsewhere, Asks, Resolves, Reported, Cyclic, Alarms, Given, Raised, Rated, Readied, Said, Calls, Responds, Garbled}
+use Rattle.device_frames.specs.Heard.{Heard, Ticks, Unreadable, Elsewhere, Asks, Resolves, Reported, Cyclic, Alarms, Given, Raised, Rated, Met, Readied, Said, Calls, Responds, Garbled}
 use Rattle.device_frames.specs.Relation.{alarms_of, frames_in, inputs_of, ready_calls, replies_of, where_due, due_frames}
 use Rattle.device_frames.specs.Sent.{Sent, IdentifyAnswer, GetAnswer, SetAnswer, ArpReply, Again, Ends, CallAnswer, ReadyCall}
 use Rattle.device_frames.specs.declared.note.Note.{Note}
 use Rattle.device_frames.specs.declared.note.Note.TheVariants as note
 use Rattle.settings_store.specs.Machine.{Outcome, carried}
-use Rattle.device_core.specs.State.{Station, Live, Rest}
-use Rattle.device_core.specs.Handled.{Handled, Refuses, Sets, Moves, is_running, is_request, outcome_of, served, ready_behind, partner_of, kept_answer, handled_effect, handled_write, handled_new, handled_looked, handled_blocks, handled_call, handled_answer, handled_said, handled_received, handled_input, handled_notice, handled_pdu, handled_message, handled_request, goes_on_with, kept_status, starting_of, handled}
-use Rattle.device_core.specs.Machine.{first_answer, resets, farewells_at, finished, items_in, handled_step, heard_step, link_after, written_as}
+use Rattle.device_core.specs.State.{Station, Live, Rest, alias_in, counter_of, units_after}
+use Rattle.device_core.specs.Handled.{Handled, Refuses, Sets, Moves, is_running, is_request, outcome_of, served, ready_behind, partner_of, kept_answer, handled_effect, handled_write, handled_new, handled_looked, handled_blocks, handled_call, handled_answer, handled_said, handled_received, handled_input, handled_met, handled_notice, handled_pdu, handled_message, handled_request, goes_on_with, kept_status, starting_of, handled, known_of}
+use Rattle.device_core.specs.Several.{Judged, judged_each}
+use Rattle.device_core.specs.Machine.{effect_link, first_answer, link_behind, one_link, several_answer, resets, farewells_at, finished, items_in, handled_step, heard_step, link_after, written_as}
+use Rattle.device_log.specs.declared.entry.LogEntry.{LogEntry}
+use Rattle.device_core.specs.Log.{end_log, err_log}
 use Rattle.end_laws.specs.both.Small.{Rules}
 use Rattle.end_laws.specs.device.Owed.{IsOwed}
 use Rattle.end_laws.proofs.DeviceConnects.{unlimited}
-use Rattle.end_laws.proofs.DeviceOwing.{IsPlainIn, connect_plain, keeping_plain, outcome_sized, prm_plain, read_plain, release_plain, stored_plain, write_plain, IsPlain, bind_ok}
+use Rattle.end_laws.proofs.DeviceOwing.{IsPlainIn, connect_plain, keeping_plain, outcome_sized, prm_plain, read_plain, release_plain, stored_plain, writing_plain, IsPlain, bind_ok}
 use Rattle.rpc_core.specs.Response.{Answered as Response, answer_to, is_done}
 use Rattle.relations.specs.Farewells.{farewell_of}
 use Rattle.relations.specs.exchange.Notices.{behind_message}
@@ -80,6 +87,7 @@ use Rattle.pn_alarms.specs.Receiver.{taken_as}
 use Rattle.pn_values.specs.declared.real.RealModule.{RealModule}
 use Rattle.rpc_core.specs.Cache.{Kept as Answer, Reported as Looked, new, again, old, kept_of, reported_by, looked}
 use Rattle.std.proofs.lemmas.Bool.{eqb-true}
+use Rattle.std.proofs.lemmas.List.{append-nil}
 use Rattle.block_codec.specs.declared.block_type.BlockType.TheVariants as kind
 use Rattle.records.specs.declared.status.call_fault.CallFault.TheVariants as fault
 use Rattle.records.specs.writes.Taken.{keep_of}
@@ -89,7 +97,7 @@ use Rattle.relations.specs.declared.phase.Phase.TheVariants.{Started, Preparing,
 use Rattle.relations.specs.declared.ready.Ready.{Ready}
 use Rattle.end_laws.specs.both.Small as small
 use Rattle.end_laws.specs.device.Small.{IsPlanned, IsPlannedAs, IsPlannedIn, Planned, confirms, heard_as, link_of, names_own, phase_in}
-use Rattle.end_laws.specs.device.Does.{AreReadied, GoesBy, IsEffect, IsOther, IsRestarted, readied_from}
+use Rattle.end_laws.specs.device.Does.{AreReadied, GoesBy, IsEffect, IsOther, IsRestarted, readied_from, with_more}
 use Rattle.end_laws.specs.device.Turn.{AreCalm, IsCalm, IsRaise, IsSameOr, IsTurn, Raises, Standing, Turn, standing_of}
 
 -- ---- what is sent
@@ -228,6 +236,50 @@ kept_is value records taken e = by_room (nat_lt (length records) 64) e
     by_room : (b : Bool) → cond b (Ok (records ++ value ∷ [])) (Err fault.TooManyRecords) ≡ Ok taken → taken ≡ records ++ value ∷ []
     by_room true f = sym (same_ok (records ++ value ∷ []) taken f)
     by_room false f = absurd cc
+
+-- ---- several records of one Write
+
+-- the relation has these records after its others
+abbrev Takes : List Judged → Option RelationState → RelationState → Type 0
+Takes judged after link = (values : List TakenRecord) × (link_behind judged after ≡ Some (with_taken (link.taken ++ values) link))
+
+-- the records that were accepted after one, or after none
+one_takes : (others : List Judged) (link : RelationState) → ((next : RelationState) → Takes others (Some next) next) → (one : Result Write CallFault) → Takes others (one_link one (Some link)) link
+one_takes others link later (Err why) = later link
+one_takes others link later (Ok write) = by_effect write.effect
+  where
+    by_keeping : (value : TakenRecord) (kept : Result (List TakenRecord) CallFault) → keep_of value link.taken ≡ kept → Takes others (updated (taking kept) (Some link)) link
+    by_keeping value (Err why) is = later link
+    by_keeping value (Ok taken) is =
+        let there = later (with_taken taken link) in
+        let all : taken ++ there.0 ≡ link.taken ++ (value ∷ there.0) = ap (λ (records : List TakenRecord). records ++ there.0) (kept_is value link.taken taken is) ∙ append_assoc link.taken (value ∷ []) there.0 in
+        (value ∷ there.0, there.1 ∙ ap (λ (records : List TakenRecord). Some (with_taken records link)) all)
+
+    by_effect : (effect : Effect) → Takes others (effect_link effect (Some link)) link
+    by_effect (Stores value) = later link
+    by_effect (Keeps value) = by_keeping value (keep_of value link.taken) refl
+
+link_takes : (judged : List Judged) (link : RelationState) → Takes judged (Some link) link
+link_takes [] link = ([], ap (λ (taken : List TakenRecord). Some (with_taken taken link)) (sym (append-nil link.taken)))
+link_takes (one ∷ others) link = one_takes others link (link_takes others) one.1
+
+one_none : (one : Result Write CallFault) → one_link one None ≡ None
+one_none (Err why) = refl
+one_none (Ok write) = by_effect write.effect
+  where
+    by_effect : (effect : Effect) → effect_link effect None ≡ None
+    by_effect (Stores value) = refl
+    by_effect (Keeps value) = refl
+
+link_none : (judged : List Judged) → link_behind judged None ≡ None
+link_none [] = refl
+link_none (one ∷ others) = ap (link_behind others) (one_none one.1) ∙ link_none others
+
+each_takes : (judged : List Judged) (link : Option RelationState) → (values : List TakenRecord) × (updated Named (link_behind judged link) ≡ option_map (with_more values) link)
+each_takes judged None = ([], ap (updated Named) (link_none judged))
+each_takes judged (Some link) =
+    let takes = link_takes judged link in
+    (takes.0, ap (updated Named) takes.1)
 
 again_is : (sequence : ℕ) (kept : Option Answer) (frame : List ℕ) → reported_by sequence kept ≡ again frame
     → (answer : Answer) × (kept ≡ Some answer) × (answer.sequence ≡ sequence) × (answer.frame ≡ frame)
@@ -369,8 +421,9 @@ module _ (rules : Rules TakenRecord Request) (activity : List ℕ) (station : St
       becomes link sent is same others answers = goes (record live.rest { link = link }) sent is (record { idle = idle; calls = refl; link = inl same; others = others })
 
       -- the relation ended
-      ends : (lamp units : ℕ) (sent : List Sent) → AreCalm before sent → AreOthers None sent → Comes_to heard (Moves (record live.rest { lamp = lamp; link = None; units = units }) sent)
-      ends lamp units sent calm others answers = stays (record live.rest { lamp = lamp; link = None; units = units }) sent refl (inr refl, inr refl) calm others
+      ends : (lamp units : ℕ) (log : List LogEntry) (sent : List Sent) → AreCalm before sent → AreOthers None sent
+          → Comes_to heard (Moves (record live.rest { lamp = lamp; link = None; units = units; log = log }) sent)
+      ends lamp units log sent calm others answers = stays (record live.rest { lamp = lamp; link = None; units = units; log = log }) sent refl (inr refl, inr refl) calm others
 
   -- ---- DCP and ARP
 
@@ -389,8 +442,8 @@ module _ (rules : Rules TakenRecord Request) (activity : List ℕ) (station : St
   identifies asker request false = refuses (Asks asker request) note.Filter
 
   requests : (asker : Mac) (which : Service) (request : Asked) → Comes_to (Asks asker request) (handled_request station live asker which request)
-  requests asker service.Identify request = identifies asker request (matches station.identity live.values.running request)
-  requests asker service.Get request = tells (Asks asker request) (λ planned. refl) (GetAnswer asker live.values.running request) tt tt
+  requests asker service.Identify request = identifies asker request (matches station.identity live.values.running (alias_in live.rest.peer) request)
+  requests asker service.Get request = tells (Asks asker request) (λ planned. refl) (GetAnswer asker live.values.running (alias_in live.rest.peer) request) tt tt
   requests asker service.Set request = sets asker request request (is_some before)
 
   resolves : (asker : Mac) (packet : Arp) (b : Bool) → Comes_to (Resolves asker packet) (cond b (Moves live.rest (ArpReply asker from packet.sender ∷ [])) (Refuses note.NotMine))
@@ -426,6 +479,9 @@ module _ (rules : Rules TakenRecord Request) (activity : List ℕ) (station : St
   rates slot subslot is_good (Some statuses) = λ answers.
       stays (Rated slot subslot is_good) (λ planned. refl) (record live.rest { link = updated (rating slot subslot is_good before) before; statuses = statuses }) [] refl (rated_keeps slot subslot is_good before) tt tt
   rates slot subslot is_good None = refuses (Rated slot subslot is_good) note.Refused
+
+  meets : (peer : Option Peer) → Comes_to (Met peer) (handled_met live peer)
+  meets peer = λ answers. stays (Met peer) (λ planned. refl) (record live.rest { peer = peer }) [] refl (inl refl, inl refl) tt tt
 
   -- ---- the application is ready
 
@@ -473,7 +529,7 @@ module _ (rules : Rules TakenRecord Request) (activity : List ℕ) (station : St
       (inr (inr (inr (inr (inl (record { source = source; header = header; number = number; ack = ack; is = refl; link = link; was = was; becomes = refl; sends = refl })))))) (flows link flow was) (tt, tt)
   pdus source header (notice.Ack number) (Some link) was = acks source header number link (is_last link.flow.alarms.sender.sending.last number) was
   pdus source header notice.Nack (Some link) was = refuses (Alarms source header notice.Nack) note.Filter
-  pdus source header notice.Abort (Some link) was = ends (Alarms source header notice.Abort) (λ planned. refl) live.rest.lamp live.rest.units [] tt tt
+  pdus source header (notice.Abort status) (Some link) was = ends (Alarms source header (notice.Abort status)) (λ planned. refl) live.rest.lamp live.rest.units (end_log (uuid_of before) status live.rest.units live.rest.log) [] tt tt
 
   alarms : (source : Mac) (header : Header) (message : Message) (b : Bool) → Comes_to (Alarms source header message) (cond b (handled_message live message) (Refuses note.NoRelation))
   alarms source header message true = pdus source header message before refl
@@ -481,16 +537,16 @@ module _ (rules : Rules TakenRecord Request) (activity : List ℕ) (station : St
 
   -- ---- units
 
-  ticks_as : (lamp units : ℕ) (link : RelationState) (ending : Option Abort) → before ≡ Some link
-      → Comes_to Ticks (Moves (record live.rest { lamp = lamp; link = updated (passing_by ending) (Some link); units = units }) (due_frames from units (due_by link ending) (updated (passing_by ending) (Some link))))
-  ticks_as lamp units link (Some reason) was = ends Ticks (λ planned. refl) lamp units _ ((reason, link, was, refl), tt) (tt, tt)
-  ticks_as lamp units link None was = λ answers.
+  ticks_as : (lamp units : ℕ) (log : List LogEntry) (link : RelationState) (ending : Option Abort) → before ≡ Some link
+      → Comes_to Ticks (Moves (record live.rest { lamp = lamp; link = updated (passing_by ending) (Some link); units = units; log = log }) (due_frames from (counter_of units) (due_by link ending) (updated (passing_by ending) (Some link))))
+  ticks_as lamp units log link (Some reason) was = ends Ticks (λ planned. refl) lamp units log _ ((reason, link, was, refl), tt) (tt, tt)
+  ticks_as lamp units log link None was = λ answers.
       let tick = tick_of link.flow in
       let later = Some (unit_later link) in
       let alarm = where_due tick.is_alarm (alarms_of (Some (flow_later link.flow))) in
       let readies = where_due (is_again link) (ready_calls from later) in
-      let inputs = where_due tick.is_cyclic (inputs_of units (Some (flow_later link.flow))) in
-      goes Ticks (record live.rest { lamp = lamp; link = later; units = units }) (alarm ++ (readies ++ inputs))
+      let inputs = where_due tick.is_cyclic (inputs_of (counter_of units) (Some (flow_later link.flow))) in
+      goes Ticks (record live.rest { lamp = lamp; link = later; units = units; log = log }) (alarm ++ (readies ++ inputs))
       (inr (inr (inr (inr (inr (inl (record {
         is = refl;
         link = link;
@@ -508,10 +564,10 @@ module _ (rules : Rules TakenRecord Request) (activity : List ℕ) (station : St
             (each_behind (IsOther live later) readies inputs (again_other link (is_again link) was refl) (due_each (IsOther live later) tick.is_cyclic _ (tt, tt)));
       })
 
-  ticks_with : (lamp units : ℕ) (link : Option RelationState) → before ≡ link
-      → Comes_to Ticks (Moves (record live.rest { lamp = lamp; link = updated (passing link) link; units = units }) (due_frames from units (due_of link) (updated (passing link) link)))
-  ticks_with lamp units None was = ends Ticks (λ planned. refl) lamp units [] tt tt
-  ticks_with lamp units (Some link) was = ticks_as lamp units link (ending_of link) was
+  ticks_with : (lamp units : ℕ) (log : List LogEntry) (link : Option RelationState) → before ≡ link
+      → Comes_to Ticks (Moves (record live.rest { lamp = lamp; link = updated (passing link) link; units = units; log = log }) (due_frames from (counter_of units) (due_of link) (updated (passing link) link)))
+  ticks_with lamp units log None was = ends Ticks (λ planned. refl) lamp units log [] tt tt
+  ticks_with lamp units log (Some link) was = ticks_as lamp units log link (ending_of link) was
 
   -- ---- the response to ApplicationReady
 
@@ -537,7 +593,7 @@ module _ (rules : Rules TakenRecord Request) (activity : List ℕ) (station : St
       confirmed_same None = refl
       confirmed_same (Some link) = refl
   answers_as caller address response (to_ready.Refused farewell) is =
-      ends (Reported caller address (Responds response)) (λ planned. ap (λ (b : Bool). cond b small.Confirms small.Idle) is.3) live.rest.lamp live.rest.units (Ends farewell ∷ [])
+      ends (Reported caller address (Responds response)) (λ planned. ap (λ (b : Bool). cond b small.Confirms small.Idle) is.3) live.rest.lamp live.rest.units (err_log (Some farewell) live.rest.units live.rest.log) (Ends farewell ∷ [])
       ((Other, is.0, is.1, is.2), tt) (tt, tt)
 
   -- ---- calls
@@ -549,6 +605,10 @@ module _ (rules : Rules TakenRecord Request) (activity : List ℕ) (station : St
     restarted_same : (link : Option RelationState) → option_map standing_of (option_map restarted link) ≡ option_map standing_of link
     restarted_same None = refl
     restarted_same (Some link) = refl
+
+    more_same : (values : List TakenRecord) (link : Option RelationState) → option_map standing_of (option_map (with_more values) link) ≡ option_map standing_of link
+    more_same values None = refl
+    more_same values (Some link) = refl
 
     restarted_turns : (link : Option RelationState) (sent : List Sent) → IsRestarted before link → AreCalm before sent
         → IsTurn station.real.modules.items live.rest.calls before heard link sent
@@ -579,7 +639,9 @@ module _ (rules : Rules TakenRecord Request) (activity : List ℕ) (station : St
     effect_turns blocks (Ok octets) operation.Release link sent asks counted fresh it calm = inl (record { link = inr it.gone; calm = calm })
     effect_turns blocks (Ok octets) operation.Read link sent asks counted fresh it calm = restarted_turns link sent it calm
     effect_turns blocks (Ok octets) operation.ReadImplicit link sent asks counted fresh it calm = absurd it
-    effect_turns blocks (Ok octets) operation.Write link sent asks counted fresh (inr it) calm = restarted_turns link sent it.same calm
+    effect_turns blocks (Ok octets) operation.Write link sent asks counted fresh (inr (inl it)) calm = restarted_turns link sent it.same calm
+    effect_turns blocks (Ok octets) operation.Write link sent asks counted fresh (inr (inr it)) calm =
+        inl (record { link = inl (ap (λ (l : Option RelationState). option_map standing_of l) it.becomes ∙ more_same it.values before); calm = calm })
     effect_turns blocks (Ok octets) operation.Write link sent asks counted fresh (inl it) calm =
         inl (record { link = inl (ap (λ (l : Option RelationState). option_map standing_of l) it.becomes ∙ sym (ap (λ (l : Option RelationState). option_map standing_of l) it.was)); calm = calm })
     effect_turns blocks (Ok octets) operation.Control link sent asks counted fresh it calm =
@@ -638,7 +700,7 @@ module _ (rules : Rules TakenRecord Request) (activity : List ℕ) (station : St
       connects_as (Err why) asks read plain = fails operation.Connect why before asks plain refl
 
       keeps_as : (header : IodWriteReq) (write : Write) (value : TakenRecord) (link : Option RelationState) (kept : Result (List TakenRecord) CallFault) → operation_of call.header.operation ≡ Some operation.Write
-          → write_of (uuid_of before) station.real blocks ≡ Ok write → write.effect ≡ Keeps value → before ≡ link → keeping value link ≡ kept → IsPlainIn kept
+          → writing_of (uuid_of before) station.real blocks ≡ Ok (One write) → write.effect ≡ Keeps value → before ≡ link → keeping value link ≡ kept → IsPlainIn kept
           → Comes_to heard (served station live caller call operation.Write (kept_answer header kept) (updated (answered Named kept) (updated (taking kept) link)) [])
       keeps_as header write value link (Err why) asks judged keeps was is plain = fails operation.Write why link asks plain was
       keeps_as header write value None (Ok taken) asks judged keeps was is plain = absurd cc
@@ -655,22 +717,32 @@ module _ (rules : Rules TakenRecord Request) (activity : List ℕ) (station : St
 
       -- a record that the settings store, or do not
       stores_as : (write : Write) (value : ImValue) (outcome : Result (List ℕ) CallFault) → operation_of call.header.operation ≡ Some operation.Write
-          → write_of (uuid_of before) station.real blocks ≡ Ok write → write.effect ≡ Stores value → IsPlainIn outcome
+          → writing_of (uuid_of before) station.real blocks ≡ Ok (One write) → write.effect ≡ Stores value → IsPlainIn outcome
           → Comes_to heard (served station live caller call operation.Write outcome (updated (answered Named outcome) before) [])
       stores_as write value (Ok octets) asks judged is plain =
-          serves operation.Write (Ok octets) (updated Named before) None asks tt (inr (record { write = write; judged = judged; value = value; stores = is; same = refl })) tt
+          serves operation.Write (Ok octets) (updated Named before) None asks tt (inr (inl (record { write = write; judged = judged; value = value; stores = is; same = refl }))) tt
       stores_as write value (Err why) asks judged is plain = fails operation.Write why before asks plain refl
 
-      effect_as : (write : Write) (effect : Effect) → operation_of call.header.operation ≡ Some operation.Write → write_of (uuid_of before) station.real blocks ≡ Ok write
+      effect_as : (write : Write) (effect : Effect) → operation_of call.header.operation ≡ Some operation.Write → writing_of (uuid_of before) station.real blocks ≡ Ok (One write)
           → write.effect ≡ effect → Comes_to heard (handled_effect station live caller call write.request effect)
       effect_as write (Stores value) asks judged is = λ answers.
           stores_as write value (written_as write.request (first_answer answers)) asks judged is (stored_plain write.request (first_answer answers)) answers
       effect_as write (Keeps value) asks judged is =
           keeps_as write.request write value before (keeping value before) asks judged is refl refl (keeping_plain value before)
 
-      writes_as : (write : Result Write CallFault) → operation_of call.header.operation ≡ Some operation.Write → write_of (uuid_of before) station.real blocks ≡ write → IsPlainIn write
-          → Comes_to heard (handled_write station live caller call write)
-      writes_as (Ok write) asks judged plain = effect_as write write.effect asks judged refl
+      -- several records, each for itself
+      each_as : (header : IodWriteReq) (entries : List Entry) → operation_of call.header.operation ≡ Some operation.Write
+          → writing_of (uuid_of before) station.real blocks ≡ Ok (Each header entries) → Comes_to heard (handled_write station live caller call (Ok (Each header entries)))
+      each_as header entries asks judged = λ answers.
+          let each = judged_each (uuid_of before) station.real entries in
+          let takes = each_takes each before in
+          serves operation.Write (Ok (several_answer header each answers before)) (updated Named (link_behind each before)) None asks tt
+          (inr (inr (record { header = header; entries = entries; judged = judged; values = takes.0; becomes = takes.1 }))) tt answers
+
+      writes_as : (writing : Result Writing CallFault) → operation_of call.header.operation ≡ Some operation.Write → writing_of (uuid_of before) station.real blocks ≡ writing → IsPlainIn writing
+          → Comes_to heard (handled_write station live caller call writing)
+      writes_as (Ok (One write)) asks judged plain = effect_as write write.effect asks judged refl
+      writes_as (Ok (Each header entries)) asks judged plain = each_as header entries asks judged
       writes_as (Err why) asks judged plain = fails operation.Write why before asks plain refl
 
       reads_as : (read : Result (List ℕ) CallFault) → operation_of call.header.operation ≡ Some operation.Read → IsPlainIn read
@@ -704,11 +776,11 @@ module _ (rules : Rules TakenRecord Request) (activity : List ℕ) (station : St
       new_call operation.Connect asks plan = connects_as (connect_within station.options.smallest_interval before blocks) asks refl
           (connect_plain station.options.smallest_interval before blocks rules.request plan)
       new_call operation.Release asks plan = releases_as before (release_of before blocks) asks refl refl (release_plain before blocks)
-      new_call operation.Write asks plan = writes_as (write_of (uuid_of before) station.real blocks) asks refl (write_plain (uuid_of before) station.real blocks)
+      new_call operation.Write asks plan = writes_as (writing_of (uuid_of before) station.real blocks) asks refl (writing_plain (uuid_of before) station.real blocks)
       new_call operation.Control asks plan = controls_as station.options.ready_by_application before (prm_end_of before blocks) asks refl refl (prm_plain before blocks)
       new_call operation.Read asks plan =
-          reads_as (relation_read before station.identity station.real live.values.running blocks) asks
-          (read_plain before station.identity station.real live.values.running blocks)
+          reads_as (relation_read (known_of station live) station.identity station.real live.values.running blocks) asks
+          (read_plain (known_of station live) station.identity station.real live.values.running blocks)
       new_call operation.ReadImplicit asks plan = absurd plan
 
     repeats : (frame : List ℕ) → looked call.header.activity call.header.sequence live.rest.calls ≡ again frame → Comes_to heard (Moves live.rest (Again frame ∷ []))
@@ -771,8 +843,10 @@ module _ (rules : Rules TakenRecord Request) (activity : List ℕ) (station : St
   turns (Raised slot subslot octets) plan = raises slot subslot octets (raised_to station.real.modules.items slot subslot octets before) refl
   turns (Rated slot subslot is_good) plan =
       rates slot subslot is_good (statuses_at station.real.modules.items (record { slot = slot; subslot = subslot; is_good = is_good }) live.rest.statuses)
+  turns (Met peer) plan = meets peer
   turns Readied plan = readies before refl
-  turns Ticks plan = ticks_with (live.rest.lamp - 1) ((live.rest.units + 1) % 65536) before refl
+  turns Ticks plan = ticks_with (live.rest.lamp - 1) (units_after 1 live.rest.units)
+      (err_log (due_of before).farewell (units_after 1 live.rest.units) live.rest.log) before refl
   turns Unreadable plan = refuses Unreadable note.Fault
   turns Elsewhere plan = refuses Elsewhere note.NotMine
 

@@ -21,8 +21,8 @@ use Rattle.pn_alarms.specs.declared.pdu.Header.{Header}
 use Rattle.pn_alarms.specs.declared.pdu.PduType.{PduType}
 use Rattle.pn_alarms.specs.declared.pdu.PduType.TheVariants.{Data, Nack, Ack, Error}
 use Rattle.pn_alarms.specs.Format.{frame_id_of}
-use Rattle.pn_alarms.specs.Message.{ToController, alarm_of}
-use Rattle.pn_alarms.specs.Priority.{priority_of}
+use Rattle.alarm_reports.specs.Message.{ToController, alarm_of}
+use Rattle.alarm_reports.specs.Priority.{priority_of}
 use Rattle.plans.specs.declared.parts.Controller.{Controller}
 use Rattle.controller_frames.specs.Heard.{Alarms, Answers, Calls, Cyclic, Heard, Nothing, Responds, heard_alarm, heard_answer, heard_body, heard_call, heard_content, heard_first, heard_of, heard_read, heard_real_time, heard_refusal, heard_response, is_to}
 use Rattle.controller_frames.specs.Refusal.{refusal_of}

@@ -19,8 +19,8 @@ use Rattle.rpc_core.specs.Response.{Answered, response_bytes, response_of}
 use Rattle.pn_alarms.specs.declared.fault.AlarmFault.{AlarmFault}
 use Rattle.pn_alarms.specs.declared.pdu.Header.{Header}
 use Rattle.pn_alarms.specs.declared.pdu.PduType.{PduType}
-use Rattle.pn_alarms.specs.declared.priority.Priority.{Priority}
-use Rattle.pn_alarms.specs.Priority.{frame_id_at}
+use Rattle.alarm_reports.specs.declared.priority.Priority.{Priority}
+use Rattle.alarm_reports.specs.Priority.{frame_id_at}
 use Rattle.pn_alarms.specs.Message.{ToDevice, message_of}
 use Rattle.device_frames.specs.Heard.{Calls, Cyclic, Elsewhere, Garbled, Heard, Resolves, Responds, Said, heard_alarm, heard_content, heard_frame, heard_of, heard_request, identify_multicast, is_own, is_taken, said_by, said_else, said_first}
 use Rattle.codec_laws.specs.frames.Sendable.{CanBeSent, IsMac, IsRealTime, IsRealTimeOrNone, IsTag, carrying}

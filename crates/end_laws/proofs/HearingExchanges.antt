@@ -9,10 +9,11 @@ use Rattle.pn_alarms.specs.declared.pdu.PduType.{PduType}
 use Rattle.pn_alarms.specs.declared.pdu.PduType.TheVariants as pdu
 use Rattle.pn_alarms.specs.Format.{Said, frame_id_of, pdu_bytes}
 use Rattle.pn_alarms.specs.declared.fault.AlarmFault.{AlarmFault}
-use Rattle.pn_alarms.specs.declared.priority.Priority.{Priority}
-use Rattle.pn_alarms.specs.declared.priority.Priority.TheVariants.{High, Low}
-use Rattle.pn_alarms.specs.Message.{ToController, ToDevice, alarm_of, message_of}
-use Rattle.pn_alarms.specs.Priority.{frame_id_at, priority_of}
+use Rattle.alarm_reports.specs.declared.priority.Priority.{Priority}
+use Rattle.alarm_reports.specs.declared.priority.Priority.TheVariants.{High, Low}
+use Rattle.pn_alarms.specs.Message.{ToDevice, message_of}
+use Rattle.alarm_reports.specs.Message.{ToController, alarm_of}
+use Rattle.alarm_reports.specs.Priority.{frame_id_at, priority_of}
 use Rattle.cyclic_exchange.specs.declared.route.Route.{Route}
 use Rattle.cyclic_exchange.specs.Frames.{cyclic_body, tagged_frame}
 use Rattle.relations.specs.exchange.Frames.{Inputs}

@@ -12,9 +12,9 @@ use Rattle.pn_alarms.specs.declared.receiver.Taken.{Taken}
 use Rattle.pn_alarms.specs.declared.receiver.Taken.TheVariants.{New, Again, Refused}
 use Rattle.pn_alarms.specs.Receiver.{taken_as}
 use Rattle.pn_alarms.specs.Ends.{ControllerEnd}
-use Rattle.pn_alarms.specs.declared.priority.Priority.{Priority}
-use Rattle.pn_alarms.specs.declared.priority.Priority.TheVariants.{High, Low}
-use Rattle.pn_alarms.specs.declared.report.Report.{Report}
+use Rattle.alarm_reports.specs.declared.priority.Priority.{Priority}
+use Rattle.alarm_reports.specs.declared.priority.Priority.TheVariants.{High, Low}
+use Rattle.alarm_reports.specs.declared.report.Report.{Report}
 use Rattle.cyclic_exchange.specs.Cyclic.{Cyclic}
 use Rattle.cyclic_exchange.specs.Opening.{begun_of}
 use Rattle.cyclic_exchange.specs.Received.{behind_frame}

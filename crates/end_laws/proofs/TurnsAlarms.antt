@@ -13,7 +13,7 @@ use Rattle.pn_alarms.specs.declared.message.Notice.TheVariants as notice
 use Rattle.pn_alarms.specs.declared.pdu.Header.{Header}
 use Rattle.pn_alarms.specs.declared.pdu.PduType.{PduType}
 use Rattle.pn_alarms.specs.declared.pdu.PduType.TheVariants as pdu
-use Rattle.pn_alarms.specs.declared.priority.Priority.TheVariants.{High, Low}
+use Rattle.alarm_reports.specs.declared.priority.Priority.TheVariants.{High, Low}
 use Rattle.pn_alarms.specs.declared.receiver.Taken.{Taken}
 use Rattle.pn_alarms.specs.declared.receiver.Taken.TheVariants.{New, Again, Refused}
 use Rattle.pn_alarms.specs.declared.repeats.Due.{Due}
@@ -25,7 +25,7 @@ use Rattle.pn_alarms.specs.Device.{end_raised}
 use Rattle.pn_alarms.specs.Numbers.{ack_number, is_last, next_number, send_number}
 use Rattle.pn_alarms.specs.Receiver.{last_behind, taken_as}
 use Rattle.pn_alarms.specs.Sender.{notified}
-use Rattle.pn_alarms.specs.Report.{ours}
+use Rattle.alarm_reports.specs.Report.{ours}
 use Rattle.pn_alarms.specs.Sending.{due, either_due}
 use Rattle.pn_alarms.specs.Sending.{is_again as is_again_due}
 use Rattle.cyclic_exchange.specs.declared.route.Route.{Route}

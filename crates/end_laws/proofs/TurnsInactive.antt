@@ -8,7 +8,7 @@ use Rattle.pn_alarms.specs.declared.message.Notice.TheVariants as notice
 use Rattle.pn_alarms.specs.declared.pdu.Header.{Header}
 use Rattle.pn_alarms.specs.declared.pdu.PduType.{PduType}
 use Rattle.pn_alarms.specs.declared.pdu.PduType.TheVariants as pdu
-use Rattle.pn_alarms.specs.declared.priority.Priority.TheVariants.{High, Low}
+use Rattle.alarm_reports.specs.declared.priority.Priority.TheVariants.{High, Low}
 use Rattle.controller_frames.specs.declared.record_request.RecordRequest.{RecordRequest}
 use Rattle.controller_frames.specs.declared.setup.Setup.{Setup}
 use Rattle.controller_frames.specs.declared.request.Request.{Request}

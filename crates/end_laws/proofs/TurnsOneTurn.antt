@@ -14,8 +14,8 @@ use Rattle.block_codec.specs.Block.{block_of}
 use Rattle.pn_alarms.specs.declared.abort.Abort.{Abort}
 use Rattle.pn_alarms.specs.declared.message.Notice.TheVariants as notice
 use Rattle.pn_alarms.specs.declared.pdu.Header.{Header}
-use Rattle.pn_alarms.specs.declared.priority.Priority.{Priority}
-use Rattle.pn_alarms.specs.Message.{ToController}
+use Rattle.alarm_reports.specs.declared.priority.Priority.{Priority}
+use Rattle.alarm_reports.specs.Message.{ToController}
 use Rattle.pn_alarms.specs.Sending.{due}
 use Rattle.cyclic_exchange.specs.Received.{behind_frame}
 use Rattle.controller_frames.specs.declared.record_request.RecordRequest.{RecordRequest}
@@ -249,7 +249,7 @@ module _ (setup : Setup) (live : Live) where
   noticed_is source under header (notice.Data number report) up = as_kind _ (Takes number report) (up, source, under, header, refl)
   noticed_is source under header (notice.Ack number) up = as_kind _ (IsAcked (acked_under live under) number) (up, source, under, header, refl, refl)
   noticed_is source under header notice.Nack up = rests _
-  noticed_is source under header notice.Abort up = as_kind _ (Ends why.Aborted live.refusal live.refused_record) (up_going up)
+  noticed_is source under header (notice.Abort status) up = as_kind _ (Ends why.Aborted live.refusal live.refused_record) (up_going up)
 
   come_is : (source : Mac) (frame_id : ℕ) (body : List ℕ) (is : Bool) → live.stands ≡ is
       → IsTurn setup live (Hears (Comes source frame_id body)) (stays (if is then record live { cyclic = behind_frame live.cyclic source frame_id body } else live))

@@ -19,6 +19,7 @@ use Rattle.controller_frames.specs.declared.record_request.RecordService.TheVari
 use Rattle.controller_frames.specs.RecordRequests.{record_blocks, service_operation}
 use Rattle.connect_requests.specs.Request.{Request}
 use Rattle.records.specs.declared.writes.taken.TakenRecord.{TakenRecord}
+use Rattle.pn_alarms.specs.Abort.{status_of}
 use Rattle.pn_alarms.specs.declared.message.Notice.{Notice}
 use Rattle.pn_alarms.specs.declared.message.Notice.TheVariants as notice
 use Rattle.pn_alarms.specs.declared.pdu.Header.{Header}
@@ -28,10 +29,10 @@ use Rattle.pn_alarms.specs.declared.receiver.Taken.{Taken}
 use Rattle.pn_alarms.specs.declared.receiver.Taken.TheVariants.{New, Again as Once_more, Refused as Not_taken}
 use Rattle.pn_alarms.specs.Device.{idle}
 use Rattle.pn_alarms.specs.Receiver.{taken_as}
-use Rattle.pn_alarms.specs.declared.priority.Priority.{Priority}
-use Rattle.pn_alarms.specs.declared.priority.Priority.TheVariants.{High}
-use Rattle.pn_alarms.specs.declared.report.Report.{Report}
-use Rattle.pn_alarms.specs.Report.{ours}
+use Rattle.alarm_reports.specs.declared.priority.Priority.{Priority}
+use Rattle.alarm_reports.specs.declared.priority.Priority.TheVariants.{High}
+use Rattle.alarm_reports.specs.declared.report.Report.{Report}
+use Rattle.alarm_reports.specs.Report.{ours}
 use Rattle.cyclic_exchange.specs.declared.route.Route.{Route}
 use Rattle.relations.specs.Connect.{connect_of}
 use Rattle.relations.specs.RelationState.{RelationState}
@@ -298,7 +299,7 @@ module _ (setup : Setup) (station : Station) (live : Live) (controlling : Contro
           → IsWellSent setup station.identity message → IsSaid next.alarms.pdus next.acks (noted_in message) → IsIn setup station.identity next (bytes_of station.identity message)
       message_in (Again frame) owed_so heard_so noted_so well_so is = again_in frame owed_so
       message_in (Exchanges route frame) owed_so heard_so noted_so well_so is = in_by _ (noted_by frame) noted_so is heard_so.0 well_so
-      message_in (Ends farewell) owed_so heard_so noted_so well_so is = in_by _ (Some notice.Abort) noted_so is heard_so.0 well_so
+      message_in (Ends farewell) owed_so heard_so noted_so well_so is = in_by _ (Some (notice.Abort (status_of farewell.reason))) noted_so is heard_so.0 well_so
       message_in other owed_so heard_so noted_so well_so is = in_by _ None noted_so is heard_so.0 well_so
 
       messages_in : (messages : List Sent) → AllByRecursion (IsOwed heard live) messages → AllByRecursion (IsHeardAs rules station.identity) messages → AllByRecursion (IsNotedAs setup station.identity) messages
@@ -447,7 +448,7 @@ module _ (setup : Setup) (station : Station) (live : Live) (controlling : Contro
   heard_turned (controller.Alarms source under header (notice.Data number report)) is own = report_turned source under header number report is own.1
   heard_turned (controller.Alarms source under header (notice.Ack number)) is own = ack_turned source under header number is own.1
   heard_turned (controller.Alarms source under header notice.Nack) is own = turned_by (Hears (controller.Alarms source under header notice.Nack)) _ refl
-  heard_turned (controller.Alarms source under header notice.Abort) is own = turned_by (Hears (controller.Alarms source under header notice.Abort)) _ refl
+  heard_turned (controller.Alarms source under header (notice.Abort status)) is own = turned_by (Hears (controller.Alarms source under header (notice.Abort status))) _ refl
   heard_turned controller.Nothing is own = turned_by (Hears controller.Nothing) _ refl
   heard_turned (controller.Answers source answer) is own = turned_by (Hears (controller.Answers source answer)) _ refl
   heard_turned (controller.Responds response) is own = turned_by (Hears (controller.Responds response)) _ refl

@@ -21,7 +21,8 @@ use Rattle.rpc_core.specs.declared.fault.RpcFault.{RpcFault}
 use Rattle.rpc_core.specs.Call.{Asked as Call, call_of}
 use Rattle.rpc_core.specs.Response.{Answered as Response, response_of}
 use Rattle.rpc_core.specs.declared.interface.Interface.TheVariants.{Controller as controllers}
-use Rattle.pn_alarms.specs.Message.{alarm_of, message_of}
+use Rattle.pn_alarms.specs.Message.{message_of}
+use Rattle.alarm_reports.specs.Message.{alarm_of}
 use Rattle.plans.specs.declared.parts.Controller.{Controller}
 use Rattle.device_frames.specs.Heard.{Heard, Elsewhere, Resolves, Reported, Cyclic, broadcast, heard_alarm, heard_content, heard_frame, heard_of, heard_request, is_own, is_taken, said_by}
 use Rattle.controller_frames.specs.Heard as controller

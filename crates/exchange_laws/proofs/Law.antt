@@ -3,6 +3,7 @@ use Rattle.std.proofs.Common.{◌≡◌, ◌⊎◌, inl, inr, ◌==◌, ◌&&◌
 use Rattle.std.specs.Prelude.{nat_eq, slice_get}
 use Rattle.std.specs.Cmp.Lexicographic.{pointwise}
 use Rattle.std.specs.List.{AllByRecursion}
+use Rattle.lldp.specs.Views.{peer_as}
 use Rattle.std.proofs.lemmas.List.{length-append}
 use Rattle.flash_model.specs.declared.flash.Flash.{Ghosts as Flash}
 use Rattle.settings_store.specs.Machine.{Outcome}
@@ -25,7 +26,7 @@ use Rattle.records.specs.declared.writes.taken.TakenRecord.{TakenRecord}
 use Rattle.relations.specs.RelationState.{RelationState}
 use Rattle.relations.specs.Exchanged.{raised_to}
 use Rattle.device_frames.specs.declared.event.Event.TheVariants.{Frame}
-use Rattle.device_frames.specs.Heard.{Heard, Ticks, Elsewhere, Asks, Resolves, Cyclic, Given, Raised, Rated, Readied, broadcast, heard_alarm, heard_content, heard_frame, heard_of, heard_request, is_own, is_taken}
+use Rattle.device_frames.specs.Heard.{Heard, Ticks, Elsewhere, Asks, Resolves, Cyclic, Given, Raised, Rated, Met, Readied, broadcast, heard_alarm, heard_content, heard_frame, heard_of, heard_request, is_own, is_taken}
 use Rattle.device_core.specs.State.{Station, Live}
 use Rattle.device_core.specs.Machine.{heard_step}
 use Rattle.controller_frames.specs.declared.request.Request.TheVariants as asks
@@ -319,6 +320,7 @@ module _ {F : Type 0} where
     one_follows (move.Alarm slot subslot octets) happens meant = taken_none after _ taken (device_raises slot subslot octets.items happens meant)
     one_follows (move.Status slot subslot is_good) happens meant =
         taken_none after (raised ++ []) taken (device_inactive (Rated slot subslot is_good) tt tt never_first never_late (λ caller address call e other. absurd (other refl)) happens meant)
+    one_follows (move.Neighbour neighbour) happens meant = taken_none after (raised ++ []) taken (device_inactive (Met (option_map peer_as neighbour)) tt tt never_first never_late (λ caller address call e other. absurd (other refl)) happens meant)
     one_follows move.Ready happens meant = taken_none after (raised ++ []) taken (device_inactive Readied tt tt never_first never_late (λ caller address call e other. absurd (other refl)) happens meant)
     one_follows (move.Give slot subslot value) happens meant = raised_none after raised (taken ++ []) (controller_on (event.Give slot subslot value) [] tt refl meant
         (so.goes_sized setup before.controller.live (event.Give slot subslot value) follows.good follows.lives tt, tt) happens)

@@ -25,15 +25,16 @@ use Rattle.connect_blocks.specs.declared.control.ControlBlock.{ControlBlock}
 use Rattle.connect_requests.specs.Request.{Request as Asked_for}
 use Rattle.record_blocks.specs.declared.alarm_ack.AlarmAck.{AlarmAck}
 use Rattle.record_blocks.specs.declared.alarm_notification.AlarmNotification.{AlarmNotification}
+use Rattle.pn_alarms.specs.Abort.{status_of}
 use Rattle.pn_alarms.specs.declared.abort.Abort.{Abort}
 use Rattle.pn_alarms.specs.declared.message.Notice.TheVariants as notice
 use Rattle.pn_alarms.specs.declared.pdu.Header.{Header}
 use Rattle.pn_alarms.specs.declared.pdu.PduType.{PduType}
 use Rattle.pn_alarms.specs.declared.pdu.PduType.TheVariants as pdu
-use Rattle.pn_alarms.specs.declared.priority.Priority.{Priority}
-use Rattle.pn_alarms.specs.declared.priority.Priority.TheVariants.{High, Low}
+use Rattle.alarm_reports.specs.declared.priority.Priority.{Priority}
+use Rattle.alarm_reports.specs.declared.priority.Priority.TheVariants.{High, Low}
 use Rattle.pn_alarms.specs.Format.{frame_id_of}
-use Rattle.pn_alarms.specs.Report.{ours}
+use Rattle.alarm_reports.specs.Report.{ours}
 use Rattle.pn_alarms.specs.Message.{ToDevice}
 use Rattle.cyclic_exchange.specs.declared.route.Route.{Route}
 use Rattle.cyclic_exchange.specs.Frames.{cyclic_body}
@@ -113,7 +114,7 @@ pub record HearsSo : Type 0 where
   pub nack : (mine : Controller) (identity : Identity) (route : Route) (header : Header) → IsDevice identity → IsRoute route → header.kind ≡ pdu.Nack → IsHeader header
       → heard_by mine (bytes_of identity (sent.Exchanges route (Answers header))) ≡ mine_hears mine route.partner (controller.Alarms identity.mac High header notice.Nack)
   pub end_heard : (mine : Controller) (identity : Identity) (farewell : Farewell) → IsDevice identity → IsMac farewell.initiator → farewell.tag < 65536 → IsHeader (said_by farewell).header
-      → heard_by mine (bytes_of identity (sent.Ends farewell)) ≡ mine_hears mine farewell.initiator (controller.Alarms identity.mac Low (said_by farewell).header notice.Abort)
+      → heard_by mine (bytes_of identity (sent.Ends farewell)) ≡ mine_hears mine farewell.initiator (controller.Alarms identity.mac Low (said_by farewell).header (notice.Abort (status_of farewell.reason)))
   pub confirms : (identity : Identity) (setup : Setup) (route : Route) (header : Header) (one : AlarmAck)
       → IsSetup setup → IsRoute route → header.kind ≡ pdu.Data → IsHeader header → IsAck one
       → heard_of identity (comes (said.bytes_of setup (said.Confirms route High header one))) ≡ own_hears identity route.partner (device.Alarms setup.plan.controller.mac header (notice.Data header.send_number one))
@@ -128,7 +129,7 @@ pub record HearsSo : Type 0 where
   pub nacks : (identity : Identity) (setup : Setup) (route : Route) (priority : Priority) (header : Header) → IsSetup setup → IsRoute route → header.kind ≡ pdu.Nack → IsHeader header
       → heard_of identity (comes (said.bytes_of setup (said.Replies route priority header))) ≡ own_hears identity route.partner (device.Alarms setup.plan.controller.mac header notice.Nack)
   pub ends : (identity : Identity) (setup : Setup) (route : Route) (header : Header) (reason : Abort) → IsSetup setup → IsRoute route → IsHeader header
-      → heard_of identity (comes (said.bytes_of setup (said.Ends route header reason))) ≡ own_hears identity route.partner (device.Alarms setup.plan.controller.mac (end_pdu header reason).header notice.Abort)
+      → heard_of identity (comes (said.bytes_of setup (said.Ends route header reason))) ≡ own_hears identity route.partner (device.Alarms setup.plan.controller.mac (end_pdu header reason).header (notice.Abort (status_of reason)))
   pub identify : (identity : Identity) (setup : Setup) (to : Mac) → IsSetup setup
       → heard_of identity (comes (said.bytes_of setup (said.Requests to asks.Identify))) ≡ device.Asks setup.plan.controller.mac (identify_asked setup.plan)
   pub address : (identity : Identity) (setup : Setup) (to : Mac) → IsSetup setup → IsMac to
@@ -325,14 +326,14 @@ module _ (so : HearsSo) (setup : Setup) (identity : Identity) where
   message_noted : (message : sent.Sent) → IsSendable identity message → IsSizedSent identity message → IsReady message → IsNotedAs setup identity message
   message_noted (sent.Exchanges route frame) can sized ready_so = frame_noted route frame can sized
   message_noted (sent.Ends farewell) can sized ready_so = (
-    noted_by_law (bytes_of identity (sent.Ends farewell)) farewell.initiator (controller.Alarms identity.mac Low (said_by farewell).header notice.Abort)
+    noted_by_law (bytes_of identity (sent.Ends farewell)) farewell.initiator (controller.Alarms identity.mac Low (said_by farewell).header (notice.Abort (status_of farewell.reason)))
         (so.end_heard mine identity farewell can.source can.destination can.tag sized.1),
     alarm_unreported farewell.initiator (Some farewell.tag) _ _ sized.0 can,
-    good_by_law (bytes_of identity (sent.Ends farewell)) farewell.initiator (controller.Alarms identity.mac Low (said_by farewell).header notice.Abort)
+    good_by_law (bytes_of identity (sent.Ends farewell)) farewell.initiator (controller.Alarms identity.mac Low (said_by farewell).header (notice.Abort (status_of farewell.reason)))
         (so.end_heard mine identity farewell can.source can.destination can.tag sized.1) (tt, tt),
   )
   message_noted (sent.IdentifyAnswer asker running xid) can sized ready_so = plain_noted asker None 65279 _ refl can
-  message_noted (sent.GetAnswer asker running request) can sized ready_so = plain_noted asker None 65277 _ refl can
+  message_noted (sent.GetAnswer asker running alias request) can sized ready_so = plain_noted asker None 65277 _ refl can
   message_noted (sent.SetAnswer asker request answers) can sized ready_so = plain_noted asker None 65277 _ refl can
   message_noted (sent.ArpReply asker address target) can sized ready_so =
       let reads = so.packet_read asker identity.mac None _ can in

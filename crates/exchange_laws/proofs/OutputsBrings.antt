@@ -48,9 +48,9 @@ use Rattle.controller_frames.specs.declared.request.Request.{Request}
 use Rattle.controller_frames.specs.declared.request.Request.TheVariants as asks
 use Rattle.controller_frames.specs.RecordRequests.{record_call}
 use Rattle.controller_frames.specs.Requests.{address_asked, call_for, identify_asked}
-use Rattle.pn_alarms.specs.declared.priority.Priority.{Priority}
-use Rattle.pn_alarms.specs.declared.priority.Priority.TheVariants.{High, Low}
-use Rattle.pn_alarms.specs.Priority.{frame_id_at}
+use Rattle.alarm_reports.specs.declared.priority.Priority.{Priority}
+use Rattle.alarm_reports.specs.declared.priority.Priority.TheVariants.{High, Low}
+use Rattle.alarm_reports.specs.Priority.{frame_id_at}
 use Rattle.controller_frames.specs.Sent.{Sent as Message, Requests, Accesses, Agrees, Cycles, Confirms, Replies, Ends as Leaves, ack_pdu, alarm_frame, bytes_of as bytes_said, call_frame, calls_at, end_frame, end_pdu, identify_multicast, reply_pdu, request_frame, tag_of as tag_at}
 use Rattle.device_frames.specs.Heard.{Heard, Cyclic, Elsewhere, Resolves, Reported, Unreadable, broadcast, heard_alarm, heard_content, heard_frame, heard_of, heard_request, is_own, is_taken, said_by}
 use Rattle.controller_frames.specs.declared.setup.Setup.{Setup}
@@ -287,7 +287,7 @@ module _ (setup : Setup) (identity : Identity) where
     -- no message brings outputs
     pub message_silent : (message : Sent) → IsSendable identity message → IsKnown rules message → BringsNone rules (bytes_of identity message)
     message_silent (IdentifyAnswer asker running xid) can known = own_silent asker None (RealTime 65279 (identify_bytes identity running xid)) can
-    message_silent (GetAnswer asker running request) can known = own_silent asker None (RealTime 65277 (get_bytes identity running request)) can
+    message_silent (GetAnswer asker running alias request) can known = own_silent asker None (RealTime 65277 (get_bytes identity running alias request)) can
     message_silent (SetAnswer asker request answers) can known = own_silent asker None (RealTime 65277 (set_bytes request answers)) can
     message_silent (ArpReply asker address target) can known = own_silent asker None (reply_content identity address target) can
     message_silent (CallAnswer caller address answer) can known = own_silent caller.mac None (response_content caller address answer) can

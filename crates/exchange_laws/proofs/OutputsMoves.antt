@@ -145,6 +145,7 @@ given_more setup once moves live was (move.Tick end) = was ∙ still setup moves
 given_more setup once moves live was (move.Input slot subslot value) = was ∙ still setup moves (move.Input slot subslot value) (λ place last. refl) (λ place last. refl)
 given_more setup once moves live was (move.Alarm slot subslot octets) = was ∙ still setup moves (move.Alarm slot subslot octets) (λ place last. refl) (λ place last. refl)
 given_more setup once moves live was (move.Status slot subslot is_good) = was ∙ still setup moves (move.Status slot subslot is_good) (λ place last. refl) (λ place last. refl)
+given_more setup once moves live was (move.Neighbour neighbour) = was ∙ still setup moves (move.Neighbour neighbour) (λ place last. refl) (λ place last. refl)
 given_more setup once moves live was move.Ready = was ∙ still setup moves move.Ready (λ place last. refl) (λ place last. refl)
 given_more setup once moves live was (move.Read slot subslot index) = was ∙ still setup moves (move.Read slot subslot index) (λ place last. refl) (λ place last. refl)
 given_more setup once moves live was (move.Write slot subslot index octets) = was ∙ still setup moves (move.Write slot subslot index octets) (λ place last. refl) (λ place last. refl)

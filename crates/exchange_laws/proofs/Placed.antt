@@ -22,13 +22,13 @@ use Rattle.pn_alarms.specs.declared.message.Notice.TheVariants as notice
 use Rattle.pn_alarms.specs.declared.pdu.Header.{Header}
 use Rattle.pn_alarms.specs.declared.receiver.Taken.{Taken}
 use Rattle.pn_alarms.specs.declared.receiver.Taken.TheVariants.{New, Again, Refused}
-use Rattle.pn_alarms.specs.Message.{ToController}
+use Rattle.alarm_reports.specs.Message.{ToController}
 use Rattle.pn_alarms.specs.Receiver.{taken_as}
 use Rattle.pn_alarms.specs.Ends.{ControllerEnd}
-use Rattle.pn_alarms.specs.declared.priority.Priority.{Priority}
-use Rattle.pn_alarms.specs.declared.priority.Priority.TheVariants.{High, Low}
+use Rattle.alarm_reports.specs.declared.priority.Priority.{Priority}
+use Rattle.alarm_reports.specs.declared.priority.Priority.TheVariants.{High, Low}
 use Rattle.pn_alarms.specs.declared.repeats.Due.{Due}
-use Rattle.pn_alarms.specs.declared.report.Report.{Report}
+use Rattle.alarm_reports.specs.declared.report.Report.{Report}
 use Rattle.pn_alarms.specs.Sending.{due}
 use Rattle.pn_alarms.specs.Sending.{is_again as is_repeated}
 use Rattle.plans.specs.declared.parts.Parts.{Parts}
@@ -290,7 +290,7 @@ module _ (setup : Setup) (mac : Mac) (apart : mac ≡ setup.plan.controller.mac 
       taken_placed (behind_data live report.priority number) report (taken_as (end_of live report.priority).seen number) (with_end_up live report.priority _ up) (with_end_placed live report.priority _ p)
   noticed_placed live under (notice.Ack number) up p = stays_placed (behind_ack live (acked_under live under) number) (with_end_placed live (acked_under live under) _ p)
   noticed_placed live under notice.Nack up p = stays_placed live p
-  noticed_placed live under notice.Abort up p = ends_placed _ live p
+  noticed_placed live under (notice.Abort status) up p = ends_placed _ live p
 
   and_first : (a b : Bool) → (a && b) ≡ true → a ≡ true
   and_first true b e = refl

@@ -4,13 +4,14 @@ use Rattle.pn_values.specs.declared.identity.Identity.{Identity}
 use Rattle.pn_values.specs.declared.mac.Mac.{Mac}
 use Rattle.record_blocks.specs.declared.alarm_ack.AlarmAck.{AlarmAck}
 use Rattle.record_blocks.specs.declared.alarm_notification.AlarmNotification.{AlarmNotification}
+use Rattle.pn_alarms.specs.Abort.{status_of}
 use Rattle.pn_alarms.specs.declared.message.Notice.{Notice}
 use Rattle.pn_alarms.specs.declared.message.Notice.TheVariants as notice
 use Rattle.pn_alarms.specs.declared.pdu.PduType.{PduType}
-use Rattle.pn_alarms.specs.declared.priority.Priority.{Priority}
-use Rattle.pn_alarms.specs.declared.priority.Priority.TheVariants.{High}
-use Rattle.pn_alarms.specs.Message.{ToController}
-use Rattle.pn_alarms.specs.Report.{ours}
+use Rattle.alarm_reports.specs.declared.priority.Priority.{Priority}
+use Rattle.alarm_reports.specs.declared.priority.Priority.TheVariants.{High}
+use Rattle.alarm_reports.specs.Message.{ToController}
+use Rattle.alarm_reports.specs.Report.{ours}
 use Rattle.pn_alarms.specs.declared.pdu.PduType.TheVariants as pdu
 use Rattle.relations.specs.exchange.Frames.{Frame, Inputs, Notifies, Replies as Answers}
 use Rattle.device_frames.specs.declared.event.Event.TheVariants.{Frame as comes_in}
@@ -58,7 +59,7 @@ noted_by (Answers header) = reply_of header.ack_number header.kind
 
 abbrev pub noted_in : sent.Sent → Option (Notice AlarmNotification)
 noted_in (sent.Exchanges route frame) = noted_by frame
-noted_in (sent.Ends farewell) = Some notice.Abort
+noted_in (sent.Ends farewell) = Some (notice.Abort (status_of farewell.reason))
 noted_in other = None
 
 -- ---- at the controller
@@ -68,7 +69,7 @@ abbrev pub noticed : ToController → Notice AlarmNotification
 noticed (notice.Data number report) = notice.Data number report.notification
 noticed notice.Nack = notice.Nack
 noticed (notice.Ack number) = notice.Ack number
-noticed notice.Abort = notice.Abort
+noticed (notice.Abort status) = notice.Abort status
 
 -- what the controller hears of alarms
 abbrev pub noted_at : controller.Heard → Option (Notice AlarmNotification)
@@ -80,7 +81,7 @@ noted_at other = None
 abbrev pub reported_in : said.Sent → Option (Notice AlarmAck)
 reported_in (said.Confirms route High header ack) = Some (notice.Data header.send_number ack)
 reported_in (said.Replies route priority header) = reply_of header.ack_number header.kind
-reported_in (said.Ends route header reason) = Some notice.Abort
+reported_in (said.Ends route header reason) = Some (notice.Abort (status_of reason))
 reported_in other = None
 
 -- ---- what a controller hears of its device
@@ -131,9 +132,9 @@ IsNotedBy setup identity octets says = ((noted_of setup octets ≡ says) ⊎ (no
 abbrev pub IsNotedAs : Setup → Identity → sent.Sent → Type 0
 IsNotedAs setup identity (sent.Again frame) = Unit {0}
 IsNotedAs setup identity (sent.Exchanges route frame) = IsNotedBy setup identity (bytes_of identity (sent.Exchanges route frame)) (noted_by frame)
-IsNotedAs setup identity (sent.Ends farewell) = IsNotedBy setup identity (bytes_of identity (sent.Ends farewell)) (Some notice.Abort)
+IsNotedAs setup identity (sent.Ends farewell) = IsNotedBy setup identity (bytes_of identity (sent.Ends farewell)) (Some (notice.Abort (status_of farewell.reason)))
 IsNotedAs setup identity (sent.IdentifyAnswer asker running xid) = IsNotedBy setup identity (bytes_of identity (sent.IdentifyAnswer asker running xid)) None
-IsNotedAs setup identity (sent.GetAnswer asker running request) = IsNotedBy setup identity (bytes_of identity (sent.GetAnswer asker running request)) None
+IsNotedAs setup identity (sent.GetAnswer asker running alias request) = IsNotedBy setup identity (bytes_of identity (sent.GetAnswer asker running alias request)) None
 IsNotedAs setup identity (sent.SetAnswer asker request answers) = IsNotedBy setup identity (bytes_of identity (sent.SetAnswer asker request answers)) None
 IsNotedAs setup identity (sent.ArpReply asker address target) = IsNotedBy setup identity (bytes_of identity (sent.ArpReply asker address target)) None
 IsNotedAs setup identity (sent.CallAnswer caller address answer) = IsNotedBy setup identity (bytes_of identity (sent.CallAnswer caller address answer)) None
@@ -157,7 +158,7 @@ IsWellSent setup identity (sent.Again frame) = Unit {0}
 IsWellSent setup identity (sent.Exchanges route frame) = IsWellBy setup (bytes_of identity (sent.Exchanges route frame))
 IsWellSent setup identity (sent.Ends farewell) = IsWellBy setup (bytes_of identity (sent.Ends farewell))
 IsWellSent setup identity (sent.IdentifyAnswer asker running xid) = IsWellBy setup (bytes_of identity (sent.IdentifyAnswer asker running xid))
-IsWellSent setup identity (sent.GetAnswer asker running request) = IsWellBy setup (bytes_of identity (sent.GetAnswer asker running request))
+IsWellSent setup identity (sent.GetAnswer asker running alias request) = IsWellBy setup (bytes_of identity (sent.GetAnswer asker running alias request))
 IsWellSent setup identity (sent.SetAnswer asker request answers) = IsWellBy setup (bytes_of identity (sent.SetAnswer asker request answers))
 IsWellSent setup identity (sent.ArpReply asker address target) = IsWellBy setup (bytes_of identity (sent.ArpReply asker address target))
 IsWellSent setup identity (sent.CallAnswer caller address answer) = IsWellBy setup (bytes_of identity (sent.CallAnswer caller address answer))

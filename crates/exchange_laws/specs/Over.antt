@@ -3,7 +3,7 @@ use Rattle.std.specs.Prelude.{◌≡◌, ◌⊎◌, ◌++◌, ◌&&◌, ℕ, Boo
 use Rattle.record_blocks.specs.declared.alarm_notification.AlarmNotification.{AlarmNotification}
 use Rattle.pn_alarms.specs.declared.message.Notice.TheVariants as notice
 use Rattle.pn_alarms.specs.declared.pdu.Header.{Header}
-use Rattle.pn_alarms.specs.Message.{ToController}
+use Rattle.alarm_reports.specs.Message.{ToController}
 use Rattle.pn_values.specs.declared.mac.Mac.{Mac}
 use Rattle.pn_alarms.specs.Receiver.{taken_as}
 use Rattle.relations.specs.exchange.Flow.{Flow}
@@ -40,6 +40,7 @@ module _ {F : Type 0} where
   raised_with world (move.Tick end) = []
   raised_with world (move.Input slot subslot value) = []
   raised_with world (move.Status slot subslot is_good) = []
+  raised_with world (move.Neighbour neighbour) = []
   raised_with world move.Ready = []
   raised_with world (move.Give slot subslot value) = []
   raised_with world (move.OutputStatus slot subslot is_good) = []
@@ -63,7 +64,7 @@ taken_of live source header (notice.Data number report) =
     else []
 taken_of live source header (notice.Ack number) = []
 taken_of live source header notice.Nack = []
-taken_of live source header notice.Abort = []
+taken_of live source header (notice.Abort status) = []
 
 -- the alarms accepted with what a controller hears
 abbrev pub taken_by : Live → Heard → List AlarmNotification
@@ -94,6 +95,7 @@ module _ {F : Type 0} where
   taken_with world (move.Input slot subslot value) = []
   taken_with world (move.Alarm slot subslot octets) = []
   taken_with world (move.Status slot subslot is_good) = []
+  taken_with world (move.Neighbour neighbour) = []
   taken_with world move.Ready = []
   taken_with world (move.Give slot subslot value) = []
   taken_with world (move.OutputStatus slot subslot is_good) = []

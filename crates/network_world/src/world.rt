@@ -189,6 +189,11 @@ fn happen<F: Flash<S>, const S: usize>(
             happen_at_device(device, sent, &status);
         }
         Move::Ready => happen_at_device(device, sent, &DeviceEvent::Ready),
+        Move::Neighbour(Some(neighbour)) => {
+            let met = DeviceEvent::Neighbour(Some(neighbour.copy()));
+            happen_at_device(device, sent, &met);
+        }
+        Move::Neighbour(None) => happen_at_device(device, sent, &DeviceEvent::Neighbour(None)),
         Move::Give(slot, subslot, value) => {
             let output = ControllerEvent::Give(*slot, *subslot, bytes_of(value.as_slice()));
             happen_at_controller(controller, sent, &output);

@@ -12,6 +12,7 @@ ghost use Rattle.pn_alarms.specs.Device.{idle, heard_as, sender_after, end_behin
 
 use crate::{Alarm, Due, Header, Message, PduType, RaiseFault, Receiver, Reply, Sender, Taken};
 use block_codec::{AlarmAck, AlarmNotification};
+use rpc_core::Status;
 use std::marker::Model;
 
 /// What happens to a PDU.
@@ -23,8 +24,8 @@ pub enum PduFate {
     Done,
     /// It was another ACK, or a NACK.
     Ignored,
-    /// It was an ERR: the relation ends.
-    Aborted,
+    /// It was an ERR with this PNIOStatus: the relation ends.
+    Aborted(Status),
 }
 
 /// A device's end of the alarms of a relation: it sends alarms, one at a time, and accepts AlarmAcks, each once.
@@ -126,7 +127,7 @@ impl DeviceAlarms {
             // The alarm is sent again after its interval anyway. A NACK says that a number was not expected, and the
             // repeat corrects that.
             Message::Nack => PduFate::Ignored,
-            Message::Abort => PduFate::Aborted,
+            Message::Abort(status) => PduFate::Aborted(*status),
         }
     }
 

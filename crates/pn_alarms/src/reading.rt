@@ -64,7 +64,8 @@ fn short_fault(bytes: &[u8]) -> AlarmFault
 
 #[tactic(auto, unfolding(crate::specs::Format::pdu_of, crate::specs::Format::pdu))]
 fn pdu_in(bytes: &[u8]) -> Result<Pdu<'_>, AlarmFault>
-    ensures { Gives said result (pdu_of bytes.now) }
+    ensures exact { Gives said result (pdu_of bytes.now) }
+    ensures long { IfOk result (λ pdu. is_long pdu.header.kind (length pdu.body.now) ≡ true) }
 {
     // The length is checked once: after this no field before the body can be missing.
     if bytes.len() < FRONT {
@@ -91,6 +92,8 @@ pub fn read_pdu(bytes: &[u8]) -> Result<Pdu<'_>, AlarmFault>
         Gives said result (Ok meaning) }
     // The result is the PDU or the fault that the format defines for these octets.
     ensures exact { Gives said result (pdu_of bytes.now) }
+    // The body is long enough for the type.
+    ensures long { IfOk result (λ pdu. is_long pdu.header.kind (length pdu.body.now) ≡ true) }
 {
     pdu_in(bytes)
 }

@@ -100,7 +100,7 @@ impl Relation {
             return PduFate::Ignored;
         };
         let heard = self.exchange.hear(message);
-        if let PduFate::Aborted = heard {
+        if let PduFate::Aborted(_) = heard {
             self.phase = None;
         }
         heard

@@ -29,6 +29,6 @@ pub use options::{Application, DeviceOptions};
 pub use phase::{Partner, Phase};
 pub use pn_alarms::Abort;
 pub use ready::Ready;
-pub use relation::Relation;
+pub use relation::{Relation, RelationParts};
 pub use statuses::{InputStatus, is_bad, put_status};
 pub use time::Elapsed;

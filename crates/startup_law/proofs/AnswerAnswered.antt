@@ -47,7 +47,7 @@ answers_so setup identity device none =
     let address = device.values.running.suite.address in
     let link = device.rest.link in
     let rest = kept_behind identity device.rest call (answer_from address caller call Connect (connect_answer identity setup.plan.real 1 link blocks))
-    (updated (making setup.plan.real (partner_of caller) (record { begin_bad = false; statuses = device.rest.statuses }) (connect_within 1 link blocks)) link) in
+    (updated (making setup.plan.real (partner_of caller) (record { begin_bad = false; statuses = device.rest.statuses; units = device.rest.units }) (connect_within 1 link blocks)) link) in
     (rest, ap (λ (l : Option RelationState). Moves rest (answer_from address caller call Connect (connect_answer identity setup.plan.real 1 l blocks) ∷ [])) none)
 
 -- if the device reads the plan's request and no module differs, it responds with these blocks

@@ -31,10 +31,10 @@ use Rattle.connect_requests.specs.Request.{Request as Asked_for}
 use Rattle.records.specs.status.Operation.{operation_of}
 use Rattle.pn_alarms.specs.declared.fault.AlarmFault.{AlarmFault}
 use Rattle.pn_alarms.specs.declared.pdu.Header.{Header}
-use Rattle.pn_alarms.specs.declared.priority.Priority.{Priority}
-use Rattle.pn_alarms.specs.declared.priority.Priority.TheVariants.{High, Low}
+use Rattle.alarm_reports.specs.declared.priority.Priority.{Priority}
+use Rattle.alarm_reports.specs.declared.priority.Priority.TheVariants.{High, Low}
 use Rattle.cyclic_exchange.specs.declared.route.Route.{Route}
-use Rattle.pn_alarms.specs.Message.{ToController as AlarmReported, alarm_of}
+use Rattle.alarm_reports.specs.Message.{ToController as AlarmReported, alarm_of}
 use Rattle.plans.specs.declared.parts.Controller.{Controller}
 use Rattle.plans.specs.declared.parts.Parts.{Parts}
 use Rattle.plans.specs.Connect.{alarm_block}
@@ -450,7 +450,7 @@ module _ (so : HeardSo) (setup : Setup) (station : Station) (good : IsSetup setu
   message_met : (heard : Heard) (live : Live) (message : Sent) → IsKnownHeard setup heard → IsPlans live.rest.link → IsOwed heard live message → IsSendable identity message → IsMetAs message
   message_met heard live (Again frame) known plans owed can = tt
   message_met heard live (IdentifyAnswer asker running xid) known plans owed can = data_met asker None _ _ can.destination tt
-  message_met heard live (GetAnswer asker running request) known plans owed can = data_met asker None _ _ can.destination tt
+  message_met heard live (GetAnswer asker running alias request) known plans owed can = data_met asker None _ _ can.destination tt
   message_met heard live (SetAnswer asker request answers) known plans owed can = data_met asker None _ _ can.destination tt
   message_met heard live (ArpReply asker address target) known plans owed can = packet_met asker address target can.destination can.content.0.1 can.content.1
   message_met heard live (CallAnswer caller address answer) known plans owed can = answering_met heard caller address answer known owed can.content.0.0

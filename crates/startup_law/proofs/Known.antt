@@ -3,6 +3,7 @@
 use Rattle.std.proofs.Common.{◌≡◌, ◌⊎◌, inl, inr, ℕ, List, [], ◌∷◌, ◌++◌, map, Option, Some, None, option_map, Ok, refl, sym, ap, subst, ◌∙◌, append-nil, append_assoc}
 use Rattle.std.specs.Prelude.{slice_get}
 use Rattle.std.specs.List.{AllByRecursion}
+use Rattle.lldp.specs.Views.{peer_as}
 use Rattle.flash_model.specs.declared.flash.Flash.{Ghosts as Flash}
 use Rattle.settings_store.specs.Machine.{Outcome}
 use Rattle.pn_values.specs.declared.identity.Identity.{Identity}
@@ -14,7 +15,7 @@ use Rattle.records.specs.declared.writes.taken.TakenRecord.{TakenRecord}
 use Rattle.relations.specs.RelationState.{RelationState}
 use Rattle.startup_law.specs.request.Request.{request_for}
 use Rattle.device_frames.specs.declared.event.Event.TheVariants.{Frame}
-use Rattle.device_frames.specs.Heard.{Heard, Ticks, Given, Raised, Rated, Readied, heard_of}
+use Rattle.device_frames.specs.Heard.{Heard, Ticks, Given, Raised, Rated, Met, Readied, heard_of}
 use Rattle.device_frames.specs.Sent.{Sent, Again, bytes_of}
 use Rattle.device_core.specs.State.{Station, Live}
 use Rattle.device_core.specs.Machine.{heard_step, handled_step}
@@ -202,6 +203,7 @@ module _ (so : HeardSo) (goes : GoesSo) where
       all_meant (move.Input slot subslot value) = meant_at_device plans (Given slot subslot value.items) tt
       all_meant (move.Alarm slot subslot octets) = meant_at_device plans (Raised slot subslot octets.items) tt
       all_meant (move.Status slot subslot is_good) = meant_at_device plans (Rated slot subslot is_good) tt
+      all_meant (move.Neighbour neighbour) = meant_at_device plans (Met (option_map peer_as neighbour)) tt
       all_meant move.Ready = meant_at_device plans Readied tt
       all_meant (move.Give slot subslot value) = meant_at_controller (controller.Give slot subslot value) tt
       all_meant (move.OutputStatus slot subslot is_good) = meant_at_controller (controller.Status slot subslot is_good) tt
@@ -225,6 +227,7 @@ module _ (so : HeardSo) (goes : GoesSo) where
         holds_behind (move.Input slot subslot value) happens = holds_behind_device plans (Given slot subslot value.items) tt as_flash after happens
         holds_behind (move.Alarm slot subslot octets) happens = holds_behind_device plans (Raised slot subslot octets.items) tt as_flash after happens
         holds_behind (move.Status slot subslot is_good) happens = holds_behind_device plans (Rated slot subslot is_good) tt as_flash after happens
+        holds_behind (move.Neighbour neighbour) happens = holds_behind_device plans (Met (option_map peer_as neighbour)) tt as_flash after happens
         holds_behind move.Ready happens = holds_behind_device plans Readied tt as_flash after happens
         holds_behind (move.Give slot subslot value) happens = holds_behind_controller (controller.Give slot subslot value) tt after happens
         holds_behind (move.OutputStatus slot subslot is_good) happens = holds_behind_controller (controller.Status slot subslot is_good) tt after happens

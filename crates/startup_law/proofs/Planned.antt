@@ -3,7 +3,7 @@ use Rattle.std.proofs.Common.{◌≡◌, inl, inr, ◌<◌, ◌≤◌, ◌+◌, 
 use Rattle.std.specs.Prelude.{nat_eq, nat_lt, slice_get}
 use Rattle.std.specs.Cmp.Lexicographic.{pointwise, same_text}
 use Rattle.std.specs.List.{AllByRecursion}
-use Rattle.std.proofs.lemmas.Bool.{and_parts, ltb-true, ne_eqb}
+use Rattle.std.proofs.lemmas.Bool.{and_parts, cond-false, ltb-true, ne_eqb}
 use Rattle.std.proofs.lemmas.Option.{slice_get-map}
 use Rattle.wire.specs.Codec.{◌>>=◌}
 use Rattle.wire.specs.Checks.{or_fault}
@@ -35,7 +35,11 @@ use Rattle.records.specs.declared.writes.taken.TakenRecord.{TakenRecord}
 use Rattle.records.specs.declared.writes.write.Effect.{Effect}
 use Rattle.records.specs.declared.writes.write.Effect.TheVariants.{Keeps}
 use Rattle.records.specs.declared.writes.write.Write.{Write}
-use Rattle.records.specs.writes.Handled.{effect_of, is_known, is_length, handled_request, kept, stored, targeted, write_of, written}
+use Rattle.records.specs.declared.writes.writing.Writing.{Writing}
+use Rattle.records.specs.declared.writes.writing.Writing.TheVariants.{One, Each}
+use Rattle.records.specs.writes.Asked.{handled_writing, several_of, writing_of}
+use Rattle.records.specs.writes.Handled.{effect_of, is_known, is_length, handled_request, kept, stored, targeted, written}
+use Rattle.records.specs.writes.Several.{is_several}
 use Rattle.plans.specs.declared.parts.PlanRecord.{PlanRecord}
 use Rattle.plans.specs.Connect.{connect_of}
 use Rattle.plans.specs.Plan.{AreShort}
@@ -146,17 +150,31 @@ module _ (setup : Setup) (real : Real) (number : ℕ) (entry : PlanRecord) (belo
       let two = bind_ok (written real asked entry.data.items) (λ effect. Ok (record { request = asked; effect = effect })) write one.2 in
       ap (λ (w : Write). w.effect) (sym (ok_is (record { request = asked; effect = two.0 }) write two.2)) ∙ written_is two.0 two.1
 
+  -- one record, which is kept
+  abbrev IsKeeping : Writing → Type 0
+  IsKeeping writing = (write : Write) × (writing ≡ One write) × (write.effect ≡ Keeps (taken_for entry))
+
+  one_record : is_several asked ≡ false
+  one_record = ap (λ (b : Bool). b && (0 == 0xFFFFFFFF && (entry.slot == 0xFFFF && entry.subslot == 0xFFFF))) (differs entry.index 0xE040 (omega (arith, below)))
+
+  writing_is : (standing : Option (List ℕ)) (writing : Writing) → handled_writing standing real asked entry.data.items ≡ Ok writing → IsKeeping writing
+  writing_is standing writing e =
+      let alone : (handled_request standing real asked entry.data.items >>= λ write. Ok (One write)) ≡ Ok writing =
+      sym (cond-false _ _ _ one_record) ∙ e in
+      let there = bind_ok (handled_request standing real asked entry.data.items) (λ write. Ok (One write)) writing alone in
+      (there.0, sym (ok_is (One there.0) writing there.2), request_is standing there.0 there.1)
+
   -- what is read of the blocks that the controller writes
   write_is : ((rest : List ℕ) → block_of (block_bytes (variant.IodWriteReq asked) ++ rest) ≡ front (variant.IodWriteReq asked) rest)
-      → (standing : Option (List ℕ)) (write : Write) → write_of standing real (block_bytes (variant.IodWriteReq asked) ++ entry.data.items) ≡ Ok write → write.effect ≡ Keeps (taken_for entry)
-  unfolding write_of
-  write_is read standing write e =
+      → (standing : Option (List ℕ)) (writing : Writing) → writing_of standing real (block_bytes (variant.IodWriteReq asked) ++ entry.data.items) ≡ Ok writing → IsKeeping writing
+  unfolding writing_of
+  write_is read standing writing e =
       let blocks = block_bytes (variant.IodWriteReq asked) ++ entry.data.items in
-      let one = bind_ok (single_of kind.IodWriteReq blocks) (λ x. or_fault fault.BlockForm (in_iod_write_req x.0) >>= λ request. handled_request standing real request x.1) write e in
+      let one = bind_ok (single_of kind.IodWriteReq blocks) (λ x. or_fault fault.BlockForm (in_iod_write_req x.0) >>= λ request. handled_writing standing real request x.1) writing e in
       let same : one.0 ≡ (variant.IodWriteReq asked, entry.data.items) =
       ok_is one.0 (variant.IodWriteReq asked, entry.data.items) (sym (single_is kind.IodWriteReq blocks one.0 one.1) ∙ read entry.data.items) in
-      request_is standing write
-      (subst (λ (x : Block × List ℕ). (or_fault fault.BlockForm (in_iod_write_req x.0) >>= λ request. handled_request standing real request x.1) ≡ Ok write) same one.2)
+      writing_is standing writing
+      (subst (λ (x : Block × List ℕ). (or_fault fault.BlockForm (in_iod_write_req x.0) >>= λ request. handled_writing standing real request x.1) ≡ Ok writing) same one.2)
 
 -- ---- the plan's records
 
@@ -191,7 +209,7 @@ module _ (read : (block : Block) (rest : List ℕ) → CanBeWritten block → bl
         value = taken_for entry;
         is = refl;
         there = slice_get-map taken_for setup.plan.records.items number ∙ ap (λ (o : Option PlanRecord). option_map taken_for o) there.1;
-        keeps = λ standing write e. write_is setup station.real number entry below
+        keeps = λ standing writing e. write_is setup station.real number entry below
             (λ rest. read (variant.IodWriteReq (write_asked setup number entry)) rest (record {
               header = record {
                 seq_number = omega (arith, listed, good.few);
@@ -203,8 +221,8 @@ module _ (read : (block : Block) (rest : List ℕ) → CanBeWritten block → bl
                 record_data_length = omega (arith, short);
               };
             }))
-            standing write
-            (subst (λ (o : Option PlanRecord). write_of standing station.real (write_blocks setup number o) ≡ Ok write) there.1 e);
+            standing writing
+            (subst (λ (o : Option PlanRecord). writing_of standing station.real (write_blocks setup number o) ≡ Ok writing) there.1 e);
       }
 
   asked_planned : (request : Request) → IsCalled request → IsListed setup.plan request

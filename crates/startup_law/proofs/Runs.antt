@@ -2,13 +2,14 @@
 use Rattle.std.proofs.Common.{◌≡◌, ◌⊎◌, inl, inr, ℕ, Bool, true, false, List, [], ◌∷◌, ◌++◌, map, length, Option, Some, None, option_map, refl, sym, ap, subst, ◌∙◌}
 use Rattle.std.specs.Prelude.{slice_get}
 use Rattle.std.specs.List.{AllByRecursion}
+use Rattle.lldp.specs.Views.{peer_as}
 use Rattle.std.proofs.lemmas.List.{length-map}
 use Rattle.flash_model.specs.declared.flash.Flash.{Ghosts as Flash}
 use Rattle.settings_store.specs.Machine.{Outcome}
 use Rattle.connect_requests.specs.Request.{Request}
 use Rattle.records.specs.declared.writes.taken.TakenRecord.{TakenRecord}
 use Rattle.relations.specs.RelationState.{RelationState}
-use Rattle.device_frames.specs.Heard.{Heard, Ticks, Given, Raised, Rated, Readied}
+use Rattle.device_frames.specs.Heard.{Heard, Ticks, Given, Raised, Rated, Met, Readied}
 use Rattle.device_core.specs.State.{Station, Live}
 use Rattle.device_core.specs.Machine.{heard_step}
 use Rattle.controller_frames.specs.declared.setup.Setup.{Setup}
@@ -228,6 +229,7 @@ module _ {F : Type 0} where
       happens_steps (move.Input slot subslot value) meant happens = does before after _ _ _ (λ steps. steps) (at_device_steps before after (Given slot subslot value.items) in_step meant happens)
       happens_steps (move.Alarm slot subslot octets) meant happens = does before after _ _ _ (λ steps. steps) (at_device_steps before after (Raised slot subslot octets.items) in_step meant happens)
       happens_steps (move.Status slot subslot is_good) meant happens = does before after _ _ _ (λ steps. steps) (at_device_steps before after (Rated slot subslot is_good) in_step meant happens)
+      happens_steps (move.Neighbour neighbour) meant happens = does before after _ _ _ (λ steps. steps) (at_device_steps before after (Met (option_map peer_as neighbour)) in_step meant happens)
       happens_steps move.Ready meant happens = does before after _ _ _ (λ steps. steps) (at_device_steps before after Readied in_step meant happens)
       happens_steps (move.Give slot subslot value) meant happens =
           does before after _ _ _ (λ steps. steps) (at_controller_steps on frames_are before after (controller.Give slot subslot value) in_step meant happens)

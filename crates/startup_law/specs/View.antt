@@ -1,6 +1,8 @@
 -- Both ends of a network, as far as a start-up is concerned.
 use Rattle.std.specs.Prelude.{◌≡◌, ◌⊎◌, ◌&&◌, ℕ, zero, suc, Bool, false, nat_eq, nat_lt, List, length, map, slice_get, Some}
 use Rattle.std.specs.List.{AllByRecursion}
+use Rattle.std.specs.Option.{option_map}
+use Rattle.lldp.specs.Views.{peer_as}
 use Rattle.std.specs.Cmp.Lexicographic.{pointwise}
 use Rattle.settings_store.specs.Machine.{Outcome}
 use Rattle.connect_requests.specs.Request.{Request}
@@ -8,7 +10,7 @@ use Rattle.records.specs.declared.writes.taken.TakenRecord.{TakenRecord}
 use Rattle.plans.specs.declared.parts.PlanRecord.{PlanRecord}
 use Rattle.startup_law.specs.request.Request.{request_for}
 use Rattle.device_frames.specs.declared.event.Event.TheVariants.{Frame}
-use Rattle.device_frames.specs.Heard.{Calls, Heard, Ticks, Given, Raised, Rated, Readied, heard_of}
+use Rattle.device_frames.specs.Heard.{Calls, Heard, Ticks, Given, Raised, Rated, Met, Readied, heard_of}
 use Rattle.device_frames.specs.Sendable.{AreSendable}
 use Rattle.device_core.specs.State.{Station}
 use Rattle.device_core.specs.Machine.{heard_step}
@@ -72,6 +74,7 @@ move_of (move.Tick Controller) = small.AtController
 move_of (move.Input slot subslot value) = small.AtDevice
 move_of (move.Alarm slot subslot octets) = small.AtDevice
 move_of (move.Status slot subslot is_good) = small.AtDevice
+move_of (move.Neighbour neighbour) = small.AtDevice
 move_of move.Ready = small.AtDevice
 move_of (move.Give slot subslot value) = small.AtController
 move_of (move.OutputStatus slot subslot is_good) = small.AtController
@@ -118,6 +121,7 @@ IsMeant world (move.Tick Controller) = IsMeantAtController world controller.Tick
 IsMeant world (move.Input slot subslot value) = IsMeantAtDevice world (Given slot subslot value.items)
 IsMeant world (move.Alarm slot subslot octets) = IsMeantAtDevice world (Raised slot subslot octets.items)
 IsMeant world (move.Status slot subslot is_good) = IsMeantAtDevice world (Rated slot subslot is_good)
+IsMeant world (move.Neighbour neighbour) = IsMeantAtDevice world (Met (option_map peer_as neighbour))
 IsMeant world move.Ready = IsMeantAtDevice world Readied
 IsMeant world (move.Give slot subslot value) = IsMeantAtController world (controller.Give slot subslot value)
 IsMeant world (move.OutputStatus slot subslot is_good) = IsMeantAtController world (controller.Status slot subslot is_good)

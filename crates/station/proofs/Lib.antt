@@ -1,10 +1,12 @@
 pub mod Answered
 pub mod Leaping
 pub mod ServedBeside
+pub mod ServingTicks
 pub mod ServedRuns
 pub mod Sparing
 pub mod Cycles
 pub mod Running
 pub mod Stepping
+pub mod Telling
 pub mod ServedLeaping
 pub mod ServedOrder

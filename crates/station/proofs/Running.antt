@@ -1,40 +1,51 @@
 -- A run of a station, step by step.
 use Rattle.std.proofs.Common.{◌≡◌, ◌<◌, ℕ, Bool, true, false, List, [], ◌∷◌, ◌++◌, refl, sym, ap, subst, ◌∙◌}
 use Rattle.std.specs.Prelude.{flat_map, if◌then◌else◌}
-use Rattle.std.proofs.lemmas.List.{append-nil, flat_map_more}
+use Rattle.std.proofs.lemmas.List.{append-nil, append_assoc, flat_map_more}
 use Rattle.flash_model.specs.declared.flash.Flash.{Ghosts as Flash}
 use Rattle.device_frames.specs.declared.event.Event.{Event}
+use Rattle.device_frames.specs.declared.note.Note.TheVariants.{Done}
 use Rattle.device_frames.specs.Heard.{heard_of}
 use Rattle.device_core.specs.State as device
 use Rattle.device_core.specs.Faults.{RunGoesOn}
 use Rattle.device_core.specs.Steps.{HandsOn, IsBehindCalls, IsExactRun, Runs, TakesRoom}
 use Rattle.station.specs.State.{State, Frames, handed_on, in_order, of_device}
-use Rattle.station.specs.Steps.{StationSteps}
-use Rattle.station.specs.Runs.{DeviceRuns, StationHandsOn, StepByStep, StationRuns}
+use Rattle.station.specs.Serving.{news_in}
+use Rattle.station.specs.Steps.{StationSteps, Tells, TellsIf}
+use Rattle.station.specs.Runs.{DeviceRuns, StationHandsOn, StepByStep, StationRuns, news_of}
 
 module _ {F : Type 0} {S : ℕ} (as_flash : Flash F S) where
   -- the steps so far, and one more
-  steps_more : (old mid new : State F) (events : List Event) (event : Event) (turns : List Frames) (before now : List (List ℕ))
-      → StepByStep as_flash old events turns mid → (on : StationHandsOn as_flash mid event before now new)
-      → StepByStep as_flash old (events ++ event ∷ []) (turns ++ handed_on new.device.live.values.is_lost on.sent ∷ []) new
-  steps_more old mid new [] event turns before now run on = (
-    new,
+  steps_more : (old mid new : State F) (events heard : List Event) (event : Event) (turns : List Frames) (before now : List (List ℕ))
+      → StepByStep as_flash old events heard turns mid → (on : StationHandsOn as_flash mid event before now new)
+      → StepByStep as_flash old (events ++ event ∷ []) (heard ++ (news_of mid.services ++ event ∷ [])) (turns ++ handed_on new.device.live.values.is_lost on.sent ∷ []) new
+  steps_more old mid new [] heard event turns before now run on = (
+    on.between,
     on.sent,
     on.said,
+    new,
     [],
-    subst (λ (s : State F). StationSteps as_flash s event on.sent on.said new) run.1 on.steps,
-    ap (λ (t : List Frames). t ++ handed_on new.device.live.values.is_lost on.sent ∷ []) run.0,
-    (refl, refl),
+    [],
+    subst (λ (s : State F). Tells as_flash s on.between) run.2 on.tells,
+    on.steps,
+    ap (λ (h : List Event). h ++ (news_of mid.services ++ event ∷ [])) run.0 ∙ ap (λ (s : State F). news_of s.services ++ event ∷ []) run.2,
+    ap (λ (t : List Frames). t ++ handed_on new.device.live.values.is_lost on.sent ∷ []) run.1,
+    (refl, refl, refl),
   )
-  steps_more old mid new (one ∷ events) event turns before now run on =
-      let turn = handed_on new.device.live.values.is_lost on.sent in (
+  steps_more old mid new (one ∷ events) heard event turns before now run on =
+      let turn = handed_on new.device.live.values.is_lost on.sent in
+      let tail = news_of mid.services ++ event ∷ [] in (
         run.0,
         run.1,
         run.2,
-        run.3 ++ turn ∷ [],
-        run.4,
-        ap (λ (t : List Frames). t ++ turn ∷ []) run.5,
-        steps_more run.0 mid new events event run.3 before now run.6 on,
+        run.3,
+        run.4 ++ tail,
+        run.5 ++ turn ∷ [],
+        run.6,
+        run.7,
+        ap (λ (h : List Event). h ++ tail) run.8 ∙ append_assoc (news_of old.services) (one ∷ run.4) tail,
+        ap (λ (t : List Frames). t ++ turn ∷ []) run.9,
+        steps_more run.3 mid new events run.4 event run.5 before now run.10 on,
       )
 
   -- the device's frames of a turn
@@ -44,7 +55,7 @@ module _ {F : Type 0} {S : ℕ} (as_flash : Flash F S) where
 
   -- the device's part of a step
   alone_on : (old new : State F) (event : Event) (before now : List (List ℕ)) → (on : StationHandsOn as_flash old event before now new) → (taken : List (List ℕ))
-      → HandsOn as_flash old.device (heard_of old.device.station.identity event) taken (taken ++ of_device (handed_on new.device.live.values.is_lost on.sent)) new.device
+      → HandsOn as_flash on.between.device (heard_of on.between.device.station.identity event) taken (taken ++ of_device (handed_on new.device.live.values.is_lost on.sent)) new.device
   alone_on old new event before now on taken = record {
     sent = on.sent.device;
     said = on.steps.note;
@@ -84,10 +95,36 @@ module _ {F : Type 0} {S : ℕ} (as_flash : Flash F S) where
     room = laws.room old new events [] now runs;
   }
 
+  -- one more event of the device alone
+  alone_more : Laws → (old between new : device.State F) (events : List Event) (event : Event) (taken now : List (List ℕ)) → DeviceRuns as_flash old events [] taken between
+      → HandsOn as_flash between (heard_of between.station.identity event) taken now new → StaysFine between new → DeviceRuns as_flash old (events ++ event ∷ []) [] now new
+  alone_more laws old between new events event taken now run on fine =
+      all_of laws old new (events ++ event ∷ []) now
+      (laws.goes_on old between new events event [] taken now run.runs on)
+      (laws.all_go_on old between new events event [] taken now run.runs.same run.goes_on on)
+      (λ reliable unfailed. let was = run.reliable reliable unfailed in fine was.0 was.1)
+
+  -- nothing is handed on of a step that sends nothing
+  nothing_on : (is_lost : Bool) (taken : List (List ℕ)) → taken ≡ taken ++ (if is_lost then [] else [])
+  nothing_on true taken = sym (append-nil taken)
+  nothing_on false taken = sym (append-nil taken)
+
+  -- the device alone is told of its neighbour, or not
+  told_more : Laws → (b : Bool) (old : device.State F) (mid new : State F) (events : List Event) (taken : List (List ℕ)) → DeviceRuns as_flash old events [] taken mid.device
+      → TellsIf as_flash b mid new → DeviceRuns as_flash old (events ++ (if b then news_in mid.services ∷ [] else [])) [] taken new.device
+  told_more laws true old mid new events taken run tells =
+      alone_more laws old mid.device new.device events (news_in mid.services) taken taken run
+      (record { sent = []; said = Done; steps = tells.0.steps; handed_on = nothing_on new.device.live.values.is_lost taken })
+      (λ reliable unfailed. let now = tells.0.reliable reliable unfailed in (now.0, now.1))
+  told_more laws false old mid new events taken run tells =
+      subst (λ (s : State F). DeviceRuns as_flash old (events ++ []) [] taken s.device) (sym tells)
+      (subst (λ (es : List Event). DeviceRuns as_flash old es [] taken mid.device) (sym (append-nil events)) run)
+
   pub run_none : Laws → (old : State F) (taken : List (List ℕ)) → Runs as_flash old.device [] [] [] old.device → RunGoesOn old.device [] [] [] old.device → StationRuns as_flash old [] taken taken old
   run_none laws old taken runs goes_on = record {
+    heard = [];
     turns = [];
-    steps = (refl, refl);
+    steps = (refl, refl, refl);
     alone = all_of laws old.device old.device [] [] runs (λ _. goes_on) (λ reliable unfailed. (reliable, unfailed));
     handed = sym (append-nil taken);
   }
@@ -97,16 +134,15 @@ module _ {F : Type 0} {S : ℕ} (as_flash : Flash F S) where
   run_more laws old mid new events event before between now run on =
       let turn = handed_on new.device.live.values.is_lost on.sent in
       let taken = flat_map of_device run.turns in
-      let alone = alone_on mid new event between now on taken in
+      let news = news_of mid.services in
+      let told = told_more laws mid.services.has_news old.device mid on.between run.heard taken run.alone on.tells in
+      let whole = alone_more laws old.device on.between.device new.device (run.heard ++ news) event taken (taken ++ of_device turn) told (alone_on mid new event between now on taken)
+      (λ reliable unfailed. let now = on.steps.alone.reliable reliable unfailed in (now.0, now.1)) in
       record {
+        heard = run.heard ++ (news ++ event ∷ []);
         turns = run.turns ++ turn ∷ [];
-        steps = steps_more old mid new events event run.turns between now run.steps on;
-        alone = subst (λ (f : List (List ℕ)). DeviceRuns as_flash old.device (events ++ event ∷ []) [] f new.device) (flat_map_more of_device [] run.turns turn)
-            (all_of laws old.device new.device (events ++ event ∷ []) (taken ++ of_device turn)
-            (laws.goes_on old.device mid.device new.device events event [] taken (taken ++ of_device turn) run.alone.runs alone)
-            (laws.all_go_on old.device mid.device new.device events event [] taken (taken ++ of_device turn) run.alone.runs.same run.alone.goes_on alone)
-            (λ reliable unfailed.
-            let was = run.alone.reliable reliable unfailed in
-            let now = on.steps.alone.reliable was.0 was.1 in (now.0, now.1)));
+        steps = steps_more old mid new events run.heard event run.turns between now run.steps on;
+        alone = subst (λ (f : List (List ℕ)). DeviceRuns as_flash old.device (run.heard ++ (news ++ event ∷ [])) [] f new.device) (flat_map_more of_device [] run.turns turn)
+            (subst (λ (es : List Event). DeviceRuns as_flash old.device es [] (taken ++ of_device turn) new.device) (append_assoc run.heard news (event ∷ [])) whole);
         handed = on.handed ∙ ap (λ (t : List (List ℕ)). t ++ in_order turn) run.handed ∙ flat_map_more in_order before run.turns turn;
       }

@@ -1,3 +1,4 @@
+pub mod Serving
 pub mod State
 pub mod Beside
 pub mod Steps

@@ -2,8 +2,6 @@
 ghost use Rattle.std.specs.Prelude.{◌≡◌, ℕ, List, IsOk, IfOk, IfErr};
 ghost use Rattle.pn_values.specs.declared.settings.Settings.{Settings};
 ghost use Rattle.settings_journal.specs.Image.{StartsWith, LeftByDevice};
-ghost use Rattle.services.specs.State.{started};
-ghost use Rattle.services.specs.declared.announcement.Role.TheVariants as role;
 ghost use Rattle.device_core.specs.Cycle.{IsStarted, IsStartedFrom, RefusesAfter, Restarts};
 ghost use Rattle.device_core.specs.State.{State, plain};
 ghost use Rattle.device_core.specs.Steps.{Runs};

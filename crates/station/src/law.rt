@@ -1,6 +1,7 @@
-//! The law over whole runs. No code is involved.
+//! Laws of stations. No code is involved.
 ghost use Rattle.std.specs.Prelude.{◌≡◌, List, map};
 ghost use Rattle.controller_core.specs.declared.event.Event.{Event};
+ghost use Rattle.station.specs.Beside.{ConflictsAreNoticed};
 ghost use Rattle.station.specs.ServedRun.{after, alone, sent, sent_alone};
 ghost use Rattle.station.specs.Served.{Frames, Served};
 
@@ -11,4 +12,10 @@ pub fn a_station_has_its_controller_alone()
     // It sends what the controller alone sends: the same frames in the same order at the same events.
     ensures frames { (served : Served) (events : List Event) →
         map (λ (frames : Frames). frames.controller) (sent served events) ≡ sent_alone served.controller events }
+{}
+
+/// A device never accepts a conflict of its IP address in silence: it drops the packet of ARP, or it answers it. So what
+/// it neither dropped nor answered need not be read again for conflicts.
+pub fn conflicts_are_noticed()
+    ensures { ConflictsAreNoticed }
 {}

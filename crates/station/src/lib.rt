@@ -8,6 +8,7 @@
 //! answer, and their frames follow those of the controller.
 #![tactic(auto)]
 
+mod device_services;
 mod headline;
 mod law;
 mod leaps;
@@ -18,11 +19,12 @@ mod served_outbox;
 mod station;
 mod step;
 
+pub use device_services::DeviceServices;
 pub use headline::cycle;
-pub use law::a_station_has_its_controller_alone;
+pub use law::{a_station_has_its_controller_alone, conflicts_are_noticed};
 pub use leaps::{due_beside, elapse_alone, elapse_beside, leaps_are_ticks};
 pub use outbox::StationOutbox;
 pub use served::ServedController;
 pub use served_outbox::ServedOutbox;
 pub use station::IoStation;
-pub use step::{step_alone, step_beside};
+pub use step::{tell_beside, follow, follow_frame, step_alone, step_beside};

@@ -8,6 +8,7 @@ mod diagnosis;
 mod differences;
 mod lists;
 mod listings;
+mod ports;
 mod reads;
 mod records;
 mod statuses;

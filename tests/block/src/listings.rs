@@ -4,10 +4,10 @@
 use super::reads::{Asked, GOOD, plugged, sent};
 use super::records::settings;
 use super::statuses::told;
-use super::within::read_within;
+use super::within::{read_implicit, read_within};
 use arrayvec::ArrayVec;
 use pn_values::{ParameterRecord, Real, demo_identity, demo_modules};
-use records::{Blocks, Operation, read_implicit};
+use records::{Blocks, Operation};
 use uuid::Uuid;
 
 const NO_PLACE: [u8; 4] = [0xDE, 0x80, 0xB2, 0x00];

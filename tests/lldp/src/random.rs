@@ -78,8 +78,9 @@ fn frame(random: &mut Random) -> Vec<u8> {
 
 #[test]
 fn both_readers_read_the_same() {
-    let rounds = std::env::var("ROUNDS").map_or(200_000, |rounds| rounds.parse().expect("a number"));
-    let mut random = Random(0x9e37_79b9_7f4a_7c15);
+    let number = |name, other| std::env::var(name).map_or(other, |text| text.parse().expect("a number"));
+    let rounds = number("ROUNDS", 200_000);
+    let mut random = Random(number("SEED", 0x9e37_79b9_7f4a_7c15));
     let mut read = 0_u64;
     for round in 0..rounds {
         let frame = if round % 16 == 0 {

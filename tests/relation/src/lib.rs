@@ -17,6 +17,7 @@ mod readiness;
 mod records;
 mod relation;
 mod requests;
+mod several;
 mod statuses;
 
 /// A station that is tried, and what it sent last.

@@ -4,11 +4,11 @@
 //! In `scripts` the controller meets the demo device. In `application` the device's application is in charge: it says
 //! whether inputs are good and when it is ready, it sets options, and time passes by leaps; in its last scripts a controller
 //! meets that device. In `services` there are services beside the device: echo, endpoint mapper, pings and calls that nobody
-//! serves, announcements and conflicts of the address; and a controller reads the records for engineering tools.
+//! serves, announcements and conflicts of the address, and neighbours; and a controller reads the records for engineering tools.
 //!
 //! Each `stdout` comes from a reference model of both ends that was written from the rules alone and shares no line with
-//! this repository. A script that a wrong line ends has the output of the lines before it. Of `services` the frames of LLDP,
-//! which this station does not send, are left out; tshark read each other answer there without a malformed field.
+//! this repository. A script that a wrong line ends has the output of the lines before it. tshark read each answer of
+//! `services` without a malformed field.
 
 use crate::is_same;
 use rattle_std::alloc::Global;

@@ -8,16 +8,18 @@ ghost use Rattle.pn_alarms.specs.declared.abort.Abort.{Abort};
 ghost use Rattle.pn_alarms.specs.declared.message.Notice.TheVariants as notice;
 ghost use Rattle.pn_alarms.specs.declared.pdu.Header.{Header};
 ghost use Rattle.pn_alarms.specs.declared.pdu.PduType.TheVariants as pdu;
-ghost use Rattle.pn_alarms.specs.Abort.{abort_of};
+ghost use Rattle.pn_alarms.specs.Abort.{abort_of, status_of};
 ghost use Rattle.pn_alarms.specs.Carried.{alarm_pdu};
 ghost use Rattle.pn_alarms.specs.Format.{Said, pdu_bytes, pdu_of};
-ghost use Rattle.pn_alarms.specs.Message.{alarm_of, message_of};
-ghost use Rattle.pn_alarms.specs.Report.{ours};
+ghost use Rattle.pn_alarms.specs.Message.{message_of};
+ghost use Rattle.alarm_reports.specs.Message.{alarm_of};
+ghost use Rattle.alarm_reports.specs.Report.{ours};
 ghost use Rattle.codec_laws.specs.blocks.Writable.{IsAck, IsAlarm};
 ghost use Rattle.codec_laws.specs.alarms.Sendable.{CanBeSaid, IsHeader, ack_pdu, empty_pdu};
 
 use crate::blocks_are_read;
-use pn_alarms::{fitting_pdus_are_read, reports_are_read};
+use alarm_reports::reports_are_read;
+use pn_alarms::fitting_pdus_are_read;
 
 /// A PDU that can be sent is read back. This is a law of the definitions. No code is involved.
 pub fn pdus_are_read()
@@ -79,12 +81,12 @@ pub fn ends_are_read()
     ensures device { (reason : Abort) (destination source send_number ack_number : ℕ) (more : List ℕ)
         → IsHeader (abort_of reason destination source send_number ack_number).header
         → message_of (pdu_bytes (abort_of reason destination source send_number ack_number) ++ more)
-        ≡ Ok ((abort_of reason destination source send_number ack_number).header, notice.Abort) }
+        ≡ Ok ((abort_of reason destination source send_number ack_number).header, notice.Abort (status_of reason)) }
     // A controller reads in an ERR that the device ends the relation, whatever the reason.
     ensures controller { (reason : Abort) (destination source send_number ack_number : ℕ) (more : List ℕ)
         → IsHeader (abort_of reason destination source send_number ack_number).header
         → alarm_of (pdu_bytes (abort_of reason destination source send_number ack_number) ++ more)
-        ≡ Ok ((abort_of reason destination source send_number ack_number).header, notice.Abort) }
+        ≡ Ok ((abort_of reason destination source send_number ack_number).header, notice.Abort (status_of reason)) }
 {
     fitting_pdus_are_read();
 }

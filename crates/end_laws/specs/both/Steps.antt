@@ -69,12 +69,12 @@ module _ {T Q : Type 0} where
     pub started : link.phase ≡ Started
     pub becomes : after ≡ Some (record link { phase = Awaiting })
 
-  -- a relation accepts any record
+  -- a relation accepts any records
   pub record TakesAny (before after : Option (RelationState T Q)) : Type 0 where
     pub link : RelationState T Q
-    pub value : T
+    pub values : List T
     pub was : before ≡ Some link
-    pub becomes : after ≡ Some (record link { taken = link.taken ++ value ∷ [] })
+    pub becomes : after ≡ Some (record link { taken = link.taken ++ values })
 
   -- the effect of a call that is answered positively
   abbrev pub Carries : Rules T Q → Ask → Option (RelationState T Q) → Option (RelationState T Q) → Type 0

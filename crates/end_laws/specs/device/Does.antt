@@ -15,7 +15,10 @@ use Rattle.pn_values.specs.declared.im_value.ImValue.{ImValue}
 use Rattle.records.specs.declared.writes.taken.TakenRecord.{TakenRecord}
 use Rattle.records.specs.declared.writes.write.Effect.TheVariants.{Stores, Keeps}
 use Rattle.records.specs.declared.writes.write.Write.{Write}
-use Rattle.records.specs.writes.Handled.{write_of}
+use Rattle.record_blocks.specs.declared.write_record.IodWriteReq.{IodWriteReq}
+use Rattle.records.specs.declared.writes.writing.Writing.TheVariants.{One, Each}
+use Rattle.records.specs.writes.Asked.{writing_of}
+use Rattle.records.specs.writes.Entry.{Entry}
 use Rattle.relations.specs.declared.phase.Phase.TheVariants.{Started, Awaiting}
 use Rattle.relations.specs.declared.ready.Ready.{Ready}
 use Rattle.relations.specs.Connect.{connect_blocks, connect_of, differing_of, rows_of}
@@ -101,7 +104,7 @@ IsRestarted before after = after ≡ option_map restarted before
 -- a Write is accepted whose record the settings store
 pub record Stored (station : Station) (blocks : List ℕ) (before after : Option RelationState) : Type 0 where
   pub write : Write
-  pub judged : write_of (uuid_of before) station.real blocks ≡ Ok write
+  pub judged : writing_of (uuid_of before) station.real blocks ≡ Ok (One write)
   pub value : ImValue
   pub stores : write.effect ≡ Stores value
   pub same : IsRestarted before after
@@ -111,10 +114,22 @@ pub record Written (station : Station) (blocks : List ℕ) (before after : Optio
   pub link : RelationState
   pub was : before ≡ Some link
   pub write : Write
-  pub judged : write_of (uuid_of before) station.real blocks ≡ Ok write
+  pub judged : writing_of (uuid_of before) station.real blocks ≡ Ok (One write)
   pub value : TakenRecord
   pub keeps : write.effect ≡ Keeps value
   pub becomes : after ≡ Some (restarted (with_taken (link.taken ++ value ∷ []) link))
+
+-- a relation that was named has these records after its others
+abbrev pub with_more : List TakenRecord → RelationState → RelationState
+with_more values link = restarted (with_taken (link.taken ++ values) link)
+
+-- a Write of several records is accepted, and the relation has more records, if it accepted any
+pub record WrittenEach (station : Station) (blocks : List ℕ) (before after : Option RelationState) : Type 0 where
+  pub header : IodWriteReq
+  pub entries : List Entry
+  pub judged : writing_of (uuid_of before) station.real blocks ≡ Ok (Each header entries)
+  pub values : List TakenRecord
+  pub becomes : after ≡ option_map (with_more values) before
 
 -- a PrmEnd is accepted, by a device whose application says when it is ready, or by another
 pub record Parameterized (before after : Option RelationState) : Type 0 where
@@ -134,7 +149,8 @@ pub record Released (before after : Option RelationState) : Type 0 where
 abbrev pub IsEffect : Station → Caller → List ℕ → Result (List ℕ) CallFault → Operation → Option RelationState → Option RelationState → Type 0
 IsEffect station caller blocks (Err fault) which before after = after ≡ before
 IsEffect station caller blocks (Ok octets) operation.Connect before after = Connected station caller blocks octets before after
-IsEffect station caller blocks (Ok octets) operation.Write before after = Written station blocks before after ⊎ Stored station blocks before after
+IsEffect station caller blocks (Ok octets) operation.Write before after =
+    Written station blocks before after ⊎ (Stored station blocks before after ⊎ WrittenEach station blocks before after)
 IsEffect station caller blocks (Ok octets) operation.Control before after = Parameterized before after
 IsEffect station caller blocks (Ok octets) operation.Release before after = Released before after
 IsEffect station caller blocks (Ok octets) operation.Read before after = IsRestarted before after

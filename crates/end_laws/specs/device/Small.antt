@@ -16,12 +16,14 @@ use Rattle.connect_requests.specs.Handled.{request_of}
 use Rattle.records.specs.declared.writes.taken.TakenRecord.{TakenRecord}
 use Rattle.records.specs.declared.writes.write.Effect.TheVariants.{Keeps}
 use Rattle.records.specs.declared.writes.write.Write.{Write}
-use Rattle.records.specs.writes.Handled.{write_of}
+use Rattle.records.specs.declared.writes.writing.Writing.{Writing}
+use Rattle.records.specs.declared.writes.writing.Writing.TheVariants.{One}
+use Rattle.records.specs.writes.Asked.{writing_of}
 use Rattle.relations.specs.declared.phase.Phase.{Phase}
 use Rattle.relations.specs.declared.phase.Phase.TheVariants.{Started, Preparing, Awaiting, Exchanging}
 use Rattle.relations.specs.RelationState.{RelationState}
 use Rattle.relations.specs.Ready.{confirmed_block}
-use Rattle.device_frames.specs.Heard.{Heard, Ticks, Unreadable, Elsewhere, Asks, Resolves, Reported, Cyclic, Alarms, Given, Raised, Rated, Readied, Said, Calls, Responds, Garbled}
+use Rattle.device_frames.specs.Heard.{Heard, Ticks, Unreadable, Elsewhere, Asks, Resolves, Reported, Cyclic, Alarms, Given, Raised, Rated, Met, Readied, Said, Calls, Responds, Garbled}
 use Rattle.device_frames.specs.Sent.{Sent, IdentifyAnswer, GetAnswer, SetAnswer, ArpReply, CallAnswer, Again, ReadyCall, Ends, Exchanges, bytes_of}
 use Rattle.device_core.specs.State.{Live}
 use Rattle.end_laws.specs.both.Small as small
@@ -101,19 +103,21 @@ heard_as planned (Alarms source header message) = small.Idle
 heard_as planned (Given slot subslot value) = small.Idle
 heard_as planned (Raised slot subslot octets) = small.Idle
 heard_as planned (Rated slot subslot is_good) = small.Idle
+heard_as planned (Met peer) = small.Idle
 heard_as planned Readied = small.Idle
 
 -- ---- the calls of a start-up
 
 -- A call with these blocks is one of the start-up. Its Connect is read as the expected request. Its Writes, if they are
--- accepted, store the records. The contents of a PrmEnd or a Release are looked at when it arrives, and so are those of a
+-- accepted, store the records, each one. The contents of a PrmEnd or a Release are looked at when it arrives, and so are those of a
 -- Read or of another Write, which is a call of the application.
 pub record IsPlannedWrite (rules : Rules TakenRecord Request) (real : Real) (sequence : ℕ) (blocks : List ℕ) : Type 0 where
   pub number : ℕ
   pub value : TakenRecord
   pub is : sequence ≡ number + 1
   pub there : slice_get rules.records number ≡ Some value
-  pub keeps : (standing : Option (List ℕ)) (write : Write) → write_of standing real blocks ≡ Ok write → write.effect ≡ Keeps value
+  pub keeps : (standing : Option (List ℕ)) (writing : Writing) → writing_of standing real blocks ≡ Ok writing →
+      (write : Write) × (writing ≡ One write) × (write.effect ≡ Keeps value)
 
 -- these blocks of a call with this operation are those of the start-up, or of a call of the application
 abbrev pub IsPlannedAs : Rules TakenRecord Request → Real → ℕ → List ℕ → Option Operation → Type 0
@@ -151,6 +155,7 @@ IsPlanned rules activity real (Alarms source header message) = Unit {0}
 IsPlanned rules activity real (Given slot subslot value) = Unit {0}
 IsPlanned rules activity real (Raised slot subslot octets) = Unit {0}
 IsPlanned rules activity real (Rated slot subslot is_good) = Unit {0}
+IsPlanned rules activity real (Met peer) = Unit {0}
 IsPlanned rules activity real Readied = Unit {0}
 
 -- ---- what it says
@@ -161,7 +166,7 @@ abbrev pub said_by : Sent → ToController
 said_by (CallAnswer caller address answer) = small.Answers answer.header.sequence (is_done answer.status)
 said_by (ReadyCall address ready) = small.Readies
 said_by (IdentifyAnswer asker running xid) = small.Nothing
-said_by (GetAnswer asker running request) = small.Nothing
+said_by (GetAnswer asker running alias request) = small.Nothing
 said_by (SetAnswer asker request answers) = small.Nothing
 said_by (ArpReply asker address target) = small.Nothing
 said_by (Again frame) = small.Nothing
@@ -178,7 +183,7 @@ IsHeardAs rules identity (Again frame) = Unit {0}
 IsHeardAs rules identity (CallAnswer caller address answer) = IsHeardBy rules (bytes_of identity (CallAnswer caller address answer)) (said_by (CallAnswer caller address answer))
 IsHeardAs rules identity (ReadyCall address ready) = IsHeardBy rules (bytes_of identity (ReadyCall address ready)) small.Readies
 IsHeardAs rules identity (IdentifyAnswer asker running xid) = IsHeardBy rules (bytes_of identity (IdentifyAnswer asker running xid)) small.Nothing
-IsHeardAs rules identity (GetAnswer asker running request) = IsHeardBy rules (bytes_of identity (GetAnswer asker running request)) small.Nothing
+IsHeardAs rules identity (GetAnswer asker running alias request) = IsHeardBy rules (bytes_of identity (GetAnswer asker running alias request)) small.Nothing
 IsHeardAs rules identity (SetAnswer asker request answers) = IsHeardBy rules (bytes_of identity (SetAnswer asker request answers)) small.Nothing
 IsHeardAs rules identity (ArpReply asker address target) = IsHeardBy rules (bytes_of identity (ArpReply asker address target)) small.Nothing
 IsHeardAs rules identity (Ends farewell) = IsHeardBy rules (bytes_of identity (Ends farewell)) small.Nothing

@@ -7,13 +7,13 @@ use Rattle.pn_alarms.specs.declared.message.Notice.TheVariants as notice
 use Rattle.pn_alarms.specs.declared.pdu.Header.{Header}
 use Rattle.pn_alarms.specs.declared.pdu.PduType.{PduType}
 use Rattle.pn_alarms.specs.declared.pdu.PduType.TheVariants as pdu
-use Rattle.pn_alarms.specs.declared.priority.Priority.TheVariants.{High}
+use Rattle.alarm_reports.specs.declared.priority.Priority.TheVariants.{High}
 use Rattle.pn_alarms.specs.declared.sender.Alarm.{Alarm}
 use Rattle.pn_alarms.specs.Device.{end_behind, end_later, end_raised, idle}
 use Rattle.pn_alarms.specs.Ends.{DeviceEnd}
 use Rattle.pn_alarms.specs.Numbers.{send_number}
 use Rattle.pn_alarms.specs.Receiver.{taken_as}
-use Rattle.pn_alarms.specs.Report.{ours}
+use Rattle.alarm_reports.specs.Report.{ours}
 use Rattle.pn_alarms.specs.Sender.{notified}
 use Rattle.pn_alarms.specs.Sending.{due}
 use Rattle.codec_laws.specs.alarms.Line.{Line, empty, with_come, with_sent}

@@ -4,13 +4,14 @@ ghost use Rattle.std.specs.Cmp.Lexicographic.{pointwise};
 ghost use Rattle.pn_values.specs.declared.identity.Identity.{Identity};
 ghost use Rattle.record_blocks.specs.declared.alarm_ack.AlarmAck.{AlarmAck};
 ghost use Rattle.record_blocks.specs.declared.alarm_notification.AlarmNotification.{AlarmNotification};
+ghost use Rattle.pn_alarms.specs.Abort.{status_of};
 ghost use Rattle.pn_alarms.specs.declared.abort.Abort.{Abort};
 ghost use Rattle.pn_alarms.specs.declared.message.Notice.TheVariants as notice;
 ghost use Rattle.pn_alarms.specs.declared.pdu.Header.{Header};
 ghost use Rattle.pn_alarms.specs.declared.pdu.PduType.TheVariants as pdu;
-ghost use Rattle.pn_alarms.specs.declared.priority.Priority.{Priority};
-ghost use Rattle.pn_alarms.specs.declared.priority.Priority.TheVariants.{High, Low};
-ghost use Rattle.pn_alarms.specs.Report.{ours};
+ghost use Rattle.alarm_reports.specs.declared.priority.Priority.{Priority};
+ghost use Rattle.alarm_reports.specs.declared.priority.Priority.TheVariants.{High, Low};
+ghost use Rattle.alarm_reports.specs.Report.{ours};
 ghost use Rattle.cyclic_exchange.specs.declared.route.Route.{Route};
 ghost use Rattle.relations.specs.exchange.Frames.{Notifies, Replies as Answers};
 ghost use Rattle.plans.specs.declared.parts.Controller.{Controller};
@@ -95,12 +96,12 @@ pub fn ends_are_heard()
     ensures device { (identity : Identity) (setup : Setup) (route : Route) (header : Header) (reason : Abort) → IsSetup setup →
         IsRoute route → IsHeader header
         → device_hears identity (comes (controller_bytes setup (Ends route header reason)))
-        ≡ own_hears identity route.partner (Alarms setup.plan.controller.mac (end_pdu header reason).header notice.Abort) }
+        ≡ own_hears identity route.partner (Alarms setup.plan.controller.mac (end_pdu header reason).header (notice.Abort (status_of reason))) }
     // In the device's ERR the controller hears that the device ends the relation.
     ensures controller { (mine : Controller) (identity : Identity) (farewell : Farewell)
         → IsDevice identity → IsMac farewell.initiator → farewell.tag < 65536 → IsHeader (said_by farewell).header
         → controller_hears mine (device_bytes identity (Farewells farewell))
-        ≡ mine_hears mine farewell.initiator (Alarmed identity.mac Low (said_by farewell).header notice.Abort) }
+        ≡ mine_hears mine farewell.initiator (Alarmed identity.mac Low (said_by farewell).header (notice.Abort (status_of farewell.reason))) }
 {
     frames_are_read();
     pdus_are_read();

@@ -18,7 +18,7 @@ use Rattle.im_records.specs.Records.{is_real}
 use Rattle.records.specs.declared.status.call_fault.CallFault.{CallFault}
 use Rattle.records.specs.declared.status.call_fault.CallFault.TheVariants as fault
 use Rattle.records.specs.declared.reads.listing.Listing.{Listing}
-use Rattle.records.specs.declared.reads.listing.Listing.TheVariants.{Identification, Apis, Diagnosis, Expected, Found}
+use Rattle.records.specs.declared.reads.listing.Listing.TheVariants.{Identification, Apis, Diagnosis, Expected, Found, Input, Output, Relations, Log, Port, Interface, Network}
 use Rattle.records.specs.declared.reads.listing.Level.{Level}
 use Rattle.records.specs.declared.reads.listing.Level.TheVariants.{Subslot, Slot, Relation, Device}
 use Rattle.records.specs.calls.Handled.{handled}
@@ -53,6 +53,14 @@ kind_of index =
     else if index == 0xC000 then Some Expected
     else if index == 0xE000 then Some Expected
     else if index == 0xE001 then Some Found
+    else if index == 0x8028 then Some Input
+    else if index == 0x8029 then Some Output
+    else if index == 0xF820 then Some Relations
+    else if index == 0xF020 then Some Relations
+    else if index == 0xF830 then Some Log
+    else if index == 0x802A then Some Port
+    else if index == 0x8080 then Some Interface
+    else if index == 0xF841 then Some Network
     else if is_diagnosis index then Some Diagnosis
     else None
 
@@ -120,6 +128,13 @@ octets_of real own level slot subslot Apis = Some api_bytes
 octets_of real own level slot subslot Diagnosis = Some []
 octets_of real own level slot subslot Expected = own
 octets_of real own level slot subslot Found = own
+octets_of real own level slot subslot Input = own
+octets_of real own level slot subslot Output = own
+octets_of real own level slot subslot Relations = own
+octets_of real own level slot subslot Log = own
+octets_of real own level slot subslot Port = own
+octets_of real own level slot subslot Interface = own
+octets_of real own level slot subslot Network = own
 
 -- ---- the order of the checks
 

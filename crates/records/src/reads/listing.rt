@@ -34,6 +34,20 @@ pub enum Listing {
     Expected,
     /// RealIdentificationData: the modules and submodules that are plugged where the relation expects some.
     Found,
+    /// RecordInputDataObjectElement: the data and the statuses of an input of the relation.
+    Input,
+    /// RecordOutputDataObjectElement: those of an output.
+    Output,
+    /// ARData: the relations that the device has.
+    Relations,
+    /// LogData: the ends of relations, and the Connects that were refused.
+    Log,
+    /// PDPortDataReal: the port, and its neighbour.
+    Port,
+    /// PDInterfaceDataReal: who the station is.
+    Interface,
+    /// PDRealData: both.
+    Network,
 }
 
 /// The part of the device that a record lists.
@@ -137,6 +151,13 @@ fn kind_of(index: u16) -> Option<Listing>
         0xF821 => Some(Listing::Apis),
         0x8000 | 0xC000 | 0xE000 => Some(Listing::Expected),
         0xE001 => Some(Listing::Found),
+        0x8028 => Some(Listing::Input),
+        0x8029 => Some(Listing::Output),
+        0xF820 | 0xF020 => Some(Listing::Relations),
+        0xF830 => Some(Listing::Log),
+        0x802A => Some(Listing::Port),
+        0x8080 => Some(Listing::Interface),
+        0xF841 => Some(Listing::Network),
         _ if is_diagnosis(index) => Some(Listing::Diagnosis),
         _ => None,
     }
@@ -286,7 +307,15 @@ pub fn serve_listing(
             &[0x00, 0x1A, 0x00, 0x08, 0x01, 0x00, 0x00, 0x01, 0, 0, 0, 0],
         ),
         Listing::Diagnosis => put_read_answer(answer, request, &[]),
-        Listing::Expected | Listing::Found => match own {
+        Listing::Expected
+        | Listing::Found
+        | Listing::Input
+        | Listing::Output
+        | Listing::Relations
+        | Listing::Log
+        | Listing::Port
+        | Listing::Interface
+        | Listing::Network => match own {
             Some(octets) => put_read_answer(answer, request, octets),
             None => return Err(CallFault::Index),
         },

@@ -12,11 +12,12 @@ use Rattle.relations.specs.declared.exchange.marks.Mark.{Mark}
 use Rattle.relations.specs.declared.statuses.InputStatus.{InputStatus}
 use Rattle.relations.specs.Statuses.{is_bad}
 
--- What the application says of its inputs as a relation begins: whether the IOPS of a submodule with inputs is bad until
--- the first input is given, and the statuses that it gave.
+-- What a relation begins with. What the application says of its inputs: whether the IOPS of a submodule with inputs is bad
+-- until the first input is given, and the statuses that it gave. And the units since the start of the device.
 pub record Starting : Type 0 where
   pub begin_bad : Bool
   pub statuses : List InputStatus
+  pub units : ℕ
 
 -- The mark of a place as a relation begins. A place without data has one octet, its status.
 abbrev pub first_mark : Starting → Listed DiffModule DiffSubmodule → Place → Mark

@@ -53,7 +53,7 @@ impl DataExchange {
     /// remains.
     pub fn open(&mut self, request: &ConnectRequest, rows: &DiffRows, starting: Starting<'_>)
         ensures { self.new ≡ opened request.now rows.now
-            (record { begin_bad = starting.entry.begin_bad; statuses = starting.entry.statuses.now }) }
+            (record { begin_bad = starting.entry.begin_bad; statuses = starting.entry.statuses.now; units = starting.entry.units }) }
     {
         let (input, output, alarm) = (request.input(), request.output(), request.alarm());
         begin(&mut self.marks, input.layout.places(), rows, starting);

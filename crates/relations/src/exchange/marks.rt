@@ -22,19 +22,21 @@ pub struct Mark {
     pub is_bad: bool,
 }
 
-/// What the application says of its inputs as a relation begins.
+/// What a relation begins with: what the application says of its inputs, and the time.
 #[derive(Clone, Copy)]
 pub struct Starting<'a> {
     /// Whether the IOPS of a submodule with inputs is bad until the first input is given.
     pub begin_bad: bool,
     /// The statuses that it gave.
     pub statuses: &'a [InputStatus],
+    /// The units since the start of the device.
+    pub units: u64,
 }
 
 impl Mark {
     /// The first mark of a place.
     fn first(place: &Place, rows: &DiffRows, starting: Starting<'_>) -> Mark
-        ensures { result ≡ first_mark (record { begin_bad = starting.entry.begin_bad; statuses = starting.entry.statuses.now }) rows.now place.now }
+        ensures { result ≡ first_mark (record { begin_bad = starting.entry.begin_bad; statuses = starting.entry.statuses.now; units = starting.entry.units }) rows.now place.now }
     {
         Mark {
             place: *place,
@@ -90,7 +92,7 @@ pub(crate) fn begin(
 )
     requires { length places.now ≤ 128 }
     ensures { marks.new.items
-        ≡ map (first_mark (record { begin_bad = starting.entry.begin_bad; statuses = starting.entry.statuses.now }) rows.now) places.now }
+        ≡ map (first_mark (record { begin_bad = starting.entry.begin_bad; statuses = starting.entry.statuses.now; units = starting.entry.units }) rows.now) places.now }
 {
     marks.clear();
     for place in places {

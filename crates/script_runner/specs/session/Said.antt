@@ -19,7 +19,7 @@ use Rattle.controller_core.specs.Machine.{step_of as controller_step}
 use Rattle.controller_core.specs.State.{Controlling}
 use Rattle.script_runner.specs.session.Demo.{demo_device}
 use Rattle.script_runner.specs.session.Ends.{Station, Turned, due_of, serving, services_at, station_step, Other, Network, DeviceRun, with_ends, arrived_at, chosen, cleared, device_run, frames_for_device, nobody, printed_for, ticked_by, with_fresh, with_plan, with_run, with_sent}
-use Rattle.services.specs.State as services
+use Rattle.station.specs.Serving.{Serving}
 use Rattle.script_lines.specs.Line.{Command, Frame, Restart, Tick, Elapse, Show, Due, Choose, Ready, Arm, Input, Alarm, Status, Provider, Config, Start, Give, OutputStatus, Stop, Deliver, Serve, Line, Unfit, Skipped, Asks, Unknown}
 use Rattle.script_lines.specs.declared.command.Choice.{Choice}
 use Rattle.script_lines.specs.Show.{shown, outputs_shown, controller_shown, due_line, provider_line}
@@ -30,7 +30,7 @@ abbrev pub demo_started : DeviceOptions → Bool → Settings → ℕ → Statio
 demo_started options serves settings room = record { device = demo_device options; live = started settings room; services = services_at serves (demo_device options) settings }
 
 -- Services beside the device, if there are none yet.
-abbrev pub served : Option services.State → Station → Station
+abbrev pub served : Option Serving → Station → Station
 served None station = record station { services = services_at true station.device station.live.values.running }
 served (Some state) station = station
 

@@ -17,11 +17,11 @@ returns-clause-headline g c = λ left first room starts.
     let here = c.in_ok-device.ensures in
     let begins = begins_from g.F.Flash (plain c.args.identity c.args.real) c.args.flash c.in_ok-device.device here.station here.known here.fresh here.starts here.same here.cause here.calls in
     IfOk-weaker c.restart.result
-    (λ again. Restarts g.F.Flash _ (plain c.args.identity c.args.real) c.args.flash first room c.args.events.now [] (flat_map of_device c.run.ensures.turns) again.device)
+    (λ again. Restarts g.F.Flash _ (plain c.args.identity c.args.real) c.args.flash first room c.run.ensures.heard [] (flat_map of_device c.run.ensures.turns) again.device)
     (λ again. StationRestarts g.F.Flash _ (plain c.args.identity c.args.real) c.args.flash first room c.args.events.now _ _ again)
     (λ again alone. restarts_cycled g.F.Flash _ (plain c.args.identity c.args.real) c.args.flash first room c.in_ok-device.device c.new-station.result c.run.new.self _ _ _
     c.new-station.ensures.device c.new-station.ensures.services begins c.run.ensures again alone)
-    (c.restart.ensures.headline c.args.identity c.args.real c.args.flash first room c.in_ok-device.device c.args.events.now [] (flat_map of_device c.run.ensures.turns) left starts begins
+    (c.restart.ensures.headline c.args.identity c.args.real c.args.flash first room c.in_ok-device.device c.run.ensures.heard [] (flat_map of_device c.run.ensures.turns) left starts begins
     (device_runs g.F.Flash c.in_ok-device.device c.new-station.result c.run.new.self _ _ _ c.new-station.ensures.device c.run.ensures))
 
 pub returns-clause-fresh : goal.returns-clause-fresh
@@ -58,11 +58,11 @@ returns-clause-refused g c =
     let here = c.in_ok-device.ensures in
     let begins = begins_from g.F.Flash (plain c.args.identity c.args.real) c.args.flash c.in_ok-device.device here.station here.known here.fresh here.starts here.same here.cause here.calls in
     IfErr-weaker c.restart.result
-    (λ refused. RefusesAfter g.F.Flash _ (plain c.args.identity c.args.real) c.args.flash c.args.events.now [] (flat_map of_device c.run.ensures.turns) refused.0 refused.1)
+    (λ refused. RefusesAfter g.F.Flash _ (plain c.args.identity c.args.real) c.args.flash c.run.ensures.heard [] (flat_map of_device c.run.ensures.turns) refused.0 refused.1)
     (λ refused. IsStationRefused g.F.Flash _ (plain c.args.identity c.args.real) c.args.flash c.args.events.now _ _ refused.0 refused.1)
     (λ refused alone. inr (refused_cycled g.F.Flash _ (plain c.args.identity c.args.real) c.args.flash c.in_ok-device.device c.new-station.result c.run.new.self _ _ _
     c.new-station.ensures.device c.new-station.ensures.services begins c.run.ensures refused.0 refused.1 alone))
-    (c.restart.ensures.refused c.args.identity c.args.real c.args.flash c.in_ok-device.device c.args.events.now [] (flat_map of_device c.run.ensures.turns) begins
+    (c.restart.ensures.refused c.args.identity c.args.real c.args.flash c.in_ok-device.device c.run.ensures.heard [] (flat_map of_device c.run.ensures.turns) begins
     (device_runs g.F.Flash c.in_ok-device.device c.new-station.result c.run.new.self _ _ _ c.new-station.ensures.device c.run.ensures))
 
 pub returns-clause-reliable : goal.returns-clause-reliable

@@ -1,10 +1,11 @@
 -- A unit of time is a move, and so are inputs, alarms and the word of the application that it is ready.
-use Rattle.std.proofs.Common.{ap, map, refl, rules, subst, sym, ◌∙◌}
+use Rattle.std.proofs.Common.{ap, map, option_map, refl, rules, subst, sym, ◌∙◌}
 use Rattle.device_frames.specs.Sent.{bytes_of}
 use Rattle.settings_store.specs.Carries.{Holds}
+use Rattle.lldp.specs.Views.{peer_as}
 use Rattle.relations.specs.Exchanged.{given_to, raised_to}
 use Rattle.device_frames.specs.declared.event.Event.TheVariants.{Frame}
-use Rattle.device_frames.specs.Heard.{Ticks, Given, Raised, Rated, Readied, heard_of}
+use Rattle.device_frames.specs.Heard.{Ticks, Given, Raised, Rated, Met, Readied, heard_of}
 use Rattle.relations.specs.Statuses.{statuses_at}
 use Rattle.device_core.specs.Handled.{handled_given, handled_raised, handled_rated, handled_ready}
 use Rattle.device_core.specs.Steps.{Steps}
@@ -50,6 +51,15 @@ returns-in-Status-clause-steps g c =
     (status_asks_nothing old.live slot subslot is_good statuses) c.rate.ensures.state
     (ap (map (λ frame. frame.items)) c.requires.empty ∙ sym (ap (map (bytes_of old.station.identity)) (status_sends_nothing old.station old.live slot subslot is_good statuses)))
     c.rate.ensures.note (none_sendable old.station.identity _ (status_sends_nothing old.station old.live slot subslot is_good statuses)))
+
+pub returns-in-Neighbour-clause-steps : goal.returns-in-Neighbour-clause-steps
+unfolding heard_of
+returns-in-Neighbour-clause-steps g c =
+    let old = c.args.self.now in
+    let peer = option_map peer_as c.in-Neighbour.neighbour in
+    rw c.in-Neighbour.is
+    (moves_steps g.F.Flash old _ (Met peer) (record old.live.rest { peer = peer }) [] _ _ (subst (λ s. Holds (g.F.Flash.image s.flash) s.live.values) c.self.view_is c.self.invariant) refl
+    c.meet.ensures.state (ap (map (λ frame. frame.items)) c.requires.empty) c.meet.ensures.note tt)
 
 pub returns-in-Ready-clause-steps : goal.returns-in-Ready-clause-steps
 unfolding heard_of

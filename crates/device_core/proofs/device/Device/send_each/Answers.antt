@@ -4,6 +4,7 @@ use Rattle.std.proofs.lemmas.List.{map-append}
 use Rattle.relations.specs.RelationState.{flow_of}
 use Rattle.device_frames.specs.Sent.{Sent, bytes_of}
 use Rattle.device_frames.specs.Relation.{alarms_of, inputs_of, ready_calls, where_due}
+use Rattle.device_core.specs.State.{counter_of}
 use Rattle.device_core.proofs.Sendable.{all_sendable}
 use Rattle.device_core.proofs.device.Device.send_each.Goals as goal
 
@@ -18,7 +19,7 @@ returns-clause-frames g c =
     rw (← c.self.view_is) (rw (c.send_inputs.ensures.frames, c.send_ready_again.ensures.frames, c.send_alarm_again.ensures.frames, c.requires, c.address-address.ensures.value, c.running.ensures)
     (each (bytes_of c.self.inside.identity) (where_due c.args.is_alarm (alarms_of (flow_of relation)))
     (where_due c.args.is_ready (ready_calls c.self.inside.store.values.running.suite.address relation))
-    (where_due c.args.is_cyclic (inputs_of c.self.inside.units (flow_of relation)))))
+    (where_due c.args.is_cyclic (inputs_of (counter_of c.self.inside.units) (flow_of relation)))))
 
 pub returns-clause-sendable : goal.returns-clause-sendable
 returns-clause-sendable g c =

@@ -1,7 +1,8 @@
 -- What the store carried out is what the blocks ask for, and its answers say whether the relation ends.
-use Rattle.std.proofs.Common.{◌≡◌, is_some, refl, ap, ◌∙◌}
+use Rattle.std.proofs.Common.{◌≡◌, is_some, option_map, refl, ap, ◌∙◌}
 use Rattle.dcp_core.specs.Request.{asked}
 use Rattle.dcp_core.specs.Set.{plan_of}
+use Rattle.lldp.specs.Views.{peer_as}
 use Rattle.device_core.specs.Machine.{lamp_after, link_after, resets}
 use Rattle.device_core.proofs.Steps.{asked_set_steps}
 use Rattle.device_core.proofs.device.Device.set.Goals as goal
@@ -17,9 +18,9 @@ returns-clause-steps g c =
     let lamp = c.lamp_after-self-inside.ensures ∙ ap (lamp_after c.self.inside.lamp) (c.as_slice-2.ensures.value ∙ plan) in
     let left = c.end_if.ensures.link ∙ ap (λ e. link_after e link) ended in
     rw (← c.self.view_is) (asked_set_steps g.F.Flash _ _ c.args.asker request answers _ _
-    c.requires.service (rw (c.as_slice.ensures.value ∙ plan) at c.carry_out-answers.ensures.carries) refl
-    (ap (λ l. record { lamp = l; calls = c.self.inside.answers.kept; link = c.end_if.new.relation; units = c.self.inside.units; statuses = c.self.inside.statuses.items }) lamp
-    ∙ ap (λ r. record { lamp = lamp_after c.self.inside.lamp (plan_of (is_some link) request); calls = c.self.inside.answers.kept; link = r; units = c.self.inside.units; statuses = c.self.inside.statuses.items }) left)
+    c.requires.service (rw plan at c.fill_plan.ensures.count) (rw (c.as_slice.ensures.value ∙ plan) at c.carry_out-answers.ensures.carries) refl
+    (ap (λ l. record { lamp = l; calls = c.self.inside.answers.kept; link = c.end_if.new.relation; units = c.self.inside.units; statuses = c.self.inside.statuses.items; log = c.self.inside.log; peer = option_map peer_as c.self.inside.neighbour }) lamp
+    ∙ ap (λ r. record { lamp = lamp_after c.self.inside.lamp (plan_of (is_some link) request); calls = c.self.inside.answers.kept; link = r; units = c.self.inside.units; statuses = c.self.inside.statuses.items; log = c.self.inside.log; peer = option_map peer_as c.self.inside.neighbour }) left)
     (rw (c.send_dcp_answer.ensures.frames, c.end_if.ensures.frames, c.requires.empty, ended, c.set_answer-answer.ensures.items) refl) refl
     (rw ended at c.end_if.ensures.sendable) (rw c.set_answer-answer.ensures.items at c.send_dcp_answer.ensures.sendable))
 

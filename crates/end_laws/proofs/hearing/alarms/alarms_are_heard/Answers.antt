@@ -1,10 +1,10 @@
 -- This follows from the laws of the crates below.
 use Rattle.std.proofs.Common.{◌∙◌, ap, arith}
 use Rattle.pn_alarms.specs.declared.pdu.PduType.{PduType}
-use Rattle.pn_alarms.specs.declared.priority.Priority.{Priority}
+use Rattle.alarm_reports.specs.declared.priority.Priority.{Priority}
 use Rattle.pn_alarms.specs.Format.{frame_id_of}
-use Rattle.pn_alarms.specs.Priority.{priority_of}
-use Rattle.pn_alarms.specs.Report.{ours}
+use Rattle.alarm_reports.specs.Priority.{priority_of}
+use Rattle.alarm_reports.specs.Report.{ours}
 use Rattle.controller_frames.specs.Heard.{Alarms}
 use Rattle.end_laws.specs.hearing.Hearing.{mine_hears}
 use Rattle.pn_alarms.specs.declared.message.Notice.TheVariants as notice

@@ -2,7 +2,7 @@
 use Rattle.std.proofs.Common.{arith}
 use Rattle.pn_alarms.specs.declared.message.Notice.TheVariants as notice
 use Rattle.codec_laws.specs.alarms.Sendable.{ack_pdu, empty_pdu}
-use Rattle.pn_alarms.specs.declared.priority.Priority.TheVariants.{High, Low}
+use Rattle.alarm_reports.specs.declared.priority.Priority.TheVariants.{High, Low}
 use Rattle.plans.specs.Connect.{alarm_block}
 use Rattle.controller_frames.specs.Sent.{ack_pdu as low_pdu, tag_of}
 use Rattle.end_laws.proofs.HearingExchanges.{pdu_at_device, pdu_unheard, pdu_unread, tag_small}

@@ -1,0 +1,8 @@
+use Rattle.station.proofs.Telling.{exact_by, told_by}
+use Rattle.station.proofs.step.tell.Goals as goal
+
+pub returns-clause-alone : goal.returns-clause-alone
+returns-clause-alone g c = told_by g.F.Flash c.args.device.now c.step_alone.new.device c.args.event.now _ _ c.requires c.step_alone.ensures.alone
+
+pub returns-clause-state : goal.returns-clause-state
+returns-clause-state g c = exact_by g.F.Flash c.args.device.now c.step_alone.new.device c.args.event.now _ _ c.requires c.step_alone.ensures.alone

@@ -1,0 +1,339 @@
+//! All that is beside a device in a station.
+ghost use Rattle.std.specs.Prelude.{◌≡◌, ◌<◌, ◌≤◌, ◌+◌, ◌++◌, ◌&&◌, ◌||◌, [], ◌∷◌, if◌then◌else◌, false, true};
+ghost use Rattle.arrayvec.specs.ArrayVec.{array_vec_len};
+ghost use Rattle.frame_codec.specs.Outbox.{boxed};
+ghost use Rattle.services.specs.Answer.{frame_in};
+ghost use Rattle.station.specs.Beside.{Beside, IsUndisputed, event_beside, heard_beside, is_dropped as is_dropped_by};
+ghost use Rattle.station.specs.Serving.{NoNews, NoneSends, announces, answered, changes, disputes, due_in, heard, knows, news_in, observed};
+ghost use Rattle.lldp.specs.Announcement.{announcement as announcement_of};
+ghost use Rattle.std.specs.Prelude.{Some, None, nat_eq};
+ghost use Rattle.std.specs.Cmp.Lexicographic.{pointwise};
+ghost use Rattle.station.specs.Serving.{met, overheard, said_of, sent_by_tick, serving_at, serving_ticks, takes, ticked, told};
+
+use device_core::{Event, Note};
+use endpoint_mapper::mapped_frame;
+use frame_codec::{Frame, Outbox};
+use lldp::{Heard, Link, Neighbours, announcement};
+use pn_values::{Identity, Settings, StationName};
+use services::{Role, Services, only_conflicts_are_counted};
+use std::marker::Model;
+
+/// All that is beside a device in a station: the services of its IP address, and its neighbours by LLDP. Clauses see it as one
+/// machine.
+///
+/// It learns of the device what a step does: its note, and whether it sent a frame. It reads the device's identity and
+/// its running settings, and changes nothing of it but the neighbour that it knows: the owner gives it `news` before the next
+/// event.
+#[derive(Drop)]
+pub struct DeviceServices {
+    ip: Services,
+    near: Neighbours,
+    // The running name.
+    name: StationName,
+    // What the host says of the link.
+    is_up: bool,
+    link: Option<Link>,
+    // Whether the neighbour changed since the device was told of it.
+    has_news: bool,
+}
+
+impl Model for DeviceServices {
+    ghost use Rattle.station.specs.Serving.{Serving};
+
+    ghost Value = { Serving };
+
+    ghost view = { λ beside. record {
+      ip = beside.ip;
+      near = beside.near;
+      name = beside.name;
+      is_up = beside.is_up;
+      link = beside.link;
+      has_news = beside.has_news;
+    } };
+}
+
+impl DeviceServices {
+    /// What is beside a device at its start, with these running settings. It announces the IP address, and itself by LLDP.
+    pub fn new(identity: &Identity, running: &Settings) -> DeviceServices
+        ensures { result ≡ serving_at identity.now running.now }
+    {
+        DeviceServices {
+            ip: Services::new(Role::Device, identity.mac, running.suite.address()),
+            near: Neighbours::new(identity.mac),
+            name: running.name.copy(),
+            is_up: true,
+            link: None,
+            has_news: false,
+        }
+    }
+
+    /// What the host says of the link: whether it is up, and which link it is, if that is known. Without this the link is up.
+    pub fn set_link(&mut self, is_up: bool, link: Option<Link>)
+        ensures { self.new ≡ record self.old { is_up = is_up; link = link } }
+    {
+        self.is_up = is_up;
+        self.link = link;
+    }
+
+    /// What the device is to be told, if the neighbour changed since it was told last: the owner gives it this event.
+    pub fn news(&self) -> Option<Event>
+        ensures { result ≡ (if self.now.has_news then Some (news_in self.now) else None) }
+    {
+        if self.has_news {
+            Some(self.neighbour_event())
+        } else {
+            None
+        }
+    }
+
+    /// The device was told.
+    pub fn set_told(&mut self)
+        ensures { self.new ≡ told self.old }
+    {
+        self.has_news = false;
+    }
+
+    /// The event by which the device is told of its neighbour, or that none is known.
+    #[inline(never)]
+    fn neighbour_event(&self) -> Event
+        ensures { result ≡ news_in self.now }
+    {
+        match self.near.neighbour() {
+            Some(neighbour) => Event::Neighbour(Some(neighbour.copy())),
+            None => Event::Neighbour(None),
+        }
+    }
+
+    /// How many frames of ARP came from another station that uses the running IP address.
+    pub fn conflicts(&self) -> u64
+        ensures { result ≡ self.now.ip.conflicts }
+    {
+        self.ip.conflicts()
+    }
+
+    /// Tells the running settings after a step.
+    pub fn observe(&mut self, running: &Settings)
+        ensures { self.new ≡ observed self.old running.now }
+    {
+        self.ip.observe(running.suite.address());
+        if !self.is_named(running) {
+            self.name = running.name.copy();
+        }
+    }
+
+    /// Whether this is the running name that it knows.
+    fn is_named(&self, running: &Settings) -> bool
+        ensures { result ≡ pointwise nat_eq running.now.name self.now.name }
+    {
+        running.name.as_bytes() == self.name.as_bytes()
+    }
+
+    /// Whether these are the running settings that it knows, as far as it reads them.
+    pub fn knows(&self, running: &Settings) -> bool
+        ensures { result ≡ knows self.now running.now }
+    {
+        running.suite.address() == self.ip.address() && self.is_named(running)
+    }
+
+    // ---- events
+
+    /// What it does with an event, once the device has given it this note. Appends the frames to send to the outbox. Returns
+    /// the note of the station.
+    pub fn attend(
+        &mut self,
+        identity: &Identity,
+        event: &Event,
+        note: Note,
+        has_sent: bool,
+        outbox: &mut Outbox,
+    ) -> Note
+        requires empty { outbox.old.items ≡ [] }
+        // A conflict was dropped or answered by the device.
+        requires known { is_dropped_by note ≡ false → has_sent ≡ false → IsUndisputed self.old event.now }
+        ensures state { self.new ≡ (event_beside identity.now self.old note event.now).services }
+        ensures frames { boxed outbox.new ≡ (event_beside identity.now self.old note event.now).sent }
+        ensures note { result ≡ (event_beside identity.now self.old note event.now).note }
+    {
+        match event {
+            Event::Frame(bytes) => {
+                self.attend_frame(identity, bytes.as_slice(), note, has_sent, outbox)
+            }
+            Event::Tick => {
+                self.tick(outbox);
+                note
+            }
+            Event::Input(..)
+            | Event::Alarm(..)
+            | Event::Status(..)
+            | Event::Neighbour(..)
+            | Event::Ready => note,
+        }
+    }
+
+    /// What it does with a frame, once the device has given it this note. It answers the frame if the device dropped it.
+    pub fn attend_frame(
+        &mut self,
+        identity: &Identity,
+        bytes: &[u8],
+        note: Note,
+        has_sent: bool,
+        outbox: &mut Outbox,
+    ) -> Note
+        requires empty { outbox.old.items ≡ [] }
+        // A conflict was dropped or answered by the device.
+        requires known { is_dropped_by note ≡ false → has_sent ≡ false → disputes self.old bytes.now ≡ false }
+        ensures state { self.new ≡ (heard_beside identity.now self.old note bytes.now).services }
+        ensures frames { boxed outbox.new ≡ (heard_beside identity.now self.old note bytes.now).sent }
+        ensures note { result ≡ (heard_beside identity.now self.old note bytes.now).note }
+    {
+        if is_dropped(note) {
+            return self.answer(identity, bytes, note, outbox);
+        }
+        // Most frames of an exchange are taken without an answer. A packet of ARP is not, so these are not read again.
+        only_conflicts_are_counted();
+        if has_sent {
+            return self.overhear(bytes, note);
+        }
+        note
+    }
+
+    /// It hears a frame that the device dropped, and answers it.
+    #[inline(never)]
+    fn answer(&mut self, identity: &Identity, bytes: &[u8], note: Note, outbox: &mut Outbox) -> Note
+        requires empty { outbox.old.items ≡ [] }
+        requires dropped { is_dropped_by note ≡ true }
+        ensures state { self.new ≡ (heard_beside identity.now self.old note bytes.now).services }
+        ensures frames { boxed outbox.new ≡ (heard_beside identity.now self.old note bytes.now).sent }
+        ensures note { result ≡ (heard_beside identity.now self.old note bytes.now).note }
+    {
+        let disputed = self.ip.disputes(bytes);
+        let taken = self.meet(bytes);
+        match self.answered(identity, bytes) {
+            Some(frame) => {
+                outbox.put_copy(&frame);
+                Note::Done
+            }
+            None => note_of(disputed || taken, note),
+        }
+    }
+
+    /// It hears a message of a neighbour. Returns whether the frame carries one.
+    fn meet(&mut self, bytes: &[u8]) -> bool
+        ensures state { self.new ≡ met self.old bytes.now }
+        ensures taken { result ≡ takes self.old bytes.now }
+    {
+        match self.near.hear(bytes) {
+            Heard::Nothing => false,
+            Heard::Same => true,
+            Heard::Changed => {
+                self.has_news = true;
+                true
+            }
+        }
+    }
+
+    /// It hears a frame that the device dropped. Returns the answer of the services of the IP address, or else that of the
+    /// endpoint mapper.
+    fn answered(&mut self, identity: &Identity, bytes: &[u8]) -> Option<Frame>
+        ensures state { self.new ≡ overheard self.old bytes.now }
+        ensures answer { frame_in result ≡ answered identity.now self.old bytes.now }
+    {
+        let mapped = mapped_frame(&self.ip, identity, bytes);
+        match self.ip.hear(bytes) {
+            Some(frame) => Some(frame),
+            None => mapped,
+        }
+    }
+
+    /// It hears a frame that the device answered. Only a conflict concerns it.
+    #[inline(never)]
+    fn overhear(&mut self, bytes: &[u8], note: Note) -> Note
+        ensures state { self.new ≡ overheard self.old bytes.now }
+        ensures note { result ≡ (if disputes self.old bytes.now then Note.Done else note) }
+    {
+        only_conflicts_are_counted();
+        if !self.ip.disputes(bytes) {
+            return note;
+        }
+        let _ = self.ip.hear(bytes);
+        Note::Done
+    }
+
+    // ---- ticks
+
+    /// Handles a tick, which is 31.25 microseconds. Appends the frames to send to the outbox.
+    pub fn tick(&mut self, outbox: &mut Outbox)
+        requires room { array_vec_len outbox.old ≤ 2 }
+        ensures state { self.new ≡ ticked self.old }
+        ensures frames { boxed outbox.new ≡ boxed outbox.old ++ sent_by_tick self.old }
+    {
+        let announces = self.announces();
+        self.ip.tick(outbox);
+        if announces {
+            self.announce(outbox);
+        }
+        if self.near.tick() {
+            self.has_news = true;
+        }
+    }
+
+    /// Whether the next tick sends LLDP.
+    fn announces(&self) -> bool
+        ensures { result ≡ announces self.now }
+    {
+        self.is_up && self.near.is_sending()
+    }
+
+    /// Appends the frame of LLDP to the outbox.
+    #[inline(never)]
+    fn announce(&self, outbox: &mut Outbox)
+        requires { array_vec_len outbox.old < 4 }
+        ensures { boxed outbox.new ≡ boxed outbox.old ++ announcement_of (said_of self.now) ∷ [] }
+    {
+        let frame = announcement(self.near.mac(), &self.name, self.ip.address(), self.link);
+        outbox.put_copy(&frame);
+    }
+
+    /// The number of ticks up to and with the next one that sends a frame or forgets the neighbour, unless something is heard
+    /// or the settings change.
+    pub fn due_in(&self) -> u32
+        ensures value { result ≡ due_in self.now }
+        ensures some { 0 < result }
+    {
+        self.ip.due_in().min(self.near.due_in())
+    }
+
+    /// Lets ticks pass that send nothing and forget no neighbour: fewer than `due_in` returns.
+    pub fn pass(&mut self, ticks: u32)
+        requires { ticks < due_in self.old }
+        // It does what as many ticks do, one by one, and none of them sends a frame or forgets the neighbour.
+        ensures state { self.new ≡ serving_ticks ticks self.old }
+        ensures none { NoneSends ticks self.old }
+        ensures same { NoNews ticks self.old }
+    {
+        self.ip.pass(ticks);
+        self.near.pass(ticks);
+    }
+}
+
+/// The note for a frame that was not answered.
+fn note_of(disputed: bool, note: Note) -> Note
+    ensures { result ≡ (if disputed then Note.Done else note) }
+{
+    if disputed { Note::Done } else { note }
+}
+
+/// Whether the device dropped a frame.
+fn is_dropped(note: Note) -> bool
+    ensures { result ≡ is_dropped_by note }
+{
+    match note {
+        Note::NotMine | Note::Fault => true,
+        Note::Done
+        | Note::Filter
+        | Note::OldCall
+        | Note::NoRelation
+        | Note::StaleCycle
+        | Note::Refused => false,
+    }
+}
