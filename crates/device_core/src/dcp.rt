@@ -18,8 +18,8 @@ ghost use Rattle.frame_codec.specs.Outbox.{boxed};
 
 use crate::{Device, Note};
 use dcp_core::{
-    AliasName, Request, Service, fill_plan, get_answer, identify_answer, identify_matches, read_request,
-    set_answer,
+    AliasName, Request, Service, fill_plan, get_answer, identify_answer, identify_matches,
+    read_request, set_answer,
 };
 use device_frames::{send_dcp_answer, send_farewell};
 use flash_model::Flash;

@@ -24,7 +24,7 @@ use Rattle.pn_alarms.specs.declared.fault.AlarmFault.{AlarmFault}
 use Rattle.pn_alarms.specs.declared.pdu.Header.{Header}
 use Rattle.pn_alarms.specs.Message.{ToDevice, message_of}
 use Rattle.device_frames.specs.declared.event.Event.{Event}
-use Rattle.device_frames.specs.declared.event.Event.TheVariants.{Frame, Tick, Input, Alarm, Status, Neighbour, Ready}
+use Rattle.device_frames.specs.declared.event.Event.TheVariants.{Frame, Call as Joined, Tick, Input, Alarm, Status, Neighbour, Ready}
 
 -- What the body of a datagram says: a call to the device, else a response, else neither.
 pub data Said : Type 0 where
@@ -117,6 +117,7 @@ heard_frame identity (Err fault) = Unreadable
 
 unfoldable pub heard_of : Identity → Event → Heard
 heard_of identity (Frame bytes) = heard_frame identity (frame_of bytes.items)
+heard_of identity (Joined caller address octets) = Reported caller address (said_by octets.items)
 heard_of identity Tick = Ticks
 heard_of identity (Input slot subslot value) = Given slot subslot value.items
 heard_of identity (Alarm slot subslot octets) = Raised slot subslot octets.items

@@ -1,5 +1,9 @@
-use frame_codec::Bytes;
+use arrayvec::ArrayVec;
+use frame_codec::{Bytes, Caller};
 use lldp::Neighbour;
+
+/// A call that is longer than a datagram: its header, and a body of at most 4,152 octets.
+pub type LongCall = ArrayVec<u8, 4232>;
 
 /// What happens to a device.
 #[derive(Drop)]
@@ -7,6 +11,8 @@ pub enum Event {
     /// These octets came from the network. Of a longer frame only the first 1,519 octets are given, which are refused
     /// in the same way.
     Frame(Bytes),
+    /// A call came in fragments, from this caller to this IP address, and was joined.
+    Call(Caller, [u8; 4], LongCall),
     /// A unit of 31.25 microseconds is over.
     Tick,
     /// The application sets the input of the submodule in this slot and subslot.

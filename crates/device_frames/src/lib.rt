@@ -14,7 +14,7 @@ mod relation;
 mod sizes;
 
 pub use answers::{send_arp_reply, send_dcp_answer, send_response};
-pub use event::Event;
+pub use event::{Event, LongCall};
 pub use exchange::{
     send_alarm, send_alarm_again, send_alarm_reply, send_inputs, send_inputs_of, send_ready_again,
 };

@@ -6,7 +6,7 @@ use Rattle.settings_store.specs.Machine.{Outcome}
 use Rattle.device_core.specs.Machine.{step_of}
 use Rattle.device_core.specs.State.{Live, Station}
 use Rattle.device_frames.specs.declared.event.Event.{Event}
-use Rattle.device_frames.specs.declared.event.Event.TheVariants.{Frame, Tick, Input, Alarm, Status, Neighbour, Ready}
+use Rattle.device_frames.specs.declared.event.Event.TheVariants.{Frame, Call, Tick, Input, Alarm, Status, Neighbour, Ready}
 use Rattle.device_frames.specs.declared.note.Note.{Note}
 use Rattle.device_frames.specs.declared.note.Note.TheVariants.{Done, NotMine, Fault, Filter, OldCall, NoRelation, StaleCycle, Refused}
 use Rattle.pn_values.specs.declared.settings.Settings.{Settings}
@@ -56,6 +56,7 @@ heard_beside identity state note bytes = record {
 abbrev pub event_beside : Identity → Serving → Note → Event → Beside
 event_beside identity state note (Frame bytes) = heard_beside identity state note bytes.items
 event_beside identity state note Tick = record { services = ticked state; sent = sent_by_tick state; note = note }
+event_beside identity state note (Call caller address octets) = idle state note
 event_beside identity state note (Input slot subslot value) = idle state note
 event_beside identity state note (Alarm slot subslot octets) = idle state note
 event_beside identity state note (Status slot subslot is_good) = idle state note
@@ -80,6 +81,7 @@ has_any (frame ∷ frames) = true
 abbrev pub IsUndisputed : Serving → Event → Type 0
 IsUndisputed state (Frame bytes) = disputes state bytes.items ≡ false
 IsUndisputed state Tick = ⊤
+IsUndisputed state (Call caller address octets) = ⊤
 IsUndisputed state (Input slot subslot value) = ⊤
 IsUndisputed state (Alarm slot subslot octets) = ⊤
 IsUndisputed state (Status slot subslot is_good) = ⊤

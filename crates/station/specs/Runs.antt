@@ -3,7 +3,9 @@ use Rattle.std.specs.Prelude.{◌≡◌, ◌<◌, ◌-◌, ◌^◌, ◌⊎◌, �
 use Rattle.flash_model.specs.declared.flash.Flash.{Ghosts as Flash}
 use Rattle.pn_values.specs.declared.settings.Settings.{Settings}
 use Rattle.settings_journal.specs.declared.journal.BootFault.{BootFault}
+use Rattle.std.specs.Option.{option_map_or}
 use Rattle.device_frames.specs.declared.event.Event.{Event}
+use Rattle.device_frames.specs.declared.event.Event.TheVariants.{Call}
 use Rattle.device_frames.specs.declared.note.Note.{Note}
 use Rattle.device_core.specs.State.{Station}
 use Rattle.device_core.specs.State as device
@@ -12,7 +14,7 @@ use Rattle.device_core.specs.Steps.{IsBehindCalls, IsExactRun, Runs, TakesRoom}
 use Rattle.device_core.specs.Cycle.{IsStartedFrom, Refuses, RefusesAfter, Restarts}
 use Rattle.station.specs.Serving.{Serving, news_in, serving_at}
 use Rattle.station.specs.State.{State, Frames, handed_on, in_order, of_device}
-use Rattle.station.specs.Steps.{StationSteps, Tells}
+use Rattle.station.specs.Steps.{Gives, StationSteps, Tells}
 
 -- A run of the device alone: all that the contract of its run says.
 pub record DeviceRuns {F : Type 0} {S : ℕ} (as_flash : Flash F S) (old : device.State F) (events : List Event) (before now : List (List ℕ)) (new : device.State F) : Type 0 where
@@ -27,24 +29,32 @@ pub record DeviceRuns {F : Type 0} {S : ℕ} (as_flash : Flash F S) (old : devic
 -- What a run hands on of an event: the frames of the device, then those of the services, and none once power is lost.
 pub record StationHandsOn {F : Type 0} {S : ℕ} (as_flash : Flash F S) (old : State F) (event : Event) (before now : List (List ℕ)) (new : State F) : Type 0 where
   pub between : State F
+  pub middle : State F
+  pub first : List (List ℕ)
   pub sent : Frames
   pub said : Note
   pub tells : Tells as_flash old between
-  pub steps : StationSteps as_flash between event sent said new
+  pub steps : StationSteps as_flash between event (record { device = first; services = sent.services }) said middle
+  pub gives : Gives as_flash middle first sent.device new
   pub handed : now ≡ before ++ in_order (handed_on new.device.live.values.is_lost sent)
 
 -- The Neighbour event that the device is told before the next one: one if the neighbour changed, else none.
 abbrev pub news_of : Serving → List Event
 news_of serving = if serving.has_news then news_in serving ∷ [] else []
 
+-- The event of the call that the device is given after the step that completed it: one if it did, else none.
+abbrev pub call_of : Serving → List Event
+call_of serving = option_map_or (λ call. Call call.0 serving.ip.address (record { items = call.1 }) ∷ []) serving.call []
+
 -- The steps of a station one by one, what its device heard, and the frames of each step that were handed on. The device
--- heard the same events, and the Neighbour events where the services gave them.
+-- heard the same events, and the Neighbour events and the calls where the services gave them.
 abbrev pub StepByStep : {F : Type 0} {S : ℕ} → Flash F S → State F → List Event → List Event → List Frames → State F → Type 0
 StepByStep as_flash old [] heard turns new = (heard ≡ []) × (turns ≡ []) × (new ≡ old)
 StepByStep {F} as_flash old (event ∷ events) heard turns new =
-    (between : State F) × (sent : Frames) × (said : Note) × (next : State F) × (more : List Event) × (later : List Frames)
-    × Tells as_flash old between × StationSteps as_flash between event sent said next
-    × (heard ≡ news_of old.services ++ event ∷ more) × (turns ≡ handed_on next.device.live.values.is_lost sent ∷ later)
+    (between : State F) × (middle : State F) × (first : List (List ℕ)) × (sent : Frames) × (said : Note) × (next : State F) × (more : List Event) × (later : List Frames)
+    × Tells as_flash old between × StationSteps as_flash between event (record { device = first; services = sent.services }) said middle
+    × Gives as_flash middle first sent.device next
+    × (heard ≡ news_of old.services ++ event ∷ (call_of middle.services ++ more)) × (turns ≡ handed_on next.device.live.values.is_lost sent ∷ later)
     × StepByStep as_flash next events more later new
 
 -- A run of a station: its steps one by one. Its device is that of a run of the device alone over the same events, with the

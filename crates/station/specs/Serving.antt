@@ -9,6 +9,10 @@ use Rattle.services.specs.Answer as ip_answer
 use Rattle.services.specs.Leaps as ip_leaps
 use Rattle.services.specs.declared.announcement.Role.TheVariants as role
 use Rattle.endpoint_mapper.specs.Mapper as mapper
+use Rattle.call_pieces.specs.State as pieces
+use Rattle.call_pieces.specs.declared.piece.Kind.TheVariants.{Calls}
+use Rattle.frame_codec.specs.declared.udp.Caller.{Caller}
+use Rattle.frame_codec.specs.Frame.{frame_bytes}
 use Rattle.device_frames.specs.declared.event.Event.{Event}
 use Rattle.device_frames.specs.declared.event.Event.TheVariants.{Neighbour as Met}
 use Rattle.lldp.specs.declared.neighbour.Neighbour.{Neighbour}
@@ -30,6 +34,9 @@ pub record Serving : Type 0 where
   pub is_up : Bool
   pub link : Option Link
   pub has_news : Bool
+  -- the calls of which fragments came, and the one that is complete: the device is given it right after this step
+  pub pieces : pieces.State
+  pub call : Option (Caller × List ℕ)
 
 -- What is beside a device at its start, with these running settings.
 abbrev pub serving_at : Identity → Settings → Serving
@@ -40,6 +47,8 @@ serving_at identity running = record {
   is_up = true;
   link = None;
   has_news = false;
+  pieces = pieces.started Calls;
+  call = None;
 }
 
 -- At the end of a step it sees the running settings. Whether it knows them already.
@@ -56,18 +65,61 @@ abbrev pub or_else : {A : Type 0} → Option A → Option A → Option A
 or_else (Some one) other = Some one
 or_else None other = other
 
+-- what a datagram that brings a call does at the joiner
+abbrev pub outcome_of : Serving → Option ip_answer.Call → pieces.Outcome
+outcome_of serving None = pieces.Nothing
+outcome_of serving (Some call) = pieces.heard_as serving.pieces call.body
+
+abbrev pub is_outcome : pieces.Outcome → Bool
+is_outcome pieces.Nothing = false
+is_outcome (pieces.Waits fack) = true
+is_outcome (pieces.Joined bytes) = true
+
+-- whether it is a fragment
+abbrev pub is_piece : Serving → Option ip_answer.Call → Bool
+is_piece serving call = is_outcome (outcome_of serving call)
+
+abbrev pub fack_in : pieces.Outcome → Option (List ℕ)
+fack_in pieces.Nothing = None
+fack_in (pieces.Waits fack) = fack
+fack_in (pieces.Joined bytes) = None
+
+-- the frame that acknowledges a fragment
+abbrev pub acknowledged : Serving → Option ip_answer.Call → Option (List ℕ)
+acknowledged serving None = None
+acknowledged serving (Some call) =
+    option_map (λ bytes. frame_bytes (ip_answer.call_reply_of serving.ip.mac serving.ip.address call.source call.caller bytes)) (fack_in (pieces.heard_as serving.pieces call.body))
+
+abbrev pub call_after : Option (Caller × List ℕ) → ip_answer.Call → pieces.Outcome → Option (Caller × List ℕ)
+call_after before call pieces.Nothing = before
+call_after before call (pieces.Waits fack) = before
+call_after before call (pieces.Joined bytes) = Some (record { mac = call.source; endpoint = call.caller }, bytes)
+
+-- what is beside the device after a datagram that brings a call
+abbrev pub after_piece : Serving → Option ip_answer.Call → Serving
+after_piece serving None = serving
+after_piece serving (Some call) = record serving {
+  pieces = pieces.heard serving.pieces call.body;
+  call = call_after serving.call call (pieces.heard_as serving.pieces call.body);
+}
+
+-- the device was given the call
+abbrev pub called : Serving → Serving
+called serving = record serving { call = None }
+
 -- The answer to a frame that the device dropped: that of the services of the IP address, or else that of the endpoint
--- mapper.
+-- mapper, or else the acknowledgement of a fragment.
 abbrev pub answered : Identity → Serving → List ℕ → Option (List ℕ)
-answered identity serving bytes = or_else (ip_answer.answer_to serving.ip bytes) (mapper.mapped_frame serving.ip identity bytes)
+answered identity serving bytes =
+    or_else (or_else (ip_answer.answer_to serving.ip bytes) (mapper.mapped_frame serving.ip identity bytes)) (acknowledged serving (ip_answer.call_in serving.ip bytes))
 
 -- Whether a frame concerns what is beside the device also if the device answered it: a conflict of the IP address.
 abbrev pub disputes : Serving → List ℕ → Bool
 disputes serving bytes = ip_answer.disputes serving.ip bytes
 
--- Whether a frame that the device dropped carries a message of a neighbour.
+-- Whether a frame that the device dropped carries a message of a neighbour or a fragment of a call.
 abbrev pub takes : Serving → List ℕ → Bool
-takes serving bytes = is_some (told_in serving.near.mac bytes)
+takes serving bytes = is_some (told_in serving.near.mac bytes) || is_piece serving (ip_answer.call_in serving.ip bytes)
 
 abbrev pub is_change : Heard → Bool
 is_change Nothing = false
@@ -87,7 +139,7 @@ abbrev pub met : Serving → List ℕ → Serving
 met serving bytes = record serving { near = near.heard serving.near bytes; has_news = serving.has_news || changes serving bytes }
 
 abbrev pub heard : Serving → List ℕ → Serving
-heard serving bytes = overheard (met serving bytes) bytes
+heard serving bytes = overheard (after_piece (met serving bytes) (ip_answer.call_in serving.ip bytes)) bytes
 
 -- ---- the neighbour
 
@@ -123,7 +175,7 @@ sent_by_tick serving =
     ip.frames_in (ip.sent_by_tick serving.ip) ++ (if announces serving then lldp.announcement (said_of serving) ∷ [] else [])
 
 abbrev pub ticked : Serving → Serving
-ticked serving = record serving { ip = ip.ticked serving.ip; near = near.ticked serving.near; has_news = serving.has_news || near.is_over serving.near.known }
+ticked serving = record serving { ip = ip.ticked serving.ip; near = near.ticked serving.near; has_news = serving.has_news || near.is_over serving.near.known; pieces = pieces.ticked serving.pieces }
 
 -- The number of ticks up to and with the next one that sends a frame or forgets the neighbour.
 abbrev pub due_in : Serving → ℕ

@@ -1,5 +1,5 @@
 -- One step of a station.
-use Rattle.std.specs.Prelude.{◌≡◌, ◌≢◌, ◌<◌, ◌≤◌, ◌-◌, ◌^◌, ◌⊎◌, ℕ, Bool, true, false, List, [], ◌∷◌, length}
+use Rattle.std.specs.Prelude.{◌≡◌, ◌≢◌, ◌<◌, ◌≤◌, ◌-◌, ◌^◌, ◌⊎◌, ℕ, Bool, true, false, Option, Some, None, List, [], ◌∷◌, length}
 use Rattle.flash_model.specs.declared.flash.Flash.{Ghosts as Flash}
 use Rattle.pn_values.specs.declared.mac.Mac.{Mac}
 use Rattle.dcp_core.specs.declared.request.Service.TheVariants.{Identify}
@@ -7,7 +7,7 @@ use Rattle.dcp_core.specs.Request.{Asked}
 use Rattle.rpc_core.specs.Call.{Asked as Called}
 use Rattle.rpc_core.specs.Cache.{looked, again}
 use Rattle.device_frames.specs.declared.event.Event.{Event}
-use Rattle.device_frames.specs.declared.event.Event.TheVariants.{Frame, Tick, Input, Alarm, Status, Neighbour, Ready}
+use Rattle.device_frames.specs.declared.event.Event.TheVariants.{Frame, Call, Tick, Input, Alarm, Status, Neighbour, Ready}
 use Rattle.device_frames.specs.declared.note.Note.{Note}
 use Rattle.device_frames.specs.declared.note.Note.TheVariants.{Done}
 use Rattle.device_frames.specs.Heard.{Asks, heard_of}
@@ -16,7 +16,8 @@ use Rattle.device_core.specs.State as device
 use Rattle.device_core.specs.Steps.{Steps, Identifies, IsServed, IsAgain, IsExactStep}
 use Rattle.station.specs.Serving.{Serving}
 use Rattle.station.specs.Leaps.{told_at}
-use Rattle.station.specs.Serving.{news_in, told}
+use Rattle.station.specs.Serving.{called, news_in, told}
+use Rattle.frame_codec.specs.declared.udp.Caller.{Caller}
 use Rattle.station.specs.State.{State, Frames, no_frames}
 use Rattle.station.specs.Beside.{beside}
 
@@ -65,6 +66,7 @@ AtMostOne frames = (frames ≡ []) ⊎ ((frame : List ℕ) × (frames ≡ frame 
 abbrev pub IsSparing : Event → Frames → Type 0
 IsSparing (Frame bytes) frames = (frames.services ≡ []) ⊎ ((frames.device ≡ []) × AtMostOne frames.services)
 IsSparing Tick frames = length frames.services ≤ 2
+IsSparing (Call caller address octets) frames = frames.services ≡ []
 IsSparing (Input slot subslot value) frames = frames.services ≡ []
 IsSparing (Alarm slot subslot octets) frames = frames.services ≡ []
 IsSparing (Status slot subslot is_good) frames = frames.services ≡ []
@@ -76,13 +78,28 @@ pub record IsReady {F : Type 0} (old new : State F) : Type 0 where
   pub device : new.device ≡ record old.device { live = (told_at old.device.station old.device.live old.services).live }
   pub services : new.services ≡ (told_at old.device.station old.device.live old.services).services
 
--- One event of a station: the device is told of its neighbour, if that changed, and then the step is made. If power was lost in
--- it, the services send nothing and change nothing; if its note is not 'done', nothing is sent and the device is unchanged.
+-- The device of a station is given the call that is complete, right after the step that completed it: a step of its own, whose
+-- frames are those of the device. That step itself sent nothing: the device dropped the fragment, and the answer acknowledges it.
+abbrev pub GivesIf : {F : Type 0} {S : ℕ} → Flash F S → Option (Caller × List ℕ) → State F → List (List ℕ) → List (List ℕ) → State F → Type 0
+GivesIf as_flash None old before now new = (new ≡ old) × (now ≡ before)
+GivesIf as_flash (Some call) old before now new =
+    (said : Note) × DeviceSteps as_flash old.device (Call call.0 old.services.ip.address (record { items = call.1 })) now said new.device
+    × (new.services ≡ called old.services)
+
+abbrev pub Gives : {F : Type 0} {S : ℕ} → Flash F S → State F → List (List ℕ) → List (List ℕ) → State F → Type 0
+Gives as_flash old before now new = GivesIf as_flash old.services.call old before now new
+
+-- One event of a station: the device is told of its neighbour, if that changed, then the step is made, and then the device is
+-- given the call that the step completed, if it did. If power was lost, the services send nothing and change nothing but that the
+-- call was given; if its note is not 'done', nothing is sent and the device is unchanged.
 pub record StationTakes {F : Type 0} {S : ℕ} (as_flash : Flash F S) (old : State F) (event : Event) (frames : Frames) (said : Note) (new : State F) : Type 0 where
   pub between : State F
+  pub middle : State F
+  pub first : List (List ℕ)
   pub tells : Tells as_flash old between
   pub ready : IsReady old between
-  pub steps : StationSteps as_flash between event frames said new
+  pub steps : StationSteps as_flash between event (record { device = first; services = frames.services }) said middle
+  pub gives : Gives as_flash middle first frames.device new
   pub sparing : IsSparing event frames
-  pub lost : new.device.live.values.is_lost ≡ true → (frames.services ≡ []) × (new.services ≡ between.services)
+  pub lost : new.device.live.values.is_lost ≡ true → (frames.services ≡ []) × (called new.services ≡ called between.services)
   pub refused : said ≢ Done → (frames ≡ no_frames) × (new.device ≡ between.device)

@@ -2,7 +2,9 @@
 ghost use Rattle.std.specs.Prelude.{◌≡◌, ◌<◌, ◌≤◌, ◌+◌, ◌++◌, ◌&&◌, ◌||◌, [], ◌∷◌, if◌then◌else◌, false, true};
 ghost use Rattle.arrayvec.specs.ArrayVec.{array_vec_len};
 ghost use Rattle.frame_codec.specs.Outbox.{boxed};
-ghost use Rattle.services.specs.Answer.{frame_in};
+ghost use Rattle.services.specs.Answer.{call_in, frame_in};
+ghost use Rattle.std.specs.Option.{option_map};
+ghost use Rattle.station.specs.Serving.{acknowledged, after_piece, called, is_piece};
 ghost use Rattle.station.specs.Beside.{Beside, IsUndisputed, event_beside, heard_beside, is_dropped as is_dropped_by};
 ghost use Rattle.station.specs.Serving.{NoNews, NoneSends, announces, answered, changes, disputes, due_in, heard, knows, news_in, observed};
 ghost use Rattle.lldp.specs.Announcement.{announcement as announcement_of};
@@ -10,7 +12,8 @@ ghost use Rattle.std.specs.Prelude.{Some, None, nat_eq};
 ghost use Rattle.std.specs.Cmp.Lexicographic.{pointwise};
 ghost use Rattle.station.specs.Serving.{met, overheard, said_of, sent_by_tick, serving_at, serving_ticks, takes, ticked, told};
 
-use device_core::{Event, Note};
+use call_pieces::{Heard as Joined, Joiner, Kind, WholeCall};
+use device_core::{Caller, Event, Note};
 use endpoint_mapper::mapped_frame;
 use frame_codec::{Frame, Outbox};
 use lldp::{Heard, Link, Neighbours, announcement};
@@ -35,9 +38,14 @@ pub struct DeviceServices {
     link: Option<Link>,
     // Whether the neighbour changed since the device was told of it.
     has_news: bool,
+    // The calls of which fragments came, and the one that is complete, with its caller.
+    pieces: Joiner,
+    whole: WholeCall,
+    caller: Option<Caller>,
 }
 
 impl Model for DeviceServices {
+    ghost use Rattle.std.specs.Option.{option_map};
     ghost use Rattle.station.specs.Serving.{Serving};
 
     ghost Value = { Serving };
@@ -49,6 +57,8 @@ impl Model for DeviceServices {
       is_up = beside.is_up;
       link = beside.link;
       has_news = beside.has_news;
+      pieces = beside.pieces;
+      call = option_map (λ caller. (caller, beside.whole.items)) beside.caller;
     } };
 }
 
@@ -64,7 +74,35 @@ impl DeviceServices {
             is_up: true,
             link: None,
             has_news: false,
+            pieces: Joiner::new(Kind::Calls),
+            whole: WholeCall::new(),
+            caller: None,
         }
+    }
+
+    /// The call that is complete, and its caller: the owner gives it to the device before anything else, and then calls
+    /// `set_called`.
+    pub fn call(&self) -> Option<(Caller, &[u8])>
+        ensures { option_map (λ x. (x.0, x.1.now)) result ≡ self.now.call }
+    {
+        match self.caller {
+            Some(caller) => Some((caller, self.whole.as_slice())),
+            None => None,
+        }
+    }
+
+    /// The device was given the call.
+    pub fn set_called(&mut self)
+        ensures { self.new ≡ called self.old }
+    {
+        self.caller = None;
+    }
+
+    /// The running IP address that it knows.
+    pub fn address(&self) -> [u8; 4]
+        ensures { result ≡ self.now.ip.address }
+    {
+        self.ip.address()
     }
 
     /// What the host says of the link: whether it is up, and which link it is, if that is known. Without this the link is up.
@@ -162,7 +200,8 @@ impl DeviceServices {
                 self.tick(outbox);
                 note
             }
-            Event::Input(..)
+            Event::Call(..)
+            | Event::Input(..)
             | Event::Alarm(..)
             | Event::Status(..)
             | Event::Neighbour(..)
@@ -208,12 +247,42 @@ impl DeviceServices {
     {
         let disputed = self.ip.disputes(bytes);
         let taken = self.meet(bytes);
+        let (joined, fack) = self.join(bytes);
         match self.answered(identity, bytes) {
             Some(frame) => {
                 outbox.put_copy(&frame);
                 Note::Done
             }
-            None => note_of(disputed || taken, note),
+            None => match fack {
+                Some(frame) => {
+                    outbox.put_copy(&frame);
+                    Note::Done
+                }
+                None => note_of(disputed || taken || joined, note),
+            },
+        }
+    }
+
+    /// It hears a fragment of a call. Returns whether the frame carries one, and the frame that acknowledges it.
+    fn join(&mut self, bytes: &[u8]) -> (bool, Option<Frame>)
+        ensures state { self.new ≡ after_piece self.old (call_in self.old.ip bytes.now) }
+        ensures taken { result.0 ≡ is_piece self.old (call_in self.old.ip bytes.now) }
+        ensures answer { frame_in result.1 ≡ acknowledged self.old (call_in self.old.ip bytes.now) }
+    {
+        let Some(called) = self.ip.call_in(bytes) else {
+            return (false, None);
+        };
+        match self.pieces.hear(called.body, &mut self.whole) {
+            Joined::Nothing => (false, None),
+            Joined::Waits(Some(fack)) => (true, Some(self.ip.reply(&called, fack.as_slice()))),
+            Joined::Waits(None) => (true, None),
+            Joined::Joined => {
+                self.caller = Some(Caller {
+                    mac: called.source,
+                    endpoint: called.caller,
+                });
+                (true, None)
+            }
         }
     }
 
@@ -275,6 +344,7 @@ impl DeviceServices {
         if self.near.tick() {
             self.has_news = true;
         }
+        self.pieces.tick();
     }
 
     /// Whether the next tick sends LLDP.
@@ -313,6 +383,7 @@ impl DeviceServices {
     {
         self.ip.pass(ticks);
         self.near.pass(ticks);
+        self.pieces.elapse(ticks);
     }
 }
 

@@ -27,4 +27,4 @@ pub use outbox::StationOutbox;
 pub use served::ServedController;
 pub use served_outbox::ServedOutbox;
 pub use station::IoStation;
-pub use step::{tell_beside, follow, follow_frame, step_alone, step_beside};
+pub use step::{call_beside, follow, follow_frame, step_alone, step_beside, tell_beside};

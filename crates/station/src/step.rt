@@ -6,7 +6,7 @@ ghost use Rattle.station.specs.Beside.{IsUndisputed, beside, has_any, is_dropped
 ghost use Rattle.station.specs.Serving.{IsNeighbour, disputes};
 ghost use Rattle.device_core.specs.Machine.{step_of};
 ghost use Rattle.device_frames.specs.declared.note.Note.TheVariants.{Done};
-ghost use Rattle.station.specs.Steps.{DeviceSteps, StationSteps, StationTakes, Tells, station_of};
+ghost use Rattle.station.specs.Steps.{DeviceSteps, Gives, StationSteps, StationTakes, Tells, station_of};
 
 use crate::{DeviceServices, StationOutbox};
 use device_core::{Device, Event, Note};
@@ -26,7 +26,26 @@ pub fn step_beside<F: Flash<S>, const S: usize>(
     ensures { StationTakes F.Flash (station_of device.old services.old) event.now outbox.new result (station_of device.new services.new) }
 {
     tell_beside(device, services, outbox);
-    step_told(device, services, event, outbox)
+    let note = step_told(device, services, event, outbox);
+    call_beside(device, services, outbox);
+    note
+}
+
+/// Gives a device the call that is complete, if one is: a step of its own, right after the one that completed it, and the outbox
+/// gets its frames. Nothing was sent by then: the device dropped the fragment, and the answer acknowledges it.
+pub fn call_beside<F: Flash<S>, const S: usize>(
+    device: &mut Device<F, S>,
+    services: &mut DeviceServices,
+    outbox: &mut StationOutbox,
+)
+    ensures { Gives F.Flash (station_of device.old services.old) outbox.old.device outbox.new.device (station_of device.new services.new) }
+{
+    let address = services.address();
+    let Some((caller, octets)) = services.call() else {
+        return;
+    };
+    let _ = device.step_call(&caller, address, octets, &mut outbox.device);
+    services.set_called();
 }
 
 /// The same at a device that was told of its neighbour.

@@ -27,7 +27,8 @@ pub(crate) fn receive(received: &mut Event, bytes: &[u8])
             room.clear();
             let _ = room.try_extend_from_slice(bytes);
         }
-        Event::Tick
+        Event::Call(..)
+        | Event::Tick
         | Event::Input(..)
         | Event::Alarm(..)
         | Event::Status(..)

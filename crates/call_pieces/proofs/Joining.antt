@@ -1,0 +1,156 @@
+-- What is joined, over any list of events.
+use Rattle.std.proofs.Common.{◌≡◌, ◌+◌, ◌<◌, ◌==◌, ◌&&◌, inl, inr, ℕ, zero, suc, Bool, true, false, not, List, [], ◌∷◌, ◌++◌, get_or, Option, Some, None, refl, sym, ap, subst, ◌∙◌, arith, add-one}
+use Rattle.std.specs.Prelude.{if◌then◌else◌}
+use Rattle.std.specs.List.{All}
+use Rattle.std.specs.Option.{option_map}
+use Rattle.std.proofs.lemmas.Bool.{eqb-true}
+use Rattle.std.proofs.lemmas.List.Elements.{All-map, All-set}
+use Rattle.services.specs.declared.call.Head.{Head}
+use Rattle.call_pieces.specs.declared.piece.Kind.{Kind}
+use Rattle.call_pieces.specs.Piece.{Piece, is_last, is_same, number_of, piece_of}
+use Rattle.call_pieces.specs.State.{Joined, Waits, State, Unfinished, acknowledged, after_piece, at_place, begun, blank, completes, continued, fack_bytes, fresh, heard, heard_as, holds, is_live, is_next, older, outcome_by, outcome_of, place_of, started, taken, whole_bytes}
+use Rattle.call_pieces.specs.Run.{Event, Hears, IsAmong, IsCompleted, IsJoined, Ticks, since}
+use Rattle.call_pieces.proofs.Places.{read_all, three, two}
+
+-- ---- what was heard stays heard
+
+joined_more : (kind : Kind) (past : List Event) (event : Event) (h : Head) (n : ℕ) (octets : List ℕ) → IsJoined kind past h n octets → IsJoined kind (event ∷ past) h n octets
+joined_more kind past event h zero octets j = j
+joined_more kind past event h (suc n) octets j =
+    let w = j.4 in (
+      j.0,
+      j.1,
+      j.2,
+      joined_more kind past event h n j.0 j.3,
+      record { bytes = w.bytes; piece = w.piece; came = inr w.came; read = w.read; same = w.same; number = w.number; octets = w.octets },
+    )
+
+-- what a place has is what its first fragments brought
+abbrev IsMade : Kind → List Event → Unfinished → Type 0
+IsMade kind past u = IsJoined kind past u.head u.next u.octets
+
+-- ---- a fragment
+
+-- this fragment is among the events
+abbrev Came : Kind → List Event → Piece → Type 0
+Came kind past p = (bytes : List ℕ) × IsAmong (Hears bytes) past × (piece_of kind bytes ≡ Some p)
+
+begun_made : (kind : Kind) (past : List Event) (u : Unfinished) (p : Piece) → IsMade kind past u → IsMade kind past (begun u p)
+begun_made kind past u p made = by (number_of p == 0 && not (holds p.head u))
+  where
+    by : (b : Bool) → IsMade kind past (if b then fresh p.head else u)
+    by true = refl
+    by false = made
+
+-- one more fragment
+grown : (kind : Kind) (past : List Event) (u : Unfinished) (p : Piece) → Came kind past p → is_next u p ≡ true → IsMade kind past u
+    → IsJoined kind past u.head (u.next + 1) (u.octets ++ p.octets)
+grown kind past u p came next made =
+    let tests = three (holds p.head u) (number_of p == u.next) _ next in
+    let same = (two (is_live u) (is_same p.head u.head) tests.0).1 in
+    subst (λ (n : ℕ). IsJoined kind past u.head n (u.octets ++ p.octets)) (sym (add-one u.next))
+    (u.octets, p.octets, refl, made, record { bytes = came.0; piece = p; came = came.1; read = came.2; same = same; number = eqb-true _ _ tests.1; octets = refl })
+
+continued_made : (kind : Kind) (past : List Event) (u : Unfinished) (p : Piece) → Came kind past p → IsMade kind past u → IsMade kind past (continued u p)
+continued_made kind past u p came made = by (is_next u p && not (is_last p.head.opening.flags)) refl
+  where
+    by : (b : Bool) → (is_next u p && not (is_last p.head.opening.flags)) ≡ b
+        → IsMade kind past (if b then record u { octets = u.octets ++ p.octets; next = u.next + 1 } else u)
+    by true e = grown kind past u p came (two (is_next u p) _ e).0 made
+    by false e = made
+
+taken_made : (kind : Kind) (past : List Event) (u : Unfinished) (p : Piece) → Came kind past p → IsMade kind past u → IsMade kind past (taken u p)
+taken_made kind past u p came made = continued_made kind past (begun u p) p came (begun_made kind past u p made)
+
+-- ---- over events
+
+-- each place
+abbrev AreMade : Kind → List Event → State → Type 0
+AreMade kind past state = All (IsMade kind past) state.calls
+
+more_made : (kind : Kind) (past : List Event) (event : Event) (us : List Unfinished) → All (IsMade kind past) us → All (IsMade kind (event ∷ past)) us
+more_made kind past event us made k d few = joined_more kind past event _ _ _ (made k d few)
+
+none_made : (kind : Kind) (past : List Event) → IsMade kind past blank
+none_made kind past = refl
+
+piece_made : (kind : Kind) (past : List Event) (state : State) (p : Piece) → Came kind past p → AreMade kind past state → AreMade kind past (after_piece state (Some p))
+piece_made kind past state p came made =
+    All-set (IsMade kind past) state.calls (place_of p.head state.calls) (taken (at_place state p) p)
+    (taken_made kind past (at_place state p) p came (read_all (IsMade kind past) state.calls _ made (none_made kind past))) made
+
+option_made : (kind : Kind) (past : List Event) (state : State) (bytes : List ℕ) (o : Option Piece) → piece_of kind bytes ≡ o → AreMade kind past state
+    → AreMade kind (Hears bytes ∷ past) (after_piece state o)
+option_made kind past state bytes None e made = more_made kind past (Hears bytes) state.calls made
+option_made kind past state bytes (Some p) e made =
+    piece_made kind (Hears bytes ∷ past) state p (bytes, inl refl, e) (more_made kind past (Hears bytes) state.calls made)
+
+heard_kind : (state : State) (o : Option Piece) → (after_piece state o).kind ≡ state.kind
+heard_kind state None = refl
+heard_kind state (Some p) = refl
+
+pub kind_since : (kind : Kind) (past : List Event) → (since kind past).kind ≡ kind
+unfolding heard
+kind_since kind [] = refl
+kind_since kind (Hears bytes ∷ past) = heard_kind (since kind past) (piece_of (since kind past).kind bytes) ∙ kind_since kind past
+kind_since kind (Ticks ∷ past) = kind_since kind past
+
+start_made : (kind : Kind) → AreMade kind [] (started kind)
+start_made kind k d few = by k few
+  where
+    by : (k : ℕ) → k < 4 → IsMade kind [] (get_or (blank ∷ blank ∷ blank ∷ blank ∷ []) k d)
+    by zero few = refl
+    by (suc zero) few = refl
+    by (suc (suc zero)) few = refl
+    by (suc (suc (suc zero))) few = refl
+    by (suc (suc (suc (suc k)))) few = absurd (omega (arith, few))
+
+made_since : (kind : Kind) (past : List Event) → AreMade kind past (since kind past)
+unfolding heard
+made_since kind [] = start_made kind
+made_since kind (Hears bytes ∷ past) =
+    let state = since kind past in
+    subst (λ (k : Kind). AreMade kind (Hears bytes ∷ past) (after_piece state (piece_of k bytes))) (sym (kind_since kind past))
+    (option_made kind past state bytes (piece_of kind bytes) refl (made_since kind past))
+made_since kind (Ticks ∷ past) = All-map (IsMade kind (Ticks ∷ past)) (older 1) (since kind past).calls (more_made kind past Ticks (since kind past).calls (made_since kind past))
+
+-- ---- a whole
+
+-- what it takes for a whole
+pub whole_parts : (u : Unfinished) (p : Piece) (whole : List ℕ) → outcome_by u p ≡ Joined whole → (completes u p ≡ true) × (whole ≡ whole_bytes u.head (u.octets ++ p.octets))
+whole_parts u p whole e = by (completes u p) refl e
+  where
+    by : (b : Bool) → completes u p ≡ b
+        → (if b then Joined (whole_bytes u.head (u.octets ++ p.octets)) else Waits (option_map (fack_bytes p) (acknowledged (continued u p) p))) ≡ Joined whole
+        → (completes u p ≡ true) × (whole ≡ whole_bytes u.head (u.octets ++ p.octets))
+    by true e f = (e, cc)
+    by false e f = absurd cc
+
+completed_by : (kind : Kind) (past : List Event) (state : State) (bytes whole : List ℕ) (o : Option Piece) → piece_of kind bytes ≡ o → AreMade kind past state
+    → outcome_of state o ≡ Joined whole → IsCompleted kind past bytes whole
+completed_by kind past state bytes whole None e made f = absurd cc
+completed_by kind past state bytes whole (Some p) e made f =
+    let later = Hears bytes ∷ past in
+    let u = begun (at_place state p) p in
+    let parts = whole_parts u p whole f in
+    let tests = two (is_next u p) _ parts.0 in
+    let nexts = three (holds p.head u) (number_of p == u.next) _ tests.0 in
+    let there = begun_made kind later (at_place state p) p (read_all (IsMade kind later) state.calls _ (more_made kind past (Hears bytes) state.calls made) (none_made kind later)) in
+    let all = grown kind later u p (bytes, inl refl, e) tests.0 there in
+    record {
+      piece = p;
+      h = u.head;
+      octets = u.octets ++ p.octets;
+      read = e;
+      last = tests.1;
+      same = (two (is_live u) (is_same p.head u.head) nexts.0).1;
+      joined = subst (λ (n : ℕ). IsJoined kind later u.head (n + 1) (u.octets ++ p.octets)) (sym (eqb-true _ _ nexts.1)) all;
+      whole = parts.1;
+    }
+
+pub completed : (kind : Kind) (past : List Event) (bytes whole : List ℕ) → heard_as (since kind past) bytes ≡ Joined whole → IsCompleted kind past bytes whole
+unfolding heard_as
+completed kind past bytes whole e =
+    let same = kind_since kind past in
+    completed_by kind past (since kind past) bytes whole (piece_of kind bytes) refl (made_since kind past)
+    (ap (λ (k : Kind). outcome_of (since kind past) (piece_of k bytes)) (sym same) ∙ e)

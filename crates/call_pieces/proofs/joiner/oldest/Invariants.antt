@@ -1,0 +1,7 @@
+-- what the others say is what all say, and the place is one of them
+use Rattle.std.proofs.Common.{◌≡◌, ◌<◌, length, drop}
+use Rattle.call_pieces.specs.State.{oldest, oldest_from}
+use Rattle.call_pieces.proofs.joiner.oldest.Given as goal
+
+abbrev pub invariant-loop-index : goal.invariant-loop-index
+invariant-loop-index l = (oldest_from l.place l.least l.index (drop l.index l.calls) ≡ oldest l.calls) × (l.place < length l.calls)

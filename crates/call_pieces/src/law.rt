@@ -1,0 +1,54 @@
+//! Laws of fragments. No code is involved.
+ghost use Rattle.std.specs.Prelude.{◌≡◌, ◌+◌, ◌<◌, ◌≤◌, ℕ, Bool, List, length, Some, false};
+ghost use Rattle.std.specs.List.{All, list_any};
+ghost use Rattle.wire.specs.Codec.{IsSound};
+ghost use Rattle.services.specs.declared.call.Head.{Head};
+ghost use Rattle.services.specs.Call.{head};
+ghost use Rattle.call_pieces.specs.declared.piece.Kind.{Kind};
+ghost use Rattle.call_pieces.specs.Piece.{piece_of};
+ghost use Rattle.call_pieces.specs.State.{Joined, State, heard_as, holds};
+ghost use Rattle.call_pieces.specs.Split.{IsSendable, piece_bytes, piece_in, pieces_in, whole_of};
+ghost use Rattle.call_pieces.specs.Run.{Arrival, BeginsNone, CanJoin, Event, IsCompleted, after, events_of, next_of, since, ticks_in};
+
+/// Reading, writing and spelling of headers agree.
+pub fn headers_are_sound()
+    // The format of the header is sound.
+    ensures { IsSound head }
+{}
+
+/// What is joined, whatever comes.
+pub fn joined_calls_are_their_fragments()
+    // A whole consists of the octets of the fragments of one activity and sequence, from the first one to the last one, in the
+    // order of their numbers, each once. Nothing else is joined.
+    ensures { (kind : Kind) (past : List Event) (bytes whole : List ℕ) → heard_as (since kind past) bytes ≡ Joined whole →
+        IsCompleted kind past bytes whole }
+{}
+
+/// How long fragments may be missing.
+pub fn unfinished_calls_are_dropped()
+    // 64,000 ticks after a call began it is not unfinished any more, whatever is heard, unless it begins again.
+    ensures { (state : State) (h : Head) (events : List Event) → All (λ u. u.left ≤ 64000) state.calls → BeginsNone state.kind h events →
+        64000 ≤ ticks_in events → list_any (holds h) (after state events).calls ≡ false }
+{}
+
+/// Fragments that are written are read.
+pub fn fragments_are_read()
+    // What is read of a fragment is its header and its part of the body.
+    ensures { (kind : Kind) (h : Head) (wanted : Bool) (number : ℕ) (body : List ℕ) → IsSendable kind h → length body ≤ 4152 →
+        number < pieces_in (length body) → piece_of kind (piece_bytes h wanted number body) ≡ Some (piece_in h wanted number body) }
+{}
+
+/// A call that is split and joined.
+pub fn joined_is_what_was_split()
+    // The fragments of a call come in any order, each any number of times, in fewer than 64,000 ticks. If those before the last
+    // one came in their order too, with others between them, the last one completes the call, and what is joined is the call.
+    ensures whole { (state : State) (h : Head) (wanted : Bool) (body : List ℕ) (arrivals : List Arrival) (number : ℕ) →
+        CanJoin state h body arrivals → number + 1 ≡ pieces_in (length body) →
+        next_of (pieces_in (length body)) 0 arrivals ≡ number →
+        heard_as (after state (events_of h wanted body arrivals)) (piece_bytes h wanted number body) ≡ Joined (whole_of h wanted body) }
+    // Until then nothing is joined.
+    ensures none { (state : State) (h : Head) (wanted : Bool) (body whole : List ℕ) (arrivals : List Arrival) (number : ℕ) →
+        CanJoin state h body arrivals → number < pieces_in (length body) →
+        heard_as (after state (events_of h wanted body arrivals)) (piece_bytes h wanted number body) ≡ Joined whole →
+        (number + 1 ≡ pieces_in (length body)) × (next_of (pieces_in (length body)) 0 arrivals ≡ number) }
+{}

@@ -1,0 +1,177 @@
+//! Calls and answers of which fragments are missing.
+ghost use Rattle.std.specs.Prelude.{◌≡◌, ◌+◌, ◌≤◌, ◌<◌, ◌++◌, ◌==◌, [], false, length};
+ghost use Rattle.call_pieces.specs.State.{acknowledged as acknowledged_by, begun, blank, completes as completes_by, continued, fresh, holds as holds_by, is_live as is_live_by, is_next as is_next_by, is_of as is_of_by, older, whole_bytes, whole_head};
+ghost use Rattle.call_pieces.specs.Views.{piece_as};
+
+use crate::joiner::{LONGEST, WholeCall};
+use crate::piece::{Piece, is_activity, is_same};
+use arrayvec::ArrayVec;
+use services::{Extent, Head, Names, Opening, Turn, put_head};
+use std::marker::Model;
+use wire::append;
+
+/// For how many ticks fragments may be missing: 2 seconds.
+pub(crate) const LIFETIME: u32 = 64_000;
+
+/// A call or an answer of which fragments are missing, or a place for one.
+#[derive(Drop)]
+pub(crate) struct Unfinished {
+    head: Head,
+    octets: ArrayVec<u8, 4152>,
+    next: u16,
+    left: u32,
+}
+
+impl Model for Unfinished {
+    ghost use Rattle.std.specs.Prelude.{◌≤◌, length};
+    ghost use Rattle.call_pieces.specs.State.{Unfinished as Missing};
+
+    ghost Value = { Missing };
+
+    ghost view = { λ u. record { head = u.head; octets = u.octets.items; next = u.next; left = u.left } };
+
+    ghost invariant = { λ u. (u.next ≤ length u.octets.items) × (length u.octets.items ≤ 4152) };
+}
+
+/// The header of a whole of this length.
+fn whole_head(head: &Head, length: u16) -> Head
+    ensures { result ≡ whole_head head.now length }
+{
+    Head {
+        opening: Opening {
+            flags: head.opening.flags / 8 * 8,
+            ..head.opening
+        },
+        extent: Extent {
+            length,
+            fragment: 0,
+            authentication: 0,
+        },
+        ..*head
+    }
+}
+
+impl Unfinished {
+    /// A place with nothing.
+    pub(crate) fn blank() -> Unfinished
+        ensures { result ≡ blank }
+    {
+        Unfinished {
+            head: Head {
+                opening: Opening {
+                    packet_type: 0,
+                    flags: 0,
+                    representation: 0,
+                },
+                names: Names {
+                    object: [0; 16],
+                    interface: [0; 16],
+                    activity: [0; 16],
+                },
+                turn: Turn {
+                    version: [0; 4],
+                    sequence: [0; 4],
+                    operation: 0,
+                },
+                extent: Extent {
+                    length: 0,
+                    fragment: 0,
+                    authentication: 0,
+                },
+            },
+            octets: ArrayVec::new(),
+            next: 0,
+            left: 0,
+        }
+    }
+
+    /// In how many ticks it is dropped; 0 if nothing is here.
+    pub(crate) fn left(&self) -> u32
+        ensures { result ≡ self.now.left }
+    {
+        self.left
+    }
+
+    /// Whether it is of this activity.
+    pub(crate) fn is_of(&self, head: &Head) -> bool
+        ensures { result ≡ is_of_by head.now self.now }
+    {
+        self.left > 0 && is_activity(head, &self.head)
+    }
+
+    /// Whether it is this call.
+    fn holds(&self, head: &Head) -> bool
+        ensures { result ≡ holds_by head.now self.now }
+    {
+        self.left > 0 && is_same(head, &self.head)
+    }
+
+    /// A first fragment begins its call.
+    pub(crate) fn begin(&mut self, piece: &Piece<'_>)
+        ensures { self.new ≡ begun self.old (piece_as piece.now) }
+    {
+        if piece.head.extent.fragment == 0 && !self.holds(&piece.head) {
+            self.head = piece.head;
+            self.octets.clear();
+            self.next = 0;
+            self.left = LIFETIME;
+        }
+    }
+
+    /// Whether this fragment is the one that comes next.
+    fn is_next(&self, piece: &Piece<'_>) -> bool
+        ensures { result ≡ is_next_by self.now (piece_as piece.now) }
+    {
+        self.holds(&piece.head)
+            && piece.head.extent.fragment == self.next
+            && self.octets.len() + piece.octets.len() <= LONGEST
+    }
+
+    /// Whether this fragment completes the call.
+    pub(crate) fn is_completed_by(&self, piece: &Piece<'_>) -> bool
+        ensures value { result ≡ completes_by self.now (piece_as piece.now) }
+    {
+        self.is_next(piece) && piece.is_last()
+    }
+
+    /// The fragment that comes next is joined, unless it is the last one.
+    pub(crate) fn go_on(&mut self, piece: &Piece<'_>)
+        requires some { 1 ≤ length piece.now.octets.now }
+        ensures { self.new ≡ continued self.old (piece_as piece.now) }
+    {
+        if self.is_next(piece) && !piece.is_last() {
+            append(&mut self.octets, piece.octets);
+            self.next += 1;
+        }
+    }
+
+    /// Writes the call that this fragment completes.
+    pub(crate) fn complete(&self, piece: &Piece<'_>, whole: &mut WholeCall)
+        requires { length self.now.octets + length piece.now.octets.now ≤ 4152 }
+        ensures { whole.new.items ≡ whole_bytes self.now.head (self.now.octets ++ piece.now.octets.now) }
+    {
+        let length = (self.octets.len() + piece.octets.len()) as u16;
+        whole.clear();
+        put_head(whole, &whole_head(&self.head, length));
+        append(whole, self.octets.as_slice());
+        append(whole, piece.octets);
+    }
+
+    /// The number of the last fragment that is joined, if the sender wants to know it.
+    pub(crate) fn acknowledged(&self, piece: &Piece<'_>) -> Option<u16>
+        ensures { result ≡ acknowledged_by self.now (piece_as piece.now) }
+    {
+        if piece.asks() && self.holds(&piece.head) && self.next > 0 {
+            Some(self.next - 1)
+        } else {
+            None
+        }
+    }
+
+    /// It is older by some ticks.
+    pub(crate) fn age(&mut self, ticks: u32)
+        ensures { self.new ≡ older ticks self.old }
+    {
+        self.left = self.left.saturating_sub(ticks);
+    }
+}
