@@ -12,7 +12,7 @@ use Rattle.call_pieces.specs.State.{State, Unfinished, after_piece, at_place, be
 use Rattle.call_pieces.specs.Run.{BeginsNone, Event, Hears, Ticks, after, begins, ticks_in}
 use Rattle.call_pieces.proofs.Places.{not_true, read_all, two}
 
--- in this place the call has at most so many ticks left
+-- the call in this place is dropped after at most this many ticks
 abbrev Lasts : Head → ℕ → Unfinished → Type 0
 Lasts h most u = holds h u ≡ true → u.left ≤ most
 

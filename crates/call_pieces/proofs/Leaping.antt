@@ -6,7 +6,7 @@ use Rattle.call_pieces.specs.declared.piece.Kind.{Kind}
 use Rattle.call_pieces.specs.State.{State, Unfinished, older, ticked}
 use Rattle.call_pieces.specs.Leaps.{later, ticks_of}
 
--- a place with so many ticks left
+-- a place whose call is dropped after this many ticks
 abbrev with_left : Unfinished → ℕ → Unfinished
 with_left u left = record u { left = left }
 
@@ -38,7 +38,7 @@ idle (u ∷ us) none =
 pub idle_state : (state : State) (kind : Kind) (us : List Unfinished) → state ≡ record { kind = kind; calls = us } → All (λ u. u.left ≤ 0) us → state ≡ ticked state
 idle_state state kind us e none = rw e (ap (λ (vs : List Unfinished). record { kind = kind; calls = vs }) (sym (idle us none)))
 
--- each has at most so many ticks left, and is older
+-- each call is dropped after at most this many ticks, and becomes older
 pub less_left : (ticks most rest : ℕ) (us vs : List Unfinished) → rest ≡ most - ticks → vs ≡ map (older ticks) us → All (λ u. u.left ≤ most) us → All (λ u. u.left ≤ rest) vs
 less_left ticks most rest us vs e f few =
     subst (λ (ws : List Unfinished). All (λ (u : Unfinished). u.left ≤ rest) ws) (sym f)

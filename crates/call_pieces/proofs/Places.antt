@@ -71,7 +71,7 @@ not_found h us none =
 
 -- ---- what is true of each place
 
--- behind the places there is nothing
+-- an index past the last place is empty
 beyond : (us : List Unfinished) (k : ℕ) → length us ≤ k → get_or us k blank ≡ blank
 beyond [] k late = refl
 beyond (u ∷ us) zero late = absurd (omega (arith, late))

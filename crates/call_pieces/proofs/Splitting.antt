@@ -79,7 +79,7 @@ module _ (h : Head) (wanted : Bool) (body : List ℕ) (few : length body ≤ 415
   abbrev part : ℕ → Piece
   part number = piece_in h wanted number body
 
-  -- the place has this call, of which so many fragments are joined
+  -- the place has this call, and this many of its fragments are joined
   record IsBegun (u : Unfinished) (n passed : ℕ) : Type 0 where
     here : holds h u ≡ true
     next : u.next ≡ n
@@ -108,7 +108,7 @@ module _ (h : Head) (wanted : Bool) (body : List ℕ) (few : length body ≤ 415
       let parts = two (is_live u) (is_same h u.head) e in
       both_true _ _ parts.0 (three (is_activity h u.head) _ _ parts.1).0
 
-  -- the place of the activity is not behind the first one that has it
+  -- the place of the activity is the first one that has it, or before it
   before_first : (us : List Unfinished) → 0 < length us → place_of h us ≤ position_or_len (is_of h) us
   before_first us some = by (nat_lt (position_or_len (is_of h) us) (length us)) refl
     where

@@ -59,7 +59,7 @@ piece_by kind bytes (Ok x) =
     if is_piece kind x.0 x.1 then Some (record { head = x.0; serial = serial_of bytes; octets = take x.0.extent.length x.1 }) else None
 piece_by kind bytes (Err fault) = None
 
--- The fragment of this kind that the body of a datagram is, if it is one. The octets behind its length are ignored.
+-- The body of a datagram as a fragment of this kind, if it is one. Octets after its length are ignored.
 unfoldable pub piece_of : Kind → List ℕ → Option Piece
 piece_of kind bytes = piece_by kind bytes (head.read bytes)
 

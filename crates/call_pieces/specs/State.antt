@@ -126,7 +126,7 @@ abbrev pub fack_head : Head → ℕ → Head
 fack_head h number = record (answer_head h 9 16) { extent = record { length = 16; fragment = number; authentication = 0 } }
 
 -- Its octets. The body has version 0, a window of 4, datagrams and fragments of at most 1,472 octets, the serial number of
--- the fragment, and no list of fragments behind a gap.
+-- the fragment, and no list of fragments after a gap.
 abbrev pub fack_bytes : Piece → ℕ → List ℕ
 fack_bytes p number =
     head.write (fack_head p.head number) [] ++ 0 ∷ 0 ∷ (in_order (is_little p.head.opening.representation) 2).write 4 []

@@ -63,7 +63,7 @@ impl Kind {
             && self.is_concerned(head)
     }
 
-    /// The fragment that the body of a datagram is, if it is one.
+    /// Reads the body of a datagram as a fragment. `None` if it is not a fragment.
     #[tactic(auto, unfolding(crate::specs::Piece::piece_of))]
     pub(crate) fn read(self, bytes: &[u8]) -> Option<Piece<'_>>
         ensures value { option_map piece_as result ≡ piece_of self bytes.now }
