@@ -37,7 +37,7 @@ extern "C" {
 #endif
 
 /* Octets of the room of a device; its address is a multiple of 16. */
-#define PN_DEVICE_SIZE 81920u
+#define PN_DEVICE_SIZE 102400u
 /* Octets of each of the two flash sectors. An erased sector is all ones; a program call turns ones to zeros. */
 #define PN_SECTOR_SIZE 4096u
 /* The longest sent frame, without its check sequence. A received frame may be longer; it is refused. */
@@ -96,7 +96,10 @@ enum {
     PN_OP_DUE = 15,
     PN_OP_STATUS = 16,
     PN_OP_READY = 17,
-    PN_OP_PROVIDER = 18
+    PN_OP_PROVIDER = 18,
+    PN_OP_DIAGNOSIS = 19,
+    PN_OP_CONFLICTS = 20,
+    PN_OP_LINK = 21
 };
 
 /* A parameter record that a submodule accepts: its index, 0 to 32,767 and no other record's of the submodule, and its exact length, 1 to
@@ -125,7 +128,13 @@ typedef struct pn_module {
     pn_submodule submodules[PN_SUBMODULES];
 } pn_module;
 
-/* The factory data of a device, and what is plugged in it. The first octet of `mac` is even. Texts are padded with spaces. The access point
+/* Beside a device are the services of its IP address and its neighbours. They answer echo requests (ping), the endpoint mapper's lookups,
+ * pings of RPC and calls that nobody serves; they announce the address, count its conflicts (pn_conflicts) and defend it. They send LLDP each
+ * five seconds and hear that of the neighbour, which the device then knows: its port and interface records and the name by its place
+ * (AliasName) tell it. They hear only what the device does not accept, and ARP. With `without_services` the device is alone, and all of
+ * these are silent; it answers ARP by itself in both cases.
+ *
+ * The factory data of a device, and what is plugged in it. The first octet of `mac` is even. Texts are padded with spaces. The access point
  * is slot 0: subslot 1, its interface 0x8000 and its ports from 0x8001 on. */
 typedef struct pn_station {
     uint8_t mac[6];
@@ -140,11 +149,13 @@ typedef struct pn_station {
     uint8_t order_id[20];
     uint8_t serial_number[16];
     uint8_t software_revision[4]; /* a letter and three numbers */
-    /* What the application decides. Zeros: any interval, inputs that are good from the start, ready when the parameters have ended. */
+    /* What the application decides. Zeros: any interval, inputs that are good from the start, ready when the parameters have ended, and
+     * services beside the device. */
     uint32_t smallest_interval;    /* of cyclic frames, in units of PN_UNIT_NS, at most 65,536: a Connect with a smaller one is refused */
     uint16_t inputs_begin_bad;     /* not 0: the IOPS of a submodule with inputs is bad until its first pn_input in the relation */
     uint16_t ready_by_application; /* not 0: ApplicationReady is sent at pn_ready, and not with the answer to PrmEnd */
-    uint32_t module_count;        /* at most PN_MODULES */
+    uint32_t without_services;     /* not 0: the device alone, without the services of its IP address */
+    uint32_t module_count;         /* at most PN_MODULES */
     pn_module modules[PN_MODULES];
 } pn_station;
 
@@ -154,13 +165,14 @@ typedef struct pn_op {
     uint32_t what;    /* PN_OP_SECTOR ..; the functions below set it */
     uint32_t slot;
     uint32_t subslot;
-    uint32_t units;   /* pn_tick: remaining units; pn_due: units until something is due; pn_state: units for which the lamp still flashes */
+    uint32_t units;   /* pn_tick: remaining units; pn_due: units until something is due; pn_state: units for which the lamp still flashes;
+                       * pn_diagnosis: the channel */
     uint32_t note;    /* PN_DONE .. */
     uint32_t phase;   /* PN_NONE .. */
     uint32_t work;    /* PN_NOTHING ..: after an event the next piece of work, after pn_next the one that it handed out */
     uint32_t more;    /* PN_NOTHING ..: after pn_next the piece of work after the one that it handed out */
-    uint32_t sector;  /* 0 or 1 */
-    uint32_t place;   /* the first octet of a program call in its sector; pn_taken: a number, then the record's index; pn_left; pn_status: 0 is bad */
+    uint32_t sector;  /* 0 or 1; pn_diagnosis: the ChannelErrorType */
+    uint32_t place;   /* the first octet of a program call in its sector; pn_taken: a number, then the record's index; pn_left; pn_status: 0 is bad; pn_diagnosis: 0 disappears */
     uint32_t length;  /* how many of `octets` are valid; pn_next: how many octets lie at `data` */
     uint32_t due;     /* pn_tick: units until something is due after it, as pn_due says */
     uint8_t octets[PN_OP_SIZE];
@@ -182,9 +194,9 @@ typedef struct pn_device {
 
 /* The sizes that the library was built with. */
 #if defined(__cplusplus)
-static_assert(offsetof(pn_op, data) == PN_OP_LENGTH && sizeof(pn_station) == 1508, "another layout than the library's");
+static_assert(offsetof(pn_op, data) == PN_OP_LENGTH && sizeof(pn_station) == 1512, "another layout than the library's");
 #else
-_Static_assert(offsetof(pn_op, data) == PN_OP_LENGTH && sizeof(pn_station) == 1508, "another layout than the library's");
+_Static_assert(offsetof(pn_op, data) == PN_OP_LENGTH && sizeof(pn_station) == 1512, "another layout than the library's");
 #endif
 
 /* The settings that survive a power failure. */
@@ -291,7 +303,8 @@ static inline uint32_t pn_boot(pn_device *device, pn_op *op, const uint8_t first
  * `units` of pn_tick, for one, is still the number that was handed in. A loop must end on it. */
 
 /* Hands in a received frame: its octets from the destination address on, without the check sequence. They are only read during the call.
- * The interface must accept the device's address, the broadcast address and the group address 01-0E-CF-00-00-00. */
+ * The interface must accept the device's address, the broadcast address, the group address 01-0E-CF-00-00-00, and for LLDP
+ * 01-80-C2-00-00-0E. */
 static inline uint32_t pn_frame(pn_device *device, pn_op *op, const uint8_t *octets, size_t length)
 {
     return pn_ask(device, op, PN_OP_FRAME, octets, length);
@@ -344,11 +357,59 @@ static inline uint32_t pn_status(pn_device *device, pn_op *op, uint16_t slot, ui
     return pn_ask(device, op, PN_OP_STATUS, NULL, 0);
 }
 
+/* A diagnosis of a submodule appears or disappears: of a channel, 0 to 0x7FFF, or 0x8000 for the submodule itself, and with this
+ * ChannelErrorType, 1 to 0xFFFF (IEC 61158-6-10: 1 is a short circuit, 6 a line break). While data is exchanged the controller gets an alarm
+ * of low priority, and while a submodule of the relation has a diagnosis, the problem bit of the cyclic frames tells it. It is kept over
+ * relations, and forgotten at a start. `note` is PN_REFUSED for a number out of its range, if nothing is plugged there, if it exists already
+ * or does not exist, if 32 exist, or if 32 changes wait for their alarms. May also return PN_NO_SLOT (no number of 16 bits). */
+static inline uint32_t pn_diagnosis(pn_device *device, pn_op *op, uint16_t slot, uint16_t subslot, uint16_t channel, uint16_t error,
+                                    int appears)
+{
+    if (op == NULL)
+        return PN_NULL;
+    op->slot = slot;
+    op->subslot = subslot;
+    op->units = channel;
+    op->sector = error;
+    op->place = appears != 0;
+    return pn_ask(device, op, PN_OP_DIAGNOSIS, NULL, 0);
+}
+
 /* The application of a station with `ready_by_application` has taken its parameters: ApplicationReady is sent. Once in each relation, after
  * PrmEnd (pn_parameters_end); otherwise `note` is PN_REFUSED, and always without the option. */
 static inline uint32_t pn_ready(pn_device *device, pn_op *op)
 {
     return pn_ask(device, op, PN_OP_READY, NULL, 0);
+}
+
+/* What the host knows of the link, for the LLDP of the device. */
+typedef struct pn_link {
+    uint8_t support;     /* PN_AUTONEG_SUPPORTED, PN_AUTONEG_ENABLED */
+    uint16_t capability; /* what is advertised: the bits of ifAutoNegCapAdvertised, 0x0400 for 100BASE-TX in full duplex */
+    uint16_t mau_type;   /* dot3MauType: 16 for 100BASE-TX in full duplex, 30 for 1000BASE-T */
+} pn_link;
+
+#define PN_AUTONEG_SUPPORTED 1u
+#define PN_AUTONEG_ENABLED 2u
+
+/* What the host knows of the link: whether it is up, and which link it is; NULL if it does not know that, and then LLDP does not tell it.
+ * While the link is down no LLDP is sent. Without this call, and after each pn_boot, the link is up and not known. It needs a booted device,
+ * with or without remaining work, makes none, and changes neither `note` nor `work`. The same values again change nothing.
+ * May return PN_NULL, PN_NOT_MADE, PN_NOT_BOOTED, PN_LOST. */
+static inline uint32_t pn_tell_link(pn_device *device, pn_op *op, int is_up, const pn_link *link)
+{
+    uint8_t octets[5];
+    if (op == NULL)
+        return PN_NULL;
+    op->place = is_up != 0;
+    if (link == NULL)
+        return pn_ask(device, op, PN_OP_LINK, NULL, 0);
+    octets[0] = link->support;
+    octets[1] = (uint8_t)(link->capability >> 8);
+    octets[2] = (uint8_t)link->capability;
+    octets[3] = (uint8_t)(link->mau_type >> 8);
+    octets[4] = (uint8_t)link->mau_type;
+    return pn_ask(device, op, PN_OP_LINK, octets, sizeof octets);
 }
 
 /* --- Work --- */
@@ -469,8 +530,8 @@ static inline uint32_t pn_provider(const pn_device *device, pn_op *op, uint16_t 
     return answer;
 }
 
-/* How many units may pass until something is due: with the last of them, and with none before it, the device sends a frame, gives up an
- * alarm, ends the relation, or turns the lamp off. It is at least 1, and also in `units` of the operation. 4,294,967,295 if no unit ever does any of these.
+/* How many units may pass until something is due: with the last of them, and with none before it, the device or its services send a frame, or
+ * it gives up an alarm, ends the relation, or turns the lamp off. It is at least 1, and also in `units` of the operation. 4,294,967,295 if no unit ever does any of these.
  * An event may change it. So a host sleeps until that unit is over, or until the next event. */
 static inline uint32_t pn_due(const pn_device *device, pn_op *op, uint32_t *due)
 {
@@ -480,6 +541,19 @@ static inline uint32_t pn_due(const pn_device *device, pn_op *op, uint32_t *due)
     answer = pn_read(device, op, PN_OP_DUE);
     if (answer == PN_OK)
         *due = op->units;
+    return answer;
+}
+
+/* How many ARP frames came from another station that uses the running IP address, at most 4,294,967,295: also in `units` of the operation.
+ * 0 without services. After each of them the device announces its address once more, at most once in 10 seconds. */
+static inline uint32_t pn_conflicts(const pn_device *device, pn_op *op, uint32_t *conflicts)
+{
+    uint32_t answer;
+    if (conflicts == NULL)
+        return PN_NULL;
+    answer = pn_read(device, op, PN_OP_CONFLICTS);
+    if (answer == PN_OK)
+        *conflicts = op->units;
     return answer;
 }
 

@@ -2,7 +2,7 @@
  *
  * The controller finds the station of its plan by its name, sets its address, makes the relation, writes the records of the plan, and
  * exchanges data. It answers ARP requests for its address and echo requests (ping) itself, announces the address, and counts who else uses
- * it. Like the device it uses only the memory of the room that it is given, allocates none, calls nothing back and keeps no time of its
+ * it. It announces itself by LLDP to the station at the other end of its cable, and hears that one. Like the device it uses only the memory of the room that it is given, allocates none, calls nothing back and keeps no time of its
  * own. Call it from one thread at a time.
  *
  *     static pn_plan plan;
@@ -15,7 +15,10 @@
  *         pn_controller_frame(&controller, &op, octets, length); // or pn_controller_tick, pn_controller_give, pn_controller_stop
  *     }
  *
- * The functions of the controller are in libnandutable-controller.a, those that read a plan in libnandutable-plan.a. Both are proved
+ * The functions pn_tool_.. are for what a tool does before a controller starts: they give its name to the station that replaces a broken
+ * one, and read records of any station.
+ *
+ * The functions of the controller and the tool are in libnandutable-controller.a, those that read a plan in libnandutable-plan.a. Both are proved
  * sources as plain Rust.
  *
  * Under the MIT licence or the Apache License 2.0, as you choose. */
@@ -32,6 +35,8 @@ extern "C" {
 #define PN_CONTROLLER_SIZE 40960u
 /* The maximum number of parameter records of a plan. */
 #define PN_RECORDS 32u
+/* The maximum number of diagnoses in the list of a controller. */
+#define PN_DIAGNOSES 256u
 
 /* The state of a controller (pn_op.phase). */
 enum {
@@ -99,7 +104,42 @@ typedef struct pn_plan {
     pn_module modules[PN_MODULES];
     pn_record records[PN_RECORDS];
     uint32_t continue_on_refused_record; /* not 0: the start-up goes on after a record that the device refused */
+    uint32_t multiple_write;             /* not 0: a Write of the start-up carries several records; only if the device supports it */
 } pn_plan;
+
+/* The neighbour of a controller by LLDP: the texts of its PortID and its ChassisID (a MAC address as `02-00-00-00-00-01`), and the MAC
+ * address of its chassis. */
+typedef struct pn_neighbour {
+    uint8_t mac[6];
+    uint16_t port_length;    /* at most 255 */
+    uint16_t chassis_length; /* at most 255 */
+    uint8_t port[255];
+    uint8_t chassis[255];
+} pn_neighbour;
+
+/* Who works as a tool: its MAC address and its IP address, to which stations answer. */
+typedef struct pn_tool {
+    uint8_t mac[6];
+    uint8_t address[4]; /* only pn_tool_read and pn_tool_record read it */
+} pn_tool;
+
+/* Which stations answered to a name by the place. Begin with zeros. */
+typedef struct pn_search {
+    uint32_t stations;  /* how many answered: 0, 1, or 2 for more than one */
+    uint32_t is_told;   /* 1: the first one told its name */
+    uint32_t length;    /* the octets of that name; 0: the station has no name */
+    uint8_t first[6];   /* the MAC address of the first one */
+    uint8_t other[6];   /* that of another one, if more than one answered */
+    uint8_t name[240];
+} pn_search;
+
+/* The station whose record a tool reads. */
+typedef struct pn_target {
+    uint8_t mac[6];
+    uint8_t address[4];
+    uint16_t vendor_id;
+    uint16_t device_id;
+} pn_target;
 
 /* The memory of a controller. Only the library and the functions below use its contents. */
 typedef struct pn_controller {
@@ -112,9 +152,11 @@ typedef struct pn_controller {
 } pn_controller;
 
 #if defined(__cplusplus)
-static_assert(sizeof(pn_plan) == 4276, "another layout than the library's");
+static_assert(sizeof(pn_plan) == 4280 && sizeof(pn_search) == 264 && sizeof(pn_tool) == 10 && sizeof(pn_target) == 14,
+              "another layout than the library's");
 #else
-_Static_assert(sizeof(pn_plan) == 4276, "another layout than the library's");
+_Static_assert(sizeof(pn_plan) == 4280 && sizeof(pn_search) == 264 && sizeof(pn_tool) == 10 && sizeof(pn_target) == 14,
+               "another layout than the library's");
 #endif
 
 /* --- The calls. Use the functions below them. ---
@@ -128,6 +170,7 @@ _Static_assert(sizeof(pn_plan) == 4276, "another layout than the library's");
  * since.
  * pn_plan_make reads a catalogue into a plan of `size` octets, and pn_plan_show writes the key of its first fault. The memory that they
  * write must have been initialised.
+ * The six calls of a tool need no room: they write a frame into the operation, or read a received one.
  * Pointers must not be NULL, even if the length is 0. The operation, `given`, the plan, the numbers and the room must not overlap. */
 uint32_t pn_plan_make(const uint8_t *text, size_t length, size_t size, pn_plan *plan);
 uint32_t pn_plan_show(const uint8_t *text, size_t length, char *where, size_t size);
@@ -136,6 +179,12 @@ uint32_t pn_controller_judge(size_t size, uint32_t abi, size_t op_size, const pn
 void pn_controller_put(void *room, const pn_plan *plan, const uint8_t ar[16], const uint8_t activity[16]);
 void pn_controller_begin(void *room);
 uint32_t pn_controller_step(void *room, pn_op *op, const uint8_t *given, size_t length);
+uint32_t pn_tool_find(const pn_tool *tool, pn_op *op, const uint8_t *alias, size_t length);
+void pn_tool_hear(const pn_tool *tool, pn_search *search, const uint8_t *given, size_t length);
+uint32_t pn_tool_name(const pn_tool *tool, const pn_search *search, pn_op *op, const uint8_t *text, size_t length);
+uint32_t pn_tool_outcome(const pn_tool *tool, const pn_search *search, pn_op *op, const uint8_t *given, size_t length);
+uint32_t pn_tool_read(const pn_tool *tool, const pn_target *target, const uint8_t activity[16], pn_op *op);
+uint32_t pn_tool_record(const pn_tool *tool, const uint8_t activity[16], pn_op *op, const uint8_t *given, size_t length);
 
 /* Reads the catalogue of a station, whose keys are those of GSDML. After a number from PN_PLAN_JSON on the plan is all zeros.
  * May return PN_NULL, PN_BAD_ABI (the plan of the header is not the library's), PN_PLAN_JSON to PN_PLAN_MEMORY. */
@@ -236,7 +285,7 @@ static inline uint32_t pn_controller_read(const pn_controller *controller, pn_op
  * and what each names. What a function does not name as set keeps its value in the operation. --- */
 
 /* Hands in a received frame: its octets from the destination address on, without the check sequence. The interface must accept the
- * controller's address and the broadcast address. No other program of this machine should answer ARP for the controller's address. */
+ * controller's address, the broadcast address and, for LLDP, the multicast address 01-80-C2-00-00-0E. No other program of this machine should answer ARP for the controller's address. */
 static inline uint32_t pn_controller_frame(pn_controller *controller, pn_op *op, const uint8_t *octets, size_t length)
 {
     return pn_controller_ask(controller, op, 3, octets, length);
@@ -371,7 +420,7 @@ static inline uint32_t pn_controller_provider(const pn_controller *controller, p
 }
 
 /* How many units may pass until something is due: with the last of them, and with none before it, the controller sends a frame, sends a
- * request again, announces its address, or ends. It is also in `units` of the operation. 4,294,967,295 if no unit ever does any of these. An event may change it.
+ * request again, announces its address or itself, forgets its neighbour, or ends. It is also in `units` of the operation. 4,294,967,295 if no unit ever does any of these. An event may change it.
  * So a host sleeps until that unit is over, or until the next event. */
 static inline uint32_t pn_controller_due(const pn_controller *controller, pn_op *op, uint32_t *due)
 {
@@ -397,6 +446,24 @@ static inline uint32_t pn_controller_conflicts(const pn_controller *controller, 
     return answer;
 }
 
+/* The neighbour by LLDP that was heard last, as long as it says that this is valid: the station at the other end of the controller's cable.
+ * PN_NO_SLOT if none is known. */
+static inline uint32_t pn_controller_neighbour(const pn_controller *controller, pn_op *op, pn_neighbour *neighbour)
+{
+    uint32_t answer;
+    if (neighbour == NULL)
+        return PN_NULL;
+    answer = pn_controller_read(controller, op, 37);
+    if (answer == PN_OK) {
+        memcpy(neighbour->mac, op->octets, sizeof neighbour->mac);
+        neighbour->port_length = (uint16_t)op->units;
+        neighbour->chassis_length = (uint16_t)op->more;
+        memcpy(neighbour->port, op->octets + 6, op->units);
+        memcpy(neighbour->chassis, op->octets + 6 + op->units, op->more);
+    }
+    return answer;
+}
+
 /* The status with which the device refused a call last: the PNIOStatus of its response (the first octet, ErrorCode, is the highest:
  * 0xDF80B200), or the status of a reject or a fault of DCE RPC. Also in `units` of the operation. May return PN_NO_REFUSAL. */
 static inline uint32_t pn_controller_refusal(const pn_controller *controller, pn_op *op, uint32_t *status)
@@ -411,8 +478,8 @@ static inline uint32_t pn_controller_refusal(const pn_controller *controller, pn
 }
 
 /* The last record of the plan that the device refused: its place in `records` of the plan, from 0 on, and its PNIOStatus as above. Also in
- * `place` and `units` of the operation. Records are written in the order of the plan, so a later one has a greater place. May return
- * PN_NO_REFUSAL. */
+ * `place` and `units` of the operation. Records are written in the order of the plan, so a later one has a greater place. Of the records of
+ * one Write (multiple_write) it is the first one that was refused. May return PN_NO_REFUSAL. */
 static inline uint32_t pn_controller_refused_record(const pn_controller *controller, pn_op *op, uint32_t *place, uint32_t *status)
 {
     uint32_t answer;
@@ -455,6 +522,87 @@ static inline uint32_t pn_controller_report(const pn_controller *controller, pn_
         return PN_NULL;
     op->place = is_low != 0;
     return pn_controller_read(controller, op, 34);
+}
+
+/* How many diagnoses exist at the device, as its alarms reported them in this relation: `count`, at most PN_DIAGNOSES; and for how many more
+ * the list had no room: `left_out`. If that is not 0, a read of the record 0xF80C shows all. Both are also in `units` and `more` of the
+ * operation. Both are 0 before the relation and after its end. */
+static inline uint32_t pn_controller_diagnoses(const pn_controller *controller, pn_op *op, uint32_t *count, uint32_t *left_out)
+{
+    uint32_t answer;
+    if (count == NULL || left_out == NULL)
+        return PN_NULL;
+    answer = pn_controller_read(controller, op, 35);
+    if (answer == PN_OK) {
+        *count = op->units;
+        *left_out = op->more;
+    }
+    return answer;
+}
+
+/* One of these diagnoses, by its place in the list from 0 on, in the order in which they appeared: its `slot` and `subslot`, its ChannelNumber
+ * in `more` (0x8000: the submodule itself) and its ChannelErrorType in `note`. PN_NO_SLOT if the list is shorter. */
+static inline uint32_t pn_controller_diagnosis(const pn_controller *controller, pn_op *op, uint32_t number)
+{
+    if (op == NULL)
+        return PN_NULL;
+    op->place = number;
+    return pn_controller_read(controller, op, 36);
+}
+
+/* --- What a tool does before a controller starts. Frames that it writes are in `length` and `octets` of the operation. --- */
+
+/* Writes an Identify for the name of a station by its place (AliasName): the port of its neighbour, a dot and the name of its neighbour, such
+ * as `port-002.switch-1`. Send it to all stations, and hand each frame that arrives in the next second to pn_tool_heard. May return PN_NULL,
+ * PN_BAD_LENGTH (no octets, or more than 511). */
+static inline uint32_t pn_tool_ask(const pn_tool *tool, pn_op *op, const uint8_t *alias, size_t length)
+{
+    return tool == NULL || op == NULL || alias == NULL ? (uint32_t)PN_NULL : pn_tool_find(tool, op, alias, length);
+}
+
+/* Hands in a received frame. Only an answer to that Identify changes the search. May return PN_NULL. */
+static inline uint32_t pn_tool_heard(const pn_tool *tool, pn_search *search, const uint8_t *octets, size_t length)
+{
+    if (tool == NULL || search == NULL || octets == NULL)
+        return PN_NULL;
+    pn_tool_hear(tool, search, octets, length);
+    return PN_OK;
+}
+
+/* Writes a Set of a name to the station that answered, which then has it for good: only if it is the only one that answered, and told that
+ * it has no name. May return PN_NULL, PN_PLAN_NAME (the text is no station name), PN_NOBODY, PN_SEVERAL, PN_HAS_NAME, PN_NAME_UNTOLD. */
+static inline uint32_t pn_tool_give(const pn_tool *tool, const pn_search *search, pn_op *op, const uint8_t *text, size_t length)
+{
+    return tool == NULL || search == NULL || op == NULL || text == NULL ? (uint32_t)PN_NULL : pn_tool_name(tool, search, op, text, length);
+}
+
+/* Reads what a received frame answers to that Set: its BlockError in `note` of the operation, 0 if the station has the name. May return
+ * PN_NULL, PN_NO_ANSWER. */
+static inline uint32_t pn_tool_given(const pn_tool *tool, const pn_search *search, pn_op *op, const uint8_t *octets, size_t length)
+{
+    return tool == NULL || search == NULL || op == NULL || octets == NULL ? (uint32_t)PN_NULL
+                                                                           : pn_tool_outcome(tool, search, op, octets, length);
+}
+
+/* Writes a call that reads a record of a station without a relation (Read Implicit). `activity` is a unique number of 16 octets (a UUID), of
+ * this call alone. May return PN_NULL. */
+static inline uint32_t pn_tool_ask_record(const pn_tool *tool, const pn_target *target, const uint8_t activity[16], pn_op *op, uint16_t slot,
+                                          uint16_t subslot, uint16_t index)
+{
+    if (tool == NULL || target == NULL || activity == NULL || op == NULL)
+        return PN_NULL;
+    op->slot = slot;
+    op->subslot = subslot;
+    op->place = index;
+    return pn_tool_read(tool, target, activity, op);
+}
+
+/* Reads what a received frame answers to that call: its status in `units` of the operation, 0 if it succeeded, otherwise as that of
+ * pn_controller_refusal; the record in `length` and `octets`. May return PN_NULL, PN_NO_ANSWER. */
+static inline uint32_t pn_tool_record_in(const pn_tool *tool, const uint8_t activity[16], pn_op *op, const uint8_t *octets, size_t length)
+{
+    return tool == NULL || activity == NULL || op == NULL || octets == NULL ? (uint32_t)PN_NULL
+                                                                             : pn_tool_record(tool, activity, op, octets, length);
 }
 
 #ifdef __cplusplus

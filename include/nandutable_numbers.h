@@ -51,7 +51,14 @@ enum {
     PN_BAD_PLAN = 16,   /* the plan is not valid (pn_plan_fault returns why), or the ARUUID is zero */
     PN_NO_REFUSAL = 25, /* the device refused no call, or no record of the plan, yet */
     PN_BUSY = 26,       /* no data is exchanged, or a request of the application waits for its answer */
-    PN_NO_ANSWER = 27,  /* no request of the application was answered: none was made, it waits, or the relation ended first */
+    PN_NO_ANSWER = 27,  /* no request of the application was answered: none was made, it waits, or the relation ended first. Of a tool: the
+                         * frame is no answer to its request */
+
+    /* Of a tool that works before a controller starts: why no station gets a name. */
+    PN_NOBODY = 28,       /* no station answered */
+    PN_SEVERAL = 29,      /* more than one station answered */
+    PN_HAS_NAME = 30,     /* the station has a name */
+    PN_NAME_UNTOLD = 31,  /* the station does not tell whether it has a name */
 
     /* Of a catalogue that gives no plan (pn_plan_read), or of a plan that a host wrote and that is not valid (pn_plan_fault): its first
      * fault. Only a catalogue has the first three and the last. */
@@ -99,7 +106,11 @@ static inline const char *pn_strerror(uint32_t number)
     case PN_NO_FRAME: return "no cyclic frame with data of this submodule was accepted";
     case PN_NO_REFUSAL: return "the device refused no call, or no record of the plan, yet";
     case PN_BUSY: return "no data is exchanged, or another request waits for its answer";
-    case PN_NO_ANSWER: return "no request of the application was answered";
+    case PN_NO_ANSWER: return "no request was answered";
+    case PN_NOBODY: return "no station answered";
+    case PN_SEVERAL: return "more than one station answered";
+    case PN_HAS_NAME: return "the station has a name";
+    case PN_NAME_UNTOLD: return "the station does not tell whether it has a name";
     case PN_PLAN_JSON: return "the text is not JSON";
     case PN_PLAN_MISSING_KEY: return "a key is missing";
     case PN_PLAN_WRONG_KIND: return "a value is of another kind than its key requires";

@@ -185,6 +185,10 @@ class AccessPoint(Item):
     def station_type(self):
         return self.element.text("DNS_CompatibleName")
 
+    def takes_lists(self):
+        """Whether one Write can carry several records."""
+        return self.element.get("MultipleWriteSupported", "false") in ("true", "1")
+
     def modules(self):
         return [Reference(element, "Slots") for element in self.element.all("UseableModules/ModuleItemRef")]
 

@@ -187,7 +187,9 @@ def access_point(tree):
     text_at(tree, "DNS_CompatibleName")
     least = number_at(tree, "MinDeviceInterval", 1, 65_536)
     submodules = list_at(tree, "VirtualSubmoduleItem", submodule)
-    return {"physical": physical, "least": least, "submodules": submodules, "references": list_at(tree, "ModuleItemRef", reference)}
+    references = list_at(tree, "ModuleItemRef", reference)
+    flag_at(tree, "MultipleWriteSupported")
+    return {"physical": physical, "least": least, "submodules": submodules, "references": references}
 
 
 def module(before, tree):

@@ -246,7 +246,8 @@ class Station:
             "DeviceIdentity": {"VendorID": self.file.vendor, "DeviceID": self.file.device},
             "DeviceAccessPointItem": {
                 "ModuleIdentNumber": point.ident, "PhysicalSlots": list(point.physical()), "DNS_CompatibleName": point.station_type(),
-                "MinDeviceInterval": point.least_interval(), "VirtualSubmoduleItem": self.parts_said(0), "ModuleItemRef": list(references.values())},
+                "MinDeviceInterval": point.least_interval(), "VirtualSubmoduleItem": self.parts_said(0), "ModuleItemRef": list(references.values()),
+                **({"MultipleWriteSupported": True} if point.takes_lists() else {})},
             "ModuleItem": list(items.values()),
             "Project": self.project(names)}
 

@@ -219,6 +219,16 @@ static void exchange(void)
     sent = 0;
 }
 
+/* Lets time pass until the services have announced the address twice, 64,000 units apart. */
+static void announce(void)
+{
+    for (unsigned thousands = 0; thousands < 66; thousands++) {
+        next_cyclic(1000);
+        units_pass(1000);
+    }
+    sent = 0;
+}
+
 static void count(const char *what, unsigned long turns)
 {
     for (unsigned long i = 0; i < turns; i++) {
@@ -255,6 +265,7 @@ int main(int words, char **word)
     memcpy(station.order_id, &interval, sizeof interval); /* for library_plain.c */
     start(call);
     exchange();
+    announce();
     count(word[1], strtoul(word[2], NULL, 10));
     return 0;
 }

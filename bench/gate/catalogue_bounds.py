@@ -200,6 +200,13 @@ def flag_rows():
     yield changed(lambda catalogue: project(catalogue).update(ContinueOnRefusedRecord=1, NameOfStation="-")), KIND, where
     # Only the project has this key; elsewhere it is one of the keys that are ignored.
     yield changed(lambda catalogue: catalogue.update(ContinueOnRefusedRecord=1)), NONE, ""
+    # Whether one Write can carry several records: the last key of the access point.
+    where = "DeviceAccessPointItem.MultipleWriteSupported"
+    for value, fault in ((True, NONE), (False, NONE), (None, KIND), (0, KIND), (1, KIND), ("true", KIND), ([], KIND), ({}, KIND)):
+        yield changed(lambda catalogue: point(catalogue).update(MultipleWriteSupported=value)), fault, where
+    yield changed(lambda catalogue: point(catalogue).update(MultipleWriteSupported=1, ModuleItemRef="x")), KIND, "DeviceAccessPointItem.ModuleItemRef"
+    yield changed(lambda catalogue: (point(catalogue).update(MultipleWriteSupported=1), catalogue.update(ModuleItem="x"))), KIND, where
+    yield changed(lambda catalogue: (project(catalogue).update(MultipleWriteSupported=1), catalogue.update(MultipleWriteSupported=1))), NONE, ""
 
 
 def key_rows():

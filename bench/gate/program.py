@@ -15,7 +15,7 @@ import sys
 TOP = os.path.dirname(os.path.dirname(os.path.dirname(os.path.realpath(__file__))))
 
 # Debian's package of what a tool calls, where its name is another one.
-PACKAGES = {"cc": "gcc", "objdump": "binutils", "text2pcap": "tshark"}
+PACKAGES = {"cc": "gcc", "ip": "iproute2", "lldpcli": "lldpd", "objdump": "binutils", "text2pcap": "tshark"}
 
 
 def launcher():

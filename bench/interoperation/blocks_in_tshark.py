@@ -2,7 +2,8 @@
 """Puts one block of each kind into a frame of its own, and the blocks of a Connect into one, and prints tshark's line for it.
 
 The blocks are those of bench/interoperation/blocks.txt and those that bench/figures/blocks.py measures. The program `table_block` (made by `rt run`
-in its folder) has to read each and write exactly it again.
+in its folder) has to read each and write exactly it again. Records that a device writes and nothing of this repository reads are in
+bench/interoperation/records.txt: each is put into the answer to a Read.
 Needs Debian's package `tshark`. Its status is 1 where a block is written otherwise or a frame is dissected as malformed.
 Use: bench/interoperation/blocks_in_tshark.py
 """
@@ -36,6 +37,14 @@ def blocks():
             yield name, bytes.fromhex(octets)
 
 
+def read_records():
+    """The name, the index and the octets of each record of the list."""
+    for line in (HERE / "records.txt").read_text().splitlines():
+        if not line.startswith("#"):
+            name, index, octets = line.split()
+            yield name, int(index, 16), bytes.fromhex(octets)
+
+
 def written_otherwise(found):
     """The names of the blocks that the program does not read, or writes otherwise than they came."""
     lines = "".join(block.hex() + "\n" for _, block in found)
@@ -47,23 +56,30 @@ def written_otherwise(found):
 
 def frame_of(number, kind, block, records):
     """A frame that carries the block, and after a header the record that it counts."""
-    activity = bytes(15) + bytes([number])
     block += records.get(kind, b"")
     if kind in (0x0001, 0x8001):
         pdu = struct.pack(">HHHBBHHH", 0xFC01, 1, 1, 0x11, 0x11, 0xFFFF, 0xFFFE, len(block)) + block
         return bytes.fromhex("020000000001020000000002") + b"\x88\x92" + pdu
-    record = kind < 0x0100 and kind not in (0x0008, 0x0009)
-    answer = kind >= 0x8000 or record
-    operation = 2 if record else OPERATION[kind & 0x7FFF]
-    if record:
-        header = bytes.fromhex("8009003c01000002") + bytes(16) + bytes(4) + bytes.fromhex("000000010000")
+    if kind < 0x0100 and kind not in (0x0008, 0x0009):
         index = 0xF840 if kind in (0x30, 0x32) else 0xAFF0 + kind - 0x20
-        block = header + struct.pack(">HI", index, len(block)) + bytes(24) + block
+        return record_frame(number, index, block)
+    interface = CONTROLLER if kind in (0x0112, 0x8112) else DEVICE
+    return call_frame(number, interface, OPERATION[kind & 0x7FFF], kind >= 0x8000, block)
+
+
+def record_frame(number, index, octets):
+    """A frame that carries the answer to a Read of the record with this index."""
+    header = bytes.fromhex("8009003c01000002") + bytes(16) + bytes(4) + bytes.fromhex("000000010000")
+    return call_frame(number, DEVICE, 2, True, header + struct.pack(">HI", index, len(octets)) + bytes(24) + octets)
+
+
+def call_frame(number, interface, operation, answer, block):
+    """A frame that carries a call of this operation, or the answer to one, with these blocks."""
+    activity = bytes(15) + bytes([number])
     if answer:
         body = bytes(4) + struct.pack(">IIII", len(block), 4096, 0, len(block)) + block
     else:
         body = struct.pack(">IIIII", 4096, len(block), 4096, 0, len(block)) + block
-    interface = CONTROLLER if kind in (0x0112, 0x8112) else DEVICE
     rpc = struct.pack(">BBBB", 4, 2 if answer else 0, 0x0A if answer else 0x20, 0) + bytes(4)
     rpc += OBJECT + interface + activity + struct.pack(">IIIHHHHHBB", 0, 1, 0, operation, 0xFFFF, 0xFFFF, len(body), 0, 0, 0)
     udp = struct.pack(">HHHH", 34964, 34964, 8 + len(rpc) + len(body), 0) + rpc + body
@@ -93,8 +109,12 @@ def main(words):
         path = pathlib.Path(folder) / "blocks.pcap"
         with path.open("wb") as out:
             out.write(struct.pack("<IHHiIII", 0xA1B2C3D4, 2, 4, 0, 0, 65535, 1))
-            for number, (_, block) in enumerate(found):
-                frame = frame_of(number, int.from_bytes(block[:2], "big"), block, records).ljust(60, b"\0")
+            frames = [frame_of(number, int.from_bytes(block[:2], "big"), block, records) for number, (_, block) in enumerate(found)]
+            for name, index, octets in read_records():
+                frames.append(record_frame(len(found), index, octets))
+                found.append((name, octets))
+            for frame in frames:
+                frame = frame.ljust(60, b"\0")
                 out.write(struct.pack("<IIII", 0, 0, len(frame), len(frame)) + frame)
         lines = subprocess.run(["tshark", "-r", str(path)], capture_output=True, text=True, check=True).stdout.splitlines()
         trees = subprocess.run(["tshark", "-r", str(path), "-V"], capture_output=True, text=True, check=True).stdout.split("\nFrame ")

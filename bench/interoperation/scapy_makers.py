@@ -9,6 +9,7 @@ here by the fields of IEC 61158-6-10.
 A line `scenario NAME` begins with a new controller. `in HEX` is a frame that it receives, `tick N` that many units; each `out HEX` below
 is a frame that it has to send for that, and it sends no other. `pass N` is that many units too, but its cyclic frames are not listed.
 `state`, `deviates`, `refusal`, `refused` (number and status of a record), `alarm` and `answer` are what it then tells, and
+`diagnoses LEFT_OUT SLOT SUBSLOT CHANNEL ERROR, ..` what it lists of the station's diagnosis, and how many more found no room;
 `report PRIORITY ..` its last alarm of a priority: the SendSeqNum, AlarmType, API, slot, subslot, both idents, AlarmSpecifier and
 UserStructureIdentifier in decimal (`-` for none), and the data in hex. `read SLOT SUBSLOT INDEX`, `write SLOT SUBSLOT INDEX HEX` and `stop`
 are requests of its application, and `number N` is what the library for C then returns: 0, 8 for a record that is too long, or 26 where no
@@ -373,6 +374,106 @@ DIFFS = [
 ]
 
 
+class Told:
+    """Alarms of a station, one after the other, and the list that the controller has to keep of them."""
+
+    def __init__(self, say):
+        self.say = say
+        self.is_listed = True  # whether the list is compared after each alarm
+        self.next = {"low": 0xFFFF, "high": 0xFFFF}
+        self.last = {"low": NONE_TAKEN, "high": NONE_TAKEN}
+
+    def alarm(self, kind, items, *found, priority="low", slot=1, left_out=0):
+        """An alarm of this type with these items, after which the list is this one: slot, subslot, channel and error of each."""
+        number, taken = self.next[priority], self.last[priority]
+        layer, take = (AlarmNotification_Low, take_low) if priority == "low" else (AlarmNotification_High, take_high)
+        take(self.say, number, taken, alarm(layer, kind, 0xA800, *items, slot=slot), kind, 0xA800, slot)
+        if self.is_listed:
+            self.say.tells(listed(found, left_out))
+        self.before = taken
+        self.last[priority], self.next[priority] = number, (number + 1) & 0x7FFF if number != 0xFFFF else 0
+
+    def changes(self, specifier, channel, error, *found, kind=None, slot=1, left_out=0):
+        """An alarm of a channel with this Specifier."""
+        kind = kind if kind is not None else (1 if specifier == 1 else 0x0C)
+        self.alarm(kind, [channel_item(specifier, channel, error)], *found, slot=slot, left_out=left_out)
+
+
+def channel_item(specifier, channel, error, more=0):
+    """ChannelDiagnosis. `more` are further bits of ChannelProperties."""
+    return DiagnosisItem(UserStructureIdentifier=0x8000, ChannelNumber=channel, ChannelProperties=specifier << 11 | more, ChannelErrorType=error)
+
+
+def listed(found, left_out=0):
+    return f"diagnoses {left_out} " + (", ".join(" ".join(str(number) for number in one) for one in found) or "-")
+
+
+def diagnoses(say):
+    """What the controller knows of a station's diagnosis."""
+    say.begin("diagnoses-of-alarms", "Specifier 1 adds a diagnosis, 2 and 3 take it away, 0 takes away all of its channel.")
+    say.connected()
+    say.started()
+    say.tells(listed(()))
+    told = Told(say)
+    one, two, three, other = (1, 1, 3, 1), (1, 1, 3, 6), (1, 1, 4, 1), (2, 1, 3, 1)
+    told.changes(1, 3, 1, one)
+    told.changes(1, 3, 6, one, two)
+    told.changes(1, 4, 1, one, two, three)
+    told.changes(1, 3, 1, one, two, three, other, slot=2)
+    # One that exists stays where it is; one that does not exist is not taken away, nor one of another channel or error.
+    told.changes(1, 3, 1, one, two, three, other)
+    told.changes(2, 5, 1, one, two, three, other)
+    told.changes(2, 4, 6, one, two, three, other)
+    told.changes(3, 4, 1, one, two, three, other, slot=2)
+    told.changes(3, 3, 1, two, three, other)
+    told.changes(1, 3, 1, two, three, other, one)
+    told.changes(0, 3, 9, three, other)
+    told.changes(2, 4, 1, other)
+    # The type and the other bits of ChannelProperties are not looked at; the whole submodule is a channel like the others.
+    told.changes(1, 0x8000, 0x8001, other, (1, 1, 0x8000, 0x8001), kind=0x0C)
+    told.alarm(1, [channel_item(1, 7, 0xFFFF, more=0xE7FF)], other, (1, 1, 0x8000, 0x8001), (1, 1, 7, 0xFFFF))
+    told.changes(2, 0x8000, 0x8001, other, (1, 1, 7, 0xFFFF), kind=1)
+    # Both priorities count.
+    told.alarm(0x0C, [channel_item(2, 7, 0xFFFF)], other, priority="high")
+    # No other alarm does: of another type, with another structure, with more than one channel, with fewer octets, or with none.
+    for kind in (2, 6, 0x0B):
+        told.alarm(kind, [channel_item(0, 3, 1)], other, slot=2)
+    told.alarm(0x0C, [AlarmItem(UserStructureIdentifier=0x7FFF, load=Raw(raw(channel_item(0, 3, 1))[2:]))], other, slot=2)
+    told.alarm(0x0C, [AlarmItem(UserStructureIdentifier=0x8000, load=Raw(raw(channel_item(0, 3, 1))[2:] * 2))], other, slot=2)
+    told.alarm(0x0C, [AlarmItem(UserStructureIdentifier=0x8000, load=Raw(raw(channel_item(0, 3, 1))[2:7]))], other, slot=2)
+    told.alarm(0x0C, [AlarmItem(UserStructureIdentifier=0x8000)], other, slot=2)
+    told.alarm(0x0C, [], other, slot=2)
+    # A repeat gets its ACK again and changes nothing.
+    told.changes(2, 3, 1, slot=2)
+    say.hear(low_pdu(DEVICE, DATA, told.last["low"], told.before, alarm(AlarmNotification_Low, 1, 0xA800, channel_item(1, 8, 1))),
+             low_pdu(TOOL, ACK, told.last["low"], told.last["low"]))
+    say.tells(listed(()))
+    # It ends with the relation.
+    told.changes(1, 3, 1, one)
+    say.hear(low_pdu(DEVICE, ERR, 9, 9, Raw(b"\xcf\x81\xfd\x0d")))
+    say.state("ended", "5")
+    say.tells(listed(()))
+
+    say.begin("more-diagnoses-than-room", "The list has room for 256: further ones are counted, and the others stay.")
+    say.connected()
+    say.started()
+    told = Told(say)
+    told.is_listed = False
+    for channel in range(255):
+        told.changes(1, channel, 1)
+    told.is_listed = True
+    found = [(1, 1, channel, 1) for channel in range(256)]
+    told.changes(1, 255, 1, *found)
+    told.changes(1, 256, 1, *found, left_out=1)
+    told.is_listed = False
+    told.changes(1, 255, 1)
+    told.changes(1, 256, 1)
+    told.changes(2, 256, 1)
+    told.is_listed = True
+    told.changes(2, 0, 1, *found[1:], left_out=2)
+    told.changes(1, 256, 1, *found[1:], (1, 1, 256, 1), left_out=2)
+
+
 def differences(say):
     for name, comment, stands, modules in DIFFS:
         say.begin(name, comment)
@@ -661,6 +762,7 @@ def scenarios():
     answers(say)
     alarms(say)
     priorities(say)
+    diagnoses(say)
     differences(say)
     refusals(say)
     requests(say)

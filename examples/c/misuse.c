@@ -174,6 +174,7 @@ int main(void)
     bent.station_type_length = 26;
     wants("a long station type", pn_make(&device, &bent), PN_BAD_STATION);
     bend_stations();
+    station.without_services = 1; /* else they would have something due below */
     keep(pn_make(&device, &station));
 
     ask_all("before the start");
@@ -210,7 +211,7 @@ int main(void)
         return 1;
     wants("a second start", pn_boot(&device, &op, erased, erased), PN_IS_BOOTED);
     wants("no operation", pn_ask(&device, &op, 0, NULL, 0), PN_UNKNOWN);
-    wants("another operation", pn_ask(&device, &op, 19, NULL, 0), PN_UNKNOWN);
+    wants("another operation", pn_ask(&device, &op, 22, NULL, 0), PN_UNKNOWN);
     wants("no operation's room", pn_frame(&device, NULL, set, sizeof set), PN_NULL);
     wants("no octets", pn_frame(&device, &op, NULL, 1), PN_NULL);
     wants("no device for a frame", pn_frame(NULL, &op, set, sizeof set), PN_NULL);

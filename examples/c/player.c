@@ -17,8 +17,9 @@ static uint8_t cut_mask[8];
 static char sent[4 * (2 * PN_FRAME_SIZE + 5)]; /* the output of one step */
 static size_t sent_length;
 
-/* The demo station of the scripts. */
+/* The demo station of the scripts, without services: a script runs the device alone up to a line `services on`. */
 static const pn_station station = {
+    .without_services = 1,
     .mac = {2, 0, 0, 0, 0, 1}, .vendor_id = 0x0123, .device_id = 0x0456, .instance = 1, .station_type_length = 7,
     .station_type = "pn-demo", .order_id = "                    ", .serial_number = "                ",
     .software_revision = {'V', 0, 0, 0}, .module_count = 3,

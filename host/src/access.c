@@ -1,5 +1,6 @@
 #define _GNU_SOURCE
 #include "access.h"
+#include "diagnosis.h"
 #include "lines.h"
 #include "reasons.h"
 #include "relation.h"
@@ -59,6 +60,12 @@ void access_read(struct relation *relation, char *words[])
         lines_answer(&relation->loop->lines, "wrong: read SLOT SUBSLOT INDEX, each from 0 to 65535; INDEX may be 0x and hex digits");
 }
 
+void access_read_diagnosis(struct relation *relation, unsigned index)
+{
+    struct access wanted = {.is_diagnosis = 1, .index = (uint16_t)index};
+    ask(relation, &wanted, NULL, 0);
+}
+
 void access_write(struct relation *relation, char *words[])
 {
     struct access wanted = {.is_write = 1};
@@ -97,7 +104,10 @@ void access_look(struct relation *relation)
     if (!relation->access.is_waiting || !relation_answer(relation, &answer))
         return;
     relation->access.is_waiting = 0;
-    tell(relation, &answer);
+    if (relation->access.is_diagnosis)
+        diagnosis_compare(relation, &answer);
+    else
+        tell(relation, &answer);
 }
 
 void access_tell_waiting(struct relation *relation)

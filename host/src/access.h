@@ -10,6 +10,7 @@ struct relation;
 struct access {
     int is_waiting;
     int is_write;
+    int is_diagnosis; /* made by the line `diagnosis`, which compares the answer */
     uint16_t slot;
     uint16_t subslot;
     uint16_t index;
@@ -22,6 +23,9 @@ void access_read(struct relation *relation, char *words[]);
 
 /* The line `write SLOT SUBSLOT INDEX HEX`, with its words. */
 void access_write(struct relation *relation, char *words[]);
+
+/* Reads the diagnosis record with this index of the whole device, to compare it with what the alarms reported. */
+void access_read_diagnosis(struct relation *relation, unsigned index);
 
 /* Reports the answer if there is one. */
 void access_look(struct relation *relation);

@@ -1,8 +1,11 @@
 /* nandutable-controller: the controllers of stations on a network interface, each by the plan of a catalogue. */
 #define _GNU_SOURCE
 #include "arp.h"
+#include "diagnosis.h"
+#include "listing.h"
 #include "naming.h"
 #include "options.h"
+#include "place.h"
 #include "reasons.h"
 #include "relation.h"
 #include "routing.h"
@@ -29,6 +32,7 @@ struct options {
     uint8_t assigned[6]; /* the station that first gets the plan's name */
     int has_assigned;
     int is_forced; /* the name is set even if another station has it or the plan's address */
+    const char *place; /* the name by its place of the station that first gets the plan's name, or NULL */
     int is_list;
     uint64_t pause; /* after which a controller that ended is started again, in nanoseconds; 0: it is not */
 };
@@ -149,11 +153,13 @@ static uint32_t due(void *context)
     return first > controller->loop.units ? (uint32_t)(first - controller->loop.units) : 1;
 }
 
-/* A frame of ARP or ICMP: all controllers have one address, and the first one answers for it. */
+/* A frame of ARP, ICMP or LLDP: all controllers have one address, and the first one answers for it. */
 static void serve(struct controller *controller, const uint8_t *octets, size_t length)
 {
     struct relation *sender = routing_find_sender(controller->relations, controller->count, octets, length);
     relation_serve(&controller->relations[0], octets, length);
+    if (wire_is_lldp(octets, length))
+        relation_look_at_neighbour(&controller->relations[0]);
     if (sender != NULL)
         relation_hear_arp(sender, octets, length);
 }
@@ -163,7 +169,7 @@ static void take_frame(void *context, const uint8_t *octets, size_t length)
     struct controller *controller = context;
     struct relation *relation = controller->relations;
     uint32_t before;
-    if (wire_is_service(octets, length)) {
+    if (wire_is_service(octets, length) || wire_is_lldp(octets, length)) {
         serve(controller, octets, length);
         return;
     }
@@ -224,6 +230,7 @@ static void look_around(void *context)
             start_again(controller, relation);
     }
     speak_for(controller, NULL);
+    relation_look_at_neighbour(&controller->relations[0]);
     keep_pace(controller);
     keep_status(controller);
 }
@@ -329,6 +336,11 @@ static void take_write(void *context, char *words[])
     take_for_one(context, words, access_write, "write SLOT SUBSLOT INDEX HEX");
 }
 
+static void take_diagnosis(void *context, char *words[])
+{
+    take_for_one(context, words, diagnosis_take, "diagnosis reported|relation|device");
+}
+
 static void take_restart(void *context, char *words[])
 {
     take_for_one(context, words, relation_restart, "restart");
@@ -350,6 +362,7 @@ static const struct command commands[] = {
     {"status", 4, take_status, "status SLOT SUBSLOT good|bad   sets whether an output is good: its IOPS"},
     {"read", 4, take_read, "read SLOT SUBSLOT INDEX   reads a record, while data is exchanged"},
     {"write", 5, take_write, "write SLOT SUBSLOT INDEX HEX   writes a record, while data is exchanged"},
+    {"diagnosis", 2, take_diagnosis, "diagnosis reported|relation|device   lists the diagnoses that alarms reported, and compares them with a record"},
     {"show", 1, show, "show                    state, status, inputs and outputs"},
     {"statistics", 1, NULL, "statistics              counts since the start"},
     {"restart", 1, take_restart, "restart                 releases the relation and starts it again, with all its parameters"},
@@ -361,6 +374,8 @@ static const struct command commands_of_several[] = {
     {"status", 4, take_status, "NAME status SLOT SUBSLOT good|bad   sets whether an output of this station is good: its IOPS"},
     {"read", 4, take_read, "NAME read SLOT SUBSLOT INDEX   reads a record of this station, while data is exchanged"},
     {"write", 5, take_write, "NAME write SLOT SUBSLOT INDEX HEX   writes a record of this station, while data is exchanged"},
+    {"diagnosis", 2, take_diagnosis,
+     "NAME diagnosis reported|relation|device   lists the diagnoses that alarms of this station reported, and compares them with a record"},
     {"show", 1, show, "[NAME] show                  state, status, inputs and outputs"},
     {"statistics", 1, NULL, "[NAME] statistics            counts since the start"},
     {"restart", 1, take_restart, "NAME restart                 releases the relation of this station and starts it again, with all its parameters"},
@@ -371,9 +386,9 @@ static const struct command commands_of_several[] = {
 
 static void usage(void)
 {
-    puts("Usage: nandutable-controller IFACE PLAN.json [PLAN.json ..] [--assign MAC [--force]] [--retry SECONDS] [--socket PATH]\n"
-         "                             [--socket-group GROUP] [--period US] [--realtime N]\n"
-         "       nandutable-controller IFACE --list\n"
+    puts("Usage: nandutable-controller IFACE PLAN.json [PLAN.json ..] [--assign MAC [--force] | --replace PORT.STATION] [--retry SECONDS]\n"
+         "                             [--socket PATH] [--socket-group GROUP] [--period US] [--realtime N]\n"
+         "       nandutable-controller IFACE [PLAN.json] --list\n"
          "\n"
          "A PROFINET IO controller on the network interface IFACE. It finds the station of the plan by its name, sets its address, makes\n"
          "the relation, writes its records, and exchanges data until it is stopped. With several plans it does so with each station; the\n"
@@ -381,10 +396,14 @@ static void usage(void)
          "\n"
          "  PLAN.json             a catalogue in JSON with the keys of GSDML, such as host/demo/pump.json (installed:\n"
          "                        share/doc/nandutable/pump.json)\n"
-         "  --list                prints a line for each station that answers within a second, and ends\n"
+         "  --list                prints a line for each station that answers within a second, with its ports and their neighbours, and ends.\n"
+         "                        It reads the ports from the controller's address of the plan; without a plan from that of IFACE, if it has one\n"
          "  --assign MAC          first sets the name of the plan permanently at the station with this MAC address. Refused if another\n"
          "                        station has this name or the plan's address. It takes one plan\n"
          "  --force               sets the name all the same, with a warning\n"
+         "  --replace PORT.STATION  first sets the name of the plan permanently at the station whose cable leads to this port of this station,\n"
+         "                        as LLDP says it (AliasName). Refused if no station answers to that place, more than one, or one that has a\n"
+         "                        name, or if another station has the plan's name or address. It takes one plan\n"
          "  --retry SECONDS       starts a controller again this long after its end, 1 to 3600, unless it was stopped. Otherwise the program\n"
          "                        ends when all controllers have ended\n"
          "  --socket PATH         lines go in and out over this unix socket, and not over the standard streams\n"
@@ -398,18 +417,20 @@ static void usage(void)
          "\n"
          "Examples:\n"
          "  nandutable-controller eth1 --list\n"
+         "  nandutable-controller eth1 pump.json --list\n"
          "  nandutable-controller eth1 pump.json --assign 02:00:00:00:00:01\n"
+         "  nandutable-controller eth1 pump.json --replace port-002.switch-1\n"
          "  nandutable-controller eth1 pump.json\n"
          "  nandutable-controller eth1 pump.json valve.json --retry 5\n"
          "  echo 'give 2 1 00ff' | nandutable-controller eth1 pump.json\n"
          "\n"
          "Lines that it accepts: `give SLOT SUBSLOT HEX`, `status SLOT SUBSLOT good|bad`, `read SLOT SUBSLOT INDEX`,\n"
-         "`write SLOT SUBSLOT INDEX HEX`, `restart`, `show`, `statistics`, `stop`, `help`. With several plans the name of a station and a\n"
-         "blank are in front of each line that it prints about this station, and of the lines `give`, `status`, `read`, `write`, `restart`,\n"
-         "`show`, `statistics` and `stop` that are for one station. On SIGUSR1 it prints its statistics; SIGTERM stops it, and a second one\n"
+         "`write SLOT SUBSLOT INDEX HEX`, `diagnosis reported|relation|device`, `restart`, `show`, `statistics`, `stop`, `help`. With several\n"
+         "plans the name of a station and a blank are in front of each line that it prints about this station, and of the lines `give`,\n"
+         "`status`, `read`, `write`, `diagnosis`, `restart`, `show`, `statistics` and `stop` that are for one station. On SIGUSR1 it prints its statistics; SIGTERM stops it, and a second one\n"
          "ends it at once. Its status is the cause of its end (with several plans the lowest): 1 another device, 2 refused, 3 other\n"
          "modules, 4 data hold, 5 ended by the device, 6 an alarm without answer, 7 stopped; 64 and more: it did not start (64: the plans do\n"
-         "not fit together; 75: another station has the name or the address).");
+         "not fit together; 66: no station answers; 75: another station has the name or the address, or the station at the place has a name).");
 }
 
 static void take_pause(struct options *options, const char *word)
@@ -420,6 +441,14 @@ static void take_pause(struct options *options, const char *word)
     options->pause = number * SECOND;
 }
 
+/* A name by a place has a dot between the port and the station. */
+static void take_place(struct options *options, const char *word)
+{
+    if (strchr(word, '.') == NULL || strlen(word) > 511)
+        options_misused("--replace takes PORT.STATION, such as port-002.switch-1: ", word);
+    options->place = word;
+}
+
 static int take_option(void *context, int option, const char *word)
 {
     struct options *options = context;
@@ -427,6 +456,7 @@ static int take_option(void *context, int option, const char *word)
     case 'l': options->is_list = 1; return 1;
     case 'f': options->is_forced = 1; return 1;
     case 't': take_pause(options, word); return 1;
+    case 'c': take_place(options, word); return 1;
     case 'a':
         if (!words_mac(word, options->assigned))
             options_misused("--assign takes six octets in hex between colons: ", word);
@@ -441,14 +471,17 @@ static void read_words(struct options *options, int count, char *words[])
     static const struct option known[] = {{"list", no_argument, NULL, 'l'},
                                           {"assign", required_argument, NULL, 'a'},
                                           {"force", no_argument, NULL, 'f'},
+                                          {"replace", required_argument, NULL, 'c'},
                                           {"retry", required_argument, NULL, 't'},
                                           SHARED_OPTIONS};
     const struct command_line line = {known, usage, take_option};
     int first;
     memset(options, 0, sizeof *options);
     first = options_read(&line, &options->shared, options, count, words);
-    if (options->is_list && first + 1 != count)
-        options_misused("name a network interface, and nothing else", "");
+    if (options->is_list && (first + 1 > count || first + 2 < count))
+        options_misused("name a network interface, and at most one plan", "");
+    if (options->is_list && (options->has_assigned || options->place != NULL))
+        options_misused("--list takes neither --assign nor --replace", "");
     if (!options->is_list && first + 2 > count)
         options_misused("name a network interface and a plan, or several plans", "");
     if (options->shared.socket_group != NULL && options->shared.socket == NULL)
@@ -460,15 +493,19 @@ static void read_words(struct options *options, int count, char *words[])
     options->plan_count = (unsigned)(count - first - 1);
     if (options->has_assigned && options->plan_count > 1)
         options_misused("--assign takes one plan", "");
+    if (options->place != NULL && options->plan_count > 1)
+        options_misused("--replace takes one plan", "");
+    if (options->place != NULL && options->has_assigned)
+        options_misused("--replace and --assign exclude each other", "");
 }
 
-/* Lists the stations, and ends. */
-static _Noreturn void list(struct controller *controller, const char *interface)
+/* The controller of a plan as a tool. */
+static pn_tool tool_of(const pn_plan *plan)
 {
-    wire_open(&controller->loop.wire, interface);
-    if (naming_list(&controller->loop.wire) == 0)
-        fail(STATUS_NO_INPUT, "no station answers on %s", interface);
-    exit(0);
+    pn_tool tool;
+    memcpy(tool.mac, plan->controller_mac, sizeof tool.mac);
+    memcpy(tool.address, plan->controller_address, sizeof tool.address);
+    return tool;
 }
 
 /* Ends the program because another station has a value of the plan; with --force only warns. */
@@ -477,24 +514,33 @@ static void refuse_or_warn(const struct options *options, const char *value, con
     char mac[WORDS_MAC];
     words_show_mac(mac, found);
     if (!options->is_forced)
-        fail(STATUS_IN_USE, "another station has %s: %s. Nothing was set (--force sets the name all the same)", value, mac);
+        fail(STATUS_IN_USE, "another station has %s: %s. Nothing was set%s", value, mac,
+             options->has_assigned ? " (--force sets the name all the same)" : "");
     say("warning: another station has %s: %s", value, mac);
 }
 
-/* Looks for another station that has the name or the address of the plan. */
-static void check_others(struct controller *controller, const struct options *options)
+/* Looks for a station other than this one that has the name or the address of the plan. */
+static void check_others(struct controller *controller, const struct options *options, const uint8_t station[6])
 {
     const pn_plan *plan = &controller->relations[0].plan;
     uint8_t found[6];
     char value[sizeof plan->name + 16];
-    if (naming_find(&controller->loop.wire, plan->controller_mac, plan->name, plan->name_length, options->assigned, found)) {
+    if (naming_find(&controller->loop.wire, plan->controller_mac, plan->name, plan->name_length, station, found)) {
         snprintf(value, sizeof value, "the name '%.*s'", (int)plan->name_length, (const char *)plan->name);
         refuse_or_warn(options, value, found);
     }
-    if (!arp_is_zero(plan->address) && arp_find(&controller->loop.wire, plan->controller_mac, plan->address, options->assigned, found)) {
+    if (!arp_is_zero(plan->address) && arp_find(&controller->loop.wire, plan->controller_mac, plan->address, station, found)) {
         snprintf(value, sizeof value, "the address %u.%u.%u.%u", plan->address[0], plan->address[1], plan->address[2], plan->address[3]);
         refuse_or_warn(options, value, found);
     }
+}
+
+/* A tool asks once, so it says at once why nobody will answer. */
+static void say_link(const struct wire *wire)
+{
+    char words[WIRE_WHY];
+    if (!wire->is_up)
+        say("link down (%s)", wire_why_down(wire, words));
 }
 
 /* Sets the name of the plan at a station. */
@@ -503,12 +549,60 @@ static void assign(struct controller *controller, const struct options *options)
     const pn_plan *plan = &controller->relations[0].plan;
     char mac[WORDS_MAC];
     int answer;
-    check_others(controller, options);
+    check_others(controller, options, options->assigned);
     answer = naming_assign(&controller->loop.wire, plan->controller_mac, options->assigned, plan->name, plan->name_length);
     if (answer < 0)
         fail(STATUS_NO_INPUT, "no station answers at %s (--list lists the stations)", words_show_mac(mac, options->assigned));
     if (answer > 0)
         fail(PN_WAS_REFUSED, "the station does not accept the name, BlockError %d: %s", answer, reasons_block_error((uint8_t)answer));
+    say("the station %s has the name '%.*s' now", words_show_mac(mac, options->assigned), (int)plan->name_length, (const char *)plan->name);
+}
+
+/* Why no station gets the name of the plan; ends the program unless the station at the place has it already. */
+static void refuse_place(const pn_plan *plan, const char *place, const pn_search *search, uint32_t why)
+{
+    int is_plans = search->length == plan->name_length && memcmp(search->name, plan->name, plan->name_length) == 0;
+    char first[WORDS_MAC], other[WORDS_MAC], name[sizeof search->name + 1];
+    words_show_mac(first, search->first);
+    words_show_mac(other, search->other);
+    words_show_text(name, sizeof name, search->name, search->length);
+    if (why == PN_HAS_NAME && is_plans)
+        say("the station at %s, %s, has the name '%s' already. Nothing was set", place, first, name);
+    else if (why == PN_HAS_NAME)
+        fail(STATUS_IN_USE, "the station at %s, %s, has the name '%s'. Nothing was set (--assign MAC sets the name of such a station)", place, first, name);
+    else if (why == PN_SEVERAL)
+        fail(STATUS_IN_USE, "more than one station answers to %s: %s and %s. Nothing was set", place, first, other);
+    else if (why == PN_NOBODY)
+        fail(STATUS_NO_INPUT, "no station answers to %s. Nothing was set (a station answers to the port and the name of its neighbour)", place);
+    else
+        fail(STATUS_IN_USE, "the station at %s, %s, does not say whether it has a name: %s. Nothing was set", place, first, pn_strerror(why));
+}
+
+/* Sets the name of the plan at the station that answers to a name by its place, if it has none. */
+static void replace(struct controller *controller, const struct options *options)
+{
+    const pn_plan *plan = &controller->relations[0].plan;
+    const pn_tool tool = tool_of(plan);
+    struct wire *wire = &controller->loop.wire;
+    char mac[WORDS_MAC];
+    pn_search search;
+    uint32_t why;
+    int answer;
+    place_find(wire, &tool, options->place, &search);
+    why = place_judge(&tool, &search, plan->name, plan->name_length);
+    if (why != PN_OK) {
+        refuse_place(plan, options->place, &search, why);
+        return;
+    }
+    check_others(controller, options, search.first);
+    answer = place_name(wire, &tool, &search, plan->name, plan->name_length);
+    words_show_mac(mac, search.first);
+    if (answer < 0)
+        fail(STATUS_NO_INPUT, "the station at %s, %s, does not answer the Set of its name; it may have the name now (--list shows it)", options->place, mac);
+    if (answer > 0)
+        fail(PN_WAS_REFUSED, "the station at %s, %s, does not accept the name, BlockError %d: %s", options->place, mac, answer,
+             reasons_block_error((uint8_t)answer));
+    say("the station at %s, %s, has the name '%.*s' now", options->place, mac, (int)plan->name_length, (const char *)plan->name);
 }
 
 /* Refuses two plans that name one station, or give one address to two. */
@@ -556,6 +650,42 @@ static void open_relations(struct controller *controller, const struct options *
     }
 }
 
+/* The controller of the plan, whose services answer ARP for the tool's address. Its first frame is not sent. */
+static pn_controller *open_services(struct controller *controller)
+{
+    struct relation *relation = &controller->relations[0];
+    relation_make(relation, &controller->loop);
+    do
+        loop_must(pn_controller_next(&relation->room, &relation->op), "pn_controller_next");
+    while (relation->op.work == PN_SEND);
+    return &relation->room;
+}
+
+/* Lists the stations, and ends. */
+static _Noreturn void list(struct controller *controller, const struct options *options)
+{
+    struct wire *wire = &controller->loop.wire;
+    struct lister lister = {.services = NULL};
+    if (options->plan_count == 1)
+        open_relations(controller, options);
+    wire_open(wire, options->shared.interface);
+    if (options->plan_count == 1) {
+        lister.tool = tool_of(&controller->relations[0].plan);
+        lister.has_address = 1;
+        lister.services = open_services(controller);
+        wire_take(wire, lister.tool.mac);
+    } else {
+        listing_take_address(&lister, wire);
+    }
+    say_link(wire);
+    if (listing_print(&lister, wire) == 0)
+        fail(STATUS_NO_INPUT, "no station answers on %s", options->shared.interface);
+    if (!lister.has_address)
+        say("the ports of the stations were not read: %s has no IP address, and no plan gives one (%s IFACE PLAN.json --list)", options->shared.interface,
+            say_name());
+    exit(0);
+}
+
 static void open_all(struct controller *controller, const struct options *options)
 {
     open_relations(controller, options);
@@ -564,8 +694,13 @@ static void open_all(struct controller *controller, const struct options *option
     controller->loop.apart = controller->count > 1 ? APART : 1;
     wire_open(&controller->loop.wire, options->shared.interface);
     wire_take(&controller->loop.wire, controller->relations[0].plan.controller_mac);
+    wire_join_nearest(&controller->loop.wire);
+    if (options->has_assigned || options->place != NULL)
+        say_link(&controller->loop.wire);
     if (options->has_assigned)
         assign(controller, options);
+    if (options->place != NULL)
+        replace(controller, options);
     loop_open(&controller->loop, &options->shared);
 }
 
@@ -613,7 +748,7 @@ int main(int count, char *words[])
     say_as("nandutable-controller");
     read_words(&options, count, words);
     if (options.is_list)
-        list(&controller, options.shared.interface);
+        list(&controller, &options);
     open_all(&controller, &options);
     begin(&controller);
     loop_run(&controller.loop);

@@ -1,7 +1,9 @@
 /* nandutable-device: a PROFINET IO device on a network interface, whose settings are in a file. */
 #define _GNU_SOURCE
+#include "arp.h"
 #include "chip.h"
 #include "identity.h"
+#include "link.h"
 #include "loop.h"
 #include "options.h"
 #include "say.h"
@@ -15,6 +17,8 @@
 
 /* With a period: without a relation nothing is due at a unit of time, so many units may pass at once. */
 #define IDLE_MOST 320000u /* units: ten seconds */
+/* Another station that uses the device's address is reported at most once in this time. */
+#define CONFLICT_PAUSE (10 * SECOND)
 
 struct options {
     struct shared_options shared;
@@ -27,6 +31,7 @@ struct options {
     uint32_t smallest_interval;
     int inputs_begin_bad;
     int is_ready_by_application;
+    int is_without_services;
 };
 
 /* A status that was given by a line. */
@@ -37,6 +42,16 @@ struct status {
 };
 
 #define STATUSES (PN_MODULES * PN_SUBMODULES)
+
+/* A diagnosis that exists, given by a line. */
+struct diagnosis {
+    uint16_t slot;
+    uint16_t subslot;
+    uint16_t channel;
+    uint16_t error;
+};
+
+#define DIAGNOSES 32
 
 struct device {
     pn_device room;
@@ -50,12 +65,20 @@ struct device {
     struct sets sets;
     struct status statuses[STATUSES];
     unsigned status_count;
+    struct diagnosis diagnoses[DIAGNOSES];
+    unsigned diagnosis_count;
     /* The last reported values. */
     pn_watch watch;
     uint32_t phase;
     int is_lamp_on;
     int is_stopped; /* the controller; -1: it is not known */
     uint32_t due;   /* units until something is due, as the last pn_tick said; 0: an event came since, or it did not say */
+    int has_told_link; /* whether the device that runs was told of the link */
+    int is_link_up;    /* what it was told */
+    int knows_link;
+    pn_link link;
+    uint32_t conflicts;     /* of the address, that were seen */
+    uint64_t conflict_told; /* when the last one was reported; 0: none yet */
     /* Statistics. */
     uint64_t notes[8];
     struct histogram intervals;
@@ -93,6 +116,8 @@ static int transmit(void *context, const uint8_t *octets, uint32_t length)
 static void start(struct device *device)
 {
     uint32_t answer;
+    device->conflicts = 0;
+    device->has_told_link = 0;
     if (chip_settle(&device->chip) != 0)
         fail(STATUS_INPUT, "the flash file '%s' cannot be read and written: %s. Nothing was sent of the step in which it failed; correct this and start again",
              device->chip.path, device->chip.why);
@@ -105,7 +130,9 @@ static void start(struct device *device)
 }
 
 static void look(struct device *device, int is_first);
+static void look_at_link(void *context);
 static int rate(struct device *device, const struct status *status);
+static int diagnose(struct device *device, const struct diagnosis *diagnosis, int appears);
 
 /* Takes the work of a step and does it. A flash call that fails counts as lost power: nothing more is sent, and the device starts again
  * from the file. */
@@ -118,8 +145,11 @@ static void carry_out(struct device *device)
     lines_tell(&device->loop.lines, "power lost: a call of the flash failed: %s", device->chip.why);
     start(device);
     lines_tell(&device->loop.lines, "boot ok");
+    look_at_link(device);
     for (unsigned i = 0; i < device->status_count; i++)
         rate(device, &device->statuses[i]);
+    for (unsigned i = 0; i < device->diagnosis_count; i++)
+        diagnose(device, &device->diagnoses[i], 1);
     look(device, 0);
 }
 
@@ -265,6 +295,41 @@ static void look(struct device *device, int is_first)
     look_at_outputs(device);
 }
 
+/* Reports another station that uses the device's address, which an ARP packet has shown. */
+static void look_at_conflicts(struct device *device, const uint8_t *octets, size_t length)
+{
+    struct arp_packet packet;
+    char mac[WORDS_MAC];
+    uint32_t conflicts = 0;
+    loop_must(pn_conflicts(&device->room, &device->op, &conflicts), "pn_conflicts");
+    if (conflicts == device->conflicts || !arp_read(octets, length, &packet))
+        return;
+    device->conflicts = conflicts;
+    if (device->conflict_told != 0 && ticker_now() < device->conflict_told + CONFLICT_PAUSE)
+        return;
+    device->conflict_told = ticker_now();
+    lines_tell(&device->loop.lines, "warning: another station, %s, uses the device's address %u.%u.%u.%u", words_show_mac(mac, packet.sender),
+               packet.sender_address[0], packet.sender_address[1], packet.sender_address[2], packet.sender_address[3]);
+}
+
+/* Tells the device of the link, if it changed or the device does not know it yet. */
+static void look_at_link(void *context)
+{
+    struct device *device = context;
+    pn_link link = {0, 0, 0};
+    int is_up = device->loop.wire.is_up;
+    int knows = is_up && link_ask(&device->loop.wire, &link);
+    int is_same = is_up == device->is_link_up && knows == device->knows_link && link.support == device->link.support
+                  && link.capability == device->link.capability && link.mau_type == device->link.mau_type;
+    if (device->has_told_link && is_same)
+        return;
+    loop_must(pn_tell_link(&device->room, &device->op, is_up, knows ? &link : NULL), "pn_tell_link");
+    device->has_told_link = 1;
+    device->is_link_up = is_up;
+    device->knows_link = knows;
+    device->link = link;
+}
+
 /* --- Events --- */
 
 static uint32_t tick(void *context, uint32_t units)
@@ -302,8 +367,10 @@ static void take_frame(void *context, const uint8_t *octets, size_t length)
     carry_out(device);
     if (note != PN_DONE)
         return;
-    if (!is_cyclic)
+    if (!is_cyclic) {
         look_at_news(device, 0);
+        look_at_conflicts(device, octets, length);
+    }
     look_at_state(device);
     if (is_cyclic) {
         look_at_outputs(device);
@@ -345,12 +412,14 @@ static void statistics(void *context, lines_writer tell)
 {
     struct device *device = context;
     struct lines *lines = &device->loop.lines;
-    uint32_t left = 0;
+    uint32_t left = 0, conflicts = 0;
     loop_must(pn_left(&device->room, &device->op, &left), "pn_left");
+    loop_must(pn_conflicts(&device->room, &device->op, &conflicts), "pn_conflicts");
     loop_tell_frames(&device->loop, tell);
     for (unsigned i = 0; i < sizeof notes / sizeof notes[0]; i++)
         tell(lines, "note %s %" PRIu64, notes[i], device->notes[i]);
     tell(lines, "sets dropped %" PRIu64, device->sets.dropped);
+    tell(lines, "address conflicts %" PRIu32, conflicts);
     tell(lines, "flash programs %" PRIu64 " erases %" PRIu64 " faults %" PRIu64 " commits-left %" PRIu32, device->chip.programs, device->chip.erases,
          device->chip.faults, left);
     loop_tell_time(&device->loop, tell);
@@ -419,6 +488,52 @@ static void take_status(void *context, char *words[])
     }
 }
 
+/* Hands in a diagnosis that appears or disappears. Returns whether it is accepted. */
+static int diagnose(struct device *device, const struct diagnosis *diagnosis, int appears)
+{
+    uint32_t note;
+    loop_must(pn_diagnosis(&device->room, &device->op, diagnosis->slot, diagnosis->subslot, diagnosis->channel, diagnosis->error, appears),
+              "pn_diagnosis");
+    note = device->op.note;
+    carry_out(device);
+    return note == PN_DONE;
+}
+
+/* Keeps a diagnosis for the next start of the device, or keeps it no more. It is one that the device accepted. */
+static void keep_diagnosis(struct device *device, const struct diagnosis *diagnosis, int appears)
+{
+    unsigned at = 0;
+    while (at < device->diagnosis_count && memcmp(&device->diagnoses[at], diagnosis, sizeof *diagnosis) != 0)
+        at++;
+    if (appears && at < DIAGNOSES) {
+        device->diagnoses[at] = *diagnosis;
+        device->diagnosis_count += at == device->diagnosis_count;
+    } else if (!appears && at < device->diagnosis_count) {
+        device->diagnosis_count--;
+        memmove(&device->diagnoses[at], &device->diagnoses[at + 1], (device->diagnosis_count - at) * sizeof *diagnosis);
+    }
+}
+
+static void take_diagnosis(void *context, char *words[])
+{
+    struct device *device = context;
+    uint16_t numbers[4];
+    int appears = strcmp(words[5], "appears") == 0;
+    struct diagnosis diagnosis;
+    if (!words_numbers(words + 1, numbers, 4) || (!appears && strcmp(words[5], "disappears") != 0)) {
+        lines_answer(&device->loop.lines, "wrong: diagnosis SLOT SUBSLOT CHANNEL ERROR appears|disappears");
+        return;
+    }
+    diagnosis = (struct diagnosis){numbers[0], numbers[1], numbers[2], numbers[3]};
+    if (diagnose(device, &diagnosis, appears)) {
+        keep_diagnosis(device, &diagnosis, appears);
+        lines_answer(&device->loop.lines, "note done");
+    } else {
+        lines_answer(&device->loop.lines, "note refused: a diagnosis has a plugged submodule, a channel up to 32768 (the submodule itself) and an error from 1; "
+                                          "one that appears does not exist yet, one that disappears exists, and at most 32 exist and 32 changes wait for their alarms");
+    }
+}
+
 static void take_ready(void *context, char *words[])
 {
     struct device *device = context;
@@ -450,6 +565,7 @@ static const struct command commands[] = {
     {"input", 4, take_place, "input SLOT SUBSLOT HEX   sets the input of a submodule"},
     {"alarm", 4, take_place, "alarm SLOT SUBSLOT HEX   raises a process alarm with these octets"},
     {"status", 4, take_status, "status SLOT SUBSLOT good|bad   sets whether a submodule is good: the IOPS of its inputs"},
+    {"diagnosis", 6, take_diagnosis, "diagnosis SLOT SUBSLOT CHANNEL ERROR appears|disappears   reports what is wrong at a channel, or no more"},
     {"ready", 1, take_ready, "ready                    the parameters are in use (--ready-by-application)"},
     {"show", 1, show, "show                     name, address, remaining commits, phase, lamp, inputs and outputs"},
     {"statistics", 1, NULL, "statistics               counts since the start"},
@@ -462,7 +578,7 @@ static void usage(void)
 {
     puts("Usage: nandutable-device IFACE --flash FILE [--station FILE] [--identity FILE] [--mac MAC] [--socket PATH]\n"
          "                         [--socket-group GROUP] [--period US] [--realtime N] [--sets-per-second N] [--smallest-interval N]\n"
-         "                         [--inputs-begin-bad] [--ready-by-application]\n"
+         "                         [--inputs-begin-bad] [--ready-by-application] [--no-services]\n"
          "\n"
          "A PROFINET IO device on the network interface IFACE. Its name, address and I&M texts are in the flash file, and survive a power\n"
          "failure at any moment.\n"
@@ -484,6 +600,7 @@ static void usage(void)
          "  --smallest-interval N  refuses a relation with a shorter interval, in units of 31.25 microseconds, 1 to 65536 (default: 32, 1 ms)\n"
          "  --inputs-begin-bad    the IOPS of an input is bad until its first `input` in a relation\n"
          "  --ready-by-application  the device is ready at the line `ready` after `parameters end`, and not by itself\n"
+         "  --no-services         answers no ping, no endpoint mapper's lookup and no call that nobody serves, and does not announce its address\n"
          "  --help, --version\n"
          "\n"
          "It needs the capability CAP_NET_RAW: run it as root, or run `setcap cap_net_raw+ep nandutable-device` once.\n"
@@ -492,8 +609,9 @@ static void usage(void)
          "  nandutable-device eth1 --flash /var/lib/nandutable/pump.flash\n"
          "  nandutable-device eth1 --flash pump.flash --station pump.json --identity pump.identity --socket /run/pump --realtime 50\n"
          "\n"
-         "Lines that it accepts: `input SLOT SUBSLOT HEX`, `alarm SLOT SUBSLOT HEX`, `status SLOT SUBSLOT good|bad`, `ready`, `show`,\n"
-         "`statistics`, `help`, `quit`. On SIGUSR1 it prints its statistics; SIGTERM ends it.");
+         "Lines that it accepts: `input SLOT SUBSLOT HEX`, `alarm SLOT SUBSLOT HEX`, `status SLOT SUBSLOT good|bad`,\n"
+         "`diagnosis SLOT SUBSLOT CHANNEL ERROR appears|disappears`, `ready`, `show`, `statistics`, `help`, `quit`.\n"
+         "On SIGUSR1 it prints its statistics; SIGTERM ends it.");
 }
 
 static void take_mac(struct options *options, const char *word)
@@ -526,6 +644,7 @@ static int take_option(void *context, int option, const char *word)
     case 'n': take_interval(options, word); return 1;
     case 'b': options->inputs_begin_bad = 1; return 1;
     case 'a': options->is_ready_by_application = 1; return 1;
+    case 'w': options->is_without_services = 1; return 1;
     case 'f': options->flash = word; return 1;
     case 's': options->station = word; return 1;
     case 'i': options->identity = word; return 1;
@@ -543,6 +662,7 @@ static const struct option known[] = {{"flash", required_argument, NULL, 'f'},
                                       {"smallest-interval", required_argument, NULL, 'n'},
                                       {"inputs-begin-bad", no_argument, NULL, 'b'},
                                       {"ready-by-application", no_argument, NULL, 'a'},
+                                      {"no-services", no_argument, NULL, 'w'},
                                       SHARED_OPTIONS};
 
 /* Checks only the flash file's name, before any message is printed: a message could go into that file. */
@@ -591,6 +711,7 @@ static int read_station(struct device *device, const struct options *options)
     device->station.smallest_interval = options->smallest_interval;
     device->station.inputs_begin_bad = options->inputs_begin_bad != 0;
     device->station.ready_by_application = options->is_ready_by_application != 0;
+    device->station.without_services = options->is_without_services != 0;
     station_places(&device->inputs, device->station.modules, device->station.module_count, OF_INPUT);
     station_places(&device->outputs, device->station.modules, device->station.module_count, OF_OUTPUT);
     return has_mac;
@@ -607,6 +728,8 @@ static void open_all(struct device *device, const struct options *options)
         memcpy(device->station.mac, device->loop.wire.hardware, 6);
     wire_take(&device->loop.wire, device->station.mac);
     wire_join_identify(&device->loop.wire);
+    if (!device->station.without_services)
+        wire_join_nearest(&device->loop.wire);
     chip_open(&device->chip, options->flash);
     loop_open(&device->loop, &options->shared);
 }
@@ -624,7 +747,8 @@ static const struct events events = {.idle_most = IDLE_MOST,
                                      .look = look_at_state,
                                      .take_frame = take_frame,
                                      .commands = commands,
-                                     .statistics = statistics};
+                                     .statistics = statistics,
+                                     .look_around = look_at_link};
 
 static void begin(struct device *device)
 {
@@ -636,6 +760,7 @@ static void begin(struct device *device)
     lines_tell(&device->loop.lines, "device %02x:%02x:%02x:%02x:%02x:%02x on %s, %s '%s'", mac[0], mac[1], mac[2], mac[3], mac[4], mac[5], device->loop.wire.name,
                device->chip.is_new ? "a new flash file" : "the flash file", device->chip.path);
     loop_tell_link(&device->loop);
+    look_at_link(device);
     look(device, 1);
 }
 

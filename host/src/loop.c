@@ -53,10 +53,8 @@ static void arm(struct loop *loop)
 /* What is to be done about a link that is down. */
 static void tell_down(struct loop *loop)
 {
-    if (loop->wire.is_enabled)
-        lines_tell(&loop->lines, "link down (%s has no carrier: no cable, or the other end is off)", loop->wire.name);
-    else
-        lines_tell(&loop->lines, "link down (`ip link set %s up`)", loop->wire.name);
+    char words[WIRE_WHY];
+    lines_tell(&loop->lines, "link down (%s)", wire_why_down(&loop->wire, words));
 }
 
 void loop_tell_link(struct loop *loop)

@@ -1,6 +1,8 @@
 #define _GNU_SOURCE
 #include "naming.h"
 #include "ticker.h"
+#include "words.h"
+#include <stdarg.h>
 #include <stdio.h>
 #include <string.h>
 
@@ -61,29 +63,37 @@ static const uint8_t *value_of(const uint8_t *octets, size_t length, unsigned op
     return found + 2;
 }
 
-/* Copies a text from the wire, with a dot for each octet that is not printable ASCII. */
-static void show_text(char *shown, size_t room, const uint8_t *text, size_t size)
+/* Appends words to a line that has room for them. */
+static void append(char *line, const char *format, ...) __attribute__((format(printf, 2, 3)));
+static void append(char *line, const char *format, ...)
 {
-    size_t count = size < room - 1 ? size : room - 1;
-    for (size_t i = 0; i < count; i++)
-        shown[i] = text[i] >= ' ' && text[i] <= '~' ? (char)text[i] : '.';
-    shown[count] = '\0';
+    size_t length = strlen(line);
+    va_list values;
+    va_start(values, format);
+    vsnprintf(line + length, NAMING_LINE - length, format, values);
+    va_end(values);
 }
 
-static void show_station(const uint8_t *octets, size_t length)
+static void read_station(const uint8_t *octets, size_t length, struct naming_station *station)
 {
     char name[241], type[32];
     size_t name_size, type_size, ids_size, suite_size;
     const uint8_t *name_at = value_of(octets, length, 2, 2, &name_size), *type_at = value_of(octets, length, 2, 1, &type_size);
     const uint8_t *ids = value_of(octets, length, 2, 3, &ids_size), *suite = value_of(octets, length, 1, 2, &suite_size), *mac = octets + 6;
-    show_text(name, sizeof name, name_at, name_size);
-    show_text(type, sizeof type, type_at, type_size);
-    printf("%02x:%02x:%02x:%02x:%02x:%02x  name '%s'  type '%s'", mac[0], mac[1], mac[2], mac[3], mac[4], mac[5], name, type);
-    if (ids_size >= 4)
-        printf("  VendorID %d DeviceID %d", ids[0] << 8 | ids[1], ids[2] << 8 | ids[3]);
-    if (suite_size >= 4)
-        printf("  address %u.%u.%u.%u", suite[0], suite[1], suite[2], suite[3]);
-    puts("");
+    memset(station, 0, sizeof *station);
+    memcpy(station->mac, mac, sizeof station->mac);
+    words_show_text(name, sizeof name, name_at, name_size);
+    words_show_text(type, sizeof type, type_at, type_size);
+    append(station->line, "%02x:%02x:%02x:%02x:%02x:%02x  name '%s'  type '%s'", mac[0], mac[1], mac[2], mac[3], mac[4], mac[5], name, type);
+    if (ids_size >= 4) {
+        station->vendor_id = (uint16_t)(ids[0] << 8 | ids[1]);
+        station->device_id = (uint16_t)(ids[2] << 8 | ids[3]);
+        append(station->line, "  VendorID %u DeviceID %u", station->vendor_id, station->device_id);
+    }
+    if (suite_size >= 4) {
+        memcpy(station->address, suite, sizeof station->address);
+        append(station->line, "  address %u.%u.%u.%u", suite[0], suite[1], suite[2], suite[3]);
+    }
 }
 
 /* Sends an Identify with this block to all stations. */
@@ -96,17 +106,20 @@ static void send_identify(struct wire *wire, const uint8_t source[6], const uint
     wire_send(wire, frame, BLOCKS_AT + size < LEAST_FRAME ? LEAST_FRAME : BLOCKS_AT + size);
 }
 
-unsigned naming_list(struct wire *wire)
+void naming_ask_all(struct wire *wire)
 {
     static const uint8_t all[] = {0xFF, 0xFF, 0, 0};
-    static uint8_t octets[WIRE_FRAME];
-    uint64_t until = ticker_now() + SECOND;
-    size_t length;
-    unsigned count = 0;
     send_identify(wire, wire->hardware, all, sizeof all);
-    for (; next_answer(wire, FRAME_IDENTIFIED, SERVICE_IDENTIFY, until, octets, &length); count++)
-        show_station(octets, length);
-    return count;
+}
+
+int naming_next_station(struct wire *wire, uint64_t until, struct naming_station *station)
+{
+    static uint8_t octets[WIRE_FRAME];
+    size_t length;
+    if (!next_answer(wire, FRAME_IDENTIFIED, SERVICE_IDENTIFY, until, octets, &length))
+        return 0;
+    read_station(octets, length, station);
+    return 1;
 }
 
 /* An answer to Identify, from the place at which an untagged frame would begin, so that its blocks are at BLOCKS_AT. NULL for another

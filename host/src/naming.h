@@ -1,12 +1,25 @@
-/* What an engineering tool does before a controller starts: list the stations, and set the name of one. By DCP; its frames are built here,
- * and no proved source takes part. */
+/* What an engineering tool does by DCP before a controller starts: it finds all stations, or those with a name, and sets the name of one. The
+ * frames are built here, and no proved source takes part. */
 #ifndef HOST_NAMING_H
 #define HOST_NAMING_H
 
 #include "wire.h"
 
-/* Sends an Identify, waits a second, and prints a line for each station that answers. Returns their number. */
-unsigned naming_list(struct wire *wire);
+/* A station that answered Identify. */
+#define NAMING_LINE 384
+struct naming_station {
+    char line[NAMING_LINE]; /* what it says of itself, for --list */
+    uint8_t mac[6];
+    uint8_t address[4]; /* zeros if it has none */
+    uint16_t vendor_id;
+    uint16_t device_id;
+};
+
+/* Asks all stations who they are. */
+void naming_ask_all(struct wire *wire);
+
+/* Waits until a time of the clock for the next one that answers. Returns whether one did. */
+int naming_next_station(struct wire *wire, uint64_t until, struct naming_station *station);
 
 /* Sets a name permanently at the station with this MAC address. Returns 0, the BlockError of its refusal, or -1 without an answer. */
 int naming_assign(struct wire *wire, const uint8_t source[6], const uint8_t mac[6], const uint8_t *name, size_t length);

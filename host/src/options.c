@@ -4,6 +4,7 @@
 #include "words.h"
 #include <stdio.h>
 #include <stdlib.h>
+#include <string.h>
 
 #define VERSION "0.1.0"
 
@@ -35,15 +36,27 @@ static void take_shared(struct shared_options *shared, int option, const char *w
     case 'g': shared->socket_group = word; return;
     case 'p': take_period(shared, word); return;
     case 'r': take_realtime(shared, word); return;
-    default: options_misused("there is no such option, or its argument is missing", "");
+    default: fail(STATUS_SOFTWARE, "an option is listed, and nobody takes it");
     }
+}
+
+/* Ends the program because of an option that is unknown, that takes no argument, or whose argument is missing. */
+static _Noreturn void refuse(int answer, char *words[])
+{
+    const char *word = words[optind - 1];
+    const char letter[] = {'-', (char)optopt, '\0'};
+    if (answer == ':')
+        options_misused("its argument is missing: ", word);
+    if (optopt == 0 || strncmp(word, "--", 2) == 0)
+        options_misused(optopt == 0 ? "there is no such option: " : "this option takes no argument: ", word);
+    options_misused("there is no such option: ", letter);
 }
 
 int options_read(const struct command_line *line, struct shared_options *shared, void *options, int count, char *words[])
 {
     int option;
     opterr = 0;
-    while ((option = getopt_long(count, words, "h", line->known, NULL)) != -1) {
+    while ((option = getopt_long(count, words, ":h", line->known, NULL)) != -1) {
         if (option == 'h') {
             line->usage();
             exit(0);
@@ -52,6 +65,8 @@ int options_read(const struct command_line *line, struct shared_options *shared,
             printf("%s %s\n", say_name(), VERSION);
             exit(0);
         }
+        if (option == '?' || option == ':')
+            refuse(option, words);
         if (!line->take(options, option, optarg))
             take_shared(shared, option, optarg);
     }

@@ -10,6 +10,8 @@
 #define BLOCK_ERROR_VALUE 3u
 /* The lowest ErrorCode of a PNIOStatus. The statuses of rejects and faults begin with a lower octet. */
 #define LEAST_ERROR_CODE 0x20u
+/* The number of records of a list. */
+#define LISTED 10u
 
 static void hear_status(struct reasons *reasons, const uint8_t *octets)
 {
@@ -59,15 +61,34 @@ void reasons_hear(struct reasons *reasons, const pn_plan *plan, const uint8_t *o
         memcpy(reasons->status, octets + at + 14, sizeof reasons->status);
 }
 
+uint32_t reasons_written(const pn_plan *plan, uint32_t number, uint32_t *place)
+{
+    uint32_t each = plan->multiple_write != 0 ? LISTED : 1, rest;
+    if (number == 0 || number > plan->record_count || (number - 1) * each >= plan->record_count)
+        return 0;
+    *place = (number - 1) * each;
+    rest = plan->record_count - *place;
+    return rest < each ? rest : each;
+}
+
+void reasons_record(const pn_plan *plan, uint32_t place, char *text, size_t size)
+{
+    const pn_record *record = &plan->records[place];
+    snprintf(text, size, "Write of the record with index %u to slot %u subslot %u", record->index, record->slot, record->subslot);
+}
+
 void reasons_call(const pn_plan *plan, uint32_t sequence, char *text, size_t size)
 {
+    uint32_t place = 0, count = reasons_written(plan, sequence, &place);
     if (sequence == 0)
         snprintf(text, size, "Connect");
-    else if (sequence <= plan->record_count)
-        snprintf(text, size, "Write of the record with index %u to slot %u subslot %u", plan->records[sequence - 1].index, plan->records[sequence - 1].slot,
-                 plan->records[sequence - 1].subslot);
+    else if (count > 1)
+        snprintf(text, size, "Write of %u records, the first with index %u to slot %u subslot %u", (unsigned)count, plan->records[place].index,
+                 plan->records[place].slot, plan->records[place].subslot);
+    else if (count == 1)
+        reasons_record(plan, place, text, size);
     else
-        snprintf(text, size, sequence == plan->record_count + 1 ? "PrmEnd" : "a call");
+        snprintf(text, size, sequence == 1 || reasons_written(plan, sequence - 1, &place) != 0 ? "PrmEnd" : "a call");
 }
 
 void reasons_status(const uint8_t s[4], char *text, size_t size)
@@ -90,9 +111,17 @@ const char *reasons_block_error(uint8_t error)
     return error < sizeof words / sizeof words[0] ? words[error] : "an unknown BlockError";
 }
 
+static void record_words(const pn_plan *plan, uint32_t refused, const uint8_t *status, char *text, size_t size)
+{
+    char record[96], words[STATUSES_LONGEST + 32];
+    reasons_record(plan, refused, record, sizeof record);
+    reasons_status(status, words, sizeof words);
+    snprintf(text, size, ": %s, %s", record, words);
+}
+
 static void refusal_words(const struct reasons *reasons, const pn_plan *plan, char *text, size_t size)
 {
-    char call[96], status[STATUSES_LONGEST + 32];
+    char call[128], status[STATUSES_LONGEST + 32];
     reasons_call(plan, reasons->sequence, call, sizeof call);
     reasons_status(reasons->status, status, sizeof status);
     snprintf(text, size, ": %s, %s", call, status);
@@ -114,13 +143,16 @@ static void set_words(uint8_t error, char *text, size_t size)
              error == BLOCK_ERROR_VALUE ? " (plan: Project.IPAddress, Project.SubnetMask, Project.Gateway)" : "");
 }
 
-void reasons_words(const struct reasons *reasons, const pn_plan *plan, uint32_t cause, char *text, size_t size)
+void reasons_words(const struct reasons *reasons, const pn_plan *plan, uint32_t cause, uint32_t refused, const uint8_t *status, char *text,
+                   size_t size)
 {
     const uint8_t *s = reasons->status, *identity = reasons->identity;
     text[0] = '\0';
     if (cause == PN_WRONG_DEVICE && reasons->has_identity)
         snprintf(text, size, ": VendorID %u DeviceID %u, and in the plan %u and %u (DeviceIdentity.VendorID, DeviceIdentity.DeviceID)",
                  (unsigned)(identity[0] << 8 | identity[1]), (unsigned)(identity[2] << 8 | identity[3]), plan->vendor_id, plan->device_id);
+    else if (cause == PN_WAS_REFUSED && status != NULL)
+        record_words(plan, refused, status, text, size);
     else if (cause == PN_WAS_REFUSED && memcmp(s, "\0\0\0\0", 4) != 0)
         refusal_words(reasons, plan, text, size);
     else if (cause == PN_WAS_REFUSED && reasons->block_error != 0)

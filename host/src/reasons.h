@@ -20,13 +20,22 @@ void reasons_hear(struct reasons *reasons, const pn_plan *plan, const uint8_t *o
 /* The meaning of a BlockError of a Set. */
 const char *reasons_block_error(uint8_t error);
 
-/* Writes which call a sequence number is of: the Connect, the Write of a record of the plan, PrmEnd, or another one. */
+/* The records of the Write with this number, from 1: the place of the first one in the plan, and how many there are; 0 if there is no such
+ * Write. A Write carries one record, or a list of up to 10 (multiple_write). */
+uint32_t reasons_written(const pn_plan *plan, uint32_t number, uint32_t *place);
+
+/* Writes which record of the plan was written. */
+void reasons_record(const pn_plan *plan, uint32_t place, char *text, size_t size);
+
+/* Writes which call a sequence number is of: the Connect, a Write of records of the plan, PrmEnd, or another one. */
 void reasons_call(const pn_plan *plan, uint32_t sequence, char *text, size_t size);
 
 /* Writes a status with its meaning: a PNIOStatus, or the one of a call that was rejected. */
 void reasons_status(const uint8_t status[4], char *text, size_t size);
 
-/* The details of an end with this cause, after a colon, or an empty text. */
-void reasons_words(const struct reasons *reasons, const pn_plan *plan, uint32_t cause, char *text, size_t size);
+/* The details of an end with this cause, after a colon, or an empty text. `refused` is the place of the record that the device refused and
+ * `status` its PNIOStatus, if the end is the refusal of a record of a list; otherwise `status` is NULL. */
+void reasons_words(const struct reasons *reasons, const pn_plan *plan, uint32_t cause, uint32_t refused, const uint8_t *status, char *text,
+                   size_t size);
 
 #endif

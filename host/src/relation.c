@@ -35,7 +35,7 @@ static const char *const causes[] = {
 static int transmit(void *context, const uint8_t *octets, uint32_t length)
 {
     struct relation *relation = context;
-    if (wire_is_service(octets, length))
+    if (wire_is_service(octets, length) || wire_is_lldp(octets, length))
         return relation->serves ? wire_send(&relation->loop->wire, octets, length) : 0;
     if (wire_is_cyclic(octets, length)) {
         memcpy(relation->device, octets, sizeof relation->device);
@@ -64,6 +64,7 @@ void relation_open(struct relation *relation, const char *file)
     relation->file = file;
     station_plan(&relation->plan, file);
     memcpy(relation->station, plan->name, plan->name_length);
+    strcpy(relation->neighbour, "-");
     station_places(&relation->inputs, plan->modules, plan->module_count, OF_INPUT);
     station_places(&relation->outputs, plan->modules, plan->module_count, OF_OUTPUT);
     relation->interval = (uint64_t)plan->send_clock_factor * plan->reduction_ratio * PN_UNIT_NS;
@@ -215,10 +216,30 @@ static void look_at_alarm(struct relation *relation, int is_low)
                    alarm.slot, alarm.subslot);
 }
 
+static void spell_status(uint8_t status[4], uint32_t value)
+{
+    for (int i = 0; i < 4; i++)
+        status[i] = (uint8_t)(value >> (24 - 8 * i));
+}
+
+/* Whether the device refused a record of a list, and the start-up ended by that: then the response itself has no error. */
+static int is_of_list(struct relation *relation, uint32_t *place, uint8_t status[4])
+{
+    uint32_t value = 0;
+    if (relation->plan.multiple_write == 0 || pn_controller_refused_record(&relation->room, &relation->op, place, &value) != PN_OK ||
+        *place + 1 == relation->refused || *place >= relation->plan.record_count)
+        return 0;
+    spell_status(status, value);
+    return 1;
+}
+
 static void tell_end(struct relation *relation)
 {
     char why[STATUSES_LONGEST + 192];
-    reasons_words(&relation->reasons, &relation->plan, relation->cause, why, sizeof why);
+    uint8_t status[4];
+    uint32_t place = 0;
+    const uint8_t *refused = is_of_list(relation, &place, status) ? status : NULL;
+    reasons_words(&relation->reasons, &relation->plan, relation->cause, place, refused, why, sizeof why);
     lines_tell(&relation->loop->lines, "ended %u: %s%s", (unsigned)relation->cause, causes[relation->cause < 8 ? relation->cause : 0], why);
 }
 
@@ -285,12 +306,6 @@ static void hear(struct relation *relation, const uint8_t *octets, size_t length
     look_at_names(relation, octets, length);
 }
 
-static void spell_status(uint8_t status[4], uint32_t value)
-{
-    for (int i = 0; i < 4; i++)
-        status[i] = (uint8_t)(value >> (24 - 8 * i));
-}
-
 /* Reports a record that the device refused without an end, once. */
 static void look_at_refused(struct relation *relation)
 {
@@ -304,7 +319,7 @@ static void look_at_refused(struct relation *relation)
     relation->refused = place + 1;
     record = &relation->plan.records[place];
     spell_status(status, value);
-    reasons_call(&relation->plan, place + 1, call, sizeof call);
+    reasons_record(&relation->plan, place, call, sizeof call);
     reasons_status(status, words, sizeof words);
     lines_tell(&relation->loop->lines, "refused record %u %u %u: %s, %s", record->slot, record->subslot, record->index, call, words);
 }
@@ -354,6 +369,22 @@ void relation_serve(struct relation *relation, const uint8_t *octets, size_t len
     send_all(relation);
     look_ahead(relation);
     look_at_conflicts(relation, octets, length);
+}
+
+void relation_look_at_neighbour(struct relation *relation)
+{
+    char text[600], mac[WORDS_MAC], port[256], chassis[256];
+    pn_neighbour neighbour;
+    if (pn_controller_neighbour(&relation->room, &relation->op, &neighbour) == PN_OK)
+        snprintf(text, sizeof text, "%s port '%s' of '%s'", words_show_mac(mac, neighbour.mac),
+                 words_show_text(port, sizeof port, neighbour.port, neighbour.port_length),
+                 words_show_text(chassis, sizeof chassis, neighbour.chassis, neighbour.chassis_length));
+    else
+        strcpy(text, "-");
+    if (strcmp(text, relation->neighbour) == 0)
+        return;
+    strcpy(relation->neighbour, text);
+    lines_tell(&relation->loop->lines, "neighbour %s", text);
 }
 
 void relation_hear_arp(struct relation *relation, const uint8_t *octets, size_t length)

@@ -34,6 +34,7 @@ struct relation {
     int serves; /* its services answer for the address that all controllers have */
     uint32_t conflicts;     /* that were seen */
     uint64_t conflict_told; /* when the last one was reported; 0: none yet */
+    char neighbour[600];    /* by LLDP, as it was reported last; at the relation that answers for the address */
     struct places inputs;
     struct places outputs;
     int providers[STATION_PLACES]; /* of each input, what was reported last: its IOPS, and 256 if the device runs; -1: nothing yet */
@@ -74,8 +75,11 @@ void relation_tick(struct relation *relation);
 /* Hands in a received frame, and sends the answer. */
 void relation_take(struct relation *relation, const uint8_t *octets, size_t length);
 
-/* Hands in a frame of ARP or ICMP, and sends the answer, at the relation that answers for the address. */
+/* Hands in a frame of ARP, ICMP or LLDP, and sends the answer, at the relation that answers for the address. */
 void relation_serve(struct relation *relation, const uint8_t *octets, size_t length);
+
+/* Reports the neighbour by LLDP of the relation that answers for the address, if it is another one than before. */
+void relation_look_at_neighbour(struct relation *relation);
 
 /* Reads a packet of ARP whose sender has the address of the plan's station, for the lines `waiting` and for a report of another station. */
 void relation_hear_arp(struct relation *relation, const uint8_t *octets, size_t length);

@@ -2,6 +2,7 @@
 #include "waiting.h"
 #include "arp.h"
 #include "calls.h"
+#include "reasons.h"
 #include "ticker.h"
 #include "words.h"
 #include <inttypes.h>
@@ -87,13 +88,14 @@ static void arp_words(const struct waiting *waiting, char *text, size_t size)
 static void write_words(const struct waiting *waiting, char *text, size_t size)
 {
     const pn_plan *plan = waiting->plan;
-    uint32_t number = waiting->sequence; /* 1 for the first record */
-    if (number == 0 || number > plan->record_count) {
+    uint32_t place = 0, count = reasons_written(plan, waiting->sequence, &place);
+    char call[128];
+    if (count == 0) {
         snprintf(text, size, "no answer to a Write");
         return;
     }
-    snprintf(text, size, "no answer to the Write of the record with index %u to slot %u subslot %u, %u of %u", plan->records[number - 1].index,
-             plan->records[number - 1].slot, plan->records[number - 1].subslot, (unsigned)number, (unsigned)plan->record_count);
+    reasons_call(plan, waiting->sequence, call, sizeof call);
+    snprintf(text, size, "no answer to the %s, %u of %u", call, (unsigned)place + 1, (unsigned)plan->record_count);
 }
 
 static void words_of_state(const struct waiting *waiting, char *text, size_t size)

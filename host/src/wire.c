@@ -12,6 +12,7 @@
 #include <linux/sockios.h>
 #include <netinet/in.h>
 #include <poll.h>
+#include <stdio.h>
 #include <string.h>
 #include <sys/ioctl.h>
 #include <sys/socket.h>
@@ -19,6 +20,7 @@
 
 /* EtherTypes, and the port of calls. */
 #define TYPE_PROFINET 0x8892u
+#define TYPE_LLDP 0x88CCu
 #define TYPE_TAG 0x8100u
 #define PORT_CALLS 34964u
 
@@ -36,7 +38,8 @@
  * The two numbers at the end of a jump are how many lines it skips if the test is true, and if it is false. */
 static struct sock_filter wanted[] = {
     BPF_STMT(BPF_LD | BPF_H | BPF_ABS, 12),
-    BPF_JUMP(BPF_JMP | BPF_JEQ | BPF_K, TYPE_PROFINET, 13, 0),
+    BPF_JUMP(BPF_JMP | BPF_JEQ | BPF_K, TYPE_PROFINET, 14, 0),
+    BPF_JUMP(BPF_JMP | BPF_JEQ | BPF_K, TYPE_LLDP, 13, 0),
     BPF_JUMP(BPF_JMP | BPF_JEQ | BPF_K, ETH_P_ARP, 12, 0),
     BPF_JUMP(BPF_JMP | BPF_JEQ | BPF_K, ETH_P_IP, 0, 12),
     BPF_STMT(BPF_LD | BPF_B | BPF_ABS, 23),
@@ -128,6 +131,12 @@ void wire_join_identify(struct wire *wire)
 {
     static const uint8_t group[6] = {0x01, 0x0E, 0xCF, 0, 0, 0};
     join(wire, PACKET_MR_MULTICAST, group, "the group 01-0E-CF-00-00-00");
+}
+
+void wire_join_nearest(struct wire *wire)
+{
+    static const uint8_t group[6] = {0x01, 0x80, 0xC2, 0, 0, 0x0E};
+    join(wire, PACKET_MR_MULTICAST, group, "the group 01-80-C2-00-00-0E");
 }
 
 /* The kernel's data about a frame, or NULL. */
@@ -239,6 +248,15 @@ uint64_t wire_missed(struct wire *wire)
     return wire->missed;
 }
 
+const char *wire_why_down(const struct wire *wire, char words[WIRE_WHY])
+{
+    if (wire->is_enabled)
+        snprintf(words, WIRE_WHY, "%s has no carrier: no cable, or the other end is off", wire->name);
+    else
+        snprintf(words, WIRE_WHY, "`ip link set %s up`", wire->name);
+    return words;
+}
+
 const char *wire_with_address(const uint8_t address[4])
 {
     static char name[IFNAMSIZ];
@@ -278,6 +296,12 @@ int wire_is_cyclic(const uint8_t *octets, size_t length)
 {
     size_t at = wire_frame_id_at(octets, length);
     return at != 0 && octets[at] >= 0x80 && octets[at] < 0xF8;
+}
+
+int wire_is_lldp(const uint8_t *octets, size_t length)
+{
+    size_t at = length >= 18 && octets[12] == 0x81 && octets[13] == 0x00 ? 16 : 12;
+    return length >= at + 2 && octets[at] == TYPE_LLDP >> 8 && octets[at + 1] == (TYPE_LLDP & 0xFF);
 }
 
 int wire_is_service(const uint8_t *octets, size_t length)

@@ -22,7 +22,7 @@ struct wire {
     uint64_t missed; /* frames that the kernel had no room for */
 };
 
-/* Opens an interface for the frames of a station: real-time and DCP frames, ARP, and calls on port 34964. On failure, ends the program with
+/* Opens an interface for the frames of a station: real-time and DCP frames, LLDP, ARP, and calls on port 34964. On failure, ends the program with
  * a message. */
 void wire_open(struct wire *wire, const char *interface);
 
@@ -31,6 +31,9 @@ void wire_take(struct wire *wire, const uint8_t mac[6]);
 
 /* Joins the group of DCP's Identify. */
 void wire_join_identify(struct wire *wire);
+
+/* Joins the group of LLDP: the station at the other end of the cable. */
+void wire_join_nearest(struct wire *wire);
 
 /* Reads the next frame, from its destination on, with its tag if it has one. Returns whether there was one. */
 int wire_receive(struct wire *wire, uint8_t octets[WIRE_FRAME], size_t *length);
@@ -44,6 +47,12 @@ int wire_send(struct wire *wire, const uint8_t *octets, size_t length);
 /* Checks whether the interface is up; ends the program if it was removed. Returns 1 if it came up, -1 if it went down, otherwise 0. */
 int wire_look(struct wire *wire);
 
+/* Room for the words of wire_why_down. */
+#define WIRE_WHY 96
+
+/* What is to be done about a link that is down. Returns the words. */
+const char *wire_why_down(const struct wire *wire, char words[WIRE_WHY]);
+
 /* How many frames the kernel dropped before the socket, since the start. */
 uint64_t wire_missed(struct wire *wire);
 
@@ -52,6 +61,9 @@ const char *wire_with_address(const uint8_t address[4]);
 
 /* Whether a frame is one for or of the services of an address: ARP, or ICMP in IPv4. */
 int wire_is_service(const uint8_t *octets, size_t length);
+
+/* Whether a frame is one of LLDP. */
+int wire_is_lldp(const uint8_t *octets, size_t length);
 
 /* Whether a frame is cyclic: its FrameID is in a range of cyclic data. */
 int wire_is_cyclic(const uint8_t *octets, size_t length);

@@ -77,6 +77,15 @@ const char *words_show_mac(char text[WORDS_MAC], const uint8_t mac[6])
     return text;
 }
 
+const char *words_show_text(char *shown, size_t room, const uint8_t *octets, size_t size)
+{
+    size_t count = size < room - 1 ? size : room - 1;
+    for (size_t i = 0; i < count; i++)
+        shown[i] = octets[i] >= ' ' && octets[i] <= '~' ? (char)octets[i] : '.';
+    shown[count] = '\0';
+    return shown;
+}
+
 int words_part(char *line, char *words[], int most)
 {
     static const char blanks[] = " \t\r\n";
@@ -113,6 +122,17 @@ int words_read_status(char *words[], uint16_t *slot, uint16_t *subslot, int *is_
     *subslot = (uint16_t)numbers[1];
     *is_good = strcmp(words[2], "good") == 0;
     return *is_good || strcmp(words[2], "bad") == 0;
+}
+
+int words_numbers(char *words[], uint16_t *numbers, unsigned count)
+{
+    for (unsigned i = 0; i < count; i++) {
+        unsigned long number;
+        if (!words_number(words[i], 65535, &number))
+            return 0;
+        numbers[i] = (uint16_t)number;
+    }
+    return 1;
 }
 
 void words_hex(char *text, const uint8_t *octets, size_t length)

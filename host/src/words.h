@@ -21,6 +21,10 @@ int words_mac(const char *word, uint8_t mac[6]);
 #define WORDS_MAC 18
 const char *words_show_mac(char text[WORDS_MAC], const uint8_t mac[6]);
 
+/* Copies octets that came from a network as text, as many as have room before a 0, with a dot for each that is not printable ASCII. Returns
+ * the text. */
+const char *words_show_text(char *shown, size_t room, const uint8_t *octets, size_t size);
+
 /* Splits a line at its blanks, in place, into at most `most` parts. Returns their number, or -1 if there are more. */
 int words_part(char *line, char *words[], int most);
 
@@ -36,6 +40,9 @@ int words_read_place(char *words[], struct words_place *place, uint8_t *octets, 
 
 /* Reads the words SLOT SUBSLOT good|bad. Returns whether they are that. */
 int words_read_status(char *words[], uint16_t *slot, uint16_t *subslot, int *is_good);
+
+/* Reads numbers of 16 bits. Returns whether each word is one. */
+int words_numbers(char *words[], uint16_t *numbers, unsigned count);
 
 /* Writes octets in hex, followed by a 0; `text` has room for 2 * length + 1. */
 void words_hex(char *text, const uint8_t *octets, size_t length);

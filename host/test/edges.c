@@ -11,6 +11,7 @@ static pn_plan plan, bent;
 static pn_controller controller, before;
 static pn_op op;
 static pn_station station;
+static pn_neighbour neighbour;
 static const pn_host silent;
 static uint8_t text[65536], made[65536 + 8], octets[2000];
 static const uint8_t ar[16] = {1}, activity[16] = {2}, zero[16];
@@ -187,11 +188,17 @@ static void ask_all(const char *when)
     memcpy(&controller, &before, sizeof controller);
 }
 
-/* After a tick: how many units remain, and the destination of its one frame. */
-static void sends(const char *what, uint32_t units, const char *destination)
+/* The next frame goes to this address. */
+static int is_next(const char *destination)
 {
-    if (op.units != units || pn_controller_next(&controller, &op) != PN_OK || op.work != PN_SEND || memcmp(op.octets, destination, 6) != 0 ||
-        pn_controller_next(&controller, &op) != PN_OK || op.work != PN_NOTHING) {
+    return pn_controller_next(&controller, &op) == PN_OK && op.work == PN_SEND && memcmp(op.octets, destination, 6) == 0;
+}
+
+/* After a tick: how many units remain, and the destinations of its frames; NULL for no second one. */
+static void sends(const char *what, uint32_t units, const char *destination, const char *second)
+{
+    if (op.units != units || !is_next(destination) || (second != NULL && !is_next(second)) || pn_controller_next(&controller, &op) != PN_OK ||
+        op.work != PN_NOTHING) {
         printf("%s does not come, with %u units left\n", what, (unsigned)units);
         exit(1);
     }
@@ -199,7 +206,7 @@ static void sends(const char *what, uint32_t units, const char *destination)
 
 static void misuse(void)
 {
-    uint32_t number = 0;
+    uint32_t number = 0, more = 0;
     wants("a frame before it was made", pn_controller_frame(&controller, &op, octets, 60), PN_NOT_MADE);
     wants("a state before it was made", pn_controller_state(&controller, &op), PN_NOT_MADE);
     wants("no room", pn_controller_start(NULL, &plan, ar, activity), PN_NULL);
@@ -238,6 +245,15 @@ static void misuse(void)
     wants("no alarm of high priority", pn_controller_report(&controller, &op, 0), PN_NO_SLOT);
     wants("no alarm of low priority", pn_controller_report(&controller, &op, 1), PN_NO_SLOT);
     wants("no operation for a report", pn_controller_report(&controller, NULL, 1), PN_NULL);
+    wants("diagnoses", pn_controller_diagnoses(&controller, &op, &number, &more), PN_OK);
+    if (number != 0 || more != 0)
+        exit(1);
+    wants("no number of diagnoses", pn_controller_diagnoses(&controller, &op, NULL, &more), PN_NULL);
+    wants("no number of further diagnoses", pn_controller_diagnoses(&controller, &op, &number, NULL), PN_NULL);
+    wants("no operation for diagnoses", pn_controller_diagnoses(&controller, NULL, &number, &more), PN_NULL);
+    wants("no diagnosis", pn_controller_diagnosis(&controller, &op, 0), PN_NO_SLOT);
+    wants("no diagnosis past all", pn_controller_diagnosis(&controller, &op, UINT32_MAX), PN_NO_SLOT);
+    wants("no operation for a diagnosis", pn_controller_diagnosis(&controller, NULL, 0), PN_NULL);
     wants("a read without data", pn_controller_read_record(&controller, &op, 1, 1, 1), PN_BUSY);
     wants("a write without data", pn_controller_write_record(&controller, &op, 1, 1, 1, octets, 1308), PN_BUSY);
     wants("a write that is too long", pn_controller_write_record(&controller, &op, 1, 1, 1, octets, 1309), PN_BAD_LENGTH);
@@ -245,6 +261,9 @@ static void misuse(void)
     wants("no operation for a read", pn_controller_read_record(&controller, NULL, 1, 1, 1), PN_NULL);
     wants("no answer", pn_controller_answer(&controller, &op, &number), PN_NO_ANSWER);
     wants("no number for an answer", pn_controller_answer(&controller, &op, NULL), PN_NULL);
+    wants("no neighbour", pn_controller_neighbour(&controller, &op, &neighbour), PN_NO_SLOT);
+    wants("no room for a neighbour", pn_controller_neighbour(&controller, &op, NULL), PN_NULL);
+    wants("no operation for a neighbour", pn_controller_neighbour(&controller, NULL, &neighbour), PN_NULL);
     wants("no refusal", pn_controller_refusal(&controller, &op, &number), PN_NO_REFUSAL);
     wants("no refused record", pn_controller_refused_record(&controller, &op, &number, &number), PN_NO_REFUSAL);
     keep("a frame that is too long", pn_controller_frame(&controller, &op, octets, sizeof octets));
@@ -257,11 +276,56 @@ static void misuse(void)
     wants("an output of the access point", pn_controller_give(&controller, &op, 0, 1, octets, 0), PN_NO_SLOT);
     wants("an output of another slot", pn_controller_give(&controller, &op, 3, 1, octets, 2), PN_NO_SLOT);
     wants("an output of another subslot", pn_controller_give(&controller, &op, 2, 2, octets, 2), PN_NO_SLOT);
-    /* With the first unit the controller announces its address by ARP, and with the last one of a second it looks again. */
+    /* With the first unit the controller announces its address by ARP and itself by LLDP, and with the last one of a second it looks again. */
     keep("a second", pn_controller_tick(&controller, &op, 32000));
-    sends("an announcement", 31999, "\xFF\xFF\xFF\xFF\xFF\xFF");
+    sends("an announcement", 31999, "\xFF\xFF\xFF\xFF\xFF\xFF", "\x01\x80\xC2\x00\x00\x0E");
     keep("the rest of it", pn_controller_tick(&controller, &op, 31999));
-    sends("another Identify", 0, "\x01\x0E\xCF\x00\x00\x00");
+    sends("another Identify", 0, "\x01\x0E\xCF\x00\x00\x00", NULL);
+}
+
+/* The calls of a tool without what they need, and with what they refuse. */
+static void misuse_tool(void)
+{
+    static const pn_tool tool = {{2, 0, 0, 0, 0, 2}, {192, 168, 0, 1}};
+    static const pn_target target = {{2, 0, 0, 0, 0, 1}, {192, 168, 0, 2}, 291, 1110};
+    pn_search search;
+    memset(&search, 0, sizeof search);
+    memcpy(&before, &controller, sizeof before); /* none of these calls has a controller */
+    wants("no tool that asks", pn_tool_ask(NULL, &op, octets, 3), PN_NULL);
+    wants("no operation to ask with", pn_tool_ask(&tool, NULL, octets, 3), PN_NULL);
+    wants("no place to ask for", pn_tool_ask(&tool, &op, NULL, 3), PN_NULL);
+    wants("an empty place", pn_tool_ask(&tool, &op, octets, 0), PN_BAD_LENGTH);
+    wants("a place that is too long", pn_tool_ask(&tool, &op, octets, 512), PN_BAD_LENGTH);
+    wants("the longest place", pn_tool_ask(&tool, &op, octets, 511), PN_OK);
+    wants("no tool that hears", pn_tool_heard(NULL, &search, octets, 60), PN_NULL);
+    wants("no search", pn_tool_heard(&tool, NULL, octets, 60), PN_NULL);
+    wants("no frame", pn_tool_heard(&tool, &search, NULL, 0), PN_NULL);
+    wants("a frame of nothing", pn_tool_heard(&tool, &search, octets, 0), PN_OK);
+    wants("a frame that is too long", pn_tool_heard(&tool, &search, octets, sizeof octets), PN_OK);
+    wants("nobody to name", pn_tool_give(&tool, &search, &op, (const uint8_t *)"a", 1), PN_NOBODY);
+    wants("no name", pn_tool_give(&tool, &search, &op, NULL, 0), PN_NULL);
+    wants("no search to name by", pn_tool_give(&tool, NULL, &op, (const uint8_t *)"a", 1), PN_NULL);
+    wants("no valid name", pn_tool_give(&tool, &search, &op, (const uint8_t *)"A", 1), PN_PLAN_NAME);
+    search.stations = 1, search.is_told = 1;
+    wants("one to name", pn_tool_give(&tool, &search, &op, (const uint8_t *)"a", 1), PN_OK);
+    search.length = UINT32_MAX; /* a search that no call wrote */
+    wants("one with a name without end", pn_tool_give(&tool, &search, &op, (const uint8_t *)"a", 1), PN_HAS_NAME);
+    search.stations = UINT32_MAX, search.is_told = UINT32_MAX;
+    wants("very many", pn_tool_give(&tool, &search, &op, (const uint8_t *)"a", 1), PN_SEVERAL);
+    search.stations = 1;
+    wants("one that tells nothing", pn_tool_give(&tool, &search, &op, (const uint8_t *)"a", 1), PN_NAME_UNTOLD);
+    wants("no answer to a name", pn_tool_given(&tool, &search, &op, octets, 60), PN_NO_ANSWER);
+    wants("no frame of a name", pn_tool_given(&tool, &search, &op, NULL, 60), PN_NULL);
+    wants("a read", pn_tool_ask_record(&tool, &target, activity, &op, 0, 0, 0xF841), PN_OK);
+    wants("no target of a read", pn_tool_ask_record(&tool, NULL, activity, &op, 0, 0, 0), PN_NULL);
+    wants("no activity of a read", pn_tool_ask_record(&tool, &target, NULL, &op, 0, 0, 0), PN_NULL);
+    wants("no answer to a read", pn_tool_record_in(&tool, activity, &op, octets, 60), PN_NO_ANSWER);
+    wants("no frame of a read", pn_tool_record_in(&tool, activity, &op, NULL, 60), PN_NULL);
+    for (uint32_t what = 0; what < 44; what++)
+        if ((strcmp(pn_strerror(what), pn_strerror(UINT32_MAX)) == 0) != (what == 32)) {
+            printf("the text of %u\n", (unsigned)what);
+            exit(1);
+        }
 }
 
 static uint32_t drawn(void)
@@ -501,6 +565,7 @@ int main(int words_count, char *words[])
     wants("another plan", pn_plan_make(text, length, sizeof plan - 4, &plan), PN_BAD_ABI);
     wants("the catalogue", pn_plan_read(&plan, text, length), PN_OK);
     misuse();
+    misuse_tool();
     bend_both(strtoul(words[2], NULL, 10));
     bend_catalogues(length, strtoul(words[2], NULL, 10));
     return 0;

@@ -58,16 +58,18 @@ class Station(threading.Thread):
     `identifies`: how often it answers an Identify for its name; `is_careless`: for another name too. `sets`: the BlockError of its answer to a
     Set, None for no answer. `arp`: the address for which it answers ARP, or None. `calls`: the PNIOStatus of its answer to a call, by the type of
     the first block, or for a Write by that type and the index; no answer if there is none. `rejects`: a packet type (FAULT, REJECT) and the octets
-    with which it answers such a call instead. `differs`: the ModuleState and the SubmoduleState of slot 1 subslot 1 in its answer to the Connect, or
+    with which it answers such a call instead. `place`: its name by its place (AliasName), or None; `is_coy`: it does not tell its name. `differs`: the ModuleState and the SubmoduleState of slot 1 subslot 1 in its answer to the Connect, or
     None. `reference`: its LocalAlarmReference."""
 
     def __init__(self, wire, number, name="pump-1", identity=(291, 1110), suite=bytes(12), identifies=1, is_careless=False, sets=None, arp=None,
-                 calls=None, rejects=None, differs=None, reference=1):
+                 calls=None, rejects=None, differs=None, reference=1, place=None, is_coy=False):
         super().__init__(daemon=True)
         self.link, self.mac = wire.socket("d0"), mac_of(number)
         self.name_of_station, self.identity, self.suite = name.encode(), identity, suite
         self.identifies, self.is_careless, self.sets, self.arp, self.calls = identifies, is_careless, sets, arp, calls or {}
         self.rejects, self.differs, self.reference = rejects or {}, differs, reference
+        self.place, self.is_coy = place.encode() if place else None, is_coy
+        self.named = []  # each name that came in a Set
         self.is_over = False
         self.start()
 
@@ -115,13 +117,18 @@ class Station(threading.Thread):
         length = struct.unpack_from(">H", came, 28)[0]
         if came[26:28] == b"\2\2" and came[30:30 + length] != self.name_of_station and not self.is_careless:
             return
-        blocks = block(2, 2, b"\0\0" + self.name_of_station) + block(2, 3, b"\0\0" + struct.pack(">HH", *self.identity)) + block(1, 2, b"\0\1" + self.suite)
+        if came[26:28] == b"\2\6" and came[30:30 + length] != self.place:
+            return
+        blocks = (b"" if self.is_coy else block(2, 2, b"\0\0" + self.name_of_station)) + block(2, 3, b"\0\0" + struct.pack(">HH", *self.identity)) + block(1, 2, b"\0\1" + self.suite)
         for _ in range(self.identifies):
             self.dcp(came, 0xFEFF, 5, blocks)
 
     def set(self, came):
         if self.sets == 0 and came[26:28] == b"\1\2":
             self.suite = came[32:44]
+        if came[26:28] == b"\2\2":
+            self.named.append(came[32:30 + struct.unpack_from(">H", came, 28)[0]].decode())
+            self.name_of_station = self.named[-1].encode() if self.sets == 0 else self.name_of_station
         self.dcp(came, 0xFEFD, 4, block(5, 4, came[26:28] + bytes((self.sets,))))
 
     def call(self, came):

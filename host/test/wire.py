@@ -84,17 +84,25 @@ class Wire:
 
     def socket(self, end="c0"):
         """A packet socket at an end."""
+        made = self.opened(end, socket.AF_PACKET, socket.SOCK_RAW, socket.htons(3))
+        made.setsockopt(socket.SOL_SOCKET, SO_RCVBUFFORCE, 4 << 20)
+        made.bind((end, 3))
+        return made
+
+    def datagrams(self, end="c0"):
+        """A socket for UDP of the kernel at an end, which has to have an address."""
+        return self.opened(end, socket.AF_INET, socket.SOCK_DGRAM, 0)
+
+    def opened(self, end, *kind):
+        """A socket of this kind at an end."""
         libc = ctypes.CDLL(None, use_errno=True)
         with open("/proc/self/ns/net", "rb") as home, open(f"/run/netns/{self.device if end == 'd0' else self.controller}", "rb") as there:
             if libc.setns(there.fileno(), CLONE_NEWNET) != 0:
                 raise NoWire(f"setns: {os.strerror(ctypes.get_errno())}")
             try:
-                made = socket.socket(socket.AF_PACKET, socket.SOCK_RAW, socket.htons(3))
-                made.setsockopt(socket.SOL_SOCKET, SO_RCVBUFFORCE, 4 << 20)
-                made.bind((end, 3))
+                return socket.socket(*kind)
             finally:
                 libc.setns(home.fileno(), CLONE_NEWNET)
-        return made
 
 
 class Place(Wire):
@@ -281,6 +289,11 @@ def block(option, suboption, octets):
 
 def set_name(name, xid, qualifier=1, target=DEVICE):
     return dcp(0xFEFD, 4, xid, block(2, 2, struct.pack(">H", qualifier) + name.encode()), target)
+
+
+def set_address(address, xid, qualifier=1, target=DEVICE):
+    """A Set of an IP address with the mask 255.255.255.0 and no gateway."""
+    return dcp(0xFEFD, 4, xid, block(1, 2, struct.pack(">H", qualifier) + socket.inet_aton(address) + b"\xff\xff\xff\0" + bytes(4)), target)
 
 
 def identify(name, xid):

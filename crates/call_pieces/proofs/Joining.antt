@@ -1,15 +1,16 @@
 -- What is joined, over any list of events.
-use Rattle.std.proofs.Common.{◌≡◌, ◌+◌, ◌<◌, ◌==◌, ◌&&◌, inl, inr, ℕ, zero, suc, Bool, true, false, not, List, [], ◌∷◌, ◌++◌, get_or, Option, Some, None, refl, sym, ap, subst, ◌∙◌, arith, add-one}
-use Rattle.std.specs.Prelude.{if◌then◌else◌}
+use Rattle.std.proofs.Common.{◌≡◌, ◌+◌, ◌-◌, ◌<◌, ◌==◌, ◌&&◌, inl, inr, ℕ, zero, suc, Bool, true, false, not, List, [], ◌∷◌, ◌++◌, get_or, Option, Some, None, refl, sym, ap, subst, ◌∙◌, arith, add-one}
+use Rattle.std.specs.Prelude.{nat_lt, if◌then◌else◌}
 use Rattle.std.specs.List.{All}
 use Rattle.std.specs.Option.{option_map}
 use Rattle.std.proofs.lemmas.Bool.{eqb-true}
+use Rattle.std.proofs.lemmas.Bool.Decides.{nat_tests}
 use Rattle.std.proofs.lemmas.List.Elements.{All-map, All-set}
 use Rattle.services.specs.declared.call.Head.{Head}
 use Rattle.call_pieces.specs.declared.piece.Kind.{Kind}
 use Rattle.call_pieces.specs.Piece.{Piece, is_last, is_same, number_of, piece_of}
 use Rattle.call_pieces.specs.State.{Joined, Waits, State, Unfinished, acknowledged, after_piece, at_place, begun, blank, completes, continued, fack_bytes, fresh, heard, heard_as, holds, is_live, is_next, older, outcome_by, outcome_of, place_of, started, taken, whole_bytes}
-use Rattle.call_pieces.specs.Run.{Event, Hears, IsAmong, IsCompleted, IsJoined, Ticks, since}
+use Rattle.call_pieces.specs.Run.{Began, Event, Hears, IsAmong, IsCompleted, IsJoined, Ticks, since}
 use Rattle.call_pieces.proofs.Places.{read_all, three, two}
 
 -- ---- what was heard stays heard
@@ -25,9 +26,12 @@ joined_more kind past event h (suc n) octets j =
       record { bytes = w.bytes; piece = w.piece; came = inr w.came; read = w.read; same = w.same; number = w.number; octets = w.octets },
     )
 
--- what a place has is what its first fragments brought
+began_more : (kind : Kind) (past : List Event) (event : Event) (h : Head) → Began kind past h → Began kind (event ∷ past) h
+began_more kind past event h b = record { bytes = b.bytes; piece = b.piece; came = inr b.came; read = b.read; number = b.number; head = b.head }
+
+-- what a place has is what its first fragments brought, and a call in it has the header of a first fragment
 abbrev IsMade : Kind → List Event → Unfinished → Type 0
-IsMade kind past u = IsJoined kind past u.head u.next u.octets
+IsMade kind past u = IsJoined kind past u.head u.next u.octets × (is_live u ≡ true → Began kind past u.head)
 
 -- ---- a fragment
 
@@ -35,15 +39,16 @@ IsMade kind past u = IsJoined kind past u.head u.next u.octets
 abbrev Came : Kind → List Event → Piece → Type 0
 Came kind past p = (bytes : List ℕ) × IsAmong (Hears bytes) past × (piece_of kind bytes ≡ Some p)
 
-begun_made : (kind : Kind) (past : List Event) (u : Unfinished) (p : Piece) → IsMade kind past u → IsMade kind past (begun u p)
-begun_made kind past u p made = by (number_of p == 0 && not (holds p.head u))
+begun_made : (kind : Kind) (past : List Event) (u : Unfinished) (p : Piece) → Came kind past p → IsMade kind past u → IsMade kind past (begun u p)
+begun_made kind past u p came made = by (number_of p == 0) refl (not (holds p.head u))
   where
-    by : (b : Bool) → IsMade kind past (if b then fresh p.head else u)
-    by true = refl
-    by false = made
+    by : (a : Bool) → (number_of p == 0) ≡ a → (b : Bool) → IsMade kind past (if a && b then fresh p.head else u)
+    by true e true = (refl, λ live. record { bytes = came.0; piece = p; came = came.1; read = came.2; number = eqb-true _ _ e; head = refl })
+    by true e false = made
+    by false e b = made
 
 -- one more fragment
-grown : (kind : Kind) (past : List Event) (u : Unfinished) (p : Piece) → Came kind past p → is_next u p ≡ true → IsMade kind past u
+grown : (kind : Kind) (past : List Event) (u : Unfinished) (p : Piece) → Came kind past p → is_next u p ≡ true → IsJoined kind past u.head u.next u.octets
     → IsJoined kind past u.head (u.next + 1) (u.octets ++ p.octets)
 grown kind past u p came next made =
     let tests = three (holds p.head u) (number_of p == u.next) _ next in
@@ -56,11 +61,11 @@ continued_made kind past u p came made = by (is_next u p && not (is_last p.head.
   where
     by : (b : Bool) → (is_next u p && not (is_last p.head.opening.flags)) ≡ b
         → IsMade kind past (if b then record u { octets = u.octets ++ p.octets; next = u.next + 1 } else u)
-    by true e = grown kind past u p came (two (is_next u p) _ e).0 made
+    by true e = (grown kind past u p came (two (is_next u p) _ e).0 made.0, made.1)
     by false e = made
 
 taken_made : (kind : Kind) (past : List Event) (u : Unfinished) (p : Piece) → Came kind past p → IsMade kind past u → IsMade kind past (taken u p)
-taken_made kind past u p came made = continued_made kind past (begun u p) p came (begun_made kind past u p made)
+taken_made kind past u p came made = continued_made kind past (begun u p) p came (begun_made kind past u p came made)
 
 -- ---- over events
 
@@ -69,10 +74,19 @@ abbrev AreMade : Kind → List Event → State → Type 0
 AreMade kind past state = All (IsMade kind past) state.calls
 
 more_made : (kind : Kind) (past : List Event) (event : Event) (us : List Unfinished) → All (IsMade kind past) us → All (IsMade kind (event ∷ past)) us
-more_made kind past event us made k d few = joined_more kind past event _ _ _ (made k d few)
+more_made kind past event us made k d few =
+    let one = made k d few in (joined_more kind past event _ _ _ one.0, λ live. began_more kind past event _ (one.1 live))
 
 none_made : (kind : Kind) (past : List Event) → IsMade kind past blank
-none_made kind past = refl
+none_made kind past = (refl, λ live. absurd cc)
+
+older_made : (kind : Kind) (past : List Event) (u : Unfinished) → IsMade kind past u → IsMade kind past (older 1 u)
+older_made kind past u made = (made.0, λ live. made.1 (was live))
+  where
+    was : nat_lt 0 (u.left - 1) ≡ true → nat_lt 0 u.left ≡ true
+    was live =
+        let more : 1 < u.left = grind (arith, nat_tests) in
+        grind (arith, nat_tests)
 
 piece_made : (kind : Kind) (past : List Event) (state : State) (p : Piece) → Came kind past p → AreMade kind past state → AreMade kind past (after_piece state (Some p))
 piece_made kind past state p came made =
@@ -99,10 +113,10 @@ start_made : (kind : Kind) → AreMade kind [] (started kind)
 start_made kind k d few = by k few
   where
     by : (k : ℕ) → k < 4 → IsMade kind [] (get_or (blank ∷ blank ∷ blank ∷ blank ∷ []) k d)
-    by zero few = refl
-    by (suc zero) few = refl
-    by (suc (suc zero)) few = refl
-    by (suc (suc (suc zero))) few = refl
+    by zero few = none_made kind []
+    by (suc zero) few = none_made kind []
+    by (suc (suc zero)) few = none_made kind []
+    by (suc (suc (suc zero))) few = none_made kind []
     by (suc (suc (suc (suc k)))) few = absurd (omega (arith, few))
 
 made_since : (kind : Kind) (past : List Event) → AreMade kind past (since kind past)
@@ -112,7 +126,10 @@ made_since kind (Hears bytes ∷ past) =
     let state = since kind past in
     subst (λ (k : Kind). AreMade kind (Hears bytes ∷ past) (after_piece state (piece_of k bytes))) (sym (kind_since kind past))
     (option_made kind past state bytes (piece_of kind bytes) refl (made_since kind past))
-made_since kind (Ticks ∷ past) = All-map (IsMade kind (Ticks ∷ past)) (older 1) (since kind past).calls (more_made kind past Ticks (since kind past).calls (made_since kind past))
+made_since kind (Ticks ∷ past) =
+    let calls = (since kind past).calls in
+    let made = more_made kind past Ticks calls (made_since kind past) in
+    All-map (IsMade kind (Ticks ∷ past)) (older 1) calls (λ k d few. older_made kind (Ticks ∷ past) (get_or calls k d) (made k d few))
 
 -- ---- a whole
 
@@ -135,15 +152,17 @@ completed_by kind past state bytes whole (Some p) e made f =
     let parts = whole_parts u p whole f in
     let tests = two (is_next u p) _ parts.0 in
     let nexts = three (holds p.head u) (number_of p == u.next) _ tests.0 in
-    let there = begun_made kind later (at_place state p) p (read_all (IsMade kind later) state.calls _ (more_made kind past (Hears bytes) state.calls made) (none_made kind later)) in
-    let all = grown kind later u p (bytes, inl refl, e) tests.0 there in
+    let there = begun_made kind later (at_place state p) p (bytes, inl refl, e) (read_all (IsMade kind later) state.calls _ (more_made kind past (Hears bytes) state.calls made) (none_made kind later)) in
+    let all = grown kind later u p (bytes, inl refl, e) tests.0 there.0 in
+    let holding = two (is_live u) (is_same p.head u.head) nexts.0 in
     record {
       piece = p;
       h = u.head;
       octets = u.octets ++ p.octets;
       read = e;
       last = tests.1;
-      same = (two (is_live u) (is_same p.head u.head) nexts.0).1;
+      same = holding.1;
+      began = there.1 holding.0;
       joined = subst (λ (n : ℕ). IsJoined kind later u.head (n + 1) (u.octets ++ p.octets)) (sym (eqb-true _ _ nexts.1)) all;
       whole = parts.1;
     }

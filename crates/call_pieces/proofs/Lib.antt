@@ -5,3 +5,4 @@ pub mod Lasting
 pub mod Leaping
 pub mod Reading
 pub mod Splitting
+pub mod Due

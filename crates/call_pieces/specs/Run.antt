@@ -56,8 +56,18 @@ IsJoined kind past h zero octets = octets ≡ []
 IsJoined kind past h (suc number) octets =
     (front : List ℕ) × (last : List ℕ) × (octets ≡ front ++ last) × IsJoined kind past h number front × WasHeard kind past h number last
 
+-- a first fragment with this header is among these events
+pub record Began (kind : Kind) (past : List Event) (h : Head) : Type 0 where
+  pub bytes : List ℕ
+  pub piece : Piece
+  pub came : IsAmong (Hears bytes) past
+  pub read : piece_of kind bytes ≡ Some piece
+  pub number : number_of piece ≡ 0
+  pub head : piece.head ≡ h
+
 -- The whole is that of a call of which these are the fragments, up to the last one, which is the body of a datagram that comes
--- after these events.
+-- after these events. Object, interface, operation and all else of its header but flags and length are those of a first fragment
+-- of this call.
 pub record IsCompleted (kind : Kind) (past : List Event) (bytes written : List ℕ) : Type 0 where
   pub piece : Piece
   pub h : Head
@@ -65,6 +75,7 @@ pub record IsCompleted (kind : Kind) (past : List Event) (bytes written : List �
   pub read : piece_of kind bytes ≡ Some piece
   pub last : is_last piece.head.opening.flags ≡ true
   pub same : is_same piece.head h ≡ true
+  pub began : Began kind (Hears bytes ∷ past) h
   pub joined : IsJoined kind (Hears bytes ∷ past) h (number_of piece + 1) octets
   pub whole : written ≡ whole_bytes h octets
 

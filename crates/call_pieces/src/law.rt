@@ -1,12 +1,13 @@
 //! Laws of fragments. No code is involved.
-ghost use Rattle.std.specs.Prelude.{◌≡◌, ◌+◌, ◌<◌, ◌≤◌, ℕ, Bool, List, length, Some, false};
+ghost use Rattle.std.specs.Prelude.{◌≡◌, ◌≢◌, ◌+◌, ◌<◌, ◌≤◌, ℕ, Bool, List, length, map, Some, false};
 ghost use Rattle.std.specs.List.{All, list_any};
 ghost use Rattle.wire.specs.Codec.{IsSound};
 ghost use Rattle.services.specs.declared.call.Head.{Head};
 ghost use Rattle.services.specs.Call.{head};
 ghost use Rattle.call_pieces.specs.declared.piece.Kind.{Kind};
 ghost use Rattle.call_pieces.specs.Piece.{piece_of};
-ghost use Rattle.call_pieces.specs.State.{Joined, State, heard_as, holds};
+ghost use Rattle.call_pieces.specs.State.{Joined, State, heard_as, holds, is_live};
+ghost use Rattle.call_pieces.specs.Leaps.{due_in, ticks_of};
 ghost use Rattle.call_pieces.specs.Split.{IsSendable, piece_bytes, piece_in, pieces_in, whole_of};
 ghost use Rattle.call_pieces.specs.Run.{Arrival, BeginsNone, CanJoin, Event, IsCompleted, after, events_of, next_of, since, ticks_in};
 
@@ -29,6 +30,16 @@ pub fn unfinished_calls_are_dropped()
     // 64,000 ticks after a call began it is not unfinished any more, whatever is heard, unless it begins again.
     ensures { (state : State) (h : Head) (events : List Event) → All (λ u. u.left ≤ 64000) state.calls → BeginsNone state.kind h events →
         64000 ≤ ticks_in events → list_any (holds h) (after state events).calls ≡ false }
+{}
+
+/// When a call is dropped, unless its last fragment comes.
+pub fn calls_are_kept_until_due()
+    // Before the tick that `Joiner::due_in` tells, each unfinished call stays in its place.
+    ensures kept { (state : State) (ticks : ℕ) (h : Head) → ticks < due_in state →
+        map (holds h) (ticks_of ticks state).calls ≡ map (holds h) state.calls }
+    // With that tick a call is dropped.
+    ensures dropped { (state : State) → due_in state < 4294967295 →
+        map is_live (ticks_of (due_in state) state).calls ≢ map is_live state.calls }
 {}
 
 /// Fragments that are written are read.

@@ -17,8 +17,8 @@ mod unfinished;
 pub use acknowledgement::Acknowledgement;
 pub use joiner::{Heard, Joiner, LONGEST, WholeCall};
 pub use law::{
-    fragments_are_read, headers_are_sound, joined_calls_are_their_fragments,
-    joined_is_what_was_split, unfinished_calls_are_dropped,
+    calls_are_kept_until_due, fragments_are_read, headers_are_sound,
+    joined_calls_are_their_fragments, joined_is_what_was_split, unfinished_calls_are_dropped,
 };
 pub use piece::Kind;
 pub use split::{pieces_in, put_piece};

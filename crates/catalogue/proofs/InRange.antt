@@ -188,7 +188,8 @@ point_apart tree found e =
     let d = bind_ok (number_at key.MinDeviceInterval 1 65536 tree) _ found c.2 in
     let f = bind_ok (list_at key.VirtualSubmoduleItem submodule tree) _ found d.2 in
     let g = bind_ok (list_at key.ModuleItemRef (λ _ entry. reference entry) tree) _ found f.2 in
-    subst (λ (point : AccessPoint). AreApart point.submodules) (ok_is {F = PlacedFault} _ found g.2) (submodules_apart tree f.0 f.1)
+    let h = bind_ok (flag_at key.MultipleWriteSupported tree) _ found g.2 in
+    subst (λ (point : AccessPoint). AreApart point.submodules) (ok_is {F = PlacedFault} _ found h.2) (submodules_apart tree f.0 f.1)
 
 pub in_range : (tree : Data) (found : Catalogue) → catalogue tree ≡ Ok found → IsInRange found
 unfolding catalogue access_point_in project_in

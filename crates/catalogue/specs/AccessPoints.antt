@@ -1,12 +1,12 @@
 -- The device access point: what the device is, and which modules may be in which slots.
-use Rattle.std.specs.Prelude.{ℕ, List, [], Result, Ok}
+use Rattle.std.specs.Prelude.{ℕ, Bool, List, [], Result, Ok}
 use Rattle.serde_json.specs.Data.{Items}
 use Rattle.catalogue.specs.declared.fault.PlacedFault.{PlacedFault}
 use Rattle.catalogue.specs.declared.fault.Step.TheVariants.{At}
 use Rattle.catalogue.specs.declared.key.Key.{Key}
 use Rattle.catalogue.specs.declared.key.Key.TheVariants as key
 use Rattle.catalogue.specs.Placed.{bare, behind}
-use Rattle.catalogue.specs.Reader.{◌>>=◌, Reader, each, items_of, whole, number, number_at, text_at, list_at}
+use Rattle.catalogue.specs.Reader.{◌>>=◌, Reader, each, flag_at, items_of, whole, number, number_at, text_at, list_at}
 use Rattle.catalogue.specs.Submodules.{Submodule, submodule}
 
 -- The slots in which a module may be.
@@ -23,6 +23,7 @@ pub record AccessPoint : Type 0 where
   pub least_interval : ℕ
   pub submodules : List Submodule
   pub references : List Reference
+  pub multiple_write : Bool
 
 -- slot numbers: an entry that is not a whole number is reported before one that is out of its range
 abbrev pub slots_in : Items → Result (List ℕ) PlacedFault
@@ -49,4 +50,13 @@ access_point tree =
     number_at key.MinDeviceInterval 1 65536 tree >>= λ least_interval.
     list_at key.VirtualSubmoduleItem submodule tree >>= λ submodules.
     list_at key.ModuleItemRef (λ _ entry. reference entry) tree >>= λ references.
-    Ok (record { ident = ident; physical_slots = physical_slots; station_type = station_type; least_interval = least_interval; submodules = submodules; references = references })
+    flag_at key.MultipleWriteSupported tree >>= λ multiple_write.
+    Ok (record {
+      ident = ident;
+      physical_slots = physical_slots;
+      station_type = station_type;
+      least_interval = least_interval;
+      submodules = submodules;
+      references = references;
+      multiple_write = multiple_write;
+    })

@@ -7,7 +7,7 @@ ghost use Rattle.catalogue.specs.AccessPoints.{AccessPoint, Reference, slots_in,
 
 use crate::entry::{Entry, each_of, list};
 use crate::submodules::submodules_at;
-use crate::tree::{items_at, long_at, number_in, string, whole};
+use crate::tree::{flag_at, items_at, long_at, number_in, string, whole};
 use crate::{Key, PlacedFault, Step, SubmoduleTable};
 use serde_json::Value;
 use std::alloc::Global;
@@ -43,6 +43,8 @@ pub struct AccessPoint {
     pub least_interval: u32,
     pub submodules: SubmoduleTable,
     pub references: Vec<ModuleReference>,
+    /// Whether one Write can carry several records (MultipleWriteSupported).
+    pub multiple_write: bool,
 }
 
 impl Model for AccessPoint {
@@ -56,6 +58,7 @@ impl Model for AccessPoint {
       least_interval = item.least_interval;
       submodules = item.submodules;
       references = item.references.items;
+      multiple_write = item.multiple_write;
     } };
 }
 
@@ -143,6 +146,7 @@ pub(crate) fn access_point(alloc: Global, tree: &Value) -> Result<AccessPoint, P
     let least_interval = long_at(tree, Key::MinDeviceInterval, 1, 65_536)?;
     let submodules = submodules_at(alloc, tree, Key::VirtualSubmoduleItem)?;
     let references = list(alloc, &(), tree, Key::ModuleItemRef)?;
+    let multiple_write = flag_at(tree, Key::MultipleWriteSupported)?;
     Ok(AccessPoint {
         ident,
         physical_slots,
@@ -150,5 +154,6 @@ pub(crate) fn access_point(alloc: Global, tree: &Value) -> Result<AccessPoint, P
         least_interval,
         submodules,
         references,
+        multiple_write,
     })
 }

@@ -1,6 +1,7 @@
 -- The blocks in data are read back.
-use Rattle.std.proofs.Common.{◌≡◌, ◌+◌, ◌<◌, [], length, Some, Ok, refl, ◌∙◌, arith}
-use Rattle.block_fields.specs.Fields.{body, open_body, version}
+use Rattle.std.proofs.Common.{◌≡◌, ◌+◌, ◌<◌, ℕ, List, [], length, Some, Ok, refl, ◌∙◌, arith}
+use Rattle.std.proofs.lemmas.List.{length-append}
+use Rattle.block_fields.specs.Fields.{body, number_bytes, open_body, version}
 use Rattle.record_blocks.specs.declared.alarm_ack.AlarmAck.{AlarmAck}
 use Rattle.record_blocks.specs.declared.alarm_notification.AlarmNotification.{AlarmNotification}
 use Rattle.record_blocks.specs.AlarmAck.{alarm_ack}
@@ -10,7 +11,8 @@ use Rattle.block_codec.specs.declared.block.Block.TheVariants as is
 use Rattle.block_codec.specs.Block.{block_bytes, block_of, block_size, fields_of, front}
 use Rattle.codec_laws.specs.blocks.Writable.{CanBeWritten, IsAck, IsAlarm}
 use Rattle.pn_alarms.specs.Carried.{ack_of}
-use Rattle.pn_alarms.specs.Report.{block_priority, front as report_front, front_of, ours, payload, report, report_fields, report_of}
+use Rattle.alarm_reports.specs.declared.report.Report.{Report}
+use Rattle.alarm_reports.specs.Report.{block_priority, diagnosed, front as report_front, front_of, low_ack, low_ack_of, ours, payload, report, report_fields, report_of}
 
 -- a block that can be written is read back, and has as many octets as its format says
 abbrev pub BlocksAreRead : Type 0
@@ -62,21 +64,51 @@ front_fits alarm is = (
   ),
 )
 
-payload_fits : (alarm : AlarmNotification) → payload.Fits (Some 1, alarm.alarm_data)
+payload_fits : (structure : ℕ) (alarm : AlarmNotification) → structure < 65536 → payload.Fits (Some structure, alarm.alarm_data)
 unfolding payload
-payload_fits alarm = (omega arith, tt)
+payload_fits structure alarm small = (omega (arith, small), tt)
 
-fields_fit : (alarm : AlarmNotification) → IsAlarm alarm → report_fields.Fits (alarm, Some 1)
+fields_fit : (structure : ℕ) (alarm : AlarmNotification) → structure < 65536 → IsAlarm alarm → report_fields.Fits (alarm, Some structure)
 unfolding report_fields
-fields_fit alarm is = (front_fits alarm is, payload_fits alarm)
+fields_fit structure alarm small is = (front_fits alarm is, payload_fits structure alarm small)
 
-fields_size : (alarm : AlarmNotification) → IsAlarm alarm → report_fields.size (alarm, Some 1) < 2000
+fields_size : (structure : ℕ) (alarm : AlarmNotification) → IsAlarm alarm → report_fields.size (alarm, Some structure) < 2000
 unfolding report_fields report_front payload
-fields_size alarm is = omega (arith, is.few)
+fields_size structure alarm is = omega (arith, is.few)
 
 ours_fits : (alarm : AlarmNotification) → IsAlarm alarm → report.Fits (ours alarm)
 unfolding report block_priority open_body version
-ours_fits alarm is = (omega arith, (omega (arith, fields_size alarm is), (((refl, omega arith), (refl, omega arith)), fields_fit alarm is)))
+ours_fits alarm is = (omega arith, (omega (arith, fields_size 1 alarm is), (((refl, omega arith), (refl, omega arith)), fields_fit 1 alarm (omega arith) is)))
+
+diagnosed_fits : (alarm : AlarmNotification) → IsAlarm alarm → report.Fits (diagnosed alarm)
+unfolding report block_priority open_body version
+diagnosed_fits alarm is = (omega arith, (omega (arith, fields_size 0x8000 alarm is), (((refl, omega arith), (refl, omega arith)), fields_fit 0x8000 alarm (omega arith) is)))
 
 pub alarm_read : OursIsRead → (alarm : AlarmNotification) → IsAlarm alarm → report_of (block_bytes (is.AlarmNotification alarm)) ≡ Ok (ours alarm)
 alarm_read reads alarm good = reads alarm (ours_fits alarm good)
+
+-- The same of low priority.
+abbrev pub ReportsAreRead : Type 0
+ReportsAreRead = (alarm : Report) (rest : List ℕ) → report.Fits alarm → report_of (report.write alarm rest) ≡ Ok alarm
+
+pub diagnosed_read : ReportsAreRead → (alarm : AlarmNotification) → IsAlarm alarm → report_of (report.write (diagnosed alarm) []) ≡ Ok (diagnosed alarm)
+diagnosed_read reads alarm good = reads (diagnosed alarm) [] (diagnosed_fits alarm good)
+
+pub diagnosed_long : (alarm : AlarmNotification) → length (report.write (diagnosed alarm) []) ≡ 28 + length alarm.alarm_data
+unfolding report block_priority open_body version report_fields report_front payload number_bytes
+diagnosed_long alarm = omega (arith, length-append alarm.alarm_data [])
+
+abbrev pub LowAcksAreRead : Type 0
+LowAcksAreRead = (ack : AlarmAck) (rest : List ℕ) → low_ack.Fits ack → low_ack.read (low_ack.write ack rest) ≡ Ok (ack, rest)
+
+low_fits : (ack : AlarmAck) → IsAck ack → low_ack.Fits ack
+unfolding low_ack body version alarm_ack
+low_fits ack is = ((refl, omega arith), (omega arith, (((refl, omega arith), (refl, omega arith)), (omega (arith, is.alarm_type), (omega (arith, is.api), (omega (arith, is.slot_number), (omega (arith, is.subslot_number), (omega (arith, is.alarm_specifier), omega (arith, is.pnio_status)))))))))
+
+pub low_read : LowAcksAreRead → (ack : AlarmAck) → IsAck ack → low_ack_of (low_ack.write ack []) ≡ Ok ack
+unfolding low_ack_of
+low_read reads ack good = rw (reads ack [] (low_fits ack good)) refl
+
+pub low_long : (ack : AlarmAck) → length (low_ack.write ack []) ≡ 22
+unfolding low_ack body alarm_ack number_bytes version
+low_long ack = refl

@@ -1,5 +1,5 @@
 -- Over any list of moves, the accepted alarms are a prefix of those raised, and lack at most the last one.
-use Rattle.std.proofs.Common.{◌≡◌, ℕ, ◌≤◌, ◌+◌, Bool, true, false, cond, leb, ltb, List, [], ◌∷◌, length, Option, Some, None, refl, sym, ap, subst, arith}
+use Rattle.std.proofs.Common.{◌≡◌, ℕ, ◌≤◌, ◌+◌, ◌++◌, Bool, true, false, cond, ltb, List, [], ◌∷◌, length, Option, Some, None, refl, sym, ap, subst, ◌∙◌, append-nil, arith}
 use Rattle.std.specs.Prelude.{slice_get}
 use Rattle.std.proofs.lemmas.Bool.{ltb-true}
 use Rattle.std.proofs.lemmas.List.{length-append}
@@ -8,17 +8,17 @@ use Rattle.record_blocks.specs.declared.alarm_notification.AlarmNotification.{Al
 use Rattle.pn_alarms.specs.declared.receiver.Taken.{Taken}
 use Rattle.pn_alarms.specs.declared.receiver.Taken.TheVariants.{New, Again, Refused}
 use Rattle.codec_laws.specs.alarms.World.{Move}
-use Rattle.codec_laws.specs.alarms.World.{Raise, Confirm, DeviceTick, ControllerTick, AlarmComes, ConfirmComes, AckComesToDevice, AckComesToController, NackComesToDevice, NackComesToController}
-use Rattle.pn_alarms.specs.declared.sender.Alarm.{Alarm}
+use Rattle.codec_laws.specs.alarms.World.{Raise, Confirm, DeviceTick, ControllerTick, AlarmComes, ConfirmComes, AckComesToDevice, AckComesToController}
 use Rattle.pn_alarms.specs.Numbers.{send_number, is_last}
 use Rattle.pn_alarms.specs.Sending.{Sending, due, rested}
 use Rattle.pn_alarms.specs.Alarming.{Alarming}
-use Rattle.pn_alarms.specs.Sender.{notified, raised, is_end}
+use Rattle.pn_alarms.specs.Sender.{is_end}
 use Rattle.pn_alarms.specs.Receiver.{taken_as}
-use Rattle.pn_alarms.specs.Device.{sender_after, end_raised}
-use Rattle.pn_alarms.specs.Controller.{confirmed}
+use Rattle.pn_alarms.specs.Device.{sender_after, end_behind}
+use Rattle.pn_alarms.specs.Controller.{confirmed, with_ack}
+use Rattle.pn_alarms.specs.declared.message.Notice.TheVariants as message
 use Rattle.codec_laws.specs.alarms.Line.{with_sent, more_taken}
-use Rattle.codec_laws.specs.alarms.World.{World, start, with_raised, after_raise, after_device_tick, after_controller_tick, after_alarm, after_confirms, after_ack_to_device, after_ack_to_controller, after_nack_to_device, happens, behind_all, IsPrefixOf}
+use Rattle.codec_laws.specs.alarms.World.{World, start, after_raise, after_device_tick, after_controller_tick, after_alarm, after_confirms, happens, behind_all, IsPrefixOf}
 use Rattle.codec_laws.proofs.AlarmsLines.{IsLine, IsLast, line_starts, few_taken, line_sends, line_ticks, same_sent, same_taken, line_comes, more_is_more}
 
 -- how many alarms are unconfirmed
@@ -75,24 +75,18 @@ settled_by a ack Refused taken raised so_far = so_far
 
 -- ---- each move
 
-raised_step : (w : World) (alarm : Alarm) (b : Bool) → w.device.sender.standing ≡ None
-    → Step w (cond b (with_raised (record w { device = end_raised w.device alarm }) (end_raised w.device alarm).sender.standing) w)
-raised_step w alarm true none =
-    let block = notified w.device.sender.specifier alarm in (
-      omega (arith, length-append w.alarms.sent (block ∷ [])),
-      λ few i. record {
-        alarms = line_sends w.device.sender.sending.last w.controller.seen w.alarms block i.alarms;
-        confirms = i.confirms;
-        standing = (w.alarms.sent, refl);
-        confirming = i.confirming;
-        few = i.few;
-        settled = omega (arith, i.settled, ap standing_count none, length-append w.alarms.sent (block ∷ []));
-      },
-    )
-raised_step w alarm false none = (omega arith, λ few i. i)
-
-raise_step : (w : World) (alarm : Alarm) (o : Option AlarmNotification) → w.device.sender.standing ≡ o → Step w (after_raise w alarm o)
-raise_step w alarm None none = raised_step w alarm (leb (length alarm.alarm_data.now) 32) none
+raise_step : (w : World) (alarm : AlarmNotification) (o : Option AlarmNotification) → w.device.sender.standing ≡ o → Step w (after_raise w alarm o)
+raise_step w alarm None none = (
+  omega (arith, length-append w.alarms.sent (alarm ∷ [])),
+  λ few i. record {
+    alarms = line_sends w.device.sender.sending.last w.controller.seen w.alarms alarm i.alarms;
+    confirms = i.confirms;
+    standing = (w.alarms.sent, refl);
+    confirming = i.confirming;
+    few = i.few;
+    settled = omega (arith, i.settled, ap standing_count none, length-append w.alarms.sent (alarm ∷ []));
+  },
+)
 raise_step w alarm (Some standing) there = (omega arith, λ few i. i)
 
 confirm_as : (w : World) (ack : AlarmAck) (b : Bool) → ltb (length w.confirms.sent) (length w.alarms.taken) ≡ b
@@ -175,9 +169,8 @@ confirms_step w k (Some pdu) there =
       },
     )
 
-ack_to_device_step : (w : World) (o : Option ℕ) → Step w (after_ack_to_device w o)
-ack_to_device_step w None = (omega arith, λ few i. i)
-ack_to_device_step w (Some number) = (
+ack_to_device_step : (w : World) (number : ℕ) → Step w (record w { device = end_behind w.device (message.Ack number) })
+ack_to_device_step w number = (
   omega arith,
   λ few i. record {
     alarms = subst (λ (last : Option ℕ). IsLine last w.controller.seen w.alarms) (sym (last_acked w.device.sender.sending (is_last w.device.sender.sending.last number))) i.alarms;
@@ -189,9 +182,8 @@ ack_to_device_step w (Some number) = (
   },
 )
 
-ack_to_controller_step : (w : World) (o : Option ℕ) → Step w (after_ack_to_controller w o)
-ack_to_controller_step w None = (omega arith, λ few i. i)
-ack_to_controller_step w (Some number) = (
+ack_to_controller_step : (w : World) (number : ℕ) → Step w (record w { controller = with_ack w.controller number })
+ack_to_controller_step w number = (
   omega arith,
   λ few i. record {
     alarms = i.alarms;
@@ -203,13 +195,6 @@ ack_to_controller_step w (Some number) = (
   },
 )
 
-nack_to_device_step : (w : World) (o : Option ℕ) → Step w (after_nack_to_device w o)
-nack_to_device_step w None = (omega arith, λ few i. i)
-nack_to_device_step w (Some number) = (
-  omega arith,
-  λ few i. record { alarms = i.alarms; confirms = i.confirms; standing = i.standing; confirming = i.confirming; few = i.few; settled = i.settled },
-)
-
 step : (w : World) (move : Move) → Step w (happens w move)
 step w (Raise alarm) = raise_step w alarm w.device.sender.standing refl
 step w (Confirm ack) = confirm_as w ack (ltb (length w.confirms.sent) (length w.alarms.taken)) refl
@@ -217,10 +202,8 @@ step w DeviceTick = device_tick_step w
 step w ControllerTick = controller_tick_step w
 step w (AlarmComes k) = alarm_step w k (slice_get w.alarms.pdus k) refl
 step w (ConfirmComes k) = confirms_step w k (slice_get w.confirms.pdus k) refl
-step w (AckComesToDevice k) = ack_to_device_step w (slice_get w.acks_to_device k)
-step w (AckComesToController k) = ack_to_controller_step w (slice_get w.acks_to_controller k)
-step w (NackComesToDevice k) = nack_to_device_step w (slice_get w.nacks_to_device k)
-step w (NackComesToController k) = (omega arith, λ few i. i)
+step w (AckComesToDevice number) = ack_to_device_step w number
+step w (AckComesToController number) = ack_to_controller_step w number
 
 -- ---- any list of moves
 
@@ -241,6 +224,15 @@ runs (move ∷ moves) w =
 lacks_one : (w : World) → IsWorld w → length w.alarms.sent ≤ length w.alarms.taken + 1
 lacks_one w i = omega (arith, i.settled, i.few, few_taken _ _ _ i.confirms, one_stands w.device.sender.standing)
 
+all_of : {A : Type 0} (taken rest sent : List A) → taken ++ rest ≡ sent → length sent ≤ length taken → taken ≡ sent
+all_of taken [] sent e few = sym (append-nil taken) ∙ e
+all_of taken (x ∷ rest) sent e few = absurd (omega (arith, few, ap length (sym e), length-append taken (x ∷ rest)))
+
+-- none is missing if none is unconfirmed
+lacks_none : (w : World) → IsWorld w → w.device.sender.standing ≡ None → w.alarms.taken ≡ w.alarms.sent
+lacks_none w i none =
+    all_of w.alarms.taken i.alarms.rest w.alarms.sent i.alarms.begins (omega (arith, i.settled, i.few, few_taken _ _ _ i.confirms, ap standing_count none))
+
 -- the same for a world after any moves
 pub ordered : (factor retries : ℕ) (moves : List Move) (w : World) → w ≡ behind_all moves (start factor retries) → length w.alarms.sent ≤ 32768 → IsPrefixOf w.alarms.taken w.alarms.sent
 ordered factor retries moves w e few =
@@ -250,3 +242,8 @@ ordered factor retries moves w e few =
 pub lacking : (factor retries : ℕ) (moves : List Move) (w : World) → w ≡ behind_all moves (start factor retries) → length w.alarms.sent ≤ 32768 → length w.alarms.sent ≤ length w.alarms.taken + 1
 lacking factor retries moves w e few =
     lacks_one w (subst IsWorld (sym e) ((runs moves (start factor retries)).1 (subst (λ (v : World). length v.alarms.sent ≤ 32768) e few) (starts factor retries)))
+
+pub complete : (factor retries : ℕ) (moves : List Move) (w : World) → w ≡ behind_all moves (start factor retries) → length w.alarms.sent ≤ 32768 → w.device.sender.standing ≡ None
+    → w.alarms.taken ≡ w.alarms.sent
+complete factor retries moves w e few =
+    lacks_none w (subst IsWorld (sym e) ((runs moves (start factor retries)).1 (subst (λ (v : World). length v.alarms.sent ≤ 32768) e few) (starts factor retries)))

@@ -1,25 +1,25 @@
 -- PDUs are read back.
-use Rattle.std.proofs.Common.{◌≡◌, ◌≤◌, ◌<◌, ◌^◌, ◌+◌, ℕ, true, List, ◌++◌, length, Result, Ok, refl, ap, ◌∙◌, arith}
+use Rattle.std.proofs.Common.{◌≡◌, ◌≤◌, ◌<◌, ◌^◌, ℕ, true, List, ◌++◌, length, Result, Ok, refl, ap, ◌∙◌, arith}
 use Rattle.record_blocks.specs.declared.alarm_ack.AlarmAck.{AlarmAck}
 use Rattle.record_blocks.specs.declared.alarm_notification.AlarmNotification.{AlarmNotification}
 use Rattle.pn_alarms.specs.declared.abort.Abort.{Abort}
-use Rattle.pn_alarms.specs.declared.abort.Abort.TheVariants as abort
 use Rattle.pn_alarms.specs.declared.fault.AlarmFault.{AlarmFault}
 use Rattle.pn_alarms.specs.declared.message.Notice.{Notice}
 use Rattle.pn_alarms.specs.declared.message.Notice.TheVariants as notice
 use Rattle.pn_alarms.specs.declared.pdu.Header.{Header}
 use Rattle.pn_alarms.specs.declared.pdu.PduType.{PduType}
 use Rattle.pn_alarms.specs.declared.pdu.PduType.TheVariants as pdu
-use Rattle.pn_alarms.specs.Abort.{abort_of}
+use Rattle.pn_alarms.specs.Abort.{abort_of, status_of}
 use Rattle.pn_alarms.specs.Carried.{ack_of, alarm_pdu}
 use Rattle.std.proofs.lemmas.Bool.{le-leb}
 use Rattle.wire.specs.Codec.{◌>>=◌}
 use Rattle.pn_alarms.specs.Format.{Said, flags_of, header, is_long, kind, pdu_bytes, pdu_of}
-use Rattle.pn_alarms.specs.Message.{alarm_of, message_of, notice_in, notice_of}
-use Rattle.pn_alarms.specs.Report.{ours, report_of}
+use Rattle.pn_alarms.specs.Message.{message_of, notice_in, notice_of}
+use Rattle.alarm_reports.specs.Message.{alarm_of, low_message_of}
+use Rattle.alarm_reports.specs.Report.{diagnosed, diagnosis_pdu, low_ack_of, ours, report_of}
 use Rattle.codec_laws.specs.blocks.Writable.{IsAck, IsAlarm}
-use Rattle.codec_laws.specs.alarms.Sendable.{CanBeSaid, IsHeader, ack_pdu, empty_pdu}
-use Rattle.codec_laws.proofs.AlarmsBlocks.{BlocksAreLong, BlocksAreRead, OursIsRead, ack_long, ack_read, alarm_long, alarm_read}
+use Rattle.codec_laws.specs.alarms.Sendable.{CanBeSaid, IsHeader, ack_pdu, empty_pdu, low_ack_pdu}
+use Rattle.codec_laws.proofs.AlarmsBlocks.{BlocksAreLong, BlocksAreRead, LowAcksAreRead, OursIsRead, ReportsAreRead, ack_long, ack_read, alarm_long, alarm_read, diagnosed_long, diagnosed_read, low_long, low_read}
 
 -- ---- any PDU
 
@@ -79,6 +79,21 @@ alarm_said fitting reads sized value alarm more same is good =
     record { header = is; long = any_long value.kind (length (alarm_pdu value alarm).body) (omega (arith, alarm_long sized alarm)); few = omega (arith, alarm_long sized alarm, good.few) } in
     says fitting report_of (alarm_pdu value alarm) more pdu.Data (notice.Data value.send_number (ours alarm)) can same (rw (alarm_read reads alarm good) refl)
 
+-- The same of low priority.
+pub diagnosis_said : FittingIsRead → ReportsAreRead → (value : Header) (alarm : AlarmNotification) (more : List ℕ) → value.kind ≡ pdu.Data → IsHeader value → IsAlarm alarm
+    → alarm_of (pdu_bytes (diagnosis_pdu value alarm) ++ more) ≡ Ok (value, notice.Data value.send_number (diagnosed alarm))
+diagnosis_said fitting reads value alarm more same is good =
+    let can : CanBeSaid (diagnosis_pdu value alarm) =
+    record { header = is; long = any_long value.kind (length (diagnosis_pdu value alarm).body) (omega (arith, diagnosed_long alarm)); few = omega (arith, diagnosed_long alarm, good.few) } in
+    says fitting report_of (diagnosis_pdu value alarm) more pdu.Data (notice.Data value.send_number (diagnosed alarm)) can same (rw (diagnosed_read reads alarm good) refl)
+
+pub low_ack_said : FittingIsRead → LowAcksAreRead → (value : Header) (ack : AlarmAck) (more : List ℕ) → value.kind ≡ pdu.Data → IsHeader value → IsAck ack
+    → low_message_of (pdu_bytes (low_ack_pdu value ack) ++ more) ≡ Ok (value, notice.Data value.send_number ack)
+low_ack_said fitting reads value ack more same is good =
+    let can : CanBeSaid (low_ack_pdu value ack) =
+    record { header = is; long = any_long value.kind (length (low_ack_pdu value ack).body) (omega (arith, low_long ack)); few = omega (arith, low_long ack) } in
+    says fitting low_ack_of (low_ack_pdu value ack) more pdu.Data (notice.Data value.send_number ack) can same (rw (low_read reads ack good) refl)
+
 -- a PDU without a body
 empty_is : (value : Header) (type : PduType) → value.kind ≡ type → is_long type 0 ≡ true → IsHeader value → CanBeSaid (empty_pdu value)
 empty_is value type same long is = record { header = is; long = rw same long; few = omega arith }
@@ -93,6 +108,6 @@ nack_replied fitting block value more same is = says fitting block (empty_pdu va
 
 pub end_said : {B : Type 0} (fitting : FittingIsRead) (block : List ℕ → Result B AlarmFault) (reason : Abort) (destination source send_number ack_number : ℕ) (more : List ℕ)
     → IsHeader (abort_of reason destination source send_number ack_number).header
-    → notice_of block (pdu_bytes (abort_of reason destination source send_number ack_number) ++ more) ≡ Ok ((abort_of reason destination source send_number ack_number).header, notice.Abort)
+    → notice_of block (pdu_bytes (abort_of reason destination source send_number ack_number) ++ more) ≡ Ok ((abort_of reason destination source send_number ack_number).header, notice.Abort (status_of reason))
 end_said fitting block reason destination source send_number ack_number more is =
-    says fitting block (abort_of reason destination source send_number ack_number) more pdu.Error notice.Abort (record { header = is; long = refl; few = omega arith }) refl refl
+    says fitting block (abort_of reason destination source send_number ack_number) more pdu.Error (notice.Abort (status_of reason)) (record { header = is; long = refl; few = omega arith }) refl refl

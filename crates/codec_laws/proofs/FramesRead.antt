@@ -1,5 +1,5 @@
 -- What is written is read back.
-use Rattle.std.proofs.Common.{◌≡◌, ◌==◌, ◌+◌, ◌≤◌, ◌<◌, ℕ, Bool, true, false, List, [], ◌++◌, length, nat_lt, Option, Some, None, Result, Ok, Err, if◌then◌else◌, refl, sym, ap, subst, ◌∙◌, append_assoc, arith}
+use Rattle.std.proofs.Common.{◌≡◌, ◌+◌, ◌≤◌, ◌<◌, ℕ, Bool, true, false, List, [], ◌++◌, length, nat_lt, Option, Some, None, Result, Ok, Err, if◌then◌else◌, refl, sym, ap, ◌∙◌, append_assoc, arith}
 use Rattle.std.specs.Prelude.{IsErr}
 use Rattle.std.proofs.lemmas.Bool.{lt-ltb}
 use Rattle.std.proofs.lemmas.List.{append-nil, length-append}
@@ -7,13 +7,12 @@ use Rattle.wire.specs.Codec.{Codec, IsSound, IsSoundWhole, ◌>>=◌}
 use Rattle.wire.specs.Formats.{number}
 use Rattle.wire.specs.Whole.{ends_by, everything}
 use Rattle.pn_values.specs.declared.mac.Mac.{Mac}
-use Rattle.frame_codec.specs.declared.arp.Arp.{Arp}
 use Rattle.frame_codec.specs.declared.fault.FrameFault.{FrameFault}
 use Rattle.frame_codec.specs.declared.fault.FrameFault.TheVariants.{TooLong, TooShort}
 use Rattle.frame_codec.specs.declared.udp.Endpoint.{Endpoint}
-use Rattle.frame_codec.specs.Meaning.{Content, RealTime, ArpPacket, UdpDatagram, Meaning}
+use Rattle.frame_codec.specs.Meaning.{Content, RealTime, UdpDatagram, Meaning}
 use Rattle.frame_codec.specs.Internet.{internet_header, internet_size, internet_way, packet, size_behind, udp, udp_header}
-use Rattle.frame_codec.specs.Frame.{FitsFrame, IsReadBack, content_under, datagram, mac, tag_and_type, frame_bytes, frame_of, layers, ethernet, header_of, longest, padding_of, profinet, real_time, type_of, with_behind}
+use Rattle.frame_codec.specs.Frame.{FitsFrame, IsReadBack, content_under, datagram, mac, tag_and_type, frame_bytes, frame_of, layers, ethernet, header_of, longest, padding_of, real_time, type_of, with_behind}
 use Rattle.codec_laws.specs.frames.Sendable.{CanBeSent, IsMac, IsRealTime, IsRealTimeOrNone, IsTag, carrying}
 use Rattle.codec_laws.proofs.FramesFits.{DatagramsFit, frame_fits, layers_fit, header_fits}
 

@@ -1,6 +1,6 @@
 -- The order in which the blocks of a Connect are checked (IEC 61158-6-10, 5.2.4 and 5.2.6): the ARBlockReq first, then
 -- the others in their order, then which are missing, and then the layouts.
-use Rattle.std.specs.Prelude.{◌+◌, ◌*◌, ◌==◌, ◌&&◌, ◌||◌, ℕ, Bool, true, false, not, List, [], ◌∷◌, ◌++◌, length, nat_eq, nat_lt, Option, Some, None, is_some, Result, Ok, Err, if◌then◌else◌}
+use Rattle.std.specs.Prelude.{◌+◌, ◌*◌, ◌==◌, ◌&&◌, ◌||◌, ℕ, Bool, true, false, not, List, [], ◌∷◌, ◌++◌, length, nat_eq, nat_lt, replicate, Option, Some, None, is_some, Result, Ok, Err, if◌then◌else◌}
 use Rattle.std.specs.List.{list_any}
 use Rattle.std.specs.Cmp.Lexicographic.{pointwise}
 use Rattle.wire.specs.Checks.{or_fault}
@@ -24,7 +24,7 @@ use Rattle.records.specs.declared.status.call_fault.CallFault.TheVariants as fau
 use Rattle.records.specs.calls.Handled.{handled}
 use Rattle.connect_requests.specs.declared.parts.Ar.{Ar}
 use Rattle.connect_requests.specs.declared.parts.AlarmCr.{AlarmCr}
-use Rattle.connect_requests.specs.Pieces.{Piece, pieces_of}
+use Rattle.connect_requests.specs.Pieces.{Piece, piece_at, pieces_of}
 use Rattle.connect_requests.specs.Layouts.{data_of, layout_of, in_order}
 use Rattle.connect_requests.specs.Request.{Request, ar_of, alarm_of, iocr_of}
 
@@ -71,6 +71,14 @@ ar_in piece = handled
     ∷ (not (piece.number == number_of kind.ArBlockReq), fault.BlockType)
     ∷ [])
     (well_formed piece.number piece.found >>= λ block. or_fault fault.BlockType (in_ar_block_req block) >>= λ ar. Ok (ar_of ar))
+
+-- ARUUID of a Connect: that of its first block, zeros if that cannot be read.
+abbrev pub uuid_in : Result Ar CallFault → List ℕ
+uuid_in (Ok ar) = ar.uuid
+uuid_in (Err fault) = replicate 16 0
+
+unfoldable pub asked_uuid : List ℕ → List ℕ
+asked_uuid blocks = uuid_in (ar_in (piece_at blocks))
 
 -- ---- the other blocks
 

@@ -32,7 +32,9 @@ ar_of block = record {
   session_key = block.session_key;
   initiator = block.cm_initiator_mac_add;
   object = block.cm_initiator_object_uuid;
+  properties = block.ar_properties;
   timeout_factor = block.cm_initiator_activity_timeout_factor;
+  name = block.cm_initiator_station_name;
 }
 
 abbrev pub alarm_of : AlarmCrBlockReq → AlarmCr
@@ -57,6 +59,7 @@ given_id Output class id = if id == 0xFFFF then chosen_id class else id
 abbrev pub iocr_of : IocrBlockReq → Table → Iocr
 iocr_of block layout = record {
   reference = block.iocr_reference;
+  class = block.iocr_properties;
   frame_id = given_id block.iocr_type block.iocr_properties block.frame_id;
   send_clock_factor = block.send_clock_factor;
   reduction_ratio = block.reduction_ratio;

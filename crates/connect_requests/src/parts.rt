@@ -2,13 +2,14 @@
 ghost use Rattle.std.specs.Prelude.{◌≡◌, ◌≤◌, ◌*◌};
 ghost use Rattle.connect_requests.specs.Request.{alarm_of, ar_of, given_id, iocr_of, IsAlarmCr, IsAr, IsIocr};
 
+use arrayvec::ArrayVec;
 use block_codec::{AlarmCrBlockReq, ArBlockReq, IocrBlockReq, IocrType, RtClass};
 use block_fields::Uuid;
 use cyclic_data::Layout;
 use pn_values::Mac;
 
 /// The application relation that a Connect asks for.
-#[derive(Clone, Copy)]
+#[derive(Drop)]
 pub struct Ar {
     /// ARUUID.
     pub uuid: Uuid,
@@ -18,8 +19,12 @@ pub struct Ar {
     pub initiator: Mac,
     /// CMInitiatorObjectUUID.
     pub object: Uuid,
+    /// ARProperties.
+    pub properties: u32,
     /// CMInitiatorActivityTimeoutFactor, 1 to 1,000, in units of 100 ms.
     pub timeout_factor: u16,
+    /// CMInitiatorStationName.
+    pub name: ArrayVec<u8, 240>,
 }
 
 /// A communication relation of cyclic frames.
@@ -27,6 +32,8 @@ pub struct Ar {
 pub struct Iocr {
     /// IOCRReference.
     pub reference: u16,
+    /// The real-time class in IOCRProperties.
+    pub class: RtClass,
     /// The FrameID that is assigned, one of cyclic frames. If an output leaves the choice to the device, it is one of
     /// its class.
     pub frame_id: u16,
@@ -67,7 +74,9 @@ impl Ar {
             session_key: 0,
             initiator: Mac { octets: [0; 6] },
             object: Uuid::from_bytes([0; 16]),
+            properties: 0,
             timeout_factor: 1,
+            name: ArrayVec::new(),
         }
     }
 }
@@ -88,15 +97,17 @@ impl AlarmCr {
 }
 
 /// The fields of an ARBlockReq that are used.
-pub(crate) fn ar_of(block: &ArBlockReq) -> Ar
-    ensures { result ≡ ar_of block.now }
+pub(crate) fn ar_of(block: ArBlockReq) -> Ar
+    ensures { result ≡ ar_of block }
 {
     Ar {
         uuid: block.ar_uuid,
         session_key: block.session_key,
         initiator: block.cm_initiator_mac_add,
         object: block.cm_initiator_object_uuid,
+        properties: block.ar_properties,
         timeout_factor: block.cm_initiator_activity_timeout_factor,
+        name: block.cm_initiator_station_name,
     }
 }
 
@@ -132,6 +143,7 @@ impl Iocr {
     {
         Iocr {
             reference: 0,
+            class: RtClass::Class1,
             frame_id: 0x8000,
             send_clock_factor: 1,
             reduction_ratio: 1,
@@ -146,6 +158,7 @@ impl Iocr {
         ensures { self.new ≡ iocr_of block.now self.old.layout }
     {
         self.reference = block.iocr_reference;
+        self.class = block.iocr_properties;
         self.frame_id = given_id(block.iocr_type, block.iocr_properties, block.frame_id);
         self.send_clock_factor = block.send_clock_factor;
         self.reduction_ratio = block.reduction_ratio;

@@ -3,7 +3,7 @@ ghost use Rattle.std.specs.Prelude.{◌≡◌, ℕ, None, Some, Err, IfOk};
 ghost use Rattle.wire.specs.Codec.{Gives};
 ghost use Rattle.block_codec.specs.Block.{block_of};
 ghost use Rattle.connect_requests.specs.Pieces.{behind, piece_at, pieces_in};
-ghost use Rattle.connect_requests.specs.Handled.{conflict, ar_in, request_with, request_within};
+ghost use Rattle.connect_requests.specs.Handled.{asked_uuid, conflict, ar_in, request_with, request_within};
 ghost use Rattle.connect_requests.specs.Drafts.{AreAccepted, behind_within, sofar_of};
 ghost use Rattle.connect_requests.specs.Request.{IsAlarmCr, IsAr, IsIocr};
 
@@ -72,7 +72,7 @@ fn first_block(bytes: &[u8]) -> Result<(Ar, &[u8]), CallFault>
     }
     let (block, rest) = block_at(number, bytes)?;
     match block {
-        Block::ArBlockReq(block) => Ok((ar_of(&block), rest)),
+        Block::ArBlockReq(block) => Ok((ar_of(block), rest)),
         _ => Err(CallFault::BlockType),
     }
 }
@@ -100,6 +100,17 @@ pub fn refuse(standing: &Uuid, blocks: &[u8]) -> CallFault
     match first_block(blocks) {
         Ok((ar, _others)) => conflict(standing, &ar.uuid),
         Err(fault) => fault,
+    }
+}
+
+/// The ARUUID of a Connect with these blocks: that of its first block, zeros if that cannot be read.
+#[tactic(auto, unfolding(crate::specs::Handled::asked_uuid))]
+pub fn asked_uuid(blocks: &[u8]) -> Uuid
+    ensures { result ≡ asked_uuid blocks.now }
+{
+    match first_block(blocks) {
+        Ok((ar, _others)) => ar.uuid,
+        Err(_) => Uuid::from_bytes([0; 16]),
     }
 }
 

@@ -10,10 +10,10 @@ use Rattle.controller_core.specs.Leaps.{ticks_of}
 use Rattle.controller_core.specs.Machine.{Turn, brought, exchange_later, flowed, gone_on, is_again, later, requests_of, step_of, where_due}
 use Rattle.controller_core.specs.Machine as machine
 use Rattle.controller_core.specs.State.{Controlling, Live}
-use Rattle.services.specs.State.{State as Services, frames_in, sent_by_tick, ticked}
-use Rattle.services.specs.Leaps as services
-use Rattle.station.specs.Served.{Frames, Served}
-use Rattle.station.specs.ServedLeaps.{OnlyTheLastSends, sent_beside}
+use Rattle.controller_station.specs.Beside as services
+use Rattle.controller_station.specs.Beside.{Beside, sent_by_tick, ticked}
+use Rattle.controller_station.specs.Served.{Frames, Served}
+use Rattle.controller_station.specs.Leaps.{OnlyTheLastSends, sent_beside}
 use Rattle.controller_abi.specs.State.{State, has_frames, is_over, is_stopped}
 use Rattle.controller_abi.specs.Steps.{Ticks}
 
@@ -82,7 +82,7 @@ at units port = record {
 abbrev both : State → Served
 both port = record { controller = port.controller; services = port.services }
 
-abbrev with_frames : Controlling → Services → List (List ℕ) → State
+abbrev with_frames : Controlling → Beside → List (List ℕ) → State
 with_frames controller services frames = record { controller = controller; services = services; frames = frames }
 
 abbrev stopped_by : Bool → List (List ℕ) → phase.State → Bool
@@ -94,7 +94,7 @@ ticks_all was_over zero old idle free last = ap (with_frames old.controller old.
 ticks_all was_over (suc units) old idle free last =
     let first = ticks_of units old.controller in
     let step = step_of first.controller Tick in
-    let beside = frames_in (sent_by_tick (services.ticks_of units old.services)) in
+    let beside = sent_by_tick (services.ticks_of units old.services) in
     let by_controller : (before : ℕ) → before ≤ units → (ticks_of before old.controller).frames ≡ [] =
     λ before earlier. ap (λ (frames : Frames). frames.controller) (last before (omega (arith, earlier))) in
     let by_services : sent_beside units old.services ≡ [] = ap (λ (frames : Frames). frames.services) (last units (omega arith)) in

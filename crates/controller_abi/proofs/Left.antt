@@ -4,7 +4,7 @@ use Rattle.std.specs.Prelude.{nat_lt, option_map}
 use Rattle.std.proofs.lemmas.Bool.{cases_Bool, ltb-true, ltb-false}
 use Rattle.std.proofs.lemmas.List.{drop_more, drop_all, drop-drop}
 use Rattle.arrayvec.specs.ArrayVec.{ArrayVec as Items}
-use Rattle.station.specs.Served.{IsFrameAt}
+use Rattle.controller_station.specs.Served.{IsFrameAt}
 use Rattle.controller_abi.specs.State.{IsNext, has_frames}
 
 pub some_left : (n : ℕ) (frames : List (List ℕ)) → n < length frames → has_frames (drop n frames) ≡ true

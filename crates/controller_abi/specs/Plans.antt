@@ -130,6 +130,7 @@ parts_of written = record {
   real = record { modules = record { items = map module_of (modules_in written) } };
   records = record { items = map record_of (records_in written) };
   continue_on_refused_record = not (written.continue_on_refused_record == 0);
+  multiple_write = not (written.multiple_write == 0);
 }
 
 -- ---- the same, in the form in which it is used

@@ -2,18 +2,22 @@
 -- afterwards: an equation of the whole operation says which fields are written, and with what. All other fields are
 -- unchanged, and so are the octets after those that are written. A refused operation changes nothing, neither in the
 -- controller nor in the operation.
-use Rattle.std.specs.Prelude.{◌≡◌, ◌+◌, ◌*◌, ◌==◌, nat_lt, ℕ, Bool, true, false, not, if◌then◌else◌, List, [], ◌∷◌, length, min, take, Option, Some, None}
+use Rattle.std.specs.Prelude.{◌≡◌, ◌+◌, ◌*◌, ◌==◌, ◌++◌, nat_lt, ℕ, Bool, true, false, not, if◌then◌else◌, List, [], ◌∷◌, length, min, slice_get, take, Option, Some, None, option_map}
 use Rattle.record_blocks.specs.declared.alarm_notification.AlarmNotification.{AlarmNotification}
 use Rattle.controller_core.specs.Cause.{number_of}
 use Rattle.cyclic_exchange.specs.Process.{value_at}
+use Rattle.lldp.specs.Peer.{Peer}
+use Rattle.lldp.specs.State.{Known}
 use Rattle.cyclic_exchange.specs.declared.exchange.ProviderStatus.{ProviderStatus}
 use Rattle.rpc_core.specs.declared.response.Status.{Status}
-use Rattle.pn_alarms.specs.declared.priority.Priority.{Priority}
-use Rattle.pn_alarms.specs.declared.priority.Priority.TheVariants.{High, Low}
-use Rattle.pn_alarms.specs.declared.report.Report.{Report}
-use Rattle.controller_core.specs.Access.{record_of}
+use Rattle.alarm_reports.specs.declared.priority.Priority.{Priority}
+use Rattle.alarm_reports.specs.declared.priority.Priority.TheVariants.{High, Low}
+use Rattle.alarm_reports.specs.declared.report.Report.{Report}
+use Rattle.record_access.specs.Access.{record_of}
+use Rattle.diagnosis.specs.declared.diagnosis.Diagnosis.{Diagnosis}
+use Rattle.reported_diagnosis.specs.Reported.{Reported}
 use Rattle.controller_core.specs.Machine.{can_request, end_of, provider_of, report_in}
-use Rattle.controller_core.specs.declared.access.Answer.{Answer}
+use Rattle.record_access.specs.declared.access.Answer.{Answer}
 use Rattle.controller_core.specs.declared.state.RefusedRecord.{RefusedRecord}
 use Rattle.controller_core.specs.declared.event.Event.{Event}
 use Rattle.controller_core.specs.declared.event.Event.TheVariants as event
@@ -48,7 +52,10 @@ operation_of what =
     if what == 31 then Some operation.WriteRecord else
     if what == 32 then Some operation.Answer else
     if what == 33 then Some operation.RefusedRecord else
-    if what == 34 then Some operation.Report else None
+    if what == 34 then Some operation.Report else
+    if what == 35 then Some operation.Diagnoses else
+    if what == 36 then Some operation.Diagnosis else
+    if what == 37 then Some operation.Neighbour else None
 
 -- ---- events
 
@@ -231,6 +238,29 @@ IsReported (Some report) (Some number) asked answer reported = (answer ≡ 0) ×
 IsReported (Some report) None asked answer reported = (answer ≡ 9) × (reported ≡ asked)
 IsReported None number asked answer reported = (answer ≡ 9) × (reported ≡ asked)
 
+-- How many diagnoses exist, as the device's alarms reported them, and how many found no room in the list.
+abbrev pub with_diagnoses : Reported → Op → Op
+with_diagnoses diagnosis asked = record asked { units = length diagnosis.existing; more = diagnosis.left_out }
+
+-- One of them by its place in the list: its submodule, its ChannelNumber and its ChannelErrorType; 9 if the list is shorter.
+abbrev pub with_diagnosis : Diagnosis → Op → Op
+with_diagnosis diagnosis asked =
+    record asked { slot = diagnosis.slot; subslot = diagnosis.subslot; more = diagnosis.channel; note = diagnosis.error }
+
+abbrev pub IsDiagnosis : Option Diagnosis → Op → ℕ → Op → Type 0
+IsDiagnosis (Some diagnosis) asked answer reported = (answer ≡ 0) × (reported ≡ with_diagnosis diagnosis asked)
+IsDiagnosis None asked answer reported = (answer ≡ 9) × (reported ≡ asked)
+
+-- The neighbour by LLDP: the lengths of its PortID and of its ChassisID, and the octets of its MAC address, PortID and
+-- ChassisID; 9 if none is known.
+abbrev pub with_neighbour : Peer → Op → Op
+with_neighbour peer asked =
+    with_octets (peer.mac.octets ++ peer.port ++ peer.chassis) (record asked { units = length peer.port; more = length peer.chassis })
+
+abbrev pub IsNeighbour : Option Peer → Op → ℕ → Op → Type 0
+IsNeighbour (Some peer) asked answer reported = (answer ≡ 0) × (reported ≡ with_neighbour peer asked)
+IsNeighbour None asked answer reported = (answer ≡ 9) × (reported ≡ asked)
+
 -- ---- all of them
 
 -- The result of an operation: 10 if there is no such operation.
@@ -255,7 +285,7 @@ Serves (Some operation.Status) old asked given answer new reported =
 Serves (Some operation.Provider) old asked given answer new reported =
     (new ≡ old) × IsProvider (place_in asked.slot asked.subslot) old asked answer reported
 Serves (Some operation.Conflicts) old asked given answer new reported =
-    (new ≡ old) × (answer ≡ 0) × (reported ≡ with_conflicts old.services.conflicts asked)
+    (new ≡ old) × (answer ≡ 0) × (reported ≡ with_conflicts old.services.ip.conflicts asked)
 Serves (Some operation.Refusal) old asked given answer new reported =
     (new ≡ old) × IsRefusal old.controller.live.refusal asked answer reported
 Serves (Some operation.ReadRecord) old asked given answer new reported =
@@ -269,4 +299,10 @@ Serves (Some operation.RefusedRecord) old asked given answer new reported =
 Serves (Some operation.Report) old asked given answer new reported =
     (new ≡ old) × IsReported (report_in old.controller.live (priority_in asked.place))
     (end_of old.controller.live (priority_in asked.place)).seen asked answer reported
+Serves (Some operation.Diagnoses) old asked given answer new reported =
+    (new ≡ old) × (answer ≡ 0) × (reported ≡ with_diagnoses old.controller.live.diagnosis asked)
+Serves (Some operation.Diagnosis) old asked given answer new reported =
+    (new ≡ old) × IsDiagnosis (slice_get old.controller.live.diagnosis.existing asked.place) asked answer reported
+Serves (Some operation.Neighbour) old asked given answer new reported =
+    (new ≡ old) × IsNeighbour (option_map (λ (k : Known). k.peer) old.services.near.known) asked answer reported
 Serves None old asked given answer new reported = (answer ≡ 10) × (new ≡ old) × (reported ≡ asked)

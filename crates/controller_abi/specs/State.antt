@@ -6,21 +6,21 @@ use Rattle.controller_core.specs.declared.state.State as phase
 use Rattle.controller_core.specs.declared.state.State.TheVariants.{Looking, Addressing, Connecting, Writing, Ending, Waiting, Exchanging, Ended}
 use Rattle.controller_core.specs.Machine.{opening_of, step_of}
 use Rattle.controller_core.specs.State.{Controlling}
-use Rattle.services.specs.State.{State as Services}
-use Rattle.station.specs.Served.{Served, beside, services_after}
-use Rattle.station.specs.ServedLeaps.{served_due_in}
+use Rattle.controller_station.specs.Beside.{Beside}
+use Rattle.controller_station.specs.Served.{Served, beside, services_after}
+use Rattle.controller_station.specs.Leaps.{served_due_in}
 
--- The controller and the services of its address, and the frames of their last step that the host has not fetched yet.
+-- The controller and what is beside it, and the frames of their last step that the host has not fetched yet.
 pub record State : Type 0 where
   pub controller : Controlling
-  pub services : Services
+  pub services : Beside
   pub frames : List (List ℕ)
 
--- A controller and its services that begin: its opening frame waits to be fetched.
+-- A controller and what is beside it that begin: its opening frame waits to be fetched.
 abbrev pub opened : Served → State
 opened served = record { controller = served.controller; services = served.services; frames = opening_of served.controller ∷ [] }
 
--- One step of the controller, and then of its services: the frames of both wait to be fetched, in this order.
+-- One step of the controller, and then beside it: the frames of both wait to be fetched, in this order.
 abbrev pub after : State → Event → State
 after old event = record {
   controller = (step_of old.controller event).controller;
@@ -28,7 +28,8 @@ after old event = record {
   frames = (step_of old.controller event).frames ++ beside old.services event (step_of old.controller event).frames;
 }
 
--- The number of units up to and with the next one with which anything is sent, or the controller ends.
+-- The number of units up to and with the next one with which anything is sent, the neighbour is
+-- forgotten, or the controller ends.
 abbrev pub port_due_in : State → ℕ
 port_due_in port = served_due_in (record { controller = port.controller; services = port.services })
 

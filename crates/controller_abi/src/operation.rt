@@ -23,6 +23,9 @@ pub enum Operation {
     Answer,
     RefusedRecord,
     Report,
+    Diagnoses,
+    Diagnosis,
+    Neighbour,
 }
 
 // The operation of this number, if it exists.
@@ -48,6 +51,9 @@ pub(crate) fn operation_of(what: u32) -> Option<Operation>
         32 => Some(Operation::Answer),
         33 => Some(Operation::RefusedRecord),
         34 => Some(Operation::Report),
+        35 => Some(Operation::Diagnoses),
+        36 => Some(Operation::Diagnosis),
+        37 => Some(Operation::Neighbour),
         _ => None,
     }
 }

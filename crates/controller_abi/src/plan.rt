@@ -6,7 +6,7 @@ ghost use Rattle.pn_values.specs.StationName.{IsStationName};
 ghost use Rattle.station_names.specs.Valid.{is_station_name};
 ghost use Rattle.wire.specs.Codec.{Gives};
 ghost use Rattle.plans.specs.Plan.{plan_of};
-ghost use Rattle.station.specs.Served.{begun};
+ghost use Rattle.controller_station.specs.Served.{begun};
 ghost use Rattle.c_layout.specs.Modules.{is_module, is_submodule, module_of};
 ghost use Rattle.controller_abi.specs.State.{opened};
 ghost use Rattle.controller_abi.specs.Plans.{IsShort, IsWritten, are_addresses as is_addressed, are_low as is_low, are_named};
@@ -90,6 +90,8 @@ pub struct WrittenPlan {
     pub records: [WrittenRecord; 32],
     /// Whether the start-up goes on after a record that the device refused: 0 for no.
     pub continue_on_refused_record: u32,
+    /// Whether a Write of the start-up carries several records (MultipleWrite): 0 for no.
+    pub multiple_write: u32,
 }
 
 /// Why no controller is made from this plan, or 0: another version or size of an operation than the library's, too
@@ -459,6 +461,7 @@ fn parts_in(written: &WrittenPlan) -> Parts
         real: real_in(written),
         records: records_of(written),
         continue_on_refused_record: written.continue_on_refused_record != 0,
+        multiple_write: written.multiple_write != 0,
     }
 }
 

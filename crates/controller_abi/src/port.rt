@@ -1,19 +1,22 @@
-//! A controller and the services of its address, and the frames of their last step that the host has not fetched yet.
+//! A controller and what is beside it, and the frames of their last step that the host has not fetched yet.
 ghost use Rattle.std.specs.Prelude.{◌≡◌, ◌<◌, ◌≤◌, Bool, false, option_map};
-ghost use Rattle.station.specs.Served.{begun};
+ghost use Rattle.lldp.specs.State.{Known};
+ghost use Rattle.lldp.specs.Views.{peer_as};
+ghost use Rattle.controller_station.specs.Served.{begun};
 ghost use Rattle.controller_abi.specs.Outputs.{output_at as output_in, output_of as output_in_module};
 ghost use Rattle.controller_abi.specs.State.{IsNext, advanced, after, has_frames, is_over as over, is_stopped as stops, opened, port_due_in};
 ghost use Rattle.controller_abi.specs.Steps.{Passes, Ticks};
 
 use controller_core::{Controller, Event, State};
+use controller_station::{ServedController, ServedOutbox};
 use frame_codec::Frame;
+use lldp::Neighbour;
 use plans::Plan;
 use pn_values::{RealModule, RealSubmodule};
-use station::{ServedController, ServedOutbox};
 use std::marker::Model;
 use uuid::Uuid;
 
-/// A controller and the services of its address, and the frames of their last step that the host has not fetched yet.
+/// A controller and what is beside it, and the frames of their last step that the host has not fetched yet.
 ///
 /// Events go in, one at a time, and after each the host fetches all frames.
 #[derive(Drop)]
@@ -26,7 +29,7 @@ pub struct Port {
 
 impl Model for Port {
     ghost use Rattle.std.specs.Prelude.{drop};
-    ghost use Rattle.station.specs.Served.{in_order};
+    ghost use Rattle.controller_station.specs.Served.{in_order};
     ghost use Rattle.controller_abi.specs.State.{State};
 
     ghost Value = { State };
@@ -65,9 +68,16 @@ impl Port {
 
     /// How many frames of ARP came from another station that uses the controller's address.
     pub fn conflicts(&self) -> u64
-        ensures { result ≡ self.now.services.conflicts }
+        ensures { result ≡ self.now.services.ip.conflicts }
     {
         self.served.conflicts()
+    }
+
+    /// The neighbour by LLDP that is known.
+    pub fn neighbour(&self) -> Option<&Neighbour>
+        ensures { option_map (λ n. peer_as n.now) result ≡ option_map (λ (k : Known). k.peer) self.now.services.near.known }
+    {
+        self.served.neighbour()
     }
 
     /// The number of units up to and with the next one with which anything is due.

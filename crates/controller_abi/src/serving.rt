@@ -1,26 +1,30 @@
 //! One operation of the host.
-ghost use Rattle.std.specs.Prelude.{◌≡◌, ◌==◌, Some, length, not, take};
+ghost use Rattle.std.specs.Prelude.{◌≡◌, ◌==◌, Some, length, not, option_map, slice_get, take};
 ghost use Rattle.cyclic_exchange.specs.Process.{value_at};
+ghost use Rattle.lldp.specs.State.{Known};
+ghost use Rattle.lldp.specs.Views.{peer_as};
 ghost use Rattle.controller_core.specs.declared.event.Event.TheVariants.{Frame as Framed, Give as Given, Read as Reads, Status as Rated, Write as Writes};
-ghost use Rattle.controller_core.specs.Access.{record_of};
+ghost use Rattle.record_access.specs.Access.{record_of};
 ghost use Rattle.controller_core.specs.Machine.{can_request, end_of, provider_of, report_in};
 ghost use Rattle.c_layout.specs.Places.{place_in};
 ghost use Rattle.controller_abi.specs.Outputs.{why_not_fit, why_not_rated, why_not_read, why_not_set, why_not_written};
 ghost use Rattle.controller_abi.specs.State.{has_frames, port_due_in};
-ghost use Rattle.controller_abi.specs.Serves.{IsAlarm, IsAnswered, IsEvent, IsGift, IsHandOut, IsInput, IsProvider, IsProviderAt, IsRead, IsRefusal, IsRefusedRecord, IsReported, IsSet, IsStatus, IsTick, IsValue, IsWrite, Serves};
+ghost use Rattle.controller_abi.specs.Serves.{IsAlarm, IsAnswered, IsDiagnosis, IsEvent, IsGift, IsHandOut, IsInput, IsNeighbour, IsProvider, IsProviderAt, IsRead, IsRefusal, IsRefusedRecord, IsReported, IsSet, IsStatus, IsTick, IsValue, IsWrite, Serves};
 ghost use Rattle.controller_abi.specs.Serves.{index_in, priority_in, status_number as status_number_in, structure_number as structure_number_in};
 ghost use Rattle.controller_abi.specs.Serves.{cause_number, operation_of as operation_in, phase_number, planned_output, why_no_place};
-ghost use Rattle.controller_abi.specs.Serves.{status_number as status_number_in, with_alarm, with_conflicts, with_next, with_state};
+ghost use Rattle.controller_abi.specs.Serves.{status_number as status_number_in, with_alarm, with_conflicts, with_diagnoses, with_neighbour, with_next, with_state};
 
 use crate::operation::{Operation, operation_of};
 use crate::port::Port;
+use alarm_reports::{Priority, Report};
+use arrayvec::ArrayVec;
 use block_codec::AlarmNotification;
 use c_layout::{BAD_LENGTH, HAS_WORK, NO_FRAME, NO_SLOT, Op, UNKNOWN, place_of, put};
 use controller_core::{Event, ProviderStatus, State};
 use frame_codec::Bytes;
-use pn_alarms::{Priority, Report};
+use lldp::Neighbour;
 use rpc_core::Status;
-use wire::at_most;
+use wire::{append, at_most};
 
 /// No call, or no record of the plan, was refused yet.
 const NO_REFUSAL: u32 = 25;
@@ -67,6 +71,9 @@ fn perform(operation: Operation, port: &mut Port, op: &mut Op, given: &[u8]) -> 
         Operation::Answer => answer(port, op),
         Operation::RefusedRecord => refused_record(port, op),
         Operation::Report => report(port, op),
+        Operation::Diagnoses => diagnoses(port, op),
+        Operation::Diagnosis => diagnosis(port, op),
+        Operation::Neighbour => neighbour(port, op),
     }
 }
 
@@ -385,7 +392,7 @@ fn due(port: &Port, op: &mut Op) -> u32
 // How many conflicts of the controller's address were heard.
 fn conflicts(port: &Port, op: &mut Op) -> u32
     ensures answer { result ≡ 0 }
-    ensures reported { op.new ≡ with_conflicts port.now.services.conflicts op.old }
+    ensures reported { op.new ≡ with_conflicts port.now.services.ip.conflicts op.old }
 {
     op.units = port.conflicts().min(0xFFFF_FFFF) as u32;
     0
@@ -489,6 +496,62 @@ fn structure_number(structure: Option<u16>) -> u32
     }
 }
 
+// ---- the device's diagnosis
+
+// How many diagnoses exist, and how many found no room in the list.
+fn diagnoses(port: &Port, op: &mut Op) -> u32
+    ensures answer { result ≡ 0 }
+    ensures reported { op.new ≡ with_diagnoses port.now.controller.live.diagnosis op.old }
+{
+    op.units = port.controller().diagnoses().len() as u32;
+    op.more = port.controller().diagnoses_left_out();
+    0
+}
+
+// The diagnosis at a place of the list.
+fn diagnosis(port: &Port, op: &mut Op) -> u32
+    ensures { IsDiagnosis (slice_get port.now.controller.live.diagnosis.existing op.old.place) op.old result op.new }
+{
+    match port.controller().diagnoses().get(op.place as usize) {
+        Some(diagnosis) => {
+            op.slot = u32::from(diagnosis.slot);
+            op.subslot = u32::from(diagnosis.subslot);
+            op.more = u32::from(diagnosis.channel);
+            op.note = u32::from(diagnosis.error);
+            0
+        }
+        None => NO_SLOT,
+    }
+}
+
+// ---- the neighbour
+
+// The neighbour by LLDP that is known.
+fn neighbour(port: &Port, op: &mut Op) -> u32
+    ensures { IsNeighbour (option_map (λ (k : Known). k.peer) port.now.services.near.known) op.old result op.new }
+{
+    match port.neighbour() {
+        Some(neighbour) => {
+            tell_neighbour(neighbour, op);
+            0
+        }
+        None => NO_SLOT,
+    }
+}
+
+// Reports a neighbour.
+fn tell_neighbour(neighbour: &Neighbour, op: &mut Op)
+    ensures { op.new ≡ with_neighbour (peer_as neighbour.now) op.old }
+{
+    let mut octets: ArrayVec<u8, 516> = ArrayVec::new();
+    append(&mut octets, &neighbour.mac.octets);
+    append(&mut octets, neighbour.port.as_slice());
+    append(&mut octets, neighbour.chassis.as_slice());
+    op.units = neighbour.port.len() as u32;
+    op.more = neighbour.chassis.len() as u32;
+    put(op, octets.as_slice());
+}
+
 // ---- what was refused, and what was answered
 
 // A status as a number.
@@ -518,7 +581,7 @@ fn refused_record(port: &Port, op: &mut Op) -> u32
 {
     match port.controller().refused_record() {
         Some(refused) => {
-            op.place = u32::from(refused.number);
+            op.place = refused.number;
             op.units = status_number(refused.status);
             0
         }

@@ -1,5 +1,4 @@
-pub mod Blocks
-pub mod Found
+pub mod Answering
 pub mod Leaping
 pub mod Quiet
 pub mod OutputsGiven

@@ -1,12 +1,8 @@
-pub mod Access
 pub mod Cause
 pub mod Outputs
 pub mod State
 pub mod Answers
-pub mod AlarmRelation
-pub mod OtherBlock
-pub mod Usable
-pub mod Connect
+pub mod Outcomes
 pub mod Alarms
 pub mod Machine
 pub mod Leaps

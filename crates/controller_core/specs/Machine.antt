@@ -22,16 +22,16 @@ use Rattle.pn_alarms.specs.declared.abort.Abort.{Abort}
 use Rattle.pn_alarms.specs.declared.abort.Abort.TheVariants as reason
 use Rattle.pn_alarms.specs.declared.message.Notice.TheVariants as notice
 use Rattle.pn_alarms.specs.declared.pdu.Header.{Header}
-use Rattle.pn_alarms.specs.declared.priority.Priority.{Priority}
-use Rattle.pn_alarms.specs.declared.priority.Priority.TheVariants.{High, Low}
+use Rattle.alarm_reports.specs.declared.priority.Priority.{Priority}
+use Rattle.alarm_reports.specs.declared.priority.Priority.TheVariants.{High, Low}
 use Rattle.pn_alarms.specs.declared.repeats.Due.{Due}
-use Rattle.pn_alarms.specs.declared.report.Report.{Report}
+use Rattle.alarm_reports.specs.declared.report.Report.{Report}
 use Rattle.pn_alarms.specs.declared.pdu.PduType.{PduType}
 use Rattle.pn_alarms.specs.declared.pdu.PduType.TheVariants as pdu
 use Rattle.pn_alarms.specs.declared.receiver.Taken.{Taken}
 use Rattle.pn_alarms.specs.declared.receiver.Taken.TheVariants.{New, Again, Refused}
 use Rattle.pn_alarms.specs.Controller.{confirmed, controller_later, unheard, with_ack, with_data}
-use Rattle.pn_alarms.specs.Message.{ToController}
+use Rattle.alarm_reports.specs.Message.{ToController}
 use Rattle.pn_alarms.specs.Receiver.{taken_as}
 use Rattle.pn_alarms.specs.Ends.{ControllerEnd}
 use Rattle.pn_alarms.specs.Sending.{due, either_due}
@@ -58,10 +58,11 @@ use Rattle.controller_frames.specs.declared.request.Request.TheVariants as asks
 use Rattle.controller_frames.specs.Heard.{Heard, Nothing, Answers, Responds, Refuses, Calls, Alarms, heard_of}
 use Rattle.controller_frames.specs.Heard.{Cyclic as Comes}
 use Rattle.controller_frames.specs.RecordRequests.{most_record_octets}
-use Rattle.controller_frames.specs.Requests.{writing_from}
+use Rattle.controller_frames.specs.Requests.{first_of, writing_from}
 use Rattle.controller_frames.specs.Sent.{Sent, Requests, Accesses, Agrees, Cycles, Confirms, Replies, Ends, bytes_of, ready_answer}
 use Rattle.controller_frames.specs.Sent.{done as no_error}
-use Rattle.controller_core.specs.declared.connect.Found.{Found}
+use Rattle.connect_answers.specs.declared.connect.Found.{Found}
+use Rattle.reported_diagnosis.specs.Reported.{after_report, nothing_reported}
 use Rattle.controller_core.specs.declared.outputs.OutputMark.{OutputMark}
 use Rattle.controller_core.specs.declared.state.Cause.{Cause}
 use Rattle.controller_core.specs.declared.state.Cause.TheVariants as cause
@@ -69,11 +70,15 @@ use Rattle.controller_core.specs.declared.state.State.{State}
 use Rattle.controller_core.specs.declared.state.State.TheVariants.{Looking, Addressing, Connecting, Writing, Ending, Waiting, Exchanging, Ended}
 use Rattle.controller_core.specs.declared.event.Event.{Event}
 use Rattle.controller_core.specs.declared.event.Event.TheVariants.{Frame, Tick as Ticks, Give, Status as Rate, Read, Write, Stop}
-use Rattle.controller_core.specs.Access.{Accessing, answered_with, call_number, dropped, is_rejected, is_reply, made, no_access, record_in}
+use Rattle.record_access.specs.Access.{Accessing, answered_with, call_number, dropped, is_rejected, is_reply, made, no_access, record_in}
 use Rattle.controller_core.specs.Outputs.{awaits, change_by, first_mark, iops_of, mark_at, marked}
 use Rattle.controller_core.specs.State.{Controlling, Live, with_live}
 use Rattle.controller_core.specs.Answers.{is_addressed, is_answer, is_found, is_ready, is_refused, is_right, is_set_answer}
-use Rattle.controller_core.specs.Connect.{Chosen, chosen_of, found_in, is_whole, nothing}
+use Rattle.connect_answers.specs.Connect.{Chosen, chosen_of, found_in, is_whole, nothing}
+use Rattle.controller_core.specs.declared.outcomes.Outcomes.{Outcomes}
+use Rattle.controller_core.specs.declared.outcomes.Outcomes.TheVariants.{AllWritten, Unreadable}
+use Rattle.controller_core.specs.declared.outcomes.Outcomes.TheVariants.{Refused as Denied}
+use Rattle.controller_core.specs.Outcomes.{outcomes_of}
 use Rattle.controller_core.specs.Alarms.{ack_of, header_of, is_alarm, kept_alarm}
 
 -- The next state, and the messages.
@@ -94,9 +99,9 @@ asking phase request live = record {
 
 -- ---- ends
 
--- The controller has ended, and so has its relation.
+-- The controller has ended, and so has its relation. What the device reported of its diagnosis ends with it.
 abbrev pub over : Cause → Live → Live
-over cause live = record live { phase = Ended cause; asked = None; waited = 0; stands = false; cyclic = ended_of live.cyclic; access = dropped live.access }
+over cause live = record live { phase = Ended cause; asked = None; waited = 0; stands = false; cyclic = ended_of live.cyclic; access = dropped live.access; diagnosis = nothing_reported }
 
 -- The device refuses a call with this status: the controller has ended.
 abbrev pub denied : Status → Live → Live
@@ -190,16 +195,7 @@ abbrev pub connected : Setup → Live → Option Found → Turn
 connected setup live (Some found) = connected_by setup live found
 connected setup live None = stays live
 
--- After a positive response.
-abbrev pub done : Setup → Live → List ℕ → Request → Turn
-done setup live blocks asks.Identify = stays live
-done setup live blocks asks.Address = stays live
-done setup live blocks asks.Connect = connected setup live (found_in 400 blocks nothing)
-done setup live blocks (asks.Write number) = writing (writing_from setup.plan (number + 1)) live
-done setup live blocks asks.PrmEnd = stays (record live { phase = Waiting; asked = None })
-done setup live blocks (asks.Release sequence) = stays (record live { asked = None })
-
--- The device refused a record: the controller ends, or goes on with the next record if the plan says so.
+-- The device refused a record: the controller ends, or goes on with the next Write if the plan says so.
 abbrev pub noted : Status → ℕ → Live → Live
 noted status number live = record live { refusal = Some status; refused_record = Some (record { number = number; status = status }) }
 
@@ -207,9 +203,25 @@ abbrev pub past_record : Setup → ℕ → Live → Turn
 past_record setup number live =
     if setup.plan.continue_on_refused_record then writing (writing_from setup.plan (number + 1)) live else stays (over cause.Refused live)
 
+-- After a positive response to a Write: the next one, if all its records were written. A response that cannot be read is
+-- dropped.
+abbrev pub after_write : Setup → Live → ℕ → Outcomes → Turn
+after_write setup live number AllWritten = writing (writing_from setup.plan (number + 1)) live
+after_write setup live number (Denied place status) = past_record setup number (noted status (first_of setup.plan number + place) live)
+after_write setup live number Unreadable = stays live
+
+-- After a positive response.
+abbrev pub done : Setup → Live → List ℕ → Request → Turn
+done setup live blocks asks.Identify = stays live
+done setup live blocks asks.Address = stays live
+done setup live blocks asks.Connect = connected setup live (found_in 400 blocks nothing)
+done setup live blocks (asks.Write number) = after_write setup live number (outcomes_of setup.plan number blocks)
+done setup live blocks asks.PrmEnd = stays (record live { phase = Waiting; asked = None })
+done setup live blocks (asks.Release sequence) = stays (record live { asked = None })
+
 -- After a negative response.
 abbrev pub undone : Setup → Live → Status → Request → Turn
-undone setup live status (asks.Write number) = past_record setup number (noted status number live)
+undone setup live status (asks.Write number) = past_record setup number (noted status (first_of setup.plan number) live)
 undone setup live status request = stays (denied status live)
 
 -- After any response: the status decides, but the response to a Release counts with any status.
@@ -314,9 +326,14 @@ behind_data live priority number = with_end live priority (with_data (end_of liv
 abbrev pub acking : Live → Priority → AlarmAck → Live
 acking live priority ack = with_end live priority (confirmed (end_of live priority) ack)
 
+-- What an alarm reports of the device's diagnosis.
+abbrev pub diagnosing : Report → Live → Live
+diagnosing report live = record live { diagnosis = after_report report live.diagnosis }
+
 abbrev pub confirming : Live → Report → Live
 confirming live report =
-    keeping (acking live report.priority (ack_of report.notification)) report.priority (kept_alarm report.notification) report.user_structure
+    diagnosing report
+    (keeping (acking live report.priority (ack_of report.notification)) report.priority (kept_alarm report.notification) report.user_structure)
 
 abbrev pub reply_of : Live → Priority → PduType → Sent
 reply_of live priority kind = Replies live.cyclic.route priority (header_of (end_of live priority) live.cyclic.route kind)
@@ -347,7 +364,7 @@ noticed live under (notice.Data number report) =
     taken (behind_data live report.priority number) report (taken_as (end_of live report.priority).seen number)
 noticed live under (notice.Ack number) = stays (behind_ack live (acked_under live under) number)
 noticed live under notice.Nack = stays live
-noticed live under notice.Abort = stays (over cause.Aborted live)
+noticed live under (notice.Abort status) = stays (over cause.Aborted live)
 
 -- An alarm frame counts if it belongs to the relation, while that is established.
 abbrev pub alarmed : Live → Mac → Priority → Header → ToController → Turn
@@ -603,6 +620,7 @@ first plan = record {
   user_structure = None;
   low_alarm = None;
   low_user_structure = None;
+  diagnosis = nothing_reported;
 }
 
 -- The controller of a plan, with this ARUUID and this activity.

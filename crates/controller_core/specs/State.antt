@@ -10,14 +10,16 @@ use Rattle.controller_frames.specs.declared.request.Request.{Request}
 use Rattle.controller_core.specs.declared.outputs.OutputMark.{OutputMark}
 use Rattle.controller_core.specs.declared.state.RefusedRecord.{RefusedRecord}
 use Rattle.controller_core.specs.declared.state.State.{State}
-use Rattle.controller_core.specs.Access.{Accessing}
+use Rattle.record_access.specs.Access.{Accessing}
+use Rattle.reported_diagnosis.specs.Reported.{Reported}
 
 -- What changes from event to event: its phase; the MAC address of the station; the request that is active until it is
 -- answered, and the units since it was sent; the units since the controller was made, modulo 65,536; whether its
 -- relation is established; whether the device reported usable modules that deviate from the plan's; the last status with
 -- which a call was refused; the last record that was refused; its ends of cyclic data, of the alarms of high priority, and
 -- of those of low priority; why the IOPS of its outputs are not good, for each place; the last alarm of each priority that
--- was accepted, with its UserStructureIdentifier; and the requests of the application.
+-- was accepted, with its UserStructureIdentifier; the requests of the application; and the diagnoses that the device reported
+-- in this relation.
 pub record Live : Type 0 where
   pub phase : State
   pub device : Mac
@@ -37,6 +39,7 @@ pub record Live : Type 0 where
   pub user_structure : Option ℕ
   pub low_alarm : Option AlarmNotification
   pub low_user_structure : Option ℕ
+  pub diagnosis : Reported
 
 -- A controller: its configuration, and its state.
 pub record Controlling : Type 0 where

@@ -11,12 +11,13 @@ ghost use Rattle.frame_codec.specs.Outbox.{boxed};
 
 use crate::kept::{KeptAlarm, ack_of};
 use crate::{Cause, Controller, State};
+use alarm_reports::{Priority, Report};
 use block_codec::AlarmAck;
 use controller_frames::{send_alarm_ack, send_alarm_reply};
 use cyclic_exchange::Route;
 use frame_codec::Outbox;
 use plans::ALARM_REFERENCE;
-use pn_alarms::{ControllerAlarms, Header, Notice, PduType, Priority, Report, Taken};
+use pn_alarms::{ControllerAlarms, Header, Notice, PduType, Taken};
 use pn_values::Mac;
 
 /// Whether an alarm frame of this station, with these endpoints, belongs to the relation.
@@ -72,7 +73,7 @@ impl Controller {
         send_alarm_ack(&self.setup, route, priority, &header, ack, outbox);
     }
 
-    // Stores an alarm as the last one of its priority, with its AlarmAck.
+    // Stores an alarm as the last one of its priority, with its AlarmAck, and what it reports of the device's diagnosis.
     fn keep(&mut self, report: &Report<'_>, ack: AlarmAck)
         requires { ack ≡ ack_of report.now.notification }
         ensures { self.new ≡ with_live self.old (confirming self.old.live report.now) }
@@ -87,6 +88,7 @@ impl Controller {
                 self.low_alarm = Some(KeptAlarm::of(report));
             }
         }
+        self.diagnosis.take(report);
     }
 
     // Sends the AlarmAck of an alarm, as new data of the alarm's priority.
@@ -187,7 +189,7 @@ impl Controller {
             // The AlarmAck is sent again after its interval anyway, and a NACK only says that its number was not
             // expected.
             Notice::Nack => {}
-            Notice::Abort => self.end(Cause::Aborted),
+            Notice::Abort(_) => self.end(Cause::Aborted),
         }
     }
 
@@ -202,5 +204,6 @@ impl Controller {
         self.stands = false;
         self.exchange.end();
         self.access.drop_waiting();
+        self.diagnosis.clear();
     }
 }

@@ -7,14 +7,14 @@ ghost use Rattle.controller_frames.specs.Requests.{writing_from};
 ghost use Rattle.controller_core.specs.Answers.{ident_bytes, is_addressed, is_found, is_right, is_set_answer, is_reported};
 ghost use Rattle.controller_core.specs.Machine.{cause_of, next_sequence, phase_for, ready_in};
 
-use crate::access::call_number;
 use crate::{Cause, State};
 use arrayvec::ArrayVec;
 use block_codec::{Block, ControlBlock, read_block};
-use controller_frames::Request;
+use controller_frames::{Request, write_count};
 use dcp_core::{Kind, Service};
 use plans::{Plan, Station};
 use pn_alarms::Abort;
+use record_access::call_number;
 use rpc_core::Call;
 
 /// Operation of Control.
@@ -100,11 +100,11 @@ pub(crate) fn next_sequence(plan: &Plan, calls: u32, asked: Option<Request>) -> 
     }
 }
 
-/// The request after the record with this number.
+/// The request after the Write with this number.
 pub(crate) fn request_behind(plan: &Plan, number: u16) -> Request
     ensures { result ≡ writing_from plan.now (number + 1) }
 {
-    if (number as usize) + 1 < plan.records().len() {
+    if u32::from(number) + 1 < write_count(plan) {
         Request::Write(number + 1)
     } else {
         Request::PrmEnd

@@ -2,13 +2,13 @@
 ghost use Rattle.std.specs.Prelude.{◌≡◌, ◌≤◌, IfSome, [], ◌∷◌, length, option_map};
 ghost use Rattle.cyclic_exchange.specs.Process.{value_at};
 ghost use Rattle.frame_codec.specs.Outbox.{boxed};
-ghost use Rattle.controller_core.specs.Access.{record_of};
+ghost use Rattle.record_access.specs.Access.{record_of};
 ghost use Rattle.controller_core.specs.Machine.{can_request, end_of, first_cyclic, first_outputs, fresh, interval_of, opening_of, provider_of, report_in, route_of};
 
-use crate::access::{Access, Answer};
 use crate::kept::KeptAlarm;
 use crate::outputs::{OutputMark, begin};
 use crate::{RefusedRecord, State};
+use alarm_reports::{Priority, Report};
 use arrayvec::ArrayVec;
 use block_codec::{AlarmNotification, IocrType};
 use controller_frames::{RecordRequest, Request, Setup, send_request};
@@ -16,8 +16,10 @@ use cyclic_data::{Consumer, PlaceKind, Provider};
 use cyclic_exchange::{CyclicExchange, ProviderStatus, Route, Statuses};
 use frame_codec::{Frame, Outbox};
 use plans::{INPUT_FRAME_ID, Plan, RTA_RETRIES, RTA_TIMEOUT_FACTOR, TAG_HIGH, Times};
-use pn_alarms::{ControllerAlarms, Priority, Report};
+use pn_alarms::ControllerAlarms;
 use pn_values::Mac;
+use record_access::{Access, Answer};
+use reported_diagnosis::{Diagnosis, ReportedDiagnoses};
 use rpc_core::{Status, Uuid};
 use std::marker::Model;
 
@@ -63,6 +65,8 @@ pub struct Controller {
     pub(crate) low_alarm: Option<KeptAlarm>,
     /// The requests of the application.
     pub(crate) access: Access,
+    /// The diagnoses that the device reported in this relation.
+    pub(crate) diagnosis: ReportedDiagnoses,
 }
 
 impl Model for Controller {
@@ -93,6 +97,7 @@ impl Model for Controller {
         low_alarm = option_map alarm_in controller.low_alarm;
         low_user_structure = structure_in controller.low_alarm;
         access = controller.access;
+        diagnosis = controller.diagnosis;
       };
     } };
 
@@ -198,6 +203,7 @@ impl Controller {
             alarm: None,
             low_alarm: None,
             access: Access::new(),
+            diagnosis: ReportedDiagnoses::new(),
             setup: Setup { plan, ar, activity },
         }
     }
@@ -221,6 +227,7 @@ impl Controller {
         self.alarm = None;
         self.low_alarm = None;
         self.access.clear();
+        self.diagnosis.clear();
         open(&mut self.exchange, &mut self.outputs, &self.setup.plan);
     }
 
@@ -253,6 +260,7 @@ impl Controller {
             alarm: None,
             low_alarm: None,
             access: Access::new(),
+            diagnosis: ReportedDiagnoses::new(),
         }
     }
 
@@ -345,9 +353,9 @@ impl Controller {
         self.access.record()
     }
 
-    /// The last record that the device refused, if it refused one. A plan may say that the start-up goes on after it
-    /// (`Plan::continues_on_refused_record`); then an application that looks after each step sees each of them, since a later
-    /// record has a greater number.
+    /// The last record that the device refused, if it refused one; of a list of records the first one that it refused. A plan
+    /// may say that the start-up goes on after it (`Plan::continues_on_refused_record`); then an application that looks after
+    /// each step sees each of these, since a later record has a greater number.
     pub fn refused_record(&self) -> Option<RefusedRecord>
         ensures { result ≡ self.now.live.refused_record }
     {
@@ -423,5 +431,22 @@ impl Controller {
             Priority::High => self.alarms.accepted(),
             Priority::Low => self.low_alarms.accepted(),
         }
+    }
+
+    /// The diagnoses that exist at the device, as its alarms reported them in this relation, in the order in which they
+    /// appeared: at most 256. Empty before the relation is established, and after it ended.
+    pub fn diagnoses(&self) -> &[Diagnosis]
+        ensures value { result.now ≡ self.now.live.diagnosis.existing }
+        ensures few { length result.now ≤ 256 }
+    {
+        self.diagnosis.as_slice()
+    }
+
+    /// How many diagnoses the device reported in this relation for which the list of `diagnoses` had no room. If it is not 0,
+    /// a read of the device's record 0xF80C shows them all.
+    pub fn diagnoses_left_out(&self) -> u32
+        ensures { result ≡ self.now.live.diagnosis.left_out }
+    {
+        self.diagnosis.left_out()
     }
 }

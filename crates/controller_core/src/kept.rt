@@ -2,9 +2,9 @@
 ghost use Rattle.std.specs.Prelude.{◌≡◌};
 ghost use Rattle.controller_core.specs.Alarms.{ack_of, alarm_in, kept_alarm};
 
+use alarm_reports::Report;
 use arrayvec::ArrayVec;
 use block_codec::{AlarmAck, AlarmData, AlarmNotification};
-use pn_alarms::Report;
 use wire::at_most;
 
 /// The maximum number of octets of an alarm's data that are stored: more than a frame holds.

@@ -6,28 +6,24 @@
 //! it sends.
 #![tactic(auto)]
 
-mod access;
-mod alarm_relation;
 mod alarms;
 mod answers;
-mod connect;
 mod controller;
 mod event;
 mod kept;
-mod law;
 mod leaps;
+mod outcomes;
 mod outputs;
 mod state;
 mod step;
-mod usable;
 
-pub use access::Answer;
-pub use alarm_relation::{AlarmRelation, put_alarm_relation};
+pub use alarm_reports::{Priority, Report};
 pub use controller::Controller;
 pub use controller_frames::{MOST_RECORD_OCTETS, RecordRequest, RecordService};
 pub use cyclic_exchange::ProviderStatus;
 pub use event::Event;
-pub use law::blocks_are_found;
 pub use leaps::leaps_are_ticks;
-pub use pn_alarms::{Priority, Report};
+pub use outcomes::Outcomes;
+pub use record_access::Answer;
+pub use reported_diagnosis::Diagnosis;
 pub use state::{Cause, RefusedRecord, State};

@@ -36,8 +36,8 @@ impl Cause {
 #[derive(Clone, Copy, Debug, PartialEq, Eq)]
 pub struct RefusedRecord {
     /// Its place among the plan's records, counted from 0.
-    pub number: u16,
-    /// The PNIOStatus of the response to its Write.
+    pub number: u32,
+    /// Its PNIOStatus: that of the response to its Write, or of its own block if the Write carried a list.
     pub status: Status,
 }
 

@@ -8,31 +8,32 @@ ghost use Rattle.controller_frames.specs.Heard.{heard_of, heard_real_time as hea
 ghost use Rattle.controller_frames.specs.Sent.{bytes_of};
 ghost use Rattle.controller_frames.specs.Reported.{reported};
 ghost use Rattle.controller_core.specs.Answers.{is_answer, is_ready, is_refused};
-ghost use Rattle.controller_core.specs.Connect.{chosen_by, nothing, found_in as all_found};
+ghost use Rattle.connect_answers.specs.Connect.{chosen_by, nothing, found_in as all_found};
 ghost use Rattle.controller_core.specs.State.{with_live};
 ghost use Rattle.controller_core.specs.Machine.{accesses_of, accessing, failed, granted, pending_of, rejected, replied, replied_by, requested, written};
 ghost use Rattle.controller_core.specs.Machine.{acks_of, addressed, alarmed, answered, asking, called, come, connected, connected_by};
 ghost use Rattle.controller_core.specs.Machine.{brought, decided, denied, done, due_frames, ended_by, exchange_later, flowed, found, given};
-ghost use Rattle.controller_core.specs.Machine.{gone_on, is_again, handled, later, outputs_of, past_record};
+ghost use Rattle.controller_core.specs.Machine.{after_write, gone_on, is_again, handled, later, noted, outputs_of, past_record};
 ghost use Rattle.controller_core.specs.Machine.{rated, readied, ready_in as block_of_ready, refused, refused_by, related_by, released, remarked, requests_of, responded, step_of};
 ghost use Rattle.controller_core.specs.Machine.{stopped, ticked, turned, undone, where_due, writing};
 ghost use Rattle.frame_codec.specs.Outbox.{boxed};
 ghost use Rattle.pn_alarms.specs.Sending.{due};
 ghost use Rattle.pn_alarms.specs.Sending.{is_again as is_repeated};
 
-use crate::access::{call_number, is_rejected, is_reply, record_in};
 use crate::alarms::{header_of, is_alarm};
 use crate::answers::{
     cause_of, is_addressed, is_found, is_right, is_set_answer, next_sequence, phase_for, ready_in,
     request_behind,
 };
-use crate::connect::{Found, found_in};
 use crate::controller::route_of;
+use crate::outcomes::{Outcomes, outcomes_of};
 use crate::outputs::{awaits, change, iops_in};
 use crate::{Cause, Controller, Event, RefusedRecord, State};
+use alarm_reports::{Priority, Report};
 use block_codec::ControlBlock;
+use connect_answers::{Found, found_in};
 use controller_frames::{
-    Hearing, MOST_RECORD_OCTETS, RecordRequest, RecordService, Refusal, Request, heard,
+    Hearing, MOST_RECORD_OCTETS, RecordRequest, RecordService, Refusal, Request, first_of, heard,
     heard_real_time, real_time_in, send_alarm_end, send_outputs, send_ready_answer,
     send_record_request, send_request,
 };
@@ -40,8 +41,9 @@ use cyclic_data::Provider;
 use cyclic_exchange::Tick;
 use frame_codec::{Bytes, Caller, Outbox, is_cyclic};
 use plans::SESSION_KEY;
-use pn_alarms::{Abort, Due, Header, Notice, PduType, Priority, Report};
+use pn_alarms::{Abort, Due, Header, Notice, PduType};
 use pn_values::Mac;
+use record_access::{call_number, is_rejected, is_reply, record_in};
 use rpc_core::{Call, Response, Status};
 
 /// The maximum number of blocks in the answer to a Connect: more than a frame holds.
@@ -471,10 +473,8 @@ impl Controller {
     {
         match request {
             Request::Write(number) => {
-                let record = RefusedRecord { number, status };
-                self.refusal = Some(record.status);
-                self.refused_record = Some(record);
-                self.pass_record(number, outbox);
+                let first = first_of(&self.setup.plan, number);
+                self.refuse_record(number, first, status, outbox);
             }
             Request::Identify
             | Request::Address
@@ -484,7 +484,23 @@ impl Controller {
         }
     }
 
-    // After a record that was refused: ends, or goes on with the next record if the plan says so.
+    // The record at this place of the plan, which the Write with this number carried, is refused with this status.
+    fn refuse_record(&mut self, number: u16, place: u32, status: Status, outbox: &mut Outbox)
+        requires empty { outbox.old.items ≡ [] }
+        ensures state { self.new ≡ with_live self.old (past_record self.old.setup number (noted status place self.old.live)).live }
+        ensures frames { boxed outbox.new
+            ≡ map (bytes_of self.old.setup) (past_record self.old.setup number (noted status place self.old.live)).sent }
+    {
+        let record = RefusedRecord {
+            number: place,
+            status,
+        };
+        self.refusal = Some(record.status);
+        self.refused_record = Some(record);
+        self.pass_record(number, outbox);
+    }
+
+    // After a record that was refused: ends, or goes on with the next Write if the plan says so.
     fn pass_record(&mut self, number: u16, outbox: &mut Outbox)
         requires empty { outbox.old.items ≡ [] }
         ensures state { self.new ≡ with_live self.old (past_record self.old.setup number self.old.live).live }
@@ -570,8 +586,8 @@ impl Controller {
             Request::Identify | Request::Address => {}
             Request::Connect => self.connect(blocks, outbox),
             Request::Write(number) => {
-                let next = request_behind(&self.setup.plan, number);
-                self.write(next, outbox);
+                let outcomes = outcomes_of(&self.setup.plan, number, blocks);
+                self.go_on_writing(number, outcomes, outbox);
             }
             Request::PrmEnd => {
                 self.phase = State::Waiting;
@@ -582,7 +598,27 @@ impl Controller {
         }
     }
 
-    // Writes a record, or ends the parameters.
+    // The device answered the Write with this number, and this became of its records.
+    fn go_on_writing(&mut self, number: u16, outcomes: Outcomes, outbox: &mut Outbox)
+        requires empty { outbox.old.items ≡ [] }
+        ensures state { self.new ≡ with_live self.old (after_write self.old.setup self.old.live number outcomes).live }
+        ensures frames { boxed outbox.new ≡ map (bytes_of self.old.setup) (after_write self.old.setup self.old.live number outcomes).sent }
+    {
+        match outcomes {
+            Outcomes::AllWritten => {
+                let next = request_behind(&self.setup.plan, number);
+                self.write(next, outbox);
+            }
+            Outcomes::Refused(place, status) => {
+                let first = first_of(&self.setup.plan, number);
+                self.refuse_record(number, first + u32::from(place), status, outbox);
+            }
+            // This is not an answer: the Write is sent again, and the device repeats its answer.
+            Outcomes::Unreadable => {}
+        }
+    }
+
+    // Writes records, or ends the parameters.
     fn write(&mut self, request: Request, outbox: &mut Outbox)
         requires empty { outbox.old.items ≡ [] }
         ensures state { self.new ≡ with_live self.old (writing request self.old.live).live }

@@ -18,9 +18,9 @@ use Rattle.rpc_core.specs.Call.{Asked as Call, call_of}
 use Rattle.rpc_core.specs.Response.{Answered as Response, response_of}
 use Rattle.pn_alarms.specs.declared.fault.AlarmFault.{AlarmFault}
 use Rattle.pn_alarms.specs.declared.pdu.Header.{Header}
-use Rattle.pn_alarms.specs.declared.priority.Priority.{Priority}
-use Rattle.pn_alarms.specs.Message.{ToController, alarm_of}
-use Rattle.pn_alarms.specs.Priority.{priority_of}
+use Rattle.alarm_reports.specs.declared.priority.Priority.{Priority}
+use Rattle.alarm_reports.specs.Message.{ToController, alarm_of}
+use Rattle.alarm_reports.specs.Priority.{priority_of}
 use Rattle.plans.specs.declared.parts.Controller.{Controller}
 use Rattle.controller_frames.specs.declared.refusal.Refusal.{Refusal}
 use Rattle.controller_frames.specs.Refusal.{refusal_of}

@@ -1,5 +1,5 @@
 -- What a controller asks of a device at a start-up, and the messages for it.
-use Rattle.std.specs.Prelude.{◌+◌, ℕ, List, [], ◌∷◌, ◌++◌, length, nat_lt, Option, Some, None, if◌then◌else◌}
+use Rattle.std.specs.Prelude.{◌+◌, ◌-◌, ◌*◌, ◌/◌, ℕ, List, [], ◌∷◌, ◌++◌, length, take, drop, replicate, nat_lt, Option, Some, None, if◌then◌else◌}
 use Rattle.std.specs.List.{slice_get}
 use Rattle.std.specs.Int.{w16, to_be_bytes}
 use Rattle.dcp_core.specs.declared.kind.Kind.TheVariants.{IpSuite, NameOfStation}
@@ -25,9 +25,25 @@ use Rattle.controller_frames.specs.declared.request.Request.TheVariants.{Identif
 
 -- ---- the order
 
--- The record with this number, if there is one, otherwise PrmEnd.
+-- The records are written in order, by Writes with numbers from 0. If the device can, each carries a list of ten, the last
+-- one of those that are left: a list of ten fits a frame. If not, each carries one.
+abbrev pub per_call : Parts → ℕ
+per_call plan = if plan.multiple_write then 10 else 1
+
+-- The number of Writes.
+abbrev pub write_count : Parts → ℕ
+write_count plan = if plan.multiple_write then (length plan.records.items + 9) / 10 else length plan.records.items
+
+-- The number of the first record of a Write, and its records.
+abbrev pub first_of : Parts → ℕ → ℕ
+first_of plan number = if plan.multiple_write then number * 10 else number
+
+abbrev pub group_of : Parts → ℕ → List PlanRecord
+group_of plan number = take (per_call plan) (drop (first_of plan number) plan.records.items)
+
+-- The Write with this number, if there is one, otherwise PrmEnd.
 abbrev pub writing_from : Parts → ℕ → Request
-writing_from plan number = if nat_lt number (length plan.records.items) then Write number else PrmEnd
+writing_from plan number = if nat_lt number (write_count plan) then Write number else PrmEnd
 
 -- ---- DCP requests
 
@@ -47,7 +63,7 @@ sequence_of plan Identify = 0
 sequence_of plan Address = 0
 sequence_of plan Connect = 0
 sequence_of plan (Write number) = number + 1
-sequence_of plan PrmEnd = length plan.records.items + 1
+sequence_of plan PrmEnd = write_count plan + 1
 sequence_of plan (Release sequence) = sequence
 
 -- The operation: 0 Connect, 1 Release, 3 Write, 4 Control.
@@ -98,12 +114,54 @@ abbrev pub write_blocks : Setup → ℕ → Option PlanRecord → List ℕ
 write_blocks setup number (Some entry) = block_bytes (is.IodWriteReq (write_of setup number entry)) ++ entry.data.items
 write_blocks setup number None = []
 
--- The blocks of a call.
+-- ---- a list of records (MultipleWrite; IEC 61158-6-10, 5.2.3)
+
+-- The octets after a record of this many: zeros up to a multiple of 4.
+abbrev pub padding_of : ℕ → List ℕ
+padding_of size = take ((size + 3) / 4 * 4 - size) (replicate 3 0)
+
+-- A record of a list: its block, its octets, and the padding.
+abbrev pub entry_bytes : Setup → ℕ → PlanRecord → List ℕ
+entry_bytes setup number entry = write_blocks setup number (Some entry) ++ padding_of (length entry.data.items)
+
+abbrev pub entries_bytes : Setup → ℕ → List PlanRecord → List ℕ
+entries_bytes setup number [] = []
+entries_bytes setup number (entry ∷ entries) = entry_bytes setup number entry ++ entries_bytes setup number entries
+
+-- The block before a list of this many octets: API, slot and subslot are all ones, and its index is that of a list.
+abbrev pub list_of : Setup → ℕ → ℕ → IodWriteReq
+list_of setup number octets = record {
+  header = record {
+    seq_number = number + 1;
+    ar_uuid = setup.ar;
+    api = 0xFFFFFFFF;
+    slot_number = 0xFFFF;
+    subslot_number = 0xFFFF;
+    index = 0xE040;
+    record_data_length = octets;
+  };
+}
+
+-- The block and the list after it; nothing if there are no records.
+abbrev pub list_blocks : Setup → ℕ → List PlanRecord → List ℕ
+list_blocks setup number [] = []
+list_blocks setup number (entry ∷ entries) =
+    block_bytes (is.IodWriteReq (list_of setup number (length (entries_bytes setup number (entry ∷ entries)))))
+    ++ entries_bytes setup number (entry ∷ entries)
+
+-- The blocks of a Write: those of a list, or of the one record.
+abbrev pub writing_blocks : Setup → ℕ → List ℕ
+writing_blocks setup number =
+    if setup.plan.multiple_write then list_blocks setup number (group_of setup.plan number)
+    else write_blocks setup number (slice_get setup.plan.records.items number)
+
+-- ---- the blocks of a call
+
 abbrev pub blocks_of : Setup → Request → List ℕ
 blocks_of setup Identify = []
 blocks_of setup Address = []
 blocks_of setup Connect = connect_of setup.plan setup.ar
-blocks_of setup (Write number) = write_blocks setup number (slice_get setup.plan.records.items number)
+blocks_of setup (Write number) = writing_blocks setup number
 blocks_of setup PrmEnd = block_bytes (is.PrmEnd (control_of setup 1))
 blocks_of setup (Release sequence) = block_bytes (is.Release (control_of setup 4))
 

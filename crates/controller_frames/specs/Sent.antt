@@ -18,11 +18,11 @@ use Rattle.pn_alarms.specs.declared.abort.Abort.{Abort}
 use Rattle.pn_alarms.specs.declared.pdu.Header.{Header}
 use Rattle.pn_alarms.specs.declared.pdu.PduType.TheVariants.{Error}
 use Rattle.pn_alarms.specs.Abort.{abort_of}
-use Rattle.pn_alarms.specs.declared.priority.Priority.{Priority}
-use Rattle.pn_alarms.specs.declared.priority.Priority.TheVariants.{High, Low}
+use Rattle.alarm_reports.specs.declared.priority.Priority.{Priority}
+use Rattle.alarm_reports.specs.declared.priority.Priority.TheVariants.{High, Low}
 use Rattle.pn_alarms.specs.Format.{Said, frame_id_of, pdu_bytes}
-use Rattle.pn_alarms.specs.Priority.{frame_id_at}
-use Rattle.pn_alarms.specs.Report.{ack_bytes}
+use Rattle.alarm_reports.specs.Priority.{frame_id_at}
+use Rattle.alarm_reports.specs.Report.{ack_bytes}
 use Rattle.cyclic_exchange.specs.declared.route.Route.{Route}
 use Rattle.cyclic_exchange.specs.Frames.{cyclic_frame, plain_frame, tagged_frame}
 use Rattle.plans.specs.Connect.{alarm_block}

@@ -1,22 +1,20 @@
 // The calls of a start-up, and their blocks (IEC 61158-6-10, 5.2).
 ghost use Rattle.std.specs.Prelude.{◌≡◌, ◌+◌, ◌<◌, ◌≤◌, ◌++◌, ◌∷◌, [], Some, length};
-ghost use Rattle.std.specs.List.{slice_get};
 ghost use Rattle.arrayvec.specs.ArrayVec.{array_vec_len};
 ghost use Rattle.block_codec.specs.Block.{block_bytes};
-ghost use Rattle.controller_frames.specs.Requests.{blocks_of, call_for, control_of, header_of, object_of, write_blocks, write_of};
+ghost use Rattle.controller_frames.specs.Requests.{blocks_of, call_for, control_of, header_of, object_of};
 ghost use Rattle.controller_frames.specs.Sent.{call_frame};
 ghost use Rattle.frame_codec.specs.Outbox.{boxed};
 
+use crate::writes::put_write;
 use crate::{Request, Setup};
 use arrayvec::ArrayVec;
-use block_codec::{Block, ControlBlock, IodWriteReq, RecordHeader, write_block};
+use block_codec::{Block, ControlBlock, write_block};
 use connect_blocks::control_len;
 use frame_codec::{Endpoint, Layered, Outbox, Payload, Udp};
-use plans::{PlanRecord, SESSION_KEY, Station};
+use plans::{SESSION_KEY, Station};
 use pn_values::Mac;
-use record_blocks::iod_write_req_len;
 use rpc_core::{Call, CallHeader, Datagram, Interface, Uuid, write_request};
-use wire::append;
 
 /// The maximum number of octets of blocks in the response to a call.
 const ARGS_MAXIMUM: u32 = 1_372;
@@ -62,42 +60,6 @@ fn control_of(setup: &Setup, command: u16) -> ControlBlock
         session_key: SESSION_KEY,
         control_command: command,
         control_block_properties: 0,
-    }
-}
-
-/// Appends the block of a Write, and the record after it. There must be room.
-#[tactic(auto, unfolding(block_codec::specs::Block::block_size, block_codec::specs::Block::fields_of, block_fields::specs::Fields::body, block_fields::specs::Fields::version))]
-fn put_record(setup: &Setup, number: u16, entry: &PlanRecord, blocks: &mut ArrayVec<u8, 1372>)
-    requires few { number < 65535 }
-    requires room { array_vec_len blocks.old + 128 ≤ 1372 }
-    ensures { blocks.new.items ≡ blocks.old.items ++ write_blocks setup.now number (Some entry.now) }
-{
-    let octets = entry.data.as_slice();
-    let block = IodWriteReq {
-        header: RecordHeader {
-            // SeqNumber of a Write counts within the relation, and the Connect has 0.
-            seq_number: number + 1,
-            ar_uuid: setup.ar,
-            api: 0,
-            slot_number: entry.slot,
-            subslot_number: entry.subslot,
-            index: entry.index,
-            record_data_length: octets.len() as u32,
-        },
-    };
-    // The function that counts its octets guarantees that there is room for them.
-    let _size = iod_write_req_len(&block);
-    write_block(blocks, &Block::IodWriteReq(block));
-    append(blocks, octets);
-}
-
-/// Appends the blocks of a Write, if the plan has the record. There must be room.
-fn put_write(setup: &Setup, number: u16, blocks: &mut ArrayVec<u8, 1372>)
-    requires empty { blocks.old.items ≡ [] }
-    ensures { blocks.new.items ≡ blocks_of setup.now (Request.Write number) }
-{
-    if let Some(entry) = setup.plan.records().get(number as usize) {
-        put_record(setup, number, entry, blocks);
     }
 }
 

@@ -4,18 +4,19 @@ ghost use Rattle.arrayvec.specs.ArrayVec.{array_vec_len};
 ghost use Rattle.block_codec.specs.Block.{block_bytes};
 ghost use Rattle.pn_alarms.specs.declared.pdu.PduType.TheVariants.{Error};
 ghost use Rattle.pn_alarms.specs.Format.{is_long, said, pdu_bytes};
-ghost use Rattle.pn_alarms.specs.Report.{ack_bytes};
+ghost use Rattle.alarm_reports.specs.Report.{ack_bytes};
 ghost use Rattle.cyclic_exchange.specs.Frames.{tagged_frame};
 ghost use Rattle.frame_codec.specs.Meaning.{RealTime};
 ghost use Rattle.controller_frames.specs.Sent.{Confirms, Cycles, Ends, Replies, bytes_of, tag_of};
 ghost use Rattle.frame_codec.specs.Outbox.{boxed};
 
 use crate::Setup;
+use alarm_reports::{Priority, low_ack_octets};
 use arrayvec::ArrayVec;
 use block_codec::{AlarmAck, Block, write_block};
 use cyclic_exchange::{CyclicExchange, Route, send_cyclic};
 use frame_codec::{Outbox, Pieces};
-use pn_alarms::{Abort, Header, Pdu, PduType, Priority, low_ack_octets, pdu_front};
+use pn_alarms::{Abort, Header, Pdu, PduType, pdu_front};
 use pn_values::Mac;
 use record_blocks::alarm_ack_len;
 use wire::append;
@@ -31,7 +32,13 @@ pub fn send_outputs(setup: &Setup, counter: u16, exchange: &CyclicExchange, outb
         ≡ boxed outbox.old ++ bytes_of setup.now (Cycles exchange.now.route exchange.now.shown counter) ∷ [] }
     ensures len { array_vec_len outbox.new ≡ array_vec_len outbox.old + 1 }
 {
-    send_cyclic(setup.plan.controller().mac, counter, exchange, outbox);
+    send_cyclic(
+        setup.plan.controller().mac,
+        counter,
+        false,
+        exchange,
+        outbox,
+    );
 }
 
 /// The tag of alarms of a priority.

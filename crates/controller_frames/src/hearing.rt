@@ -6,15 +6,16 @@ ghost use Rattle.controller_frames.specs.Heard.{is_to as is_to_by};
 ghost use Rattle.controller_frames.specs.Reported.{reported};
 ghost use Rattle.dcp_core.specs.Answer.{answer_of};
 ghost use Rattle.frame_codec.specs.Frame.{datagram, frame_of};
-ghost use Rattle.pn_alarms.specs.Message.{alarm_of};
+ghost use Rattle.alarm_reports.specs.Message.{alarm_of};
 
 use crate::refusal::{Refusal, read_refusal};
+use alarm_reports::{Priority, Report, read_alarm};
 use frame_codec::{
     Bytes, Caller, ContentKind, DCP_GET_SET, DCP_IDENTIFY_RESPONSE, Endpoint, RPC_PORT,
     RealTimeFrame, datagram_at, frame_id_at, is_alarm, is_cyclic, open, read_real_time,
 };
 use plans::Controller;
-use pn_alarms::{Header, Notice, Priority, Report, read_alarm};
+use pn_alarms::{Header, Notice};
 use pn_values::Mac;
 use rpc_core::{Call, Interface, Response, read_call, read_response};
 

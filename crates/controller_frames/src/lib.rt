@@ -15,6 +15,7 @@ mod refusal;
 mod request;
 mod requests;
 mod setup;
+mod writes;
 
 pub use answers::send_ready_answer;
 pub use calls::header_of;
@@ -26,3 +27,4 @@ pub use refusal::Refusal;
 pub use request::Request;
 pub use requests::send_request;
 pub use setup::Setup;
+pub use writes::{first_of, group_of, write_count};

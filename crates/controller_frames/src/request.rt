@@ -2,6 +2,7 @@
 ghost use Rattle.std.specs.Prelude.{◌≡◌};
 ghost use Rattle.controller_frames.specs.Requests.{operation_of, sequence_of, writing_from};
 
+use crate::writes::write_count;
 use plans::Plan;
 
 /// What a controller asks of a device, in the order of a start-up: two DCP requests, and then calls.
@@ -13,7 +14,7 @@ pub enum Request {
     Address,
     /// Connect: establish the relation.
     Connect,
-    /// Write the record with this number, from 0.
+    /// Write records, with the Write of this number, from 0.
     Write(u16),
     /// PrmEnd: all records are written.
     PrmEnd,
@@ -22,11 +23,11 @@ pub enum Request {
 }
 
 impl Request {
-    /// The request to write the record with this number, from 0, if the plan has one, otherwise PrmEnd.
+    /// The Write with this number, from 0, if the plan has one, otherwise PrmEnd.
     pub fn writing_from(plan: &Plan, number: u16) -> Request
         ensures { result ≡ writing_from plan.now number }
     {
-        if (number as usize) < plan.records().len() {
+        if u32::from(number) < write_count(plan) {
             Request::Write(number)
         } else {
             Request::PrmEnd
@@ -41,7 +42,7 @@ impl Request {
         match self {
             Request::Identify | Request::Address | Request::Connect => 0,
             Request::Write(number) => number as u32 + 1,
-            Request::PrmEnd => plan.records().len() as u32 + 1,
+            Request::PrmEnd => write_count(plan) + 1,
             Request::Release(sequence) => sequence,
         }
     }

@@ -1,5 +1,5 @@
 //! Images of the cyclic data to be sent.
-ghost use Rattle.std.specs.Prelude.{◌≡◌, ◌+◌, ◌≤◌, [], length, map, option_map, is_some, if◌then◌else◌};
+ghost use Rattle.std.specs.Prelude.{◌≡◌, ◌+◌, ◌≤◌, IfSome, [], length, map, option_map, is_some, if◌then◌else◌};
 ghost use Rattle.cyclic_data.specs.declared.place.PlaceKind.TheVariants.{Data};
 ghost use Rattle.cyclic_data.specs.Image.{zero_cell, cell_at, changed, with_value, with_status, has_size, octets_of, IsFrame};
 
@@ -88,7 +88,9 @@ impl Image {
 
     /// The data of a submodule, or `None` if it has no data in these frames.
     pub fn get(&self, slot: u16, subslot: u16) -> Option<&[u8]>
-        ensures { option_map (λ value. value.now) result ≡ option_map (λ cell. cell.value) (cell_at Data slot subslot self.now.cells) }
+        ensures value { option_map (λ value. value.now) result
+            ≡ option_map (λ cell. cell.value) (cell_at Data slot subslot self.now.cells) }
+        ensures short { IfSome result (λ value. length value.now ≤ 1440) }
     {
         self.laid_out.value(slot, subslot)
     }

@@ -1,5 +1,5 @@
 //! The statuses of data: IOPS and IOCS, and DataStatus.
-ghost use Rattle.std.specs.Prelude.{⊤, ◌≡◌, [], ◌∷◌, codes};
+ghost use Rattle.std.specs.Prelude.{⊤, ◌≡◌, [], ◌∷◌, codes, if◌then◌else◌};
 
 use bitflags::{Flag, Flags, bitflag_items};
 
@@ -42,10 +42,14 @@ impl Flags for DataStatus {
 }
 
 impl DataStatus {
-    /// The status that a provider sends if it runs and has no problem.
-    pub fn running() -> DataStatus
-        ensures { result.0 ≡ 0x35 }
+    /// The status that a provider sends if it runs, with or without a problem.
+    pub fn running(has_problem: bool) -> DataStatus
+        ensures { result.0 ≡ (if has_problem then 0x15 else 0x35) }
     {
-        DataStatus(0x35)
+        if has_problem {
+            DataStatus(0x15)
+        } else {
+            DataStatus(0x35)
+        }
     }
 }

@@ -1,5 +1,5 @@
 //! The octets of a cyclic frame after its FrameID.
-ghost use Rattle.std.specs.Prelude.{◌≡◌, ◌+◌, ◌<◌, ◌≤◌, ◌++◌, [], List, ℕ, Ok, length, IfOk, MatchResult};
+ghost use Rattle.std.specs.Prelude.{◌≡◌, ◌+◌, ◌<◌, ◌≤◌, ◌++◌, [], List, ℕ, Ok, length, IfOk, MatchResult, if◌then◌else◌};
 ghost use Rattle.arrayvec.specs.ArrayVec.{array_vec_len};
 ghost use Rattle.wire.specs.Codec.{Gives};
 ghost use Rattle.cyclic_data.specs.declared.tail.CyclicTail.{CyclicTail};
@@ -25,13 +25,17 @@ pub struct CyclicTail {
 pub struct ShortFrame;
 
 impl CyclicTail {
-    /// The tail that a provider sends with this CycleCounter if it runs and has no problem.
-    pub fn running(counter: u16) -> CyclicTail
-        ensures { result ≡ record { counter = counter; data_status = record { 0 = 0x35 }; transfer_status = 0 } }
+    /// The tail that a provider sends with this CycleCounter if it runs, with or without a problem.
+    pub fn running(counter: u16, has_problem: bool) -> CyclicTail
+        ensures { result ≡ record {
+          counter = counter;
+          data_status = record { 0 = if has_problem then 0x15 else 0x35 };
+          transfer_status = 0;
+        } }
     {
         CyclicTail {
             counter,
-            data_status: DataStatus::running(),
+            data_status: DataStatus::running(has_problem),
             transfer_status: 0,
         }
     }

@@ -154,6 +154,13 @@ impl Consumer {
         self.last.is_some()
     }
 
+    /// The counter of the last accepted frame, if one was accepted.
+    pub fn last(&self) -> Option<u16>
+        ensures { result ≡ self.now.last }
+    {
+        self.last
+    }
+
     /// Waits from now on, as after an accepted frame.
     pub fn restart(&mut self)
         ensures { self.new ≡ record self.old { held = 0 } }

@@ -1,6 +1,7 @@
 -- The values of submodules that are given to one end and read from it.
-use Rattle.std.specs.Prelude.{ℕ, List, length, Option, Some, None, is_some, option_map, if◌then◌else◌}
+use Rattle.std.specs.Prelude.{ℕ, List, length, Option, Some, None, is_some, option_map, unwrap_or, if◌then◌else◌}
 use Rattle.cyclic_data.specs.declared.place.PlaceKind.TheVariants.{Data}
+use Rattle.cyclic_data.specs.declared.tail.CyclicTail.{CyclicTail}
 use Rattle.cyclic_data.specs.Image.{Cell, cell_at, changed, good, has_size, output_of, with_status, with_value}
 use Rattle.cyclic_exchange.specs.declared.exchange.ProviderStatus.{ProviderStatus}
 use Rattle.cyclic_exchange.specs.Cyclic.{Cyclic}
@@ -32,6 +33,11 @@ stated_at cyclic slot subslot status = record cyclic { shown = changed Data slot
 -- yet, or if the IOPS is not good.
 abbrev pub value_at : Cyclic → ℕ → ℕ → Option (List ℕ)
 value_at cyclic slot subslot = option_map output_of (cell_at Data slot subslot cyclic.taken.cells)
+
+-- The fields after the data of the last accepted frame, whose TransferStatus is 0. Zeros if no frame was accepted yet.
+abbrev pub taken_tail : Cyclic → CyclicTail
+taken_tail cyclic =
+    record { counter = unwrap_or cyclic.hearing.last 0; data_status = record { 0 = cyclic.data_status }; transfer_status = 0 }
 
 -- What the partner says of the data of a submodule: its IOPS and the DataStatus of the last accepted frame. None if the
 -- submodule has no data there, or if no frame was accepted yet.

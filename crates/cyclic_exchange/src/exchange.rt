@@ -1,9 +1,9 @@
 //! One end of cyclic data.
 ghost use Rattle.std.specs.Prelude.{◌≡◌, ◌≤◌, ◌++◌, IfSome, [], false, is_some, length, option_map, unwrap_or};
 ghost use Rattle.arrayvec.specs.ArrayVec.{array_vec_len};
-ghost use Rattle.cyclic_exchange.specs.Frames.{cyclic_body};
+ghost use Rattle.cyclic_exchange.specs.Frames.{body_at};
 ghost use Rattle.cyclic_exchange.specs.Opening.{begun_of, ended_of, opened, related};
-ghost use Rattle.cyclic_exchange.specs.Process.{given_at, provided_at, provider_at, stated_at, value_at};
+ghost use Rattle.cyclic_exchange.specs.Process.{given_at, provided_at, provider_at, stated_at, taken_tail, value_at};
 
 use crate::opening::fill;
 use crate::{Route, Statuses};
@@ -179,6 +179,31 @@ impl CyclicExchange {
         self.taken.output(slot, subslot)
     }
 
+    /// The content of the frames that are sent.
+    pub fn sent(&self) -> &Image
+        ensures { result.now ≡ self.now.shown }
+    {
+        &self.sent
+    }
+
+    /// The content of the last accepted frame: zeros before.
+    pub fn received(&self) -> &ReceivedImage
+        ensures { result.now ≡ self.now.taken }
+    {
+        &self.taken
+    }
+
+    /// The fields after the data of the last accepted frame, whose TransferStatus is 0. Zeros if no frame was accepted yet.
+    pub fn taken_tail(&self) -> CyclicTail
+        ensures { result ≡ taken_tail self.now }
+    {
+        CyclicTail {
+            counter: self.consumer.last().unwrap_or(0),
+            data_status: self.data_status,
+            transfer_status: 0,
+        }
+    }
+
     /// What the partner says of the data of a submodule in its last accepted frame, if the submodule has data there.
     /// `None` if no frame was accepted yet.
     pub fn provider(&self, slot: u16, subslot: u16) -> Option<ProviderStatus>
@@ -194,14 +219,17 @@ impl CyclicExchange {
         }
     }
 
-    /// The octets that follow the FrameID of a frame that is sent at this CycleCounter: the data, at most 1,440 octets,
-    /// and the four octets after it.
+    /// The octets that follow the FrameID of a frame that is sent at this CycleCounter by a station with or without a
+    /// problem: the data, at most 1,440 octets, and the four octets after it.
     #[inline(always)]
-    pub fn data(&self, counter: u16) -> (&[u8], ArrayVec<u8, 4>)
-        ensures exact { result.0.now ++ result.1.items ≡ cyclic_body self.now.shown counter }
+    pub fn data(&self, counter: u16, has_problem: bool) -> (&[u8], ArrayVec<u8, 4>)
+        ensures exact { result.0.now ++ result.1.items ≡ body_at has_problem self.now.shown counter }
         ensures few { length result.0.now ≤ 1440 }
         ensures tail { array_vec_len result.1 ≡ 4 }
     {
-        (self.sent.bytes(), CyclicTail::running(counter).octets())
+        (
+            self.sent.bytes(),
+            CyclicTail::running(counter, has_problem).octets(),
+        )
     }
 }

@@ -1,5 +1,5 @@
 -- A written response spells its contents.
-use Rattle.std.proofs.Common.{◌≡◌, ℕ, ◌+◌, ◌*◌, ◌^◌, ◌<◌, ◌≤◌, ◌%◌, Bool, true, false, cond, List, [], ◌∷◌, ◌++◌, length, map, replicate, Result, Ok, refl, sym, ap, ◌∙◌, subst, append_assoc, arith}
+use Rattle.std.proofs.Common.{◌≡◌, ℕ, ◌+◌, ◌*◌, ◌^◌, ◌<◌, ◌≤◌, ◌%◌, Bool, true, false, cond, List, [], ◌∷◌, ◌++◌, length, map, replicate, Option, Some, None, Result, Ok, refl, sym, ap, ◌∙◌, subst, append_assoc, arith}
 use Rattle.std.specs.List.{list_all, flat_map, zip}
 use Rattle.std.specs.Prelude.{◌==◌}
 use Rattle.std.specs.Int.{w16, w32, to_be_bytes}
@@ -128,20 +128,27 @@ suite_spelled true value rest short = plain named_kind.IpSuite value rest refl r
 suite_spelled false value rest short =
     let long = block_long named_kind.IpSuite (0 ∷ 1 ∷ value) in value_spelled named_kind.IpSuite 0 1 value rest refl refl (omega arith)
 
+-- the name by the place, or the error that says why there is none
+alias_spelled : (identity : Identity) (settings : Settings) (alias : Option (List ℕ)) (rest : List ℕ) → length (got identity settings alias named_kind.AliasName) ≤ 1498
+    → answer_block.Spells (got identity settings alias named_kind.AliasName ++ rest) (reported_of identity settings alias named_kind.AliasName) rest
+alias_spelled identity settings (Some alias) rest short = plain named_kind.AliasName alias rest refl refl short
+alias_spelled identity settings None rest short = response_spelled named_kind.AliasName (blame named_kind.AliasName) rest
+
 -- what a station reports of a kind
-got_spelled : (identity : Identity) (settings : Settings) (about : Kind) (rest : List ℕ) → length (got identity settings about) ≤ 1498
-    → answer_block.Spells (got identity settings about ++ rest) (reported_of identity settings about) rest
-got_spelled identity settings named_kind.MacAddress rest short = plain named_kind.MacAddress identity.mac.octets rest refl refl short
-got_spelled identity settings named_kind.IpSuite rest short =
+got_spelled : (identity : Identity) (settings : Settings) (alias : Option (List ℕ)) (about : Kind) (rest : List ℕ) → length (got identity settings alias about) ≤ 1498
+    → answer_block.Spells (got identity settings alias about ++ rest) (reported_of identity settings alias about) rest
+got_spelled identity settings alias named_kind.MacAddress rest short = plain named_kind.MacAddress identity.mac.octets rest refl refl short
+got_spelled identity settings alias named_kind.IpSuite rest short =
     suite_spelled (list_all (λ octet. octet == 0) (suite_bytes settings.suite)) (suite_bytes settings.suite) rest short
-got_spelled identity settings named_kind.StationType rest short = plain named_kind.StationType identity.station_type.items rest refl refl short
-got_spelled identity settings named_kind.NameOfStation rest short = plain named_kind.NameOfStation settings.name rest refl refl short
-got_spelled identity settings named_kind.DeviceId rest short =
+got_spelled identity settings alias named_kind.StationType rest short = plain named_kind.StationType identity.station_type.items rest refl refl short
+got_spelled identity settings alias named_kind.NameOfStation rest short = plain named_kind.NameOfStation settings.name rest refl refl short
+got_spelled identity settings alias named_kind.DeviceId rest short =
     plain named_kind.DeviceId (to_be_bytes w16 identity.vendor_id ++ to_be_bytes w16 identity.device_id) rest refl refl short
-got_spelled identity settings named_kind.DeviceRole rest short = plain named_kind.DeviceRole (1 ∷ 0 ∷ []) rest refl refl short
-got_spelled identity settings named_kind.DeviceOptions rest short = plain named_kind.DeviceOptions known_options rest refl refl short
-got_spelled identity settings named_kind.DeviceInstance rest short = plain named_kind.DeviceInstance (to_be_bytes w16 identity.instance) rest refl refl short
-got_spelled identity settings about rest short = response_spelled about (blame about) rest
+got_spelled identity settings alias named_kind.DeviceRole rest short = plain named_kind.DeviceRole (1 ∷ 0 ∷ []) rest refl refl short
+got_spelled identity settings alias named_kind.DeviceOptions rest short = plain named_kind.DeviceOptions known_options rest refl refl short
+got_spelled identity settings alias named_kind.AliasName rest short = alias_spelled identity settings alias rest short
+got_spelled identity settings alias named_kind.DeviceInstance rest short = plain named_kind.DeviceInstance (to_be_bytes w16 identity.instance) rest refl refl short
+got_spelled identity settings alias about rest short = response_spelled about (blame about) rest
 
 module _ {X : Type 0} (bytes_of : X → List ℕ) (said : X → AnsweredBlock)
     (each : (x : X) (rest : List ℕ) → length (bytes_of x) ≤ 1498 → answer_block.Spells (bytes_of x ++ rest) (said x) rest) where
@@ -204,8 +211,8 @@ pub identify_spelled : (identity : Identity) (settings : Settings) (xid : ℕ) �
     → IsAnswer 0xFEFF (identify_bytes identity settings xid) (identify_said identity settings xid)
 unfolding identify_bytes
 identify_spelled identity settings xid short below =
-    let value : Kind → List ℕ = valued identity settings in
-    let blocks : List ℕ = flat_map (got identity settings) identify_kinds in
+    let value : Kind → List ℕ = valued identity settings None in
+    let blocks : List ℕ = flat_map (got identity settings None) identify_kinds in
     let grouped : (((((value named_kind.StationType ++ value named_kind.NameOfStation) ++ value named_kind.DeviceId) ++ value named_kind.DeviceRole)
     ++ value named_kind.DeviceOptions) ++ value named_kind.DeviceInstance) ++ value named_kind.IpSuite ≡ blocks =
     regroup (value named_kind.StationType) (value named_kind.NameOfStation) (value named_kind.DeviceId) (value named_kind.DeviceRole)
@@ -213,18 +220,18 @@ identify_spelled identity settings xid short below =
     let fits : length (answer_bytes 5 xid blocks) ≤ 1498 = subst (λ (bytes : List ℕ). length (answer_bytes 5 xid bytes) ≤ 1498) grouped short in
     let sized = header_long 5 xid blocks in
     subst (λ (bytes : List ℕ). IsAnswer 0xFEFF (answer_bytes 5 xid bytes) (identify_said identity settings xid)) (sym grouped)
-    (answer_spelled 0xFEFF Identify xid blocks (map (reported_of identity settings) identify_kinds) refl below (omega arith)
-    (all_spelled (got identity settings) (reported_of identity settings) (got_spelled identity settings) identify_kinds (omega arith)))
+    (answer_spelled 0xFEFF Identify xid blocks (map (reported_of identity settings None) identify_kinds) refl below (omega arith)
+    (all_spelled (got identity settings None) (reported_of identity settings None) (got_spelled identity settings None) identify_kinds (omega arith)))
 
-pub get_spelled : (identity : Identity) (settings : Settings) (request : Asked) → length (get_bytes identity settings request) ≤ 1498 → request.xid < 2 ^ 32
-    → IsAnswer 0xFEFD (get_bytes identity settings request) (get_said identity settings request)
+pub get_spelled : (identity : Identity) (settings : Settings) (alias : Option (List ℕ)) (request : Asked) → length (get_bytes identity settings alias request) ≤ 1498 → request.xid < 2 ^ 32
+    → IsAnswer 0xFEFD (get_bytes identity settings alias request) (get_said identity settings alias request)
 unfolding get_bytes
-get_spelled identity settings request short below =
+get_spelled identity settings alias request short below =
     let kinds : List Kind = firsts_of [] (map (λ (block : AskedBlock). block.kind) request.blocks) in
-    let blocks : List ℕ = flat_map (got identity settings) kinds in
+    let blocks : List ℕ = flat_map (got identity settings alias) kinds in
     let sized = header_long 3 request.xid blocks in
-    answer_spelled 0xFEFD Get request.xid blocks (map (reported_of identity settings) kinds) refl below (omega arith)
-    (all_spelled (got identity settings) (reported_of identity settings) (got_spelled identity settings) kinds (omega arith))
+    answer_spelled 0xFEFD Get request.xid blocks (map (reported_of identity settings alias) kinds) refl below (omega arith)
+    (all_spelled (got identity settings alias) (reported_of identity settings alias) (got_spelled identity settings alias) kinds (omega arith))
 
 pub set_spelled : (request : Asked) (answers : List BlockError) → length (set_bytes request answers) ≤ 1498 → request.xid < 2 ^ 32
     → IsAnswer 0xFEFD (set_bytes request answers) (set_said request answers)

@@ -1,5 +1,5 @@
 -- What is written is read.
-use Rattle.std.proofs.Common.{◌≡◌, ◌≤◌, ◌<◌, ◌^◌, ℕ, List, ◌++◌, length, Ok, ap, arith}
+use Rattle.std.proofs.Common.{◌≡◌, ◌≤◌, ◌<◌, ◌^◌, ℕ, List, ◌++◌, length, Option, Ok, ap, arith}
 use Rattle.pn_values.specs.declared.identity.Identity.{Identity}
 use Rattle.pn_values.specs.declared.set_item.BlockError.{BlockError}
 use Rattle.pn_values.specs.declared.settings.Settings.{Settings}
@@ -35,10 +35,10 @@ pub identify_read : (identity : Identity) (settings : Settings) (xid : ℕ) (mor
 identify_read identity settings xid more small few =
     answer_again 0xFEFF _ _ (answer_behind 0xFEFF (identify_bytes identity settings xid) more _ (identify_spelled identity settings xid few (omega (arith, small))))
 
-pub get_read : (identity : Identity) (settings : Settings) (request : Asked) (more : List ℕ) → request.xid < 4294967296 → length (get_bytes identity settings request) ≤ 1498
-    → answer_of 0xFEFD (get_bytes identity settings request ++ more) ≡ Ok (get_said identity settings request)
-get_read identity settings request more small few =
-    answer_again 0xFEFD _ _ (answer_behind 0xFEFD (get_bytes identity settings request) more _ (get_spelled identity settings request few (omega (arith, small))))
+pub get_read : (identity : Identity) (settings : Settings) (alias : Option (List ℕ)) (request : Asked) (more : List ℕ) → request.xid < 4294967296 → length (get_bytes identity settings alias request) ≤ 1498
+    → answer_of 0xFEFD (get_bytes identity settings alias request ++ more) ≡ Ok (get_said identity settings alias request)
+get_read identity settings alias request more small few =
+    answer_again 0xFEFD _ _ (answer_behind 0xFEFD (get_bytes identity settings alias request) more _ (get_spelled identity settings alias request few (omega (arith, small))))
 
 pub set_read : (request : Asked) (outcomes : List BlockError) (more : List ℕ) → request.xid < 4294967296 → length (set_bytes request outcomes) ≤ 1498
     → answer_of 0xFEFD (set_bytes request outcomes ++ more) ≡ Ok (set_said request outcomes)

@@ -6,7 +6,7 @@ use Rattle.std.proofs.lemmas.List.{append-nil, append_assoc, drop_all, drop_more
 use Rattle.std.proofs.lemmas.List.Folds.{list_any-append}
 use Rattle.dcp_core.specs.declared.request.Block.{Block}
 use Rattle.dcp_core.specs.declared.kind.Kind.{Kind}
-use Rattle.dcp_core.specs.declared.kind.Kind.TheVariants.{NameOfStation}
+use Rattle.dcp_core.specs.declared.kind.Kind.TheVariants.{AliasName, NameOfStation}
 use Rattle.dcp_core.specs.Kinds.{is_same}
 use Rattle.dcp_core.specs.Identify.{most_of}
 use Rattle.dcp_core.specs.Get.{firsts_of}
@@ -34,53 +34,80 @@ gets_again got written before kind left all again h =
     let first : firsts_of before (kind ∷ left) ≡ firsts_of (before ++ kind ∷ []) left = rw again refl in
     ap (λ (kinds : List Kind). written ++ flat_map got kinds) (sym first) ∙ h
 
--- the room that a name needs beyond that of other values
-abbrev pub for_name : List Kind → ℕ
-for_name kinds = cond (list_any (is_same NameOfStation) kinds) 215 0
+-- the room that the block of a large kind needs beyond that of other kinds, if there is one
+abbrev pub beyond : Kind → ℕ → List Kind → ℕ
+beyond large more kinds = cond (list_any (is_same large) kinds) more 0
 
--- only one kind takes more than 32 bytes
-is_name_or_small : (kind : Kind) → (kind ≡ NameOfStation) ⊎ (most_of kind ≡ 32)
+-- the room that names need beyond that of other values
+abbrev pub for_names : List Kind → ℕ
+for_names kinds = beyond NameOfStation 215 kinds + beyond AliasName 486 kinds
+
+-- only names take more than 32 bytes
+is_name_or_small : (kind : Kind) → (kind ≡ NameOfStation) ⊎ ((kind ≡ AliasName) ⊎ (most_of kind ≡ 32))
 is_name_or_small NameOfStation = inl refl
-is_name_or_small _ = inr refl
+is_name_or_small AliasName = inr (inl refl)
+is_name_or_small _ = inr (inr refl)
 
-kept : (b d : Bool) → cond b 215 0 ≤ cond (b || d) 215 0
-kept true d = omega arith
-kept false true = omega arith
-kept false false = omega arith
+kept : (b d : Bool) (more : ℕ) → cond b more 0 ≤ cond (b || d) more 0
+kept true d more = omega arith
+kept false true more = omega arith
+kept false false more = omega arith
 
-joined : (before : List Kind) (kind : Kind)
-    → list_any (is_same NameOfStation) (before ++ kind ∷ []) ≡ (list_any (is_same NameOfStation) before || list_any (is_same NameOfStation) (kind ∷ []))
-joined before kind = list_any-append (is_same NameOfStation) before (kind ∷ [])
+joined : (large : Kind) (before : List Kind) (kind : Kind)
+    → list_any (is_same large) (before ++ kind ∷ []) ≡ (list_any (is_same large) before || list_any (is_same large) (kind ∷ []))
+joined large before kind = list_any-append (is_same large) before (kind ∷ [])
 
-room_again : (before : List Kind) (kind : Kind) → for_name before ≤ for_name (before ++ kind ∷ [])
-room_again before kind = rw (joined before kind) (kept (list_any (is_same NameOfStation) before) (list_any (is_same NameOfStation) (kind ∷ [])))
+beyond_again : (large : Kind) (more : ℕ) (before : List Kind) (kind : Kind) → beyond large more before ≤ beyond large more (before ++ kind ∷ [])
+beyond_again large more before kind = rw (joined large before kind) (kept (list_any (is_same large) before) (list_any (is_same large) (kind ∷ [])) more)
+
+room_again : (before : List Kind) (kind : Kind) → for_names before ≤ for_names (before ++ kind ∷ [])
+room_again before kind =
+    let name = beyond_again NameOfStation 215 before kind in
+    let alias = beyond_again AliasName 486 before kind in
+    omega arith
 
 -- a name that did not occur before takes the room for it
-name_new : (before : List Kind) → list_any (is_same NameOfStation) before ≡ false → for_name before + 247 ≤ for_name (before ++ NameOfStation ∷ []) + 32
-name_new before new = rw (joined before NameOfStation, new) (omega arith)
+name_new : (before : List Kind) → list_any (is_same NameOfStation) before ≡ false
+    → beyond NameOfStation 215 before + 215 ≤ beyond NameOfStation 215 (before ++ NameOfStation ∷ [])
+name_new before new = rw (joined NameOfStation before NameOfStation, new) (omega arith)
 
-room_new : (before : List Kind) (kind : Kind) → list_any (is_same kind) before ≡ false → for_name before + most_of kind ≤ for_name (before ++ kind ∷ []) + 32
+alias_new : (before : List Kind) → list_any (is_same AliasName) before ≡ false
+    → beyond AliasName 486 before + 486 ≤ beyond AliasName 486 (before ++ AliasName ∷ [])
+alias_new before new = rw (joined AliasName before AliasName, new) (omega arith)
+
+room_new : (before : List Kind) (kind : Kind) → list_any (is_same kind) before ≡ false → for_names before + most_of kind ≤ for_names (before ++ kind ∷ []) + 32
 room_new before kind new = by kind (is_name_or_small kind) new
   where
-    by : (kind : Kind) → (kind ≡ NameOfStation) ⊎ (most_of kind ≡ 32) → list_any (is_same kind) before ≡ false → for_name before + most_of kind ≤ for_name (before ++ kind ∷ []) + 32
-    by kind (inr small) new = let more = room_again before kind in omega arith
-    by kind (inl name) new =
-        let P : Kind → Type 0 = λ k. list_any (is_same k) before ≡ false → for_name before + most_of k ≤ for_name (before ++ k ∷ []) + 32 in
-        subst P (sym name) (name_new before) new
+    Fits : Kind → Type 0
+    Fits kind = list_any (is_same kind) before ≡ false → for_names before + most_of kind ≤ for_names (before ++ kind ∷ []) + 32
 
-for_name-most : (kinds : List Kind) → for_name kinds ≤ 215
-for_name-most kinds = by (list_any (is_same NameOfStation) kinds)
+    named : Fits NameOfStation
+    named new = let more = name_new before new in let other = beyond_again AliasName 486 before NameOfStation in omega arith
+
+    aliased : Fits AliasName
+    aliased new = let more = alias_new before new in let other = beyond_again NameOfStation 215 before AliasName in omega arith
+
+    by : (kind : Kind) → (kind ≡ NameOfStation) ⊎ ((kind ≡ AliasName) ⊎ (most_of kind ≡ 32)) → Fits kind
+    by kind (inr (inr small)) new = let more = room_again before kind in omega arith
+    by kind (inl name) new = subst Fits (sym name) named new
+    by kind (inr (inl alias)) new = subst Fits (sym alias) aliased new
+
+for_names-most : (kinds : List Kind) → for_names kinds ≤ 701
+for_names-most kinds =
+    let name = by (list_any (is_same NameOfStation) kinds) 215 in
+    let alias = by (list_any (is_same AliasName) kinds) 486 in
+    omega arith
   where
-    by : (b : Bool) → cond b 215 0 ≤ 215
-    by true = omega arith
-    by false = omega arith
+    by : (b : Bool) (more : ℕ) → cond b more 0 ≤ more
+    by true more = omega arith
+    by false more = omega arith
 
 -- the facts about the bytes written for the blocks before an index
 pub record IsSoFar (got : Kind → List ℕ) (written : List ℕ) (blocks : List Block) (i : ℕ) : Type 0 where
   -- with what is to come they make the whole response
   pub all : Gets got written (kinds_in (take i blocks)) (kinds_in (drop i blocks)) (flat_map got (firsts_of [] (kinds_in blocks)))
-  -- they take 32 bytes for each block, and more for one name
-  pub room : length written ≤ 32 * i + for_name (kinds_in (take i blocks))
+  -- they take 32 bytes for each block, and more for the names
+  pub room : length written ≤ 32 * i + for_names (kinds_in (take i blocks))
 
 -- the facts before the first block
 pub so_far_none : (got : Kind → List ℕ) (written : List ℕ) (blocks : List Block) → written ≡ [] → IsSoFar got written blocks 0
@@ -125,9 +152,9 @@ module _ (got : Kind → List ℕ) (blocks : List Block) (i : ℕ) (d : Block) (
   }
 
   -- there is room for one more block
-  pub has_room : (written : List ℕ) → list_any (is_same kind) before ≡ false → length blocks ≤ 16 → IsSoFar got written blocks i → length written + most_of kind ≤ 727
+  pub has_room : (written : List ℕ) → list_any (is_same kind) before ≡ false → length blocks ≤ 16 → IsSoFar got written blocks i → length written + most_of kind ≤ 1213
   has_room written new few h =
       let room = room_new before kind new in
       let was = h.room in
-      let most = for_name-most (before ++ kind ∷ []) in
+      let most = for_names-most (before ++ kind ∷ []) in
       omega arith

@@ -1,5 +1,5 @@
 -- The response to a Get (IEC 61158-6-10, 4.3.2.4).
-use Rattle.std.specs.Prelude.{ℕ, List, [], ◌∷◌, ◌++◌, if◌then◌else◌, flat_map, map, Some, None}
+use Rattle.std.specs.Prelude.{ℕ, List, [], ◌∷◌, ◌++◌, if◌then◌else◌, flat_map, map, Option, Some, None}
 use Rattle.std.specs.List.{list_any}
 use Rattle.pn_values.specs.declared.identity.Identity.{Identity}
 use Rattle.pn_values.specs.declared.settings.Settings.{Settings}
@@ -16,13 +16,13 @@ firsts_of before (kind ∷ kinds) =
     if list_any (is_same kind) before then firsts_of (before ++ kind ∷ []) kinds else kind ∷ firsts_of (before ++ kind ∷ []) kinds
 
 -- the value asked for, or the error that says why there is none: the option or the suboption is unknown
-abbrev pub got : Identity → Settings → Kind → List ℕ
-got identity settings kind = elim (value_of identity settings kind) [
-  | Some value ↦ valued identity settings kind
+abbrev pub got : Identity → Settings → Option (List ℕ) → Kind → List ℕ
+got identity settings alias kind = elim (value_of identity settings alias kind) [
+  | Some value ↦ valued identity settings alias kind
   | None ↦ response_bytes kind (blame kind)
 ]
 
--- the response to a Get: what follows the FrameID
-unfoldable pub get_bytes : Identity → Settings → Asked → List ℕ
-get_bytes identity settings request =
-    answer_bytes 3 request.xid (flat_map (got identity settings) (firsts_of [] (map (λ block. block.kind) request.blocks)))
+-- the response to a Get of a station with this name by its place, if it has one: what follows the FrameID
+unfoldable pub get_bytes : Identity → Settings → Option (List ℕ) → Asked → List ℕ
+get_bytes identity settings alias request =
+    answer_bytes 3 request.xid (flat_map (got identity settings alias) (firsts_of [] (map (λ block. block.kind) request.blocks)))

@@ -3,7 +3,7 @@ use Rattle.std.specs.Prelude.{◌==◌, ◌&&◌, ◌||◌, ℕ, Bool, if◌then
 use Rattle.pn_values.specs.declared.set_item.BlockError.{BlockError}
 use Rattle.pn_values.specs.declared.set_item.BlockError.TheVariants as error
 use Rattle.dcp_core.specs.declared.kind.Kind.{Kind}
-use Rattle.dcp_core.specs.declared.kind.Kind.TheVariants.{MacAddress, IpSuite, StationType, NameOfStation, DeviceId, DeviceRole, DeviceOptions, DeviceInstance, Signal, Response, FactoryReset, ResetToFactory, All, Other}
+use Rattle.dcp_core.specs.declared.kind.Kind.TheVariants.{MacAddress, IpSuite, StationType, NameOfStation, DeviceId, DeviceRole, DeviceOptions, AliasName, DeviceInstance, Signal, Response, FactoryReset, ResetToFactory, All, Other}
 
 -- Option of a kind
 abbrev pub option_of : Kind → ℕ
@@ -14,6 +14,7 @@ option_of NameOfStation = 2
 option_of DeviceId = 2
 option_of DeviceRole = 2
 option_of DeviceOptions = 2
+option_of AliasName = 2
 option_of DeviceInstance = 2
 option_of Signal = 5
 option_of Response = 5
@@ -31,6 +32,7 @@ suboption_of NameOfStation = 2
 suboption_of DeviceId = 3
 suboption_of DeviceRole = 4
 suboption_of DeviceOptions = 5
+suboption_of AliasName = 6
 suboption_of DeviceInstance = 7
 suboption_of Signal = 3
 suboption_of Response = 4
@@ -52,7 +54,7 @@ kind_of option suboption =
 
     kind_of_2 : ℕ → Kind
     kind_of_2 s = if s == 1 then StationType else (if s == 2 then NameOfStation else (if s == 3 then DeviceId else (if s == 4 then DeviceRole
-        else (if s == 5 then DeviceOptions else (if s == 7 then DeviceInstance else Other 2 s)))))
+        else (if s == 5 then DeviceOptions else (if s == 6 then AliasName else (if s == 7 then DeviceInstance else Other 2 s))))))
 
     kind_of_5 : ℕ → Kind
     kind_of_5 s = if s == 3 then Signal else (if s == 4 then Response else (if s == 5 then FactoryReset else (if s == 6 then ResetToFactory else Other 5 s)))

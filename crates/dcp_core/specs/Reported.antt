@@ -1,5 +1,5 @@
 -- The contents of the responses that this crate writes.
-use Rattle.std.specs.Prelude.{◌≡◌, ◌==◌, ◌<◌, ◌≤◌, ◌^◌, ℕ, true, List, [], ◌∷◌, ◌++◌, length, map, if◌then◌else◌, Some, None}
+use Rattle.std.specs.Prelude.{◌≡◌, ◌==◌, ◌<◌, ◌≤◌, ◌^◌, ℕ, true, List, [], ◌∷◌, ◌++◌, length, map, if◌then◌else◌, Option, Some, None}
 use Rattle.std.specs.List.{list_all, zip}
 use Rattle.pn_values.specs.declared.set_item.BlockError.{BlockError}
 use Rattle.pn_values.specs.declared.identity.Identity.{Identity}
@@ -25,8 +25,8 @@ info_number settings IpSuite = if list_all (λ octet. octet == 0) (suite_bytes s
 info_number settings kind = 0
 
 -- what a station reports of a kind: its value, or the error that says why there is none
-abbrev pub reported_of : Identity → Settings → Kind → AnsweredBlock
-reported_of identity settings kind = elim (value_of identity settings kind) [
+abbrev pub reported_of : Identity → Settings → Option (List ℕ) → Kind → AnsweredBlock
+reported_of identity settings alias kind = elim (value_of identity settings alias kind) [
   | Some value ↦ reported kind (info_number settings kind) value
   | None ↦ came_out (named kind) (Known (blame kind))
 ]
@@ -45,12 +45,12 @@ identify_kinds = StationType ∷ NameOfStation ∷ DeviceId ∷ DeviceRole ∷ D
 
 -- the contents of the response to an Identify
 abbrev pub identify_said : Identity → Settings → ℕ → Answered
-identify_said identity settings xid = supported Identify xid (map (reported_of identity settings) identify_kinds)
+identify_said identity settings xid = supported Identify xid (map (reported_of identity settings None) identify_kinds)
 
 -- the contents of the response to a Get
-abbrev pub get_said : Identity → Settings → Asked → Answered
-get_said identity settings request =
-    supported Get request.xid (map (reported_of identity settings) (firsts_of [] (map (λ block. block.kind) request.blocks)))
+abbrev pub get_said : Identity → Settings → Option (List ℕ) → Asked → Answered
+get_said identity settings alias request =
+    supported Get request.xid (map (reported_of identity settings alias) (firsts_of [] (map (λ block. block.kind) request.blocks)))
 
 -- the contents of the response to a Set
 abbrev pub set_said : Asked → List BlockError → Answered

@@ -1,5 +1,5 @@
 // Reading responses.
-ghost use Rattle.std.specs.Prelude.{◌≡◌, ◌++◌, ℕ, List, IfOk, Ok};
+ghost use Rattle.std.specs.Prelude.{◌≡◌, ◌++◌, ℕ, List, Option, IfOk, Ok};
 ghost use Rattle.std.specs.List.{list_all};
 ghost use Rattle.std.specs.Option.{option_map};
 ghost use Rattle.pn_values.specs.declared.identity.Identity.{Identity};
@@ -38,9 +38,9 @@ pub fn read_answer<'a>(frame_id: u16, bytes: &'a [u8]) -> Result<Response<'a>, D
         IsSent xid (identify_bytes identity settings xid) bytes.now
         → Gives answered result (Ok (identify_said identity settings xid)) }
     // A response to a Get that this crate writes is read as what it says.
-    ensures get { (identity : Identity) (settings : Settings) (request : Asked) → frame_id ≡ 0xFEFD →
-        IsSent request.xid (get_bytes identity settings request) bytes.now
-        → Gives answered result (Ok (get_said identity settings request)) }
+    ensures get { (identity : Identity) (settings : Settings) (alias : Option (List ℕ)) (request : Asked) → frame_id ≡ 0xFEFD →
+        IsSent request.xid (get_bytes identity settings alias request) bytes.now
+        → Gives answered result (Ok (get_said identity settings alias request)) }
     // A response to a Set that this crate writes is read as what it says.
     ensures set { (request : Asked) (answers : List BlockError) → frame_id ≡ 0xFEFD →
         IsSent request.xid (set_bytes request answers) bytes.now

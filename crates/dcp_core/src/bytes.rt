@@ -8,15 +8,15 @@ use arrayvec::ArrayVec;
 use pn_values::BlockError;
 
 /// A response, which is what follows the FrameID: a header of 10 bytes, and for each of at most 16 kinds up to 32
-/// bytes, or 247 for the name.
-pub type Answer = ArrayVec<u8, 737>;
+/// bytes, or 247 for the name and 518 for the name by the place.
+pub type Answer = ArrayVec<u8, 1223>;
 
 /// The blocks of a response, which follow its header of ten bytes.
-pub(crate) type Blocks = ArrayVec<u8, 727>;
+pub(crate) type Blocks = ArrayVec<u8, 1213>;
 
 /// Appends a block of BlockInfo and a value. There must be room.
 pub(crate) fn put_block(blocks: &mut Blocks, kind: Kind, info: [u8; 2], value: &[u8])
-    requires { array_vec_len blocks.old + length value.now + 7 ≤ 727 }
+    requires { array_vec_len blocks.old + length value.now + 7 ≤ 1213 }
     ensures items { blocks.new.items ≡ blocks.old.items ++ block_bytes kind (info ++ value.now) }
     ensures len { array_vec_len blocks.new ≤ array_vec_len blocks.old + length value.now + 7 }
 {
@@ -32,7 +32,7 @@ pub(crate) fn put_block(blocks: &mut Blocks, kind: Kind, info: [u8; 2], value: &
 
 /// Appends the outcome of a block or pair of this kind. There must be room.
 pub(crate) fn put_response(blocks: &mut Blocks, kind: Kind, error: BlockError)
-    requires { array_vec_len blocks.old + 8 ≤ 727 }
+    requires { array_vec_len blocks.old + 8 ≤ 1213 }
     ensures items { blocks.new.items ≡ blocks.old.items ++ response_bytes kind error }
     ensures len { array_vec_len blocks.new ≡ array_vec_len blocks.old + 8 }
 {
@@ -44,7 +44,7 @@ pub(crate) fn put_response(blocks: &mut Blocks, kind: Kind, error: BlockError)
 pub(crate) fn put_answer(answer: &mut Answer, service: u8, xid: u32, blocks: &Blocks)
     requires { answer.old.items ≡ [] }
     ensures items { answer.new.items ≡ answer_bytes service xid blocks.now.items }
-    ensures length { length answer.new.items ≤ 737 }
+    ensures length { length answer.new.items ≤ 1223 }
 {
     let _ = answer.try_extend_from_slice(&[service, 1]);
     let _ = answer.try_extend_from_slice(&xid.to_be_bytes());

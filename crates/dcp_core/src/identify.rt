@@ -1,8 +1,8 @@
 // Identify: whether a station responds, and with what.
-ghost use Rattle.std.specs.Prelude.{◌≡◌, ◌+◌, ◌≤◌, ◌++◌, length, is_some};
+ghost use Rattle.std.specs.Prelude.{◌≡◌, ◌+◌, ◌≤◌, ◌++◌, None, length, is_some, option_map};
 ghost use Rattle.dcp_core.specs.Request.{asked};
 ghost use Rattle.arrayvec.specs.ArrayVec.{array_vec_len};
-ghost use Rattle.dcp_core.specs.Identify.{matches, kind_matches, value_of, valued, most_of, identify_bytes, suite_bytes, suite_info};
+ghost use Rattle.dcp_core.specs.Identify.{matches, is_value, kind_matches, value_of, valued, most_of, named_block, identify_bytes, suite_bytes, suite_info};
 ghost use Rattle.dcp_core.specs.Bytes.{block_bytes};
 ghost use Rattle.std.specs.Int.{w16, to_be_bytes};
 
@@ -22,10 +22,18 @@ const KNOWN_OPTIONS: [u8; 24] = [
     1, 1, 1, 2, 2, 1, 2, 2, 2, 3, 2, 4, 2, 5, 2, 7, 5, 3, 5, 4, 5, 5, 5, 6,
 ];
 
-/// Whether a station with this identity and these running settings responds to an Identify request: the request has at
-/// least one block, and each block matches.
-pub fn identify_matches(identity: &Identity, settings: &Settings, request: &Request<'_>) -> bool
-    ensures { result ≡ matches identity.now settings.now (asked request.now) }
+/// The name of a station by its place (AliasName, IEC 61158-6-10, 4.3.1.4.16): that of the port that its cable leads to.
+pub type AliasName = ArrayVec<u8, 511>;
+
+/// Whether a station with this identity, these running settings and this name by its place, if it has one, responds to an
+/// Identify request: the request has at least one block, and each block matches.
+pub fn identify_matches(
+    identity: &Identity,
+    settings: &Settings,
+    alias: Option<&AliasName>,
+    request: &Request<'_>,
+) -> bool
+    ensures { result ≡ matches identity.now settings.now (option_map (λ alias. alias.now.items) alias.entry) (asked request.now) }
 {
     // A request without blocks asks for no station. A request to all stations has a block 255/255.
     !request.blocks.is_empty()
@@ -33,12 +41,18 @@ pub fn identify_matches(identity: &Identity, settings: &Settings, request: &Requ
             .blocks
             .as_slice()
             .iter()
-            .all(|block| matches_block(identity, settings, block))
+            .all(|block| matches_block(identity, settings, alias, block))
 }
 
 /// Whether one block matches.
-fn matches_block(identity: &Identity, settings: &Settings, block: &Block<'_>) -> bool
-    ensures { result ≡ kind_matches identity.now settings.now block.now.kind block.now.contents.now }
+fn matches_block(
+    identity: &Identity,
+    settings: &Settings,
+    alias: Option<&AliasName>,
+    block: &Block<'_>,
+) -> bool
+    ensures { result ≡ kind_matches identity.now settings.now (option_map (λ alias. alias.now.items) alias.entry)
+        block.now.kind block.now.contents.now }
 {
     let contents = block.contents;
     match block.kind {
@@ -51,6 +65,7 @@ fn matches_block(identity: &Identity, settings: &Settings, block: &Block<'_>) ->
         Kind::NameOfStation => !contents.is_empty() && contents == settings.name.as_bytes(),
         Kind::DeviceId => contents == device_id_of(identity).as_slice(),
         Kind::DeviceRole => contents == ROLE.as_slice(),
+        Kind::AliasName => is_alias(alias, contents),
         Kind::DeviceInstance => contents == identity.instance.to_be_bytes().as_slice(),
         Kind::DeviceOptions
         | Kind::Signal
@@ -58,6 +73,16 @@ fn matches_block(identity: &Identity, settings: &Settings, block: &Block<'_>) ->
         | Kind::FactoryReset
         | Kind::ResetToFactory
         | Kind::Other { .. } => false,
+    }
+}
+
+/// Whether this is the name of the station by its place. It may have none.
+fn is_alias(alias: Option<&AliasName>, contents: &[u8]) -> bool
+    ensures { result ≡ is_value (option_map (λ alias. alias.now.items) alias.entry) contents.now }
+{
+    match alias {
+        Some(alias) => alias.as_slice() == contents,
+        None => false,
     }
 }
 
@@ -89,17 +114,17 @@ fn octets_of(suite: &IpSuite) -> ArrayVec<u8, 12>
 pub fn identify_answer(identity: &Identity, settings: &Settings, xid: u32) -> Answer
     // The response has exactly the octets of the definition.
     ensures items { result.items ≡ identify_bytes identity.now settings.now xid }
-    // The response has at most 737 octets.
-    ensures length { length result.items ≤ 737 }
+    // The response has at most 1223 octets.
+    ensures length { length result.items ≤ 1223 }
 {
     let mut blocks = Blocks::new();
-    put_value(&mut blocks, identity, settings, Kind::StationType);
-    put_value(&mut blocks, identity, settings, Kind::NameOfStation);
-    put_value(&mut blocks, identity, settings, Kind::DeviceId);
-    put_value(&mut blocks, identity, settings, Kind::DeviceRole);
-    put_value(&mut blocks, identity, settings, Kind::DeviceOptions);
-    put_value(&mut blocks, identity, settings, Kind::DeviceInstance);
-    put_value(&mut blocks, identity, settings, Kind::IpSuite);
+    put_value(&mut blocks, identity, settings, None, Kind::StationType);
+    put_value(&mut blocks, identity, settings, None, Kind::NameOfStation);
+    put_value(&mut blocks, identity, settings, None, Kind::DeviceId);
+    put_value(&mut blocks, identity, settings, None, Kind::DeviceRole);
+    put_value(&mut blocks, identity, settings, None, Kind::DeviceOptions);
+    put_value(&mut blocks, identity, settings, None, Kind::DeviceInstance);
+    put_value(&mut blocks, identity, settings, None, Kind::IpSuite);
     let mut answer = Answer::new();
     put_answer(&mut answer, 5, xid, &blocks);
     answer
@@ -110,11 +135,12 @@ pub(crate) fn put_value(
     blocks: &mut Blocks,
     identity: &Identity,
     settings: &Settings,
+    alias: Option<&AliasName>,
     kind: Kind,
 ) -> bool
-    requires { array_vec_len blocks.old + most_of kind ≤ 727 }
-    ensures found { result ≡ is_some (value_of identity.now settings.now kind) }
-    ensures items { blocks.new.items ≡ blocks.old.items ++ valued identity.now settings.now kind }
+    requires { array_vec_len blocks.old + most_of kind ≤ 1213 }
+    ensures found { result ≡ is_some (value_of identity.now settings.now (option_map (λ alias. alias.now.items) alias.entry) kind) }
+    ensures items { blocks.new.items ≡ blocks.old.items ++ valued identity.now settings.now (option_map (λ alias. alias.now.items) alias.entry) kind }
     ensures most { array_vec_len blocks.new ≤ array_vec_len blocks.old + most_of kind }
 {
     match kind {
@@ -125,6 +151,7 @@ pub(crate) fn put_value(
         Kind::DeviceId => put_block(blocks, kind, NO_INFO, device_id_of(identity).as_slice()),
         Kind::DeviceRole => put_block(blocks, kind, NO_INFO, &ROLE),
         Kind::DeviceOptions => put_block(blocks, kind, NO_INFO, &KNOWN_OPTIONS),
+        Kind::AliasName => return put_alias(blocks, alias),
         Kind::DeviceInstance => put_block(blocks, kind, NO_INFO, &identity.instance.to_be_bytes()),
         Kind::Signal
         | Kind::Response
@@ -138,9 +165,23 @@ pub(crate) fn put_value(
     true
 }
 
+/// Appends the block of the name by the place, and returns whether the station has one. There must be room.
+fn put_alias(blocks: &mut Blocks, alias: Option<&AliasName>) -> bool
+    requires { array_vec_len blocks.old + 518 ≤ 1213 }
+    ensures found { result ≡ is_some (option_map (λ alias. alias.now.items) alias.entry) }
+    ensures items { blocks.new.items ≡ blocks.old.items ++ named_block (option_map (λ alias. alias.now.items) alias.entry) }
+    ensures most { array_vec_len blocks.new ≤ array_vec_len blocks.old + 518 }
+{
+    let Some(alias) = alias else {
+        return false;
+    };
+    put_block(blocks, Kind::AliasName, NO_INFO, alias.as_slice());
+    true
+}
+
 /// Appends the block of the IP suite. There must be room.
 fn put_suite(blocks: &mut Blocks, suite: &IpSuite)
-    requires { array_vec_len blocks.old + 19 ≤ 727 }
+    requires { array_vec_len blocks.old + 19 ≤ 1213 }
     ensures items { blocks.new.items ≡ blocks.old.items
         ++ block_bytes Kind.IpSuite (suite_info (suite_bytes suite.now) ++ suite_bytes suite.now) }
     ensures most { array_vec_len blocks.new ≤ array_vec_len blocks.old + 19 }

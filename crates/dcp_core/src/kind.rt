@@ -21,6 +21,8 @@ pub enum Kind {
     DeviceRole,
     /// 2/5: the options that the device knows.
     DeviceOptions,
+    /// 2/6: AliasName, the name of the station by its place.
+    AliasName,
     /// 2/7: DeviceInstance.
     DeviceInstance,
     /// 5/3: the signal lamp.
@@ -55,6 +57,7 @@ impl Kind {
             (2, 3) => Kind::DeviceId,
             (2, 4) => Kind::DeviceRole,
             (2, 5) => Kind::DeviceOptions,
+            (2, 6) => Kind::AliasName,
             (2, 7) => Kind::DeviceInstance,
             (5, 3) => Kind::Signal,
             (5, 4) => Kind::Response,
@@ -76,6 +79,7 @@ impl Kind {
             | Kind::DeviceId
             | Kind::DeviceRole
             | Kind::DeviceOptions
+            | Kind::AliasName
             | Kind::DeviceInstance => 2,
             Kind::Signal | Kind::Response | Kind::FactoryReset | Kind::ResetToFactory => 5,
             Kind::All => 255,
@@ -93,7 +97,7 @@ impl Kind {
             Kind::DeviceId | Kind::Signal => 3,
             Kind::DeviceRole | Kind::Response => 4,
             Kind::DeviceOptions | Kind::FactoryReset => 5,
-            Kind::ResetToFactory => 6,
+            Kind::AliasName | Kind::ResetToFactory => 6,
             Kind::DeviceInstance => 7,
             Kind::All => 255,
             Kind::Other { suboption, .. } => suboption,

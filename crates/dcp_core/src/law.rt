@@ -1,5 +1,5 @@
 //! The laws of DCP.
-ghost use Rattle.std.specs.Prelude.{◌≡◌, ◌++◌, ◌≤◌, ◌<◌, List, ℕ, length, Ok};
+ghost use Rattle.std.specs.Prelude.{◌≡◌, ◌++◌, ◌≤◌, ◌<◌, List, ℕ, Option, length, Ok};
 ghost use Rattle.pn_values.specs.declared.identity.Identity.{Identity};
 ghost use Rattle.pn_values.specs.declared.set_item.BlockError.{BlockError};
 ghost use Rattle.pn_values.specs.declared.settings.Settings.{Settings};
@@ -31,9 +31,9 @@ pub fn answers_are_read()
         length (identify_bytes identity settings xid) ≤ 1498
         → answer_of 0xFEFF (identify_bytes identity settings xid ++ more) ≡ Ok (identify_said identity settings xid) }
     // If it fits a frame, the response to a Get is read as what the station reports of each kind that was asked for.
-    ensures get { (identity : Identity) (settings : Settings) (request : Asked) (more : List ℕ) → request.xid < 4294967296 →
-        length (get_bytes identity settings request) ≤ 1498
-        → answer_of 0xFEFD (get_bytes identity settings request ++ more) ≡ Ok (get_said identity settings request) }
+    ensures get { (identity : Identity) (settings : Settings) (alias : Option (List ℕ)) (request : Asked) (more : List ℕ) → request.xid < 4294967296 →
+        length (get_bytes identity settings alias request) ≤ 1498
+        → answer_of 0xFEFD (get_bytes identity settings alias request ++ more) ≡ Ok (get_said identity settings alias request) }
     // If it fits a frame, the response to a Set is read as the outcome of each block.
     ensures set { (request : Asked) (outcomes : List BlockError) (more : List ℕ) → request.xid < 4294967296 →
         length (set_bytes request outcomes) ≤ 1498

@@ -18,7 +18,7 @@ mod writing;
 pub use answers::read_answer;
 pub use bytes::Answer;
 pub use get::get_answer;
-pub use identify::{identify_answer, identify_matches};
+pub use identify::{AliasName, identify_answer, identify_matches};
 pub use kind::Kind;
 pub use law::{answers_are_read, requests_are_read};
 pub use reading::read_request;

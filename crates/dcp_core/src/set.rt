@@ -170,8 +170,8 @@ fn plan_reset(contents: &[u8]) -> SetItem
 pub fn set_answer(request: &Request<'_>, answers: &ArrayVec<BlockError, 16>) -> Answer
     // The response has exactly the octets of the definition: the outcome of each block.
     ensures items { result.items ≡ set_bytes (asked request.now) answers.now.items }
-    // The response has at most 737 octets.
-    ensures length { length result.items ≤ 737 }
+    // The response has at most 1223 octets.
+    ensures length { length result.items ≤ 1223 }
 {
     let mut responses = Blocks::new();
     for (block, error) in request.blocks.as_slice().iter().zip(answers.as_slice()) {

@@ -1,4 +1,3 @@
-pub mod RecordingAsked
 pub mod RecordingFew
 pub mod RecordingLegal
 pub mod RecordingPlaced
@@ -9,5 +8,4 @@ pub mod PortHosted
 pub mod PortLeaps
 pub mod PortLeft
 pub mod PortStages
-pub mod OperationsCounts
-pub mod OperationsReported
+pub mod PortReported

@@ -1,5 +1,5 @@
--- No step makes more than 48 calls: a Set has at most 16 blocks, and a commit makes at most three calls.
-use Rattle.std.proofs.Common.{◌≡◌, ◌==◌, ◌*◌, ◌-◌, ◌≤◌, ℕ, Bool, true, false, zero, suc, List, [], ◌∷◌, length, refl, sym, subst, Option, Some, None, Result, Ok, Err, arith}
+-- No step makes more than 48 calls: it asks for at most 16 commits, and a commit makes at most three calls.
+use Rattle.std.proofs.Common.{◌==◌, ◌*◌, ◌-◌, ◌≤◌, ℕ, Bool, true, false, zero, suc, List, [], ◌∷◌, length, sym, subst, Option, Some, None, arith}
 use Rattle.std.specs.Prelude.{if◌then◌else◌}
 use Rattle.std.proofs.lemmas.List.{length-append}
 use Rattle.pn_values.specs.Command.{apply}
@@ -14,13 +14,6 @@ use Rattle.settings_journal.specs.Calls.{CommitCalls, calls_of}
 use Rattle.settings_journal.specs.Cut.{all_carried_out}
 use Rattle.settings_store.specs.Machine.{Accepted, Carried, Pass, carried_one, carried}
 use Rattle.settings_store.specs.State.{Values}
-use Rattle.wire.specs.Codec.{Codec, ◌>>=◌}
-use Rattle.wire.specs.Filled.{filled, read_all}
-use Rattle.dcp_core.specs.declared.request.DcpFault.{DcpFault}
-use Rattle.dcp_core.specs.declared.request.DcpFault.TheVariants as fault
-use Rattle.dcp_core.specs.declared.request.Service.{Service}
-use Rattle.dcp_core.specs.Format.{block_of, blocks_of, data_of}
-use Rattle.dcp_core.specs.Request.{AskedBlock}
 use Rattle.device_abi.specs.recording.Calls.{CallsOf}
 
 -- ---- the calls of commands
@@ -60,33 +53,3 @@ few_of_items values (item ∷ items) =
     let later = few_of_items one.values items in
     let both = length-append one.accepted (carried [] one.values items).accepted in
     omega (arith, here, later, both)
-
--- ---- the blocks of a request
-
-pub of_bind : {F A B : Type 0} (first : Result A F) (next : A → Result B F) (value : B) → (first >>= next) ≡ Ok value → (x : A) × (first ≡ Ok x) × (next x ≡ Ok value)
-of_bind (Ok x) next value e = (x, refl, e)
-of_bind (Err fault) next value e = cc e
-
-none_read : {F A : Type 0} (is_end : Bool) (most : ℕ) (more : Result (List A) F) → ((values : List A) → more ≡ Ok values → length values ≤ most) → (values : List A)
-    → (if is_end then Ok [] else more) ≡ Ok values → length values ≤ most
-none_read true most more few values e = let is : [] ≡ values = cc e in subst (λ v. length v ≤ most) is (omega arith)
-none_read false most more few values e = few values e
-
-few_read : {F A : Type 0} (most : ℕ) (more : F) (codec : Codec F A) (bytes : List ℕ) (values : List A) → read_all most more codec bytes ≡ Ok values → length values ≤ most
-unfolding read_all
-few_read zero more codec bytes values e = none_read (length bytes == 0) 0 (Err more) (λ _ is. cc is) values e
-few_read (suc most) more codec bytes values e =
-    none_read (length bytes == 0) (suc most) _ (λ all is.
-    let first = of_bind (codec.read bytes) _ all is in
-    let rest = of_bind (read_all most more codec first.0.1) _ all first.2 in
-    let few = few_read most more codec first.0.1 rest.0 rest.1 in
-    let both : first.0.0 ∷ rest.0 ≡ all = cc rest.2 in
-    subst (λ v. length v ≤ suc most) both (omega (arith, few))) values e
-
-pub few_data : (service : Result Service DcpFault) (bytes : List ℕ) (value : Service × List AskedBlock) → (data_of service).read bytes ≡ Ok value → length value.1 ≤ 16
-unfolding data_of blocks_of
-few_data (Ok service) bytes value e =
-    let blocks = of_bind ((filled 16 fault.Block (block_of service)).read bytes) _ value e in
-    let is : (service, blocks.0) ≡ value = cc blocks.2 in
-    subst (λ v. length v.1 ≤ 16) is (few_read 16 fault.Block (block_of service) bytes blocks.0 blocks.1)
-few_data (Err why) bytes value e = cc e

@@ -9,19 +9,18 @@ use Rattle.device_abi.specs.recorded.Record.{image_of, record_of}
 use Rattle.device_abi.specs.recorded.Laws.{IsImage-of}
 use Rattle.device_abi.specs.declared.recorded.flash.RecordedFlash.{RecordedFlash}
 use Rattle.device_abi.specs.recording.Recorded.{Records}
-use Rattle.device_abi.proofs.RecordingAsked.{few_items}
 use Rattle.device_abi.proofs.RecordingFew.{few_of_commands, few_of_items}
 use Rattle.device_abi.proofs.RecordingLegal.{are_legal}
 use Rattle.device_abi.proofs.RecordingPlaced.{after_image, as_recorded, items_calls, last_calls}
 
 pub step_records : {S : ℕ} (old new : State (RecordedFlash S)) (event : Event) → Holds (image_of old.flash) old.live.values → old.live.values.has_failed ≡ false
+    → length (items_of old.station old.live (heard_of old.station.identity event)) ≤ 16
     → OneByOne as_recorded [] (store_of old) (items_of old.station old.live (heard_of old.station.identity event)) (store_of new)
     → Stretch as_recorded (store_of old) (step_of [] old.station old.live event).accepted (store_of new) → new.live.values.has_failed ≡ false → Records old (step_of [] old.station old.live event).accepted new
 unfolding heard_step handled_step
-step_records old new event holds going placed stretch goes =
+step_records old new event holds going asks placed stretch goes =
     let all = items_calls (store_of old) (store_of new) (items_of old.station old.live (heard_of old.station.identity event)) placed going holds in
     let is = all.asked all.writes in
-    let asks = few_items old.station old.live event in
     let accepts = few_of_items old.live.values (items_of old.station old.live (heard_of old.station.identity event)) in
     let commits = few_of_commands (image_of old.flash) old.live.values.stored old.live.values.room _ all.calls all.of_commands in
     let few : length all.calls ≤ 48 = omega (arith, asks, accepts, commits) in

@@ -1,4 +1,3 @@
 pub mod recorded
 pub mod recording
 pub mod port
-pub mod operations

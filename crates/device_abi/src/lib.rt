@@ -1,15 +1,13 @@
 //! The device as a host in C drives it: events go in, and work comes out, flash calls first and then frames.
 //!
 //! `recorded` is a flash in memory that records its calls, `recording` a step of the device over it, `port` the device with the
-//! work of its last step and the law for hosts, and `operations` the operations of the library for C over a port.
+//! work of its last step and the law for hosts.
 #![tactic(auto)]
 
-mod operations;
 mod port;
 mod recorded;
 mod recording;
 
-pub use operations::{Station, hand_out, judge, port_of, serve};
 pub use port::{Operation, Passed, Port, Refusal, SECTOR_SIZE, Stage, Work, play};
 pub use recorded::{MOST_BYTES, MOST_CALLS, Recorded, RecordedFlash};
-pub use recording::{leap, skip, step, step_frame, unit};
+pub use recording::{leap, skip, step, step_call, step_frame, unit};

@@ -1,6 +1,6 @@
 -- What happens to the stored answers.
 use Rattle.std.proofs.lemmas.Bool.{cond_both}
-use Rattle.std.proofs.Common.{◌≡◌, ◌&&◌, ℕ, Bool, List, [], ◌∷◌, ◌++◌, Option, Some, None, Result, Ok, Err, refl, sym, ap, ◌∙◌}
+use Rattle.std.proofs.Common.{◌≡◌, ◌&&◌, ℕ, Bool, not, List, [], ◌∷◌, ◌++◌, Option, Some, None, is_some, Result, Ok, Err, refl, sym, ap, ◌∙◌}
 use Rattle.pn_values.specs.declared.mac.Mac.{Mac}
 use Rattle.pn_values.specs.declared.set_item.BlockError.{BlockError}
 use Rattle.settings_store.specs.Machine.{Outcome, carried}
@@ -14,12 +14,12 @@ use Rattle.records.specs.declared.status.operation.Operation.{Operation}
 use Rattle.records.specs.declared.status.operation.Operation.TheVariants.{Connect, Release, Read, Write, Control, ReadImplicit}
 use Rattle.records.specs.declared.status.call_fault.CallFault.{CallFault}
 use Rattle.records.specs.status.Operation.{operation_of}
-use Rattle.records.specs.reads.Implicit.{implicit_read}
 use Rattle.record_blocks.specs.declared.write_record.IodWriteReq.{IodWriteReq}
 use Rattle.records.specs.declared.writes.write.Effect.{Effect}
 use Rattle.records.specs.declared.writes.write.Effect.TheVariants.{Stores, Keeps}
-use Rattle.records.specs.declared.writes.write.Write.{Write as Asking}
-use Rattle.records.specs.writes.Handled.{write_of}
+use Rattle.records.specs.declared.writes.writing.Writing.{Writing}
+use Rattle.records.specs.declared.writes.writing.Writing.TheVariants.{One, Each}
+use Rattle.records.specs.writes.Asked.{writing_of}
 use Rattle.pn_alarms.specs.declared.device.PduFate.{PduFate}
 use Rattle.pn_alarms.specs.declared.device.PduFate.TheVariants as fate
 use Rattle.cyclic_exchange.specs.declared.received.Received.{Received}
@@ -31,18 +31,26 @@ use Rattle.relations.specs.Exchanged.{given_to, heard_by, hearing, raised_to, re
 use Rattle.relations.specs.declared.hearing.ReadyAnswer.{ReadyAnswer}
 use Rattle.relations.specs.declared.hearing.ReadyAnswer.TheVariants as to_ready
 use Rattle.relations.specs.RelationState.{RelationState, uuid_of, is_alarm_of, is_preparing, phase_of}
-use Rattle.relation_records.specs.Reading.{relation_read}
+use Rattle.relation_records.specs.Reading.{implicit_read, relation_read}
 use Rattle.relations.specs.Phases.{keeping, updated}
 use Rattle.relations.specs.Calls.{prm_end_answer, release_answer}
 use Rattle.relations.specs.Connect.{connect_answer}
 use Rattle.relations.specs.Ready.{answer_of as ready_answer}
 use Rattle.device_frames.specs.declared.event.Event.{Event}
 use Rattle.frame_codec.specs.declared.udp.Caller.{Caller}
-use Rattle.device_core.specs.State.{Station, Live}
+use Rattle.device_core.specs.State.{Station, Live, alias_in}
 use Rattle.device_frames.specs.Sent.{Sent}
-use Rattle.device_frames.specs.Heard.{Heard, Ticks, Unreadable, Elsewhere, Asks, Resolves, Reported, Cyclic, Alarms, Given, Raised, Rated, Readied, Said, Calls, Responds, Garbled, heard_of}
-use Rattle.device_core.specs.Handled.{Handled, is_running, is_request, answer_from, kept_for, kept_answer, handled_request, handled_effect, handled_write, handled_new, handled_looked, handled_blocks, handled_call, handled_answer, handled_said, handled_pdu, handled_received, handled_input, handled_notice, kept_status, handled}
-use Rattle.device_core.specs.Machine.{items_in, first_answer, written_as, finished, heard_step, handled_step, step_of, first_step, later_steps, run_of}
+use Rattle.pn_alarms.specs.declared.pdu.Header.{Header}
+use Rattle.pn_alarms.specs.Message.{ToDevice}
+use Rattle.module_diff.specs.Plugged.{submodule_ident}
+use Rattle.diagnosis.specs.Existing.{changed}
+use Rattle.diagnosis.specs.declared.diagnosis.Change.{Change}
+use Rattle.diagnosis.specs.declared.diagnosis.Diagnosis.{Diagnosis}
+use Rattle.relations.specs.Diagnosed.{has_sent_low, heard_low, hearing_low, is_full_in}
+use Rattle.device_frames.specs.Heard.{Heard, Ticks, Unreadable, Elsewhere, Asks, Resolves, Reported, Cyclic, Alarms, LowReplies, LowConfirms, Given, Raised, Rated, Met, Diagnosed, Readied, Said, Calls, Responds, Garbled, heard_of}
+use Rattle.device_core.specs.Handled.{Handled, is_running, is_request, answer_from, kept_for, kept_answer, handled_request, handled_effect, handled_write, handled_new, handled_looked, handled_blocks, handled_call, handled_answer, handled_said, handled_pdu, handled_received, handled_input, handled_notice, kept_status, handled, known_of, handled_alarm, handled_change, handled_low, handled_low_pdu}
+use Rattle.device_core.specs.Several.{judged_each}
+use Rattle.device_core.specs.Machine.{items_in, first_answer, several_answer, written_as, finished, heard_step, handled_step, step_of, first_step, later_steps, run_of}
 use Rattle.device_core.specs.Steps.{IsBehindCalls}
 
 calls_then : (first later : List Kept) (cache : List Kept) → behind_calls 4 (first ++ later) cache ≡ behind_calls 4 later (behind_calls 4 first cache)
@@ -59,7 +67,7 @@ IsKept station live answers what = IsBehindCalls live.rest.calls (finished stati
 
 request_called : (station : Station) (live : Live) (answers : List BlockError) (asker : Mac) (asked : Service) (request : Asked) → IsKept station live answers (handled_request station live asker asked request)
 request_called station live answers asker service.Identify request =
-    cond_both (matches station.identity live.values.running request) _ _ (IsKept station live answers) (λ _. ([], refl)) (λ _. ([], refl))
+    cond_both (matches station.identity live.values.running (alias_in live.rest.peer) request) _ _ (IsKept station live answers) (λ _. ([], refl)) (λ _. ([], refl))
 request_called station live answers asker service.Get request = ([], refl)
 request_called station live answers asker service.Set request = ([], refl)
 
@@ -79,9 +87,12 @@ effect_called station live answers caller call header (Stores value) is_new =
     kept_called station live call (answer_from live.values.running.suite.address caller call Write (written_as header (first_answer answers))) is_new
 effect_called station live answers caller call header (Keeps parameter) is_new = served_called station live caller call Write (kept_answer header (keeping parameter live.rest.link)) is_new
 
-write_called : (station : Station) (live : Live) (answers : List BlockError) (caller : Caller) (call : Called) (write : Result Asking CallFault)
-    → looked call.header.activity call.header.sequence live.rest.calls ≡ new → IsKept station live answers (handled_write station live caller call write)
-write_called station live answers caller call (Ok write) is_new = effect_called station live answers caller call write.request write.effect is_new
+write_called : (station : Station) (live : Live) (answers : List BlockError) (caller : Caller) (call : Called) (writing : Result Writing CallFault)
+    → looked call.header.activity call.header.sequence live.rest.calls ≡ new → IsKept station live answers (handled_write station live caller call writing)
+write_called station live answers caller call (Ok (One write)) is_new = effect_called station live answers caller call write.request write.effect is_new
+write_called station live answers caller call (Ok (Each header entries)) is_new =
+    let judged = judged_each (uuid_of live.rest.link) station.real entries in
+    kept_called station live call (answer_from live.values.running.suite.address caller call Write (Ok (several_answer header judged answers live.rest.link))) is_new
 write_called station live answers caller call (Err fault) is_new = served_called station live caller call Write (Err fault) is_new
 
 new_called : (station : Station) (live : Live) (answers : List BlockError) (caller : Caller) (call : Called) (blocks : List ℕ) (operation : Operation)
@@ -91,13 +102,13 @@ new_called station live answers caller call blocks Connect is_new =
 new_called station live answers caller call blocks Release is_new =
     served_called station live caller call Release (release_answer live.rest.link blocks) is_new
 new_called station live answers caller call blocks Read is_new =
-    served_called station live caller call Read (relation_read live.rest.link station.identity station.real live.values.running blocks) is_new
+    served_called station live caller call Read (relation_read (known_of station live) station.identity station.real live.values.running blocks) is_new
 new_called station live answers caller call blocks Write is_new =
-    write_called station live answers caller call (write_of (uuid_of live.rest.link) station.real blocks) is_new
+    write_called station live answers caller call (writing_of (uuid_of live.rest.link) station.real blocks) is_new
 new_called station live answers caller call blocks Control is_new =
     served_called station live caller call Control (prm_end_answer live.rest.link blocks) is_new
 new_called station live answers caller call blocks ReadImplicit is_new =
-    served_called station live caller call ReadImplicit (implicit_read station.identity station.real live.values.running blocks) is_new
+    served_called station live caller call ReadImplicit (implicit_read (known_of station live) station.identity station.real live.values.running blocks) is_new
 
 looked_called : (station : Station) (live : Live) (answers : List BlockError) (caller : Caller) (call : Called) (blocks : List ℕ) (operation : Operation) (reported : Looked)
     → looked call.header.activity call.header.sequence live.rest.calls ≡ reported → IsKept station live answers (handled_looked station live caller call blocks operation reported)
@@ -114,7 +125,7 @@ call_called : (station : Station) (live : Live) (answers : List BlockError) (cal
 call_called station live answers caller call None = ([], refl)
 call_called station live answers caller call (Some operation) = blocks_called station live answers caller call operation call.blocks
 
-answer_called : (station : Station) (live : Live) (answers : List BlockError) (answer : ReadyAnswer) → IsKept station live answers (handled_answer live answer)
+answer_called : (station : Station) (live : Live) (answers : List BlockError) (answer : ReadyAnswer) → IsKept station live answers (handled_answer station live answer)
 answer_called station live answers to_ready.NotWanted = ([], refl)
 answer_called station live answers to_ready.Garbled = ([], refl)
 answer_called station live answers to_ready.Confirmed = ([], refl)
@@ -129,7 +140,27 @@ pdu_called : (station : Station) (live : Live) (answers : List BlockError) (came
 pdu_called station live answers (fate.Data taken) link = ([], refl)
 pdu_called station live answers fate.Done link = ([], refl)
 pdu_called station live answers fate.Ignored link = ([], refl)
-pdu_called station live answers fate.Aborted link = ([], refl)
+pdu_called station live answers (fate.Aborted status) link = ([], refl)
+
+alarm_called : (station : Station) (live : Live) (answers : List BlockError) (source : Mac) (header : Header) (message : ToDevice) → IsKept station live answers (handled_alarm live source header message)
+alarm_called station live answers source header message =
+    cond_both (is_alarm_of source header.destination header.source live.rest.link) _ _ (IsKept station live answers)
+    (λ _. pdu_called station live answers (heard_by message live.rest.link) (updated (hearing message live.rest.link) live.rest.link)) (λ _. ([], refl))
+
+low_pdu_called : (station : Station) (live : Live) (answers : List BlockError) (came : PduFate) (link : Option RelationState) → IsKept station live answers (handled_low_pdu station live came link)
+low_pdu_called station live answers (fate.Data taken) link = ([], refl)
+low_pdu_called station live answers fate.Done link = ([], refl)
+low_pdu_called station live answers fate.Ignored link = ([], refl)
+low_pdu_called station live answers (fate.Aborted status) link = ([], refl)
+
+low_called : (station : Station) (live : Live) (answers : List BlockError) (source : Mac) (header : Header) (message : ToDevice) → IsKept station live answers (handled_low station live source header message)
+low_called station live answers source header message =
+    cond_both (is_alarm_of source header.destination header.source live.rest.link) _ _ (IsKept station live answers)
+    (λ _. low_pdu_called station live answers (heard_low message live.rest.link) (updated (hearing_low message live.rest.link) live.rest.link)) (λ _. ([], refl))
+
+change_called : (station : Station) (live : Live) (answers : List BlockError) (change : Change) (diagnoses : Option (List Diagnosis)) → IsKept station live answers (handled_change station live change diagnoses)
+change_called station live answers change (Some diagnoses) = ([], refl)
+change_called station live answers change None = ([], refl)
 
 received_called : (station : Station) (live : Live) (answers : List BlockError) (came : Received) (link : Option RelationState) → IsKept station live answers (handled_received live came link)
 received_called station live answers received.Foreign link = ([], refl)
@@ -156,14 +187,22 @@ handled_called station live answers (Resolves asker packet) =
     cond_both (is_request packet.operation && is_running live.values.running packet.target.address) _ _ (IsKept station live answers) (λ _. ([], refl)) (λ _. ([], refl))
 handled_called station live answers (Reported caller address said) =
     cond_both (is_running live.values.running address) _ _ (IsKept station live answers) (λ _. said_called station live answers caller said) (λ _. ([], refl))
-handled_called station live answers (Alarms source header message) =
-    cond_both (is_alarm_of source header.destination header.source live.rest.link) _ _ (IsKept station live answers) (λ _. pdu_called station live answers (heard_by message live.rest.link) (updated (hearing message live.rest.link) live.rest.link)) (λ _. ([], refl))
+handled_called station live answers (Alarms source header message) = alarm_called station live answers source header message
+handled_called station live answers (LowReplies source header message) =
+    cond_both (has_sent_low live.rest.link) _ _ (IsKept station live answers) (λ _. low_called station live answers source header message)
+    (λ _. alarm_called station live answers source header message)
+handled_called station live answers (LowConfirms source header message) =
+    cond_both (has_sent_low live.rest.link) _ _ (IsKept station live answers) (λ _. low_called station live answers source header message) (λ _. ([], refl))
 handled_called station live answers (Cyclic source frame_id body) =
     received_called station live answers (received_by source frame_id body live.rest.link) (updated (receiving source frame_id body live.rest.link) live.rest.link)
 handled_called station live answers (Given slot subslot value) = input_called station live answers (given_to slot subslot value live.rest.link)
 handled_called station live answers (Raised slot subslot octets) = notice_called station live answers (raised_to station.real.modules.items slot subslot octets live.rest.link)
 handled_called station live answers (Rated slot subslot is_good) =
     status_called station live answers slot subslot is_good (statuses_at station.real.modules.items (record { slot = slot; subslot = subslot; is_good = is_good }) live.rest.statuses)
+handled_called station live answers (Met peer) = ([], refl)
+handled_called station live answers (Diagnosed change) =
+    cond_both (is_some (submodule_ident station.real.modules.items change.diagnosis.slot change.diagnosis.subslot) && not (is_full_in live.rest.link)) _ _
+    (IsKept station live answers) (λ _. change_called station live answers change (changed change live.rest.diagnoses)) (λ _. ([], refl))
 handled_called station live answers Readied = cond_both (is_preparing (phase_of live.rest.link)) _ _ (IsKept station live answers) (λ _. ([], refl)) (λ _. ([], refl))
 handled_called station live answers Ticks = ([], refl)
 handled_called station live answers Unreadable = ([], refl)

@@ -65,6 +65,15 @@ pub input_leaves : (station : Station) (live : Live) (flow : Option Flow)
 input_leaves station live (Some flow) = refl
 input_leaves station live None = refl
 
+-- Its note.
+pub input_done : (station : Station) (live : Live) (flow : Option Flow) → is_some flow ≡ true → (end_of station live (handled_input live flow)).note ≡ Done
+input_done station live (Some flow) some = refl
+input_done station live None some = cc
+
+pub input_refused : (station : Station) (live : Live) (flow : Option Flow) → is_some flow ≡ false → (end_of station live (handled_input live flow)).note ≡ Refused
+input_refused station live (Some flow) none = cc
+input_refused station live None none = refl
+
 -- The application is ready: it is refused if the relation does not wait for that, else ApplicationReady is sent.
 ready_by : (station : Station) (live : Live) (b : Bool) → is_preparing (phase_of live.rest.link) ≡ b
     → end_of station live (handled_ready live)

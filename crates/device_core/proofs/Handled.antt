@@ -1,7 +1,7 @@
 -- An outcome that asks nothing of the settings.
 use Rattle.std.proofs.lemmas.Bool.{cond_both}
 use Rattle.relations.specs.declared.statuses.InputStatus.{InputStatus}
-use Rattle.std.proofs.Common.{◌≡◌, ◌&&◌, ℕ, Bool, false, List, [], Option, Some, None, refl}
+use Rattle.std.proofs.Common.{◌≡◌, ◌&&◌, ℕ, Bool, false, not, is_some, List, [], Option, Some, None, refl}
 use Rattle.pn_values.specs.declared.mac.Mac.{Mac}
 use Rattle.frame_codec.specs.declared.arp.Arp.{Arp}
 use Rattle.pn_alarms.specs.declared.pdu.Header.{Header}
@@ -13,11 +13,16 @@ use Rattle.cyclic_exchange.specs.declared.received.Received.TheVariants as recei
 use Rattle.relations.specs.exchange.Flow.{Flow}
 use Rattle.relations.specs.RelationState.{RelationState, is_alarm_of, is_preparing, phase_of}
 use Rattle.relations.specs.Phases.{updated}
+use Rattle.module_diff.specs.Plugged.{submodule_ident}
+use Rattle.diagnosis.specs.Existing.{changed}
+use Rattle.diagnosis.specs.declared.diagnosis.Change.{Change}
+use Rattle.diagnosis.specs.declared.diagnosis.Diagnosis.{Diagnosis}
+use Rattle.relations.specs.Diagnosed.{has_sent_low, heard_low, hearing_low, is_full_in}
 use Rattle.relations.specs.Exchanged.{heard_by, hearing, received_by, receiving}
 use Rattle.relations.specs.declared.hearing.ReadyAnswer.{ReadyAnswer}
 use Rattle.relations.specs.declared.hearing.ReadyAnswer.TheVariants as to_ready
 use Rattle.device_core.specs.State.{Station, Live}
-use Rattle.device_core.specs.Handled.{is_running, is_request, handled_arp, handled_answer, handled_alarm, handled_pdu, handled_received, handled_cyclic, handled_input, handled_notice, handled_ready, kept_status}
+use Rattle.device_core.specs.Handled.{is_running, is_request, handled_arp, handled_answer, handled_alarm, handled_pdu, handled_received, handled_cyclic, handled_input, handled_notice, handled_ready, handled_change, handled_diagnosed, handled_low, handled_low_confirm, handled_low_pdu, handled_low_reply, kept_status}
 use Rattle.device_core.specs.Machine.{end_of}
 use Rattle.device_core.proofs.Machine.{is_asking}
 
@@ -35,7 +40,7 @@ pdu_asks_nothing : (live : Live) (heard : PduFate) (link : Option RelationState)
 pdu_asks_nothing live (fate.Data taken) link = refl
 pdu_asks_nothing live fate.Done link = refl
 pdu_asks_nothing live fate.Ignored link = refl
-pdu_asks_nothing live fate.Aborted link = refl
+pdu_asks_nothing live (fate.Aborted status) link = refl
 
 pub alarm_asks_nothing : (live : Live) (source : Mac) (header : Header) (message : ToDevice) → is_asking (handled_alarm live source header message) ≡ false
 alarm_asks_nothing live source header message =
@@ -90,8 +95,38 @@ pub ready_asks_nothing : (live : Live) → is_asking (handled_ready live) ≡ fa
 ready_asks_nothing live = cond_both (is_preparing (phase_of live.rest.link)) _ _ (λ what. is_asking what ≡ false) (λ _. refl) (λ _. refl)
 
 -- The answer to ApplicationReady.
-pub answer_asks_nothing : (live : Live) (answer : ReadyAnswer) → is_asking (handled_answer live answer) ≡ false
-answer_asks_nothing live to_ready.NotWanted = refl
-answer_asks_nothing live to_ready.Garbled = refl
-answer_asks_nothing live to_ready.Confirmed = refl
-answer_asks_nothing live (to_ready.Refused farewell) = refl
+pub answer_asks_nothing : (station : Station) (live : Live) (answer : ReadyAnswer) → is_asking (handled_answer station live answer) ≡ false
+answer_asks_nothing station live to_ready.NotWanted = refl
+answer_asks_nothing station live to_ready.Garbled = refl
+answer_asks_nothing station live to_ready.Confirmed = refl
+answer_asks_nothing station live (to_ready.Refused farewell) = refl
+
+-- A PDU of low priority, and a diagnosis.
+low_pdu_asks_nothing : (station : Station) (live : Live) (heard : PduFate) (link : Option RelationState) → is_asking (handled_low_pdu station live heard link) ≡ false
+low_pdu_asks_nothing station live (fate.Data taken) link = refl
+low_pdu_asks_nothing station live fate.Done link = refl
+low_pdu_asks_nothing station live fate.Ignored link = refl
+low_pdu_asks_nothing station live (fate.Aborted status) link = refl
+
+low_asks_nothing : (station : Station) (live : Live) (source : Mac) (header : Header) (message : ToDevice) → is_asking (handled_low station live source header message) ≡ false
+low_asks_nothing station live source header message =
+    cond_both (is_alarm_of source header.destination header.source live.rest.link) _ _ (λ what. is_asking what ≡ false)
+    (λ _. low_pdu_asks_nothing station live (heard_low message live.rest.link) (updated (hearing_low message live.rest.link) live.rest.link)) (λ _. refl)
+
+pub low_reply_asks_nothing : (station : Station) (live : Live) (source : Mac) (header : Header) (message : ToDevice) → is_asking (handled_low_reply station live source header message) ≡ false
+low_reply_asks_nothing station live source header message =
+    cond_both (has_sent_low live.rest.link) _ _ (λ what. is_asking what ≡ false) (λ _. low_asks_nothing station live source header message)
+    (λ _. alarm_asks_nothing live source header message)
+
+pub low_confirm_asks_nothing : (station : Station) (live : Live) (source : Mac) (header : Header) (message : ToDevice) → is_asking (handled_low_confirm station live source header message) ≡ false
+low_confirm_asks_nothing station live source header message =
+    cond_both (has_sent_low live.rest.link) _ _ (λ what. is_asking what ≡ false) (λ _. low_asks_nothing station live source header message) (λ _. refl)
+
+change_asks_nothing : (station : Station) (live : Live) (change : Change) (diagnoses : Option (List Diagnosis)) → is_asking (handled_change station live change diagnoses) ≡ false
+change_asks_nothing station live change (Some diagnoses) = refl
+change_asks_nothing station live change None = refl
+
+pub diagnosed_asks_nothing : (station : Station) (live : Live) (change : Change) → is_asking (handled_diagnosed station live change) ≡ false
+diagnosed_asks_nothing station live change =
+    cond_both (is_some (submodule_ident station.real.modules.items change.diagnosis.slot change.diagnosis.subslot) && not (is_full_in live.rest.link)) _ _
+    (λ what. is_asking what ≡ false) (λ _. change_asks_nothing station live change (changed change live.rest.diagnoses)) (λ _. refl)

@@ -15,9 +15,10 @@ use Rattle.device_frames.specs.Relation.{due_frames}
 use Rattle.device_frames.specs.Sent.{bytes_of}
 use Rattle.device_core.specs.Behind.{behind, frames_of}
 use Rattle.device_core.specs.Handled.{ticked}
+use Rattle.device_core.specs.Log.{err_log, with_log}
 use Rattle.device_core.specs.Leaps.{LeapsAreTicks, NoneSends, OnlyTheLastSends, Leapt, and_then, then_leap, ticks_of}
 use Rattle.device_core.specs.Machine.{end_of, handled_step, heard_step, step_of}
-use Rattle.device_core.specs.State.{Live, Rest, State, Station}
+use Rattle.device_core.specs.State.{Live, Rest, State, Station, counter_of, units_after}
 
 pub below_right : (number one other : ℕ) → number < min one other → number < other
 below_right number one other below = omega (arith, below)
@@ -36,7 +37,7 @@ tick_frames station live = refl
 none_sent : (station : Station) (live : Live) → due_of live.rest.link ≡ nothing → (step_of [] station live Tick).frames ≡ []
 none_sent station live none =
     tick_frames station live
-    ∙ ap (λ (d : Due). map (bytes_of station.identity) (due_frames live.values.running.suite.address ((live.rest.units + 1) % 65536) d (updated (passing live.rest.link) live.rest.link))) none
+    ∙ ap (λ (d : Due). map (bytes_of station.identity) (due_frames live.values.running.suite.address (counter_of (units_after 1 live.rest.units)) d (updated (passing live.rest.link) live.rest.link))) none
 
 -- ---- units with which nothing is due
 
@@ -44,7 +45,7 @@ abbrev with_counts : Rest → ℕ → Option RelationState → ℕ → Rest
 with_counts rest lamp link units = record rest { lamp = lamp; link = link; units = units }
 
 abbrev rest_later : ℕ → Rest → Rest
-rest_later units rest = with_counts rest (rest.lamp - units) (units_over units rest.link) ((rest.units + units) % 65536)
+rest_later units rest = with_counts rest (rest.lamp - units) (units_over units rest.link) ((rest.units + units) % 18446744073709551616)
 
 abbrev live_later : ℕ → Live → Live
 live_later units live = record { values = live.values; rest = rest_later units live.rest }
@@ -52,24 +53,27 @@ live_later units live = record { values = live.values; rest = rest_later units l
 abbrev with_lamp_and_units : Live → ℕ → Option RelationState → ℕ → Live
 with_lamp_and_units live lamp link units = record { values = live.values; rest = with_counts live.rest lamp link units }
 
-counter_next : (counter units : ℕ) → ((counter + units) % 65536 + 1) % 65536 ≡ (counter + suc units) % 65536
+counter_next : (counter units : ℕ) → ((counter + units) % 18446744073709551616 + 1) % 18446744073709551616 ≡ (counter + suc units) % 18446744073709551616
 counter_next counter units =
     let one : counter + units + 1 ≡ counter + suc units = omega arith in
-    mod-add-mod (counter + units) 65536 1 ∙ ap (λ (n : ℕ). n % 65536) one
+    mod-add-mod (counter + units) 18446744073709551616 1 ∙ ap (λ (n : ℕ). n % 18446744073709551616) one
 
-later_next : (station : Station) (live : Live) (units : ℕ) → (step_of [] station (live_later units live) Tick).live ≡ live_later (suc units) live
-later_next station live units =
+later_next : (station : Station) (live : Live) (units : ℕ) → due_of (units_over units live.rest.link) ≡ nothing
+    → (step_of [] station (live_later units live) Tick).live ≡ live_later (suc units) live
+later_next station live units none =
     let lamp : live.rest.lamp - units - 1 ≡ live.rest.lamp - suc units = omega arith in
     let link = units_over (suc units) live.rest.link in
+    let one = units_after 1 (rest_later units live.rest).units in
     tick_live station (live_later units live)
-    ∙ (ap (λ (n : ℕ). with_lamp_and_units live n link (((live.rest.units + units) % 65536 + 1) % 65536)) lamp
-    ∙ ap (with_lamp_and_units live (live.rest.lamp - suc units) link) (counter_next live.rest.units units))
+    ∙ (ap (λ (d : Due). record { values = live.values; rest = with_log (err_log d.farewell) (with_counts live.rest (live.rest.lamp - units - 1) link one) }) none
+    ∙ (ap (λ (n : ℕ). with_lamp_and_units live n link (((live.rest.units + units) % 18446744073709551616 + 1) % 18446744073709551616)) lamp
+    ∙ ap (with_lamp_and_units live (live.rest.lamp - suc units) link) (counter_next live.rest.units units)))
 
-later_none : (live : Live) → live.rest.units < 65536 → live ≡ live_later 0 live
+later_none : (live : Live) → live.rest.units < 18446744073709551616 → live ≡ live_later 0 live
 later_none live fits =
     let lamp : live.rest.lamp ≡ live.rest.lamp - 0 = omega arith in
     let same : live.rest.units + 0 ≡ live.rest.units = omega arith in
-    let counter : live.rest.units ≡ (live.rest.units + 0) % 65536 = sym (ap (λ (n : ℕ). n % 65536) same ∙ mod-eq_of_lt fits) in
+    let counter : live.rest.units ≡ (live.rest.units + 0) % 18446744073709551616 = sym (ap (λ (n : ℕ). n % 18446744073709551616) same ∙ mod-eq_of_lt fits) in
     ap (λ (n : ℕ). with_lamp_and_units live n live.rest.link live.rest.units) lamp
     ∙ ap (with_lamp_and_units live (live.rest.lamp - 0) live.rest.link) counter
 
@@ -79,18 +83,18 @@ sent_with live frames = record { live = live; frames = frames }
 abbrev and_tick : Station → Leapt → Leapt
 and_tick station before = and_then before (step_of [] station before.live Tick)
 
-pub ticks_later : (station : Station) (live : Live) (units : ℕ) → live.rest.units < 65536 → NothingDueFor units live.rest.link → ticks_of units station live ≡ sent_with (live_later units live) []
+pub ticks_later : (station : Station) (live : Live) (units : ℕ) → live.rest.units < 18446744073709551616 → NothingDueFor units live.rest.link → ticks_of units station live ≡ sent_with (live_later units live) []
 ticks_later station live zero fits none = ap (λ (l : Live). sent_with l []) (later_none live fits)
 ticks_later station live (suc units) fits none =
     let later = live_later units live in
     ap (and_tick station) (ticks_later station live units fits (λ before earlier. none before (omega (arith, earlier))))
-    ∙ (ap (λ (l : Live). sent_with l (step_of [] station later Tick).frames) (later_next station live units)
+    ∙ (ap (λ (l : Live). sent_with l (step_of [] station later Tick).frames) (later_next station live units (none units (omega arith)))
     ∙ ap (sent_with (live_later (suc units) live)) (none_sent station later (none units (omega arith))))
 
-pub ticks_live : (station : Station) (live : Live) (units : ℕ) → live.rest.units < 65536 → NothingDueFor units live.rest.link → (ticks_of units station live).live ≡ live_later units live
+pub ticks_live : (station : Station) (live : Live) (units : ℕ) → live.rest.units < 18446744073709551616 → NothingDueFor units live.rest.link → (ticks_of units station live).live ≡ live_later units live
 ticks_live station live units fits none = ap (λ (s : Leapt). s.live) (ticks_later station live units fits none)
 
-pub none_sends : (station : Station) (live : Live) (units : ℕ) → live.rest.units < 65536 → NothingDueFor units live.rest.link → NoneSends units station live
+pub none_sends : (station : Station) (live : Live) (units : ℕ) → live.rest.units < 18446744073709551616 → NothingDueFor units live.rest.link → NoneSends units station live
 none_sends station live units fits none before earlier =
     ap (λ (s : Leapt). s.frames) (ticks_later station live before fits (λ first sooner. none first (omega (arith, earlier, sooner))))
 

@@ -4,6 +4,7 @@ pub mod Handled
 pub mod OfKind
 pub mod Sendable
 pub mod Served
+pub mod Lists
 pub mod Placed
 pub mod Steps
 pub mod Called
@@ -12,3 +13,6 @@ pub mod Restarts
 pub mod Exchanged
 mod Rated
 pub mod Leaping
+mod Logged
+mod Diagnosed
+mod Replies

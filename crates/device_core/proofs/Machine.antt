@@ -6,7 +6,7 @@ use Rattle.device_frames.specs.declared.event.Event.{Event}
 use Rattle.device_core.specs.State.{Station, Live}
 use Rattle.device_frames.specs.Heard.{Heard}
 use Rattle.device_frames.specs.Sent.{bytes_of}
-use Rattle.device_core.specs.Handled.{Handled, Refuses, Sets, Writes, Moves, handled}
+use Rattle.device_core.specs.Handled.{Handled, Refuses, Sets, Writes, WritesEach, Moves, handled}
 use Rattle.device_core.specs.Machine.{Stepped, Ran, items_in, items_of, finished, handled_step, heard_step, step_of, handed, first_step, later_steps, then_run, run_of}
 
 -- Whether the outcome is a Set or a Write of an I&M text, which are the only ones that ask something of the settings.
@@ -14,6 +14,7 @@ abbrev pub is_asking : Handled → Bool
 is_asking (Refuses why) = false
 is_asking (Sets asker request in_operation) = true
 is_asking (Writes caller address call header value) = true
+is_asking (WritesEach caller address call header judged) = true
 is_asking (Moves rest sent) = false
 
 -- The result of any other outcome: nothing is asked of the settings.
@@ -27,6 +28,7 @@ unfolding handled_step inactive_step
 handled_inactive outcomes station live (Refuses why) none = refl
 handled_inactive outcomes station live (Sets asker request in_operation) none = cc
 handled_inactive outcomes station live (Writes caller address call header value) none = cc
+handled_inactive outcomes station live (WritesEach caller address call header judged) none = cc
 handled_inactive outcomes station live (Moves rest sent) none = refl
 
 pub is_inactive : (outcomes : List Outcome) (station : Station) (live : Live) (heard : Heard) → is_asking (handled station live heard) ≡ false
@@ -38,6 +40,7 @@ no_items : (what : Handled) → is_asking what ≡ false → items_in what ≡ [
 no_items (Refuses why) none = refl
 no_items (Sets asker request in_operation) none = cc
 no_items (Writes caller address call header value) none = cc
+no_items (WritesEach caller address call header judged) none = cc
 no_items (Moves rest sent) none = refl
 
 pub nothing_asked : (station : Station) (live : Live) (heard : Heard) → is_asking (handled station live heard) ≡ false → items_of station live heard ≡ []

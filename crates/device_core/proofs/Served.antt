@@ -1,5 +1,5 @@
 -- The outcome of a call, from the function that handles it.
-use Rattle.std.proofs.Common.{◌≡◌, ℕ, false, List, map, Result, Ok, Err, IfErr, OnOk, IsOk, refl, ap, ◌∙◌}
+use Rattle.std.proofs.Common.{◌≡◌, ℕ, false, List, [], map, Result, Ok, Err, IfErr, IfOk, OnOk, IsOk, refl, sym, ap, ◌∙◌}
 use Rattle.flash_model.specs.declared.flash.Flash.{Ghosts as Flash}
 use Rattle.settings_store.specs.Carries.{Holds}
 use Rattle.records.specs.declared.status.operation.Operation.{Operation}
@@ -7,8 +7,6 @@ use Rattle.records.specs.declared.status.call_fault.CallFault.{CallFault}
 use Rattle.record_blocks.specs.declared.write_record.IodWriteReq.{IodWriteReq}
 use Rattle.records.specs.declared.writes.taken.TakenRecord.{TakenRecord}
 use Rattle.records.specs.writes.Answer.{answer_of}
-use Rattle.records.specs.declared.writes.write.Effect.{Effect}
-use Rattle.records.specs.declared.writes.write.Write.{Write}
 use Rattle.rpc_core.specs.Call.{Asked as Call}
 use Rattle.relations.specs.Phases.{Handled as Moving, answered}
 use Rattle.frame_codec.specs.declared.udp.Caller.{Caller}
@@ -17,7 +15,7 @@ use Rattle.device_frames.specs.Sendable.{AreSendable}
 use Rattle.device_frames.specs.Sent.{bytes_of}
 use Rattle.device_frames.specs.declared.note.Note.{Note}
 use Rattle.device_core.specs.State.{Station, Live, State, with_rest}
-use Rattle.device_core.specs.Handled.{came_with, handled, handled_effect, handled_new, handled_write, kept_answer}
+use Rattle.device_core.specs.Handled.{came_with, handled, handled_new, kept_answer}
 use Rattle.device_core.specs.Machine.{end_of}
 use Rattle.device_core.specs.Steps.{Steps}
 use Rattle.device_core.proofs.Machine.{is_asking}
@@ -38,15 +36,16 @@ kept_moving moving (Ok it) (Err fault) is refused = cc
 kept_moving moving (Err fault) (Ok taken) is refused = cc
 kept_moving moving (Err fault) (Err other) is refused = refl
 
+-- The blocks of an answer are the specified ones.
+pub came_as : (came : Result (Unit {0}) CallFault) (answer : Result (List ℕ) CallFault) (blocks : List ℕ)
+    → IfOk came (λ _. answer ≡ Ok blocks) → IfErr came (λ fault. (answer ≡ Err fault) × (blocks ≡ [])) → came_with came blocks ≡ answer
+came_as (Ok it) answer blocks done refused = sym done
+came_as (Err fault) answer blocks done refused = sym refused.0
+
 -- The same for a Write by its outcome.
 pub same_moving : (moving : Moving) (came : Result (Unit {0}) CallFault) (blocks : List ℕ) → answered moving (came_with came blocks) ≡ answered moving came
 same_moving moving (Ok it) blocks = refl
 same_moving moving (Err fault) blocks = refl
-
--- A Write that is carried out, by what it asks for.
-pub effect_as : (station : Station) (live : Live) (caller : Caller) (call : Call) (made : Result Write CallFault) (write : Write) (effect : Effect)
-    → made ≡ Ok write → write.effect ≡ effect → handled_write station live caller call made ≡ handled_effect station live caller call write.request effect
-effect_as station live caller call made write effect is asks = ap (handled_write station live caller call) is ∙ ap (handled_effect station live caller call write.request) asks
 
 -- A new call, of an operation that asks nothing of the settings.
 pub new_steps : {F : Type 0} {S : ℕ} (as_flash : Flash F S) (old new : State F) (caller : Caller) (call : Call) (blocks : List ℕ) (asks operation : Operation)

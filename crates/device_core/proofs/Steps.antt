@@ -1,9 +1,10 @@
 -- What a step does, from what its parts do.
 use Rattle.std.proofs.lemmas.Bool.{cond_both, cond-true}
-use Rattle.std.proofs.Common.{◌≡◌, ◌≢◌, ℕ, false, List, [], ◌∷◌, ◌++◌, map, is_some, refl, sym, ap, subst, ◌∙◌, inl, arith}
+use Rattle.std.proofs.Common.{◌≡◌, ◌≢◌, ◌≤◌, ℕ, false, List, [], ◌∷◌, ◌++◌, length, map, is_some, refl, sym, ap, subst, ◌∙◌, inl, arith}
 use Rattle.std.proofs.lemmas.List.{append-nil, map-append}
 use Rattle.flash_model.specs.declared.flash.Flash.{Ghosts as Flash}
 use Rattle.pn_values.specs.declared.mac.Mac.{Mac}
+use Rattle.pn_values.specs.declared.set_item.SetItem.{SetItem}
 use Rattle.pn_values.specs.declared.set_item.BlockError.{BlockError}
 use Rattle.pn_values.specs.declared.settings.Settings.{Settings}
 use Rattle.settings_store.specs.Machine.{Outcome, carried}
@@ -19,11 +20,11 @@ use Rattle.dcp_core.specs.Set.{plan_of}
 use Rattle.device_frames.specs.declared.note.Note.{Note}
 use Rattle.device_frames.specs.declared.note.Note.TheVariants as note
 use Rattle.device_core.specs.Cycle.{started}
-use Rattle.device_core.specs.State.{Station, State, Rest, Live, at_start, store_of, with_rest}
+use Rattle.device_core.specs.State.{Station, State, Rest, Live, alias_in, at_start, store_of, with_rest}
 use Rattle.device_frames.specs.Heard.{Heard, Asks}
 use Rattle.device_frames.specs.Sendable.{AreSendable, IsSendable}
 use Rattle.device_frames.specs.Sent.{Sent, GetAnswer, SetAnswer, Again, bytes_of}
-use Rattle.device_core.specs.Handled.{Handled, Refuses, Sets, Writes, Moves, identified, handled_request, handled_looked, handled_blocks, handled_call, handled}
+use Rattle.device_core.specs.Handled.{Handled, Refuses, Sets, Writes, WritesEach, Moves, identified, handled_request, handled_looked, handled_blocks, handled_call, handled}
 use Rattle.device_core.specs.Machine.{Finished, Stepped, items_in, items_of, farewells_at, resets, finished, end_of, handled_step, heard_step}
 use Rattle.device_core.specs.Steps.{Steps, Identifies, IsIdentified, IsServed, IsAgain}
 use Rattle.device_core.proofs.Machine.{is_asking, nothing_asked, inactive_step, is_inactive, handled_as}
@@ -92,6 +93,7 @@ is_inactive_steps as_flash old new heard frames said holds parts =
       sendable = sendable;
       note = note_is;
       inactive = λ _. refl;
+      few = subst (λ (items : List SetItem). length items ≤ 16) (sym nothing) (omega arith);
       placed = subst (λ items. OneByOne as_flash [] (store_of old) items (store_of new)) (sym nothing) same_store;
       stretch = subst (λ a. Stretch as_flash (store_of old) a (store_of new)) (sym none)
           (subst (λ s. Stretch as_flash (store_of old) [] s) (sym same_store) (no_stretch as_flash (store_of old) holds));
@@ -145,7 +147,7 @@ refuses_steps as_flash state heard why frames said holds refuses none is =
 -- An Identify request.
 identify_leaves : (station : Station) (live : Live) (asker : Mac) (request : Asked)
     → (is_asking (identified station live asker request) ≡ false) × ((finished station.identity live.rest (identified station live asker request) []).rest ≡ live.rest)
-identify_leaves station live asker request = cond_both (matches station.identity live.values.running request) _ _
+identify_leaves station live asker request = cond_both (matches station.identity live.values.running (alias_in live.rest.peer) request) _ _
     (λ what. (is_asking what ≡ false) × ((finished station.identity live.rest what []).rest ≡ live.rest)) (λ _. (refl, refl)) (λ _. (refl, refl))
 
 pub identify_steps : {F : Type 0} {S : ℕ} (as_flash : Flash F S) (state : State F) (asker : Mac) (request : Asked) (frames : List (List ℕ)) (said : Note)
@@ -170,21 +172,21 @@ identify_steps as_flash state asker request frames said holds identify frames_ar
 -- A Get.
 pub get_steps : {F : Type 0} {S : ℕ} (as_flash : Flash F S) (state : State F) (asker : Mac) (request : Asked) (frames : List (List ℕ)) (said : Note)
     → Holds (as_flash.image state.flash) state.live.values → request.service ≡ service.Get
-    → frames ≡ bytes_of state.station.identity (GetAnswer asker state.live.values.running request) ∷ [] → said ≡ note.Done
-    → IsSendable state.station.identity (GetAnswer asker state.live.values.running request) → Steps as_flash state (Asks asker request) frames said state
+    → frames ≡ bytes_of state.station.identity (GetAnswer asker state.live.values.running (alias_in state.live.rest.peer) request) ∷ [] → said ≡ note.Done
+    → IsSendable state.station.identity (GetAnswer asker state.live.values.running (alias_in state.live.rest.peer) request) → Steps as_flash state (Asks asker request) frames said state
 get_steps as_flash state asker request frames said holds get frames_are done sendable =
-    moves_steps as_flash state state (Asks asker request) state.live.rest (GetAnswer asker state.live.values.running request ∷ []) frames said holds
+    moves_steps as_flash state state (Asks asker request) state.live.rest (GetAnswer asker state.live.values.running (alias_in state.live.rest.peer) request ∷ []) frames said holds
     (ap (λ s. handled_request state.station state.live asker s request) get) refl frames_are done (sendable, tt)
 
 -- An outcome that asks something of the settings, which is carried out.
 pub settled_steps : {F : Type 0} {S : ℕ} (as_flash : Flash F S) (old new : State F) (heard : Heard) (what : Handled) (answers : List BlockError)
     (frames : List (List ℕ)) (said : Note) → handled old.station old.live heard ≡ what
-    → Carries as_flash (store_of old) (items_in what) answers (store_of new)
+    → length (items_in what) ≤ 16 → Carries as_flash (store_of old) (items_in what) answers (store_of new)
     → new.station ≡ old.station → new.live.rest ≡ (finished old.station.identity old.live.rest what answers).rest
     → frames ≡ map (bytes_of old.station.identity) (finished old.station.identity old.live.rest what answers).sent → said ≡ (finished old.station.identity old.live.rest what answers).note
     → AreSendable old.station.identity (finished old.station.identity old.live.rest what answers).sent → Steps as_flash old heard frames said new
 unfolding handled_step
-settled_steps as_flash old new heard what answers frames said is_what carries same rest frames_are note_is sendable =
+settled_steps as_flash old new heard what answers frames said is_what few carries same rest frames_are note_is sendable =
     let step = heard_step carries.outcomes old.station old.live heard in
     let is = handled_as carries.outcomes old.station old.live heard what is_what in
     let items : items_of old.station old.live heard ≡ items_in what = ap items_in is_what in
@@ -203,6 +205,7 @@ settled_steps as_flash old new heard what answers frames said is_what carries sa
       sendable = sendable_now;
       note = note_now;
       inactive = carries.inactive;
+      few = subst (λ (i : List SetItem). length i ≤ 16) (sym items) few;
       placed = subst (λ i. OneByOne as_flash carries.outcomes (store_of old) i (store_of new)) (sym items) carries.placed;
       stretch = subst (λ a. Stretch as_flash (store_of old) a (store_of new)) accepted carries.stretch;
       continues = subst (λ a. Continues as_flash (store_of old) a (store_of new)) accepted carries.continues;
@@ -213,14 +216,14 @@ settled_steps as_flash old new heard what answers frames said is_what carries sa
 
 -- A Set of a station: ERR, if a reset ends the relation, and the answer after it.
 pub asked_set_steps : {F : Type 0} {S : ℕ} (as_flash : Flash F S) (old new : State F) (asker : Mac) (request : Asked) (answers : List BlockError) (frames : List (List ℕ)) (said : Note)
-    → request.service ≡ service.Set → Carries as_flash (store_of old) (plan_of (is_some old.live.rest.link) request) answers (store_of new) → new.station ≡ old.station
+    → request.service ≡ service.Set → length (plan_of (is_some old.live.rest.link) request) ≤ 16 → Carries as_flash (store_of old) (plan_of (is_some old.live.rest.link) request) answers (store_of new) → new.station ≡ old.station
     → new.live.rest ≡ (finished old.station.identity old.live.rest (Sets asker request (is_some old.live.rest.link)) answers).rest
     → frames ≡ map (bytes_of old.station.identity) (farewells_at (resets (plan_of (is_some old.live.rest.link) request) answers) old.live.rest.link) ++ bytes_of old.station.identity (SetAnswer asker request answers) ∷ []
     → said ≡ note.Done → AreSendable old.station.identity (farewells_at (resets (plan_of (is_some old.live.rest.link) request) answers) old.live.rest.link)
     → IsSendable old.station.identity (SetAnswer asker request answers) → Steps as_flash old (Asks asker request) frames said new
-asked_set_steps as_flash old new asker request answers frames said set carries same rest frames_are done ends last =
+asked_set_steps as_flash old new asker request answers frames said set few carries same rest frames_are done ends last =
     settled_steps as_flash old new (Asks asker request) (Sets asker request (is_some old.live.rest.link)) answers frames said
-    (ap (λ s. handled_request old.station old.live asker s request) set) carries same rest
+    (ap (λ s. handled_request old.station old.live asker s request) set) few carries same rest
     (frames_are ∙ sym (map-append (bytes_of old.station.identity) (farewells_at (resets (plan_of (is_some old.live.rest.link) request) answers) old.live.rest.link) (SetAnswer asker request answers ∷ []))) done
     (all_sendable old.station.identity _ (SetAnswer asker request answers ∷ []) ends (last, tt))
 
@@ -235,6 +238,7 @@ unfolding handled_step
 refused_handled outcomes station live (Refuses why) refused = record { live_is = refl; none_sent = refl; none_accepted = refl }
 refused_handled outcomes station live (Sets asker request in_operation) refused = absurd (refused refl)
 refused_handled outcomes station live (Writes caller address call header value) refused = absurd (refused refl)
+refused_handled outcomes station live (WritesEach caller address call header judged) refused = absurd (refused refl)
 refused_handled outcomes station live (Moves rest sent) refused = absurd (refused refl)
 
 refused_heard : (outcomes : List Outcome) (station : Station) (live : Live) (heard : Heard) → (heard_step outcomes station live heard).note ≢ note.Done → IsNothing live (heard_step outcomes station live heard)
@@ -254,7 +258,7 @@ none_sent f (x ∷ xs) none = cc
 -- An Identify request, if it matches and if it does not.
 identify_handled : (outcomes : List Outcome) (station : Station) (live : Live) (asker : Mac) (request : Asked) → IsIdentified station.identity live.values.running live asker request (handled_step outcomes station live (identified station live asker request))
 unfolding handled_step
-identify_handled outcomes station live asker request = cond_both (matches station.identity live.values.running request) _ _
+identify_handled outcomes station live asker request = cond_both (matches station.identity live.values.running (alias_in live.rest.peer) request) _ _
     (λ what. IsIdentified station.identity live.values.running live asker request (handled_step outcomes station live what))
     (λ match. record { unchanged = refl; none_accepted = refl; answered = λ _. (refl, refl); filtered = λ none. cc })
     (λ none. record { unchanged = refl; none_accepted = refl; answered = λ match. cc; filtered = λ _. (refl, refl) })

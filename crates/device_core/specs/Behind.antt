@@ -1,5 +1,5 @@
 -- The result of an event that asks nothing of the settings.
-use Rattle.std.specs.Prelude.{ℕ, Bool, List, None, map, Result}
+use Rattle.std.specs.Prelude.{◌++◌, ℕ, Bool, true, false, List, None, map, Result}
 use Rattle.rpc_core.specs.declared.response.Response.{Response}
 use Rattle.rpc_core.specs.Call.{Asked as Call, asked}
 use Rattle.rpc_core.specs.Response.{answered}
@@ -8,15 +8,24 @@ use Rattle.records.specs.declared.status.operation.Operation.{Operation}
 use Rattle.record_blocks.specs.declared.write_record.IodWriteReq.{IodWriteReq}
 use Rattle.records.specs.declared.writes.taken.TakenRecord.{TakenRecord}
 use Rattle.records.specs.declared.writes.write.Effect.TheVariants.{Keeps}
-use Rattle.records.specs.declared.writes.write.Write.{Write as Asking}
+use Rattle.records.specs.declared.writes.writing.Writing.{Writing}
 use Rattle.relations.specs.Ready.{answer_of}
 use Rattle.relations.specs.declared.time.Elapsed.{Elapsed}
 use Rattle.relations.specs.Timers.{due_behind, left_behind}
-use Rattle.device_frames.specs.Relation.{due_frames}
+use Rattle.pn_alarms.specs.declared.receiver.Taken.{Taken}
+use Rattle.pn_alarms.specs.declared.message.Notice.TheVariants as message
+use Rattle.pn_alarms.specs.Message.{ToDevice}
+use Rattle.alarm_reports.specs.declared.priority.Priority.{Priority}
+use Rattle.alarm_reports.specs.declared.priority.Priority.TheVariants.{High, Low}
+use Rattle.relations.specs.declared.exchange.cyclic.Repeated.{Repeated}
+use Rattle.relations.specs.Diagnosed.{report_one, reporting}
+use Rattle.relations.specs.Phases.{updated}
+use Rattle.relations.specs.RelationState.{flow_of}
+use Rattle.device_frames.specs.Relation.{due_frames, low_alarms_of, low_replies_of, where_due}
 use Rattle.device_frames.specs.Sendable.{AreSendable}
 use Rattle.device_frames.specs.Sent.{Sent, bytes_of}
 use Rattle.device_core.specs.declared.calls.Serving.{Serving}
-use Rattle.device_core.specs.State.{State, with_rest}
+use Rattle.device_core.specs.State.{State, counter_of, with_rest}
 use Rattle.device_core.specs.Handled.{Handled, answer_from, handled_answer, handled_effect, handled_new, handled_write}
 use Rattle.device_core.specs.Machine.{end_of}
 
@@ -32,17 +41,35 @@ frames_of old what = map (bytes_of old.station.identity) (end_of old.station old
 abbrev pub CanSend : {F : Type 0} → State F → Handled → Type 0
 CanSend old what = AreSendable old.station.identity (end_of old.station old.live what).sent
 
--- What is due if no timeout is over: the active alarm, ApplicationReady, inputs.
-abbrev pub due_in : {F : Type 0} → State F → Bool → Bool → Bool → List Sent
-due_in old is_alarm is_ready is_cyclic =
-    due_frames old.live.values.running.suite.address old.live.rest.units
-    (record { farewell = None; is_alarm = is_alarm; is_ready = is_ready; is_cyclic = is_cyclic }) old.live.rest.link
+-- What is due if no timeout is over: the active alarms, ApplicationReady, inputs.
+abbrev pub due_in : {F : Type 0} → State F → Repeated → Bool → Bool → List Sent
+due_in old repeated is_ready is_cyclic =
+    due_frames old.live.values.running.suite.address (counter_of old.live.rest.units)
+    (record { farewell = None; is_alarm = repeated.high; is_low = repeated.low; is_ready = is_ready; is_cyclic = is_cyclic }) old.live.rest.link
+
+-- Whether what an alarm frame says under the FrameID of this priority may be an ACK of low priority.
+abbrev pub is_ack : ToDevice → Bool
+is_ack (message.Ack number) = true
+is_ack (message.Data number ack) = false
+is_ack message.Nack = false
+is_ack (message.Abort status) = false
+
+abbrev pub is_low_reply : Priority → ToDevice → Bool
+is_low_reply High told = false
+is_low_reply Low told = is_ack told
+
+-- What is sent for data of low priority with this outcome: its response, and after that the alarm of the next change.
+abbrev pub confirmed_with : {F : Type 0} → State F → Taken → List Sent
+confirmed_with old taken =
+    let real = old.station.real.modules.items in
+    let link = old.live.rest.link in
+    low_replies_of taken (flow_of link) ++ where_due (report_one real link) (low_alarms_of (flow_of (updated (reporting real link) link)))
 
 -- What is sent after a unit of time that brought this.
 abbrev pub brought : {F : Type 0} → State F → Elapsed → List Sent
 brought old elapsed =
     let link = old.live.rest.link in
-    due_frames old.live.values.running.suite.address old.live.rest.units (due_behind elapsed link) (left_behind elapsed.tick.ending link)
+    due_frames old.live.values.running.suite.address (counter_of old.live.rest.units) (due_behind elapsed link) (left_behind elapsed.tick.ending link)
 
 -- The outcome of a call of this operation.
 abbrev pub called : {F : Type 0} → State F → Serving → Operation → Handled
@@ -53,7 +80,7 @@ abbrev pub call_of : Serving → Call
 call_of serving = asked serving.call.now
 
 -- The outcome of a Write whose blocks were read as this.
-abbrev pub wrote : {F : Type 0} → State F → Serving → Result Asking CallFault → Handled
+abbrev pub wrote : {F : Type 0} → State F → Serving → Result Writing CallFault → Handled
 wrote old serving handled = handled_write old.station old.live serving.caller.now (call_of serving) handled
 
 -- The outcome of a parameter record from a Write with this header.
@@ -62,7 +89,7 @@ brings old serving header parameter = handled_effect old.station old.live servin
 
 -- The outcome of a response.
 abbrev pub responded : {F : Type 0} → State F → Response → Handled
-responded old response = handled_answer old.live (answer_of (answered response) old.live.rest.link)
+responded old response = handled_answer old.station old.live (answer_of (answered response) old.live.rest.link)
 
 -- The answer to a call.
 abbrev pub answer_to : List ℕ → Serving → Result (List ℕ) CallFault → Sent

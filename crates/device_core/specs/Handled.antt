@@ -1,5 +1,5 @@
 -- The outcome of an event, from the state before it.
-use Rattle.std.specs.Prelude.{◌+◌, ◌%◌, ◌-◌, ◌&&◌, ℕ, Bool, true, false, not, nat_eq, List, [], ◌∷◌, if◌then◌else◌, Option, Some, None, is_some, Result, Ok, Err}
+use Rattle.std.specs.Prelude.{◌+◌, ◌++◌, ◌%◌, ◌-◌, ◌&&◌, ℕ, Bool, true, false, not, nat_eq, List, [], ◌∷◌, if◌then◌else◌, Option, Some, None, is_some, Result, Ok, Err}
 use Rattle.std.specs.Cmp.Lexicographic.{pointwise}
 use Rattle.pn_values.specs.declared.mac.Mac.{Mac}
 use Rattle.pn_values.specs.declared.identity.Identity.{Identity}
@@ -25,14 +25,14 @@ use Rattle.records.specs.status.Operation.{operation_of}
 use Rattle.records.specs.status.Status.{done, status_of}
 use Rattle.connect_blocks.specs.declared.control.ControlBlock.{ControlBlock}
 use Rattle.record_blocks.specs.declared.write_record.IodWriteReq.{IodWriteReq}
-use Rattle.records.specs.reads.Implicit.{implicit_read}
 use Rattle.records.specs.reads.Within.{names_relation}
 use Rattle.records.specs.declared.writes.taken.TakenRecord.{TakenRecord}
 use Rattle.records.specs.declared.writes.write.Effect.{Effect}
 use Rattle.records.specs.declared.writes.write.Effect.TheVariants.{Stores, Keeps}
-use Rattle.records.specs.declared.writes.write.Write.{Write as Asking}
+use Rattle.records.specs.declared.writes.writing.Writing.{Writing}
+use Rattle.records.specs.declared.writes.writing.Writing.TheVariants.{One, Each}
 use Rattle.records.specs.writes.Answer.{answer_of}
-use Rattle.records.specs.writes.Handled.{write_of}
+use Rattle.records.specs.writes.Asked.{writing_of}
 use Rattle.pn_alarms.specs.Message.{ToDevice}
 use Rattle.pn_alarms.specs.declared.device.PduFate.{PduFate}
 use Rattle.pn_alarms.specs.declared.device.PduFate.TheVariants as fate
@@ -43,12 +43,18 @@ use Rattle.relations.specs.exchange.Flow.{Flow}
 use Rattle.relations.specs.declared.statuses.InputStatus.{InputStatus}
 use Rattle.relations.specs.Statuses.{statuses_at}
 use Rattle.relations.specs.exchange.Marks.{Starting}
+use Rattle.module_diff.specs.Plugged.{submodule_ident}
+use Rattle.diagnosis.specs.Existing.{changed}
+use Rattle.diagnosis.specs.declared.diagnosis.Change.{Change}
+use Rattle.diagnosis.specs.declared.diagnosis.Diagnosis.{Diagnosis}
+use Rattle.relations.specs.Diagnosed.{begin_one, beginning, diagnose_one, diagnosing, has_sent_low, heard_low, hearing_low, is_full_in, report_one, reporting}
 use Rattle.relations.specs.Exchanged.{given_to, heard_by, hearing, raised_to, rating, received_by, receiving}
 use Rattle.relations.specs.declared.hearing.ReadyAnswer.{ReadyAnswer}
 use Rattle.relations.specs.declared.hearing.ReadyAnswer.TheVariants as to_ready
 use Rattle.relations.specs.declared.phase.Partner.{Partner}
 use Rattle.relations.specs.RelationState.{RelationState, uuid_of, flow_of, is_alarm_of, is_preparing, phase_of}
-use Rattle.relation_records.specs.Reading.{relation_read}
+use Rattle.relation_records.specs.Reading.{implicit_read, relation_read}
+use Rattle.relation_records.specs.Sources.{Known}
 use Rattle.relations.specs.Calls.{prm_end_of, release_of, prm_end_answer, release_answer}
 use Rattle.relations.specs.Connect.{connect_within, connect_answer, making}
 use Rattle.relations.specs.Ready.{answer_of as ready_answer, handled_by}
@@ -57,34 +63,39 @@ use Rattle.relations.specs.Phases.{Handled as Moving, Parameterized, Prepared, N
 use Rattle.device_frames.specs.declared.note.Note.{Note}
 use Rattle.device_frames.specs.declared.note.Note.TheVariants as note
 use Rattle.frame_codec.specs.declared.udp.Caller.{Caller}
-use Rattle.device_core.specs.State.{Station, Rest, Live}
-use Rattle.device_frames.specs.Relation.{alarms_of, due_frames, ready_calls, replies_of}
+use Rattle.lldp.specs.Peer.{Peer}
+use Rattle.device_core.specs.State.{Station, Rest, Live, alias_in, counter_of, units_after}
+use Rattle.device_core.specs.Several.{Judged, judged_each}
+use Rattle.device_core.specs.Log.{arguments_log, but_rest, connect_log, end_log, err_log, release_log, with_log}
+use Rattle.device_frames.specs.Relation.{alarms_of, due_frames, low_alarms_of, low_replies_of, ready_calls, replies_of, where_due}
 use Rattle.device_frames.specs.Sent.{Sent, IdentifyAnswer, GetAnswer, ArpReply, CallAnswer, Again, Ends, bytes_of}
-use Rattle.device_frames.specs.Heard.{Heard, Ticks, Unreadable, Elsewhere, Asks, Resolves, Reported, Cyclic, Alarms, Given, Raised, Rated, Readied, Said, Calls, Responds, Garbled}
+use Rattle.device_frames.specs.Heard.{Heard, Ticks, Unreadable, Elsewhere, Asks, Resolves, Reported, Cyclic, Alarms, LowReplies, LowConfirms, Given, Raised, Rated, Met, Diagnosed, Readied, Said, Calls, Responds, Garbled}
 
 -- The outcome of an event: it is refused, with the note that says why; a Set, whose blocks are asked of the settings; a
 -- Write of an I&M text, which is asked of the settings, with the caller, the address that was called, the call, its
--- header and the text; or a move, after which the rest has changed and these messages are sent.
+-- header and the text; a Write of several records, each of which was judged; or a move, after which the rest has changed
+-- and these messages are sent.
 pub data Handled : Type 0 where
   Refuses : (note : Note) → Handled
   Sets : (asker : Mac) → (request : Asked) → (in_operation : Bool) → Handled
   Writes : (caller : Caller) → (address : List ℕ) → (call : Call) → (header : IodWriteReq) → (value : ImValue) → Handled
+  WritesEach : (caller : Caller) → (address : List ℕ) → (call : Call) → (header : IodWriteReq) → (judged : List Judged) → Handled
   Moves : (rest : Rest) → (sent : List Sent) → Handled
 
 -- ---- DCP
 
 -- An Identify request that matches is answered with the identity and the running settings; otherwise it is not
--- answered.
+-- answered. It may ask for the name by the place, which the answer does not tell.
 abbrev pub identified : Station → Live → Mac → Asked → Handled
 identified station live asker request =
-    if matches station.identity live.values.running request
+    if matches station.identity live.values.running (alias_in live.rest.peer) request
     then Moves live.rest (IdentifyAnswer asker live.values.running request.xid ∷ [])
     else Refuses note.Filter
 
 -- A request, by its service. Whether a relation exists is checked when the frame arrives, for all blocks of a Set.
 abbrev pub handled_request : Station → Live → Mac → Service → Asked → Handled
 handled_request station live asker service.Identify request = identified station live asker request
-handled_request station live asker service.Get request = Moves live.rest (GetAnswer asker live.values.running request ∷ [])
+handled_request station live asker service.Get request = Moves live.rest (GetAnswer asker live.values.running (alias_in live.rest.peer) request ∷ [])
 handled_request station live asker service.Set request = Sets asker request (is_some live.rest.link)
 
 -- ---- ARP (RFC 826)
@@ -161,26 +172,44 @@ handled_effect station live caller call header (Keeps parameter) =
     let kept = keeping parameter live.rest.link in
     served station live caller call Write (kept_answer header kept) (updated (answered Named kept) (updated (taking kept) live.rest.link)) []
 
-abbrev pub handled_write : Station → Live → Caller → Call → Result Asking CallFault → Handled
-handled_write station live caller call (Ok write) = handled_effect station live caller call write.request write.effect
+abbrev pub handled_write : Station → Live → Caller → Call → Result Writing CallFault → Handled
+handled_write station live caller call (Ok (One write)) = handled_effect station live caller call write.request write.effect
+handled_write station live caller call (Ok (Each header entries)) =
+    WritesEach caller live.values.running.suite.address call header (judged_each (uuid_of live.rest.link) station.real entries)
 handled_write station live caller call (Err fault) = served station live caller call Write (Err fault) live.rest.link []
 
--- What the application says of its inputs as a relation begins.
+-- What a relation begins with.
 abbrev pub starting_of : Station → Live → Starting
-starting_of station live = record { begin_bad = station.options.inputs_begin_bad; statuses = live.rest.statuses }
+starting_of station live =
+    record { begin_bad = station.options.inputs_begin_bad; statuses = live.rest.statuses; units = live.rest.units; diagnoses = live.rest.diagnoses }
+
+-- What the records of the device are made of.
+abbrev pub known_of : Station → Live → Known
+known_of station live = record {
+  link = live.rest.link;
+  units = live.rest.units;
+  log = live.rest.log;
+  identity = station.identity;
+  settings = live.values.running;
+  peer = live.rest.peer;
+  diagnoses = live.rest.diagnoses;
+}
 
 -- A new call, by its operation.
 abbrev pub handled_new : Station → Live → Caller → Call → List ℕ → Operation → Handled
 handled_new station live caller call blocks Connect =
     let smallest = station.options.smallest_interval in
-    served station live caller call Connect (connect_answer station.identity station.real smallest live.rest.link blocks)
+    let answer = connect_answer station.identity station.real smallest live.rest.link blocks in
+    served station (but_rest live (with_log (connect_log blocks answer) live.rest)) caller call Connect answer
     (updated (making station.real (partner_of caller) (starting_of station live) (connect_within smallest live.rest.link blocks)) live.rest.link) []
 handled_new station live caller call blocks Release =
-    served station live caller call Release (release_answer live.rest.link blocks) (updated (answered Ended (release_of live.rest.link blocks)) live.rest.link) []
+    let answer = release_answer live.rest.link blocks in
+    served station (but_rest live (with_log (release_log (uuid_of live.rest.link) answer) live.rest)) caller call Release answer
+    (updated (answered Ended (release_of live.rest.link blocks)) live.rest.link) []
 handled_new station live caller call blocks Read =
-    let read = relation_read live.rest.link station.identity station.real live.values.running blocks in
+    let read = relation_read (known_of station live) station.identity station.real live.values.running blocks in
     served station live caller call Read read (updated (answered Named read) live.rest.link) []
-handled_new station live caller call blocks Write = handled_write station live caller call (write_of (uuid_of live.rest.link) station.real blocks)
+handled_new station live caller call blocks Write = handled_write station live caller call (writing_of (uuid_of live.rest.link) station.real blocks)
 handled_new station live caller call blocks Control =
     let ended = prm_end_of live.rest.link blocks in
     let by_application = station.options.ready_by_application in
@@ -188,7 +217,7 @@ handled_new station live caller call blocks Control =
     served station live caller call Control (prm_end_answer live.rest.link blocks) link
     (ready_behind by_application live.values.running.suite.address link ended)
 handled_new station live caller call blocks ReadImplicit =
-    let read = implicit_read station.identity station.real live.values.running blocks in
+    let read = implicit_read (known_of station live) station.identity station.real live.values.running blocks in
     served station live caller call ReadImplicit read (updated (answered (implicitly live.rest.link blocks) read) live.rest.link) []
 
 -- A call by the result of the cache: it is answered as new, or again with the same frame, or it is older than an
@@ -198,10 +227,11 @@ handled_looked station live caller call blocks operation new = handled_new stati
 handled_looked station live caller call blocks operation (again frame) = Moves live.rest (Again frame ∷ [])
 handled_looked station live caller call blocks operation old = Refuses note.OldCall
 
--- If the lengths of the blocks are wrong, that is answered whatever the cache contains, and the answer is not stored.
+-- If the lengths of the blocks are wrong, that is answered whatever the cache contains, and the answer is not stored. A
+-- Connect is logged.
 abbrev pub handled_blocks : Station → Live → Caller → Call → Operation → Option (List ℕ) → Handled
 handled_blocks station live caller call operation None =
-    Moves live.rest (answer_from live.values.running.suite.address caller call operation (Err Arguments) ∷ [])
+    Moves (with_log (arguments_log operation) live.rest) (answer_from live.values.running.suite.address caller call operation (Err Arguments) ∷ [])
 handled_blocks station live caller call operation (Some blocks) =
     handled_looked station live caller call blocks operation (looked call.header.activity call.header.sequence live.rest.calls)
 
@@ -210,17 +240,25 @@ abbrev pub handled_call : Station → Live → Caller → Call → Option Operat
 handled_call station live caller call None = Refuses note.Fault
 handled_call station live caller call (Some operation) = handled_blocks station live caller call operation call.blocks
 
+-- ApplicationReady is confirmed: what exists of diagnosis is reported, and the first alarm of it is sent.
+abbrev pub handled_beginning : Station → Live → Option RelationState → Handled
+handled_beginning station live link =
+    let real = station.real.modules.items in
+    let reported = updated (beginning real live.rest.diagnoses link) link in
+    Moves (record live.rest { link = reported }) (where_due (begin_one real live.rest.diagnoses link) (low_alarms_of (flow_of reported)))
+
 -- The answer to ApplicationReady, by what it means to the relation.
-abbrev pub handled_answer : Live → ReadyAnswer → Handled
-handled_answer live to_ready.NotWanted = Refuses note.NoRelation
-handled_answer live to_ready.Garbled = Refuses note.Fault
-handled_answer live to_ready.Confirmed = Moves (record live.rest { link = updated (handled_by to_ready.Confirmed) live.rest.link }) []
-handled_answer live (to_ready.Refused farewell) =
-    Moves (record live.rest { link = updated (handled_by (to_ready.Refused farewell)) live.rest.link }) (Ends farewell ∷ [])
+abbrev pub handled_answer : Station → Live → ReadyAnswer → Handled
+handled_answer station live to_ready.NotWanted = Refuses note.NoRelation
+handled_answer station live to_ready.Garbled = Refuses note.Fault
+handled_answer station live to_ready.Confirmed = handled_beginning station live (updated (handled_by to_ready.Confirmed) live.rest.link)
+handled_answer station live (to_ready.Refused farewell) =
+    Moves (with_log (err_log (Some farewell)) (record live.rest { link = updated (handled_by (to_ready.Refused farewell)) live.rest.link }))
+    (Ends farewell ∷ [])
 
 abbrev pub handled_said : Station → Live → Caller → Said → Handled
 handled_said station live caller (Calls call) = handled_call station live caller call (operation_of call.header.operation)
-handled_said station live caller (Responds response) = handled_answer live (ready_answer response live.rest.link)
+handled_said station live caller (Responds response) = handled_answer station live (ready_answer response live.rest.link)
 handled_said station live caller Garbled = Refuses note.Fault
 
 -- The address is checked first.
@@ -265,6 +303,31 @@ handled_rated station live slot subslot is_good =
     kept_status live slot subslot is_good
     (statuses_at station.real.modules.items (record { slot = slot; subslot = subslot; is_good = is_good }) live.rest.statuses)
 
+-- This neighbour is known from now on, or none.
+abbrev pub handled_met : Live → Option Peer → Handled
+handled_met live peer = Moves (record live.rest { peer = peer }) []
+
+-- A diagnosis appears or disappears, and these exist after it: the relation reports the change, and its alarm is sent if none of
+-- low priority is active. Or the change is refused.
+abbrev pub handled_change : Station → Live → Change → Option (List Diagnosis) → Handled
+handled_change station live change (Some diagnoses) =
+    let real = station.real.modules.items in
+    let link = updated (diagnosing real change diagnoses live.rest.link) live.rest.link in
+    Moves (record live.rest { link = link; diagnoses = diagnoses })
+    (where_due (diagnose_one real change diagnoses live.rest.link) (low_alarms_of (flow_of link)))
+handled_change station live change None = Refuses note.Refused
+
+-- It is refused for what is not plugged, and while no further change can wait.
+abbrev pub may_be_diagnosed : Station → Live → Change → Bool
+may_be_diagnosed station live change =
+    is_some (submodule_ident station.real.modules.items change.diagnosis.slot change.diagnosis.subslot) && not (is_full_in live.rest.link)
+
+abbrev pub handled_diagnosed : Station → Live → Change → Handled
+handled_diagnosed station live change =
+    if may_be_diagnosed station live change
+    then handled_change station live change (changed change live.rest.diagnoses)
+    else Refuses note.Refused
+
 -- An alarm is raised and sent, or refused.
 abbrev pub handled_notice : Live → Option Flow → Handled
 handled_notice live (Some flow) =
@@ -283,12 +346,13 @@ handled_ready live =
     else Refuses note.Refused
 
 -- A PDU of the partner, by what happens to it: data is answered, an ACK counts or does not, and an ERR ends the
--- relation.
+-- relation, which is logged.
 abbrev pub handled_pdu : Live → PduFate → Option RelationState → Handled
 handled_pdu live (fate.Data taken) link = goes_on_with live link (replies_of taken (flow_of link))
 handled_pdu live fate.Done link = goes_on_with live link []
 handled_pdu live fate.Ignored link = Refuses note.Filter
-handled_pdu live fate.Aborted link = goes_on_with live link []
+handled_pdu live (fate.Aborted status) link =
+    Moves (with_log (end_log (uuid_of live.rest.link) status) (record live.rest { link = link })) []
 
 abbrev pub handled_message : Live → ToDevice → Handled
 handled_message live message = handled_pdu live (heard_by message live.rest.link) (updated (hearing message live.rest.link) live.rest.link)
@@ -297,6 +361,35 @@ abbrev pub handled_alarm : Live → Mac → Header → ToDevice → Handled
 handled_alarm live source header message =
     if is_alarm_of source header.destination header.source live.rest.link then handled_message live message else Refuses note.NoRelation
 
+-- A PDU of low priority of the partner, by what happens to it: data is answered, and after that the next change is reported;
+-- an ACK counts or does not.
+abbrev pub handled_low_pdu : Station → Live → PduFate → Option RelationState → Handled
+handled_low_pdu station live (fate.Data taken) link =
+    let real = station.real.modules.items in
+    let next = updated (reporting real link) link in
+    goes_on_with live next (low_replies_of taken (flow_of link) ++ where_due (report_one real link) (low_alarms_of (flow_of next)))
+handled_low_pdu station live fate.Done link = goes_on_with live link []
+handled_low_pdu station live fate.Ignored link = Refuses note.Filter
+handled_low_pdu station live (fate.Aborted status) link = Refuses note.Filter
+
+abbrev pub handled_low_message : Station → Live → ToDevice → Handled
+handled_low_message station live message =
+    handled_low_pdu station live (heard_low message live.rest.link) (updated (hearing_low message live.rest.link) live.rest.link)
+
+abbrev pub handled_low : Station → Live → Mac → Header → ToDevice → Handled
+handled_low station live source header message =
+    if is_alarm_of source header.destination header.source live.rest.link then handled_low_message station live message else Refuses note.NoRelation
+
+-- An ACK under the FrameID of low priority is one of high priority until data of low priority was sent. An AlarmAck of low
+-- priority cannot be read until then.
+abbrev pub handled_low_reply : Station → Live → Mac → Header → ToDevice → Handled
+handled_low_reply station live source header message =
+    if has_sent_low live.rest.link then handled_low station live source header message else handled_alarm live source header message
+
+abbrev pub handled_low_confirm : Station → Live → Mac → Header → ToDevice → Handled
+handled_low_confirm station live source header message =
+    if has_sent_low live.rest.link then handled_low station live source header message else Refuses note.Fault
+
 -- ---- events
 
 -- The state after a unit of time.
@@ -304,19 +397,23 @@ abbrev pub ticked : Live → Handled
 ticked live =
     let due = due_of live.rest.link in
     let link = updated (passing live.rest.link) live.rest.link in
-    let units = (live.rest.units + 1) % 65536 in
-    Moves (record live.rest { lamp = live.rest.lamp - 1; link = link; units = units })
-    (due_frames live.values.running.suite.address units due link)
+    let units = units_after 1 live.rest.units in
+    Moves (with_log (err_log due.farewell) (record live.rest { lamp = live.rest.lamp - 1; link = link; units = units }))
+    (due_frames live.values.running.suite.address (counter_of units) due link)
 
 abbrev pub handled : Station → Live → Heard → Handled
 handled station live (Asks asker request) = handled_request station live asker request.service request
 handled station live (Resolves asker packet) = handled_arp live asker packet
 handled station live (Reported caller address said) = handled_datagram station live caller address said
 handled station live (Alarms source header message) = handled_alarm live source header message
+handled station live (LowReplies source header message) = handled_low_reply station live source header message
+handled station live (LowConfirms source header message) = handled_low_confirm station live source header message
 handled station live (Cyclic source frame_id body) = handled_cyclic live source frame_id body
 handled station live (Given slot subslot value) = handled_given live slot subslot value
 handled station live (Raised slot subslot octets) = handled_raised station live slot subslot octets
 handled station live (Rated slot subslot is_good) = handled_rated station live slot subslot is_good
+handled station live (Met peer) = handled_met live peer
+handled station live (Diagnosed change) = handled_diagnosed station live change
 handled station live Readied = handled_ready live
 handled station live Ticks = ticked live
 handled station live Unreadable = Refuses note.Fault

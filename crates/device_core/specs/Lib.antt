@@ -1,4 +1,6 @@
 pub mod State
+pub mod Several
+pub mod Log
 pub mod Handled
 pub mod Machine
 pub mod Faults

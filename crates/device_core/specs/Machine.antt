@@ -1,5 +1,5 @@
 -- One step of a device, and a run of steps, given the outcome of each call that stores a command.
-use Rattle.std.specs.Prelude.{ℕ, Bool, true, false, List, [], ◌∷◌, ◌++◌, ◌&&◌, map, Option, Some, None, Result, Ok, Err, if◌then◌else◌}
+use Rattle.std.specs.Prelude.{ℕ, Bool, true, false, List, [], ◌∷◌, ◌++◌, ◌&&◌, drop, map, Option, Some, None, Result, Ok, Err, if◌then◌else◌, option_map}
 use Rattle.std.specs.List.{list_any, zip}
 use Rattle.pn_values.specs.declared.set_item.SetItem.{SetItem}
 use Rattle.pn_values.specs.declared.set_item.SetItem.TheVariants.{Ask, Signal, Answer}
@@ -10,11 +10,16 @@ use Rattle.record_blocks.specs.declared.write_record.IodWriteReq.{IodWriteReq}
 use Rattle.records.specs.declared.status.operation.Operation.TheVariants.{Write}
 use Rattle.records.specs.declared.status.call_fault.CallFault.{CallFault}
 use Rattle.records.specs.declared.status.call_fault.CallFault.TheVariants as fault
-use Rattle.records.specs.writes.Answer.{answer_of}
+use Rattle.rpc_core.specs.declared.response.Status.{Status}
+use Rattle.records.specs.declared.writes.write.Effect.{Effect}
+use Rattle.records.specs.declared.writes.write.Write.{Write as Asking}
+use Rattle.records.specs.declared.writes.write.Effect.TheVariants.{Stores, Keeps}
+use Rattle.records.specs.writes.Answer.{answer_of, outcomes_of}
 use Rattle.pn_alarms.specs.declared.abort.Abort.TheVariants.{Other}
 use Rattle.relations.specs.RelationState.{RelationState}
+use Rattle.relations.specs.declared.farewell.Farewell.{Farewell}
 use Rattle.relations.specs.Farewells.{farewell_of}
-use Rattle.relations.specs.Phases.{Ended, Named, answered, updated}
+use Rattle.relations.specs.Phases.{Ended, Named, answered, keeping, taking, updated}
 use Rattle.pn_values.specs.declared.identity.Identity.{Identity}
 use Rattle.settings_store.specs.Machine.{Outcome, Accepted, carried}
 use Rattle.dcp_core.specs.Set.{plan_of}
@@ -22,15 +27,20 @@ use Rattle.device_frames.specs.declared.event.Event.{Event}
 use Rattle.device_frames.specs.declared.note.Note.{Note}
 use Rattle.device_frames.specs.declared.note.Note.TheVariants as note
 use Rattle.device_core.specs.State.{Station, Rest, Live}
-use Rattle.device_frames.specs.Sent.{Sent, SetAnswer, Ends, bytes_of}
+use Rattle.device_frames.specs.Relation.{farewells_in}
+use Rattle.device_frames.specs.Sent.{Sent, SetAnswer, bytes_of}
 use Rattle.device_frames.specs.Heard.{Heard, heard_of}
-use Rattle.device_core.specs.Handled.{Handled, Refuses, Sets, Writes, Moves, answer_from, kept_behind, handled}
+use Rattle.device_core.specs.Several.{Judged, texts_in}
+use Rattle.device_core.specs.Handled.{Handled, Refuses, Sets, Writes, WritesEach, Moves, answer_from, kept_answer, kept_behind, handled, outcome_of}
+use Rattle.device_core.specs.Log.{err_log, with_log}
 
--- What is asked of the settings: the blocks of a Set, in order, or the one I&M text of a Write.
+-- What is asked of the settings: the blocks of a Set, in order, the one I&M text of a Write, or those of its several
+-- records, in order.
 abbrev pub items_in : Handled → List SetItem
 items_in (Refuses note) = []
 items_in (Sets asker request in_operation) = plan_of in_operation request
 items_in (Writes caller address call header value) = Ask (SetIm value) ∷ []
+items_in (WritesEach caller address call header judged) = texts_in judged
 items_in (Moves rest sent) = []
 
 abbrev pub items_of : Station → Live → Heard → List SetItem
@@ -79,10 +89,12 @@ abbrev pub link_after : Bool → Option RelationState → Option RelationState
 link_after true link = updated Ended link
 link_after false link = link
 
+abbrev pub farewell_at : Bool → Option RelationState → Option Farewell
+farewell_at true link = option_map (farewell_of Other) link
+farewell_at false link = None
+
 abbrev pub farewells_at : Bool → Option RelationState → List Sent
-farewells_at true (Some link) = Ends (farewell_of Other link) ∷ []
-farewells_at true None = []
-farewells_at false link = []
+farewells_at ends link = farewells_in (farewell_at ends link)
 
 -- ---- an I&M text that is written
 
@@ -101,6 +113,49 @@ abbrev pub first_answer : List BlockError → BlockError
 first_answer [] = error.Local
 first_answer (answer ∷ answers) = answer
 
+-- ---- several records that are written
+
+-- What becomes of one of them: an I&M text takes the next answer of the settings, and a parameter record its place in the
+-- relation.
+abbrev pub effect_outcome : IodWriteReq → Effect → List BlockError → Option RelationState → Result (List ℕ) CallFault
+effect_outcome header (Stores value) answers link = written_as header (first_answer answers)
+effect_outcome header (Keeps parameter) answers link = kept_answer header (keeping parameter link)
+
+abbrev pub one_outcome : IodWriteReq → Result Asking CallFault → List BlockError → Option RelationState → Result (List ℕ) CallFault
+one_outcome header (Ok write) answers link = effect_outcome header write.effect answers link
+one_outcome header (Err fault) answers link = Err fault
+
+-- The answers and the relation after it.
+abbrev pub effect_answers : Effect → List BlockError → List BlockError
+effect_answers (Stores value) answers = drop 1 answers
+effect_answers (Keeps parameter) answers = answers
+
+abbrev pub one_answers : Result Asking CallFault → List BlockError → List BlockError
+one_answers (Ok write) answers = effect_answers write.effect answers
+one_answers (Err fault) answers = answers
+
+abbrev pub effect_link : Effect → Option RelationState → Option RelationState
+effect_link (Stores value) link = link
+effect_link (Keeps parameter) link = updated (taking (keeping parameter link)) link
+
+abbrev pub one_link : Result Asking CallFault → Option RelationState → Option RelationState
+one_link (Ok write) link = effect_link write.effect link
+one_link (Err fault) link = link
+
+-- The status of each, in order, and the relation after all.
+abbrev pub statuses_of : List Judged → List BlockError → Option RelationState → List (IodWriteReq × Status)
+statuses_of [] answers link = []
+statuses_of (one ∷ others) answers link =
+    (one.0, (outcome_of Write (one_outcome one.0 one.1 answers link)).0) ∷ statuses_of others (one_answers one.1 answers) (one_link one.1 link)
+
+abbrev pub link_behind : List Judged → Option RelationState → Option RelationState
+link_behind [] link = link
+link_behind (one ∷ others) link = link_behind others (one_link one.1 link)
+
+-- The blocks of the answer: the header of the list, and one for each record.
+abbrev pub several_answer : IodWriteReq → List Judged → List BlockError → Option RelationState → List ℕ
+several_answer header judged answers link = answer_of header ++ outcomes_of (statuses_of judged answers link)
+
 -- The result of an event besides the settings: the rest, the messages that are sent, and the note of the event.
 pub record Finished : Type 0 where
   pub rest : Rest
@@ -108,7 +163,7 @@ pub record Finished : Type 0 where
   pub note : Note
 
 -- The result of an event with this outcome, given the answers to its items. A Set can make the lamp flash, and its resets that are done
--- end the relation. A Write is answered by the outcome of its command, and the answer is stored; a Write that is done
+-- end the relation, which is logged. A Write is answered by the outcome of its command, and the answer is stored; a Write that is done
 -- shows that the controller is alive.
 abbrev pub finished : Identity → Rest → Handled → List BlockError → Finished
 finished identity rest (Refuses note) answers = record { rest = rest; sent = []; note = note }
@@ -116,7 +171,7 @@ finished identity rest (Sets asker request in_operation) answers =
     let items = plan_of in_operation request in
     let ends = resets items answers in
     record {
-      rest = record rest { lamp = lamp_after rest.lamp items; link = link_after ends rest.link };
+      rest = with_log (err_log (farewell_at ends rest.link)) (record rest { lamp = lamp_after rest.lamp items; link = link_after ends rest.link });
       sent = farewells_at ends rest.link ++ SetAnswer asker request answers ∷ [];
       note = note.Done;
     }
@@ -124,6 +179,9 @@ finished identity rest (Writes caller address call header value) answers =
     let outcome = written_as header (first_answer answers) in
     let answer = answer_from address caller call Write outcome in
     record { rest = kept_behind identity rest call answer (updated (answered Named outcome) rest.link); sent = answer ∷ []; note = note.Done }
+finished identity rest (WritesEach caller address call header judged) answers =
+    let answer = answer_from address caller call Write (Ok (several_answer header judged answers rest.link)) in
+    record { rest = kept_behind identity rest call answer (updated Named (link_behind judged rest.link)); sent = answer ∷ []; note = note.Done }
 finished identity rest (Moves later sent) answers = record { rest = later; sent = sent; note = note.Done }
 
 -- The same if nothing is asked of the settings.

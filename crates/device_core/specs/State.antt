@@ -1,10 +1,14 @@
 -- What a contract sees of a device.
-use Rattle.std.specs.Prelude.{ℕ, List, [], Option, None}
+use Rattle.std.specs.Prelude.{◌+◌, ◌%◌, ℕ, List, [], Option, None}
+use Rattle.std.specs.Option.{option_map}
 use Rattle.pn_values.specs.declared.identity.Identity.{Identity}
 use Rattle.pn_values.specs.declared.real.Real.{Real}
 use Rattle.settings_store.specs.State as store
 use Rattle.settings_store.specs.State.{Values}
 use Rattle.rpc_core.specs.Cache.{Kept}
+use Rattle.diagnosis.specs.declared.diagnosis.Diagnosis.{Diagnosis}
+use Rattle.lldp.specs.Peer.{Peer, alias_of}
+use Rattle.device_log.specs.declared.entry.LogEntry.{LogEntry}
 use Rattle.relations.specs.declared.options.DeviceOptions.{DeviceOptions}
 use Rattle.relations.specs.Options.{default_options}
 use Rattle.relations.specs.declared.statuses.InputStatus.{InputStatus}
@@ -22,18 +26,34 @@ plain identity real = record { identity = identity; real = real; options = defau
 
 -- The state that a device has besides its settings, and loses with its power: the number of units for which the lamp
 -- still flashes, the answers to the last calls, newest first, its application relation, if there is one, the units since
--- its start, modulo 65,536, and the statuses that the application gave to its inputs.
+-- its start, modulo 2^64, the statuses that the application gave to its inputs, the log, its neighbour, if one is known,
+-- and the diagnoses that exist.
 pub record Rest : Type 0 where
   pub lamp : ℕ
   pub calls : List Kept
   pub link : Option RelationState
   pub units : ℕ
   pub statuses : List InputStatus
+  pub log : List LogEntry
+  pub peer : Option Peer
+  pub diagnoses : List Diagnosis
 
--- The rest as a device starts: the lamp is off, no answer is kept, there is no relation, and the application gave no
--- status.
+-- The units one unit later, and several units later.
+abbrev pub units_after : ℕ → ℕ → ℕ
+units_after more units = (units + more) % 18446744073709551616
+
+-- CycleCounter: the units, modulo 65,536.
+abbrev pub counter_of : ℕ → ℕ
+counter_of units = units % 65536
+
+-- The rest as a device starts: the lamp is off, no answer is kept, there is no relation, the application gave no status, the
+-- log is empty, no neighbour is known, and no diagnosis exists.
 abbrev pub at_start : Rest
-at_start = record { lamp = 0; calls = []; link = None; units = 0; statuses = [] }
+at_start = record { lamp = 0; calls = []; link = None; units = 0; statuses = []; log = []; peer = None; diagnoses = [] }
+
+-- The name of the station by its place (AliasName), while it knows its neighbour.
+abbrev pub alias_in : Option Peer → Option (List ℕ)
+alias_in peer = option_map alias_of peer
 
 -- The state that changes from event to event: the settings, and the rest.
 pub record Live : Type 0 where

@@ -1,5 +1,5 @@
 -- What a step and a run do, for any behaviour of the flash.
-use Rattle.std.specs.Prelude.{◌≡◌, ◌+◌, length, ℕ, true, false, Some, List, [], ◌∷◌, ◌++◌, if◌then◌else◌}
+use Rattle.std.specs.Prelude.{◌≡◌, ◌≤◌, ◌+◌, length, ℕ, true, false, Some, List, [], ◌∷◌, ◌++◌, if◌then◌else◌}
 use Rattle.flash_model.specs.declared.flash.Flash.{Ghosts as Flash}
 use Rattle.pn_values.specs.declared.mac.Mac.{Mac}
 use Rattle.pn_values.specs.declared.identity.Identity.{Identity}
@@ -17,7 +17,7 @@ use Rattle.device_frames.specs.declared.event.Event.{Event}
 use Rattle.device_frames.specs.declared.note.Note.{Note}
 use Rattle.device_frames.specs.declared.note.Note.TheVariants.{Done, Filter}
 use Rattle.frame_codec.specs.declared.udp.Caller.{Caller}
-use Rattle.device_core.specs.State.{Station, State, Live, store_of}
+use Rattle.device_core.specs.State.{Station, State, Live, alias_in, store_of}
 use Rattle.device_frames.specs.Sent.{answer_frame}
 use Rattle.device_frames.specs.Sendable.{AreSendable}
 use Rattle.device_frames.specs.Heard.{Heard, Asks, Reported, Calls, heard_of}
@@ -28,7 +28,8 @@ use Rattle.device_core.specs.Faults.{StepGoesOn}
 -- The event is carried out, for some outcomes, chosen by the flash, of the calls that store. The state, the frames and
 -- the note are those of the step. There are no outcomes if no commit failed, each has its cause in its own item, what
 -- happened to the settings is a stretch of a cycle and continues any, and for any behaviour of the flash the device
--- goes on. Each message that is sent can be sent: it fits a frame, and so is read as what is written.
+-- goes on. Each message that is sent can be sent: it fits a frame, and so is read as what is written. At most 16 things are
+-- asked of the settings.
 pub record Steps {F : Type 0} {S : ℕ} (as_flash : Flash F S) (old : State F) (heard : Heard) (sent : List (List ℕ)) (said : Note) (new : State F) : Type 0 where
   pub outcomes : List Outcome
   pub same : new.station ≡ old.station
@@ -37,6 +38,7 @@ pub record Steps {F : Type 0} {S : ℕ} (as_flash : Flash F S) (old : State F) (
   pub sendable : AreSendable old.station.identity (heard_step outcomes old.station old.live heard).sent
   pub note : said ≡ (heard_step outcomes old.station old.live heard).note
   pub inactive : new.live.values.has_failed ≡ old.live.values.has_failed → outcomes ≡ []
+  pub few : length (items_of old.station old.live heard) ≤ 16
   pub placed : OneByOne as_flash outcomes (store_of old) (items_of old.station old.live heard) (store_of new)
   pub stretch : Stretch as_flash (store_of old) (heard_step outcomes old.station old.live heard).accepted (store_of new)
   pub continues : Continues as_flash (store_of old) (heard_step outcomes old.station old.live heard).accepted (store_of new)
@@ -47,21 +49,23 @@ abbrev pub StaysReliable : {F : Type 0} {S : ℕ} → Flash F S → State F → 
 StaysReliable as_flash old new =
     as_flash.is_reliable old.flash → as_flash.is_reliable new.flash × (new.live.values.has_failed ≡ old.live.values.has_failed)
 
--- An Identify request changes nothing. If it matches, it is answered, only with the identity and the running settings.
+-- An Identify request changes nothing. If it matches, it is answered, only with the identity and the running settings. What
+-- it asks for is compared with these, and with the name by the place while a neighbour is known.
 pub record Identifies {F : Type 0} (old : State F) (asker : Mac) (request : Asked) (sent : List (List ℕ)) (said : Note) (new : State F) : Type 0 where
   pub unchanged : new ≡ old
-  pub answered : matches old.station.identity old.live.values.running request ≡ true →
+  pub answered : matches old.station.identity old.live.values.running (alias_in old.live.rest.peer) request ≡ true →
       (said ≡ Done) × (sent ≡ answer_frame old.station.identity asker 65279 (identify_bytes old.station.identity old.live.values.running request.xid) ∷ [])
-  pub filtered : matches old.station.identity old.live.values.running request ≡ false → (said ≡ Filter) × (sent ≡ [])
+  pub filtered : matches old.station.identity old.live.values.running (alias_in old.live.rest.peer) request ≡ false → (said ≡ Filter) × (sent ≡ [])
 
 -- The step of an Identify request: nothing changes, and if it matches the identity and these settings it is answered,
--- only with them; otherwise it is not answered.
+-- only with them; otherwise it is not answered. What it asks for is compared with these, and with the name by the place
+-- while a neighbour is known, which is never so at a device that has just started.
 pub record IsIdentified (identity : Identity) (settings : Settings) (live : Live) (asker : Mac) (request : Asked) (step : Stepped) : Type 0 where
   pub unchanged : step.live ≡ live
   pub none_accepted : step.accepted ≡ []
-  pub answered : matches identity settings request ≡ true →
+  pub answered : matches identity settings (alias_in live.rest.peer) request ≡ true →
       (step.note ≡ Done) × (step.frames ≡ answer_frame identity asker 65279 (identify_bytes identity settings request.xid) ∷ [])
-  pub filtered : matches identity settings request ≡ false → (step.note ≡ Filter) × (step.frames ≡ [])
+  pub filtered : matches identity settings (alias_in live.rest.peer) request ≡ false → (step.note ≡ Filter) × (step.frames ≡ [])
 
 -- Identify is answered only with the identity and these settings. This holds for each event that is an Identify
 -- request, from any station, for any behaviour of the flash.

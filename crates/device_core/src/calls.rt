@@ -1,5 +1,7 @@
 // Calls, and their stored answers (IEC 61158-6-10, 4.10; C706, 9.5).
-ghost use Rattle.std.specs.Prelude.{◌≡◌, ◌<◌, ◌&&◌, [], ◌∷◌, Err, is_ok, not};
+ghost use Rattle.std.specs.Prelude.{◌≡◌, ◌<◌, ◌≤◌, ◌&&◌, [], ◌∷◌, Ok, Err, is_ok, length, not};
+ghost use Rattle.relations.specs.RelationState.{uuid_of};
+ghost use Rattle.device_core.specs.Several.{judged_each};
 ghost use Rattle.arrayvec.specs.ArrayVec.{array_vec_len};
 ghost use Rattle.settings_store.specs.Carries.{Holds};
 ghost use Rattle.rpc_core.specs.Call.{asked};
@@ -8,28 +10,34 @@ ghost use Rattle.records.specs.declared.status.call_fault.CallFault.TheVariants.
 ghost use Rattle.records.specs.declared.status.operation.Operation.TheVariants as operation;
 ghost use Rattle.record_blocks.specs.declared.write_record.IodWriteReq.{IodWriteReq as Header};
 ghost use Rattle.records.specs.writes.Answer.{answer_of};
+ghost use Rattle.records.specs.declared.writes.writing.Writing.TheVariants.{One};
 ghost use Rattle.records.specs.status.Operation.{operation_of};
 ghost use Rattle.device_frames.specs.Heard.{Heard as Hears, Reported, said_by};
 ghost use Rattle.device_frames.specs.Sendable.{IsSendable};
 ghost use Rattle.device_frames.specs.Sent.{bytes_of};
-ghost use Rattle.device_core.specs.Handled.{Writes, answer_from, came_with, kept_for, handled, handled_call, outcome_of};
+ghost use Rattle.device_core.specs.Handled.{Writes, WritesEach, answer_from, came_with, kept_for, handled, handled_call, outcome_of};
 ghost use Rattle.device_core.specs.Behind.{CanSend, answer_to, behind, brings, called, frames_of, responded, wrote};
+ghost use Rattle.device_core.specs.Log.{arguments_log, with_log};
+ghost use Rattle.device_core.specs.State.{with_rest};
 ghost use Rattle.device_core.specs.Machine.{end_of, written_as as comes_out};
 ghost use Rattle.device_core.specs.Steps.{StaysReliable, Steps};
 ghost use Rattle.frame_codec.specs.Outbox.{boxed};
 
 use crate::arp::is_running;
+use crate::logging::{log_answer, log_arguments, log_connect, log_release, uuid_of};
+use crate::several::{fill_texts, put_outcomes};
 use crate::{Device, Note};
+use arrayvec::ArrayVec;
 use block_codec::IodWriteReq;
-use device_frames::{Caller, send_farewell, send_ready_again, send_response};
+use device_frames::{Caller, send_farewell, send_low_alarm, send_ready_again, send_response};
 use flash_model::Flash;
 use frame_codec::Outbox;
 use pn_values::{BlockError, Command, Identity, ImValue, SetItem};
 use records::{
-    Blocks, CallFault, Effect, Operation, TakenRecord, Write, done, judge_write, names_relation,
-    put_write_answer, read_implicit,
+    Blocks, CallFault, Effect, Entries, Operation, TakenRecord, Write, Writing, done, judge_write,
+    names_relation, put_write_answer,
 };
-use relation_records::read_within;
+use relation_records::{Sources, read_implicit, read_within};
 use relations::{Application, Partner, ReadyAnswer};
 use rpc_core::{Call, CallCache, Interface, Looked, Response, Status, read_call, read_response};
 
@@ -63,6 +71,7 @@ impl<F: Flash<S>, const S: usize> Device<F, S> {
     }
 
     // A response of the controller: the relation may wait for that to ApplicationReady.
+    #[tactic(auto, using(crate::proofs::Logged::answer_leaves))]
     fn hear_response(&mut self, response: &Response<'_>, outbox: &mut Outbox) -> Note
         requires empty { outbox.old.items ≡ [] }
         ensures state { self.new ≡ behind self.old (responded self.old response.now) }
@@ -70,10 +79,16 @@ impl<F: Flash<S>, const S: usize> Device<F, S> {
         ensures sendable { CanSend self.old (responded self.old response.now) }
         ensures note { result ≡ (end_of self.old.station self.old.live (responded self.old response.now)).note }
     {
-        match self.relation.hear_ready(response) {
+        let heard = self.relation.hear_ready(response);
+        log_answer(&mut self.log, self.units, &heard);
+        match heard {
             ReadyAnswer::NotWanted => Note::NoRelation,
             ReadyAnswer::Garbled => Note::Fault,
-            ReadyAnswer::Confirmed => Note::Done,
+            ReadyAnswer::Confirmed => {
+                let is_sent = self.relation.begin_diagnosis(&self.real, &self.diagnoses);
+                send_low_alarm(&self.identity, is_sent, &self.relation, outbox);
+                Note::Done
+            }
             ReadyAnswer::Refused(farewell) => {
                 send_farewell(&self.identity, &farewell, outbox);
                 Note::Done
@@ -121,20 +136,22 @@ impl<F: Flash<S>, const S: usize> Device<F, S> {
 
     // A call with wrong lengths of its blocks.
     fn refuse_arguments(
-        &self,
+        &mut self,
         operation: Operation,
         caller: &Caller,
         call: &Call<'_>,
         outbox: &mut Outbox,
     ) -> Note
         requires empty { outbox.old.items ≡ [] }
+        ensures state { self.new ≡ with_rest self.old (with_log (arguments_log operation) self.old.live.rest) }
         ensures frames { boxed outbox.new
-            ≡ bytes_of self.now.station.identity (answer_from self.now.live.values.running.suite.address caller.now (asked call.now)
+            ≡ bytes_of self.old.station.identity (answer_from self.old.live.values.running.suite.address caller.now (asked call.now)
             operation (Err Arguments)) ∷ [] }
-        ensures sendable { IsSendable self.now.station.identity
-            (answer_from self.now.live.values.running.suite.address caller.now (asked call.now) operation (Err Arguments)) }
+        ensures sendable { IsSendable self.old.station.identity
+            (answer_from self.old.live.values.running.suite.address caller.now (asked call.now) operation (Err Arguments)) }
         ensures note { result ≡ Note.Done }
     {
+        log_arguments(&mut self.log, self.units, operation);
         let address = self.store.running().suite.address();
         let response = call.response(CallFault::Arguments.number(operation), &[]);
         send_response(&self.identity, address, caller, &response, outbox);
@@ -175,6 +192,8 @@ impl<F: Flash<S>, const S: usize> Device<F, S> {
         let application = Application {
             options: &self.options,
             statuses: self.statuses.as_slice(),
+            units: self.units,
+            diagnoses: &self.diagnoses,
         };
         self.answers.blocks.clear();
         let came = self.relation.connect(
@@ -185,6 +204,7 @@ impl<F: Flash<S>, const S: usize> Device<F, S> {
             serving.blocks,
             &mut self.answers.blocks,
         );
+        log_connect(&mut self.log, self.units, serving.blocks, came);
         let address = self.store.running().suite.address();
         self.answers
             .give(&self.identity, address, serving, came, outbox);
@@ -200,9 +220,11 @@ impl<F: Flash<S>, const S: usize> Device<F, S> {
         ensures note { result ≡ Note.Done }
     {
         self.answers.blocks.clear();
+        let uuid = uuid_of(&self.relation);
         let came = self
             .relation
             .release(serving.blocks, &mut self.answers.blocks);
+        log_release(&mut self.log, self.units, uuid, came);
         let address = self.store.running().suite.address();
         self.answers
             .give(&self.identity, address, serving, came, outbox);
@@ -240,18 +262,27 @@ impl<F: Flash<S>, const S: usize> Device<F, S> {
         ensures sendable { CanSend self.old (called self.old serving.now operation.Read) }
         ensures note { result ≡ Note.Done }
     {
-        let running = self.store.running();
+        let settings = self.store.running();
         self.answers.blocks.clear();
+        let sources = Sources {
+            relation: &self.relation,
+            units: self.units,
+            log: &self.log,
+            identity: &self.identity,
+            settings,
+            neighbour: &self.neighbour,
+            diagnoses: &self.diagnoses,
+        };
         let came = read_within(
-            &self.relation,
+            &sources,
             &self.identity,
             &self.real,
-            running,
+            settings,
             serving.blocks,
             &mut self.answers.blocks,
         );
         self.relation.hear_controller(true, came);
-        let address = running.suite.address();
+        let address = self.store.running().suite.address();
         self.answers
             .give(&self.identity, address, serving, came, outbox);
         Note::Done
@@ -266,19 +297,29 @@ impl<F: Flash<S>, const S: usize> Device<F, S> {
         ensures sendable { CanSend self.old (called self.old serving.now operation.ReadImplicit) }
         ensures note { result ≡ Note.Done }
     {
-        let running = self.store.running();
+        let settings = self.store.running();
         self.answers.blocks.clear();
+        let sources = Sources {
+            relation: &self.relation,
+            units: self.units,
+            log: &self.log,
+            identity: &self.identity,
+            settings,
+            neighbour: &self.neighbour,
+            diagnoses: &self.diagnoses,
+        };
         let came = read_implicit(
+            &sources,
             &self.identity,
             &self.real,
-            running,
+            settings,
             serving.blocks,
             &mut self.answers.blocks,
         );
         let is_named = names_relation(self.relation.uuid(), serving.blocks);
         // The reader need not be the controller; only a call that names the relation shows that it is alive.
         self.relation.hear_controller(is_named, came);
-        let address = running.suite.address();
+        let address = self.store.running().suite.address();
         self.answers
             .give(&self.identity, address, serving, came, outbox);
         Note::Done
@@ -294,12 +335,64 @@ impl<F: Flash<S>, const S: usize> Device<F, S> {
         ensures reliable { StaysReliable F.Flash self.old self.new }
     {
         match judge_write(serving.blocks, self.relation.uuid(), &self.real) {
-            Ok(Write { request, effect }) => match effect {
-                Effect::Stores(value) => self.store_text(serving, &request, value, outbox),
-                Effect::Keeps(taken) => self.keep_parameter(serving, &request, taken, outbox),
-            },
+            Ok(Writing::One(write)) => self.write_one(serving, write, outbox),
+            Ok(Writing::Each(request, entries)) => {
+                self.write_each(serving, &request, &entries, outbox)
+            }
             Err(fault) => self.refuse_write(serving, fault, outbox),
         }
+    }
+
+    // One record.
+    fn write_one(&mut self, serving: &Serving<'_>, write: Write, outbox: &mut Outbox) -> Note
+        requires operation { serving.now.operation ≡ operation.Write }
+        requires stored { Holds (F.image self.old.flash) self.old.live.values }
+        requires empty { outbox.old.items ≡ [] }
+        ensures steps { (heard : Hears) → handled self.old.station self.old.live heard ≡ wrote self.old serving.now (Ok (One write)) →
+            Steps F.Flash self.old heard (boxed outbox.new) result self.new }
+        ensures reliable { StaysReliable F.Flash self.old self.new }
+    {
+        let Write { request, effect } = write;
+        match effect {
+            Effect::Stores(value) => self.store_text(serving, &request, value, outbox),
+            Effect::Keeps(taken) => self.keep_parameter(serving, &request, taken, outbox),
+        }
+    }
+
+    // Several records: I&M texts are stored in the flash, parameter records are kept in the relation, each by itself. The
+    // answer has the outcome of each.
+    fn write_each(
+        &mut self,
+        serving: &Serving<'_>,
+        header: &IodWriteReq,
+        entries: &Entries<'_>,
+        outbox: &mut Outbox,
+    ) -> Note
+        requires operation { serving.now.operation ≡ operation.Write }
+        requires empty { outbox.old.items ≡ [] }
+        requires few { length entries.now ≤ 16 }
+        ensures steps { (heard : Hears) → handled self.old.station self.old.live heard
+            ≡ WritesEach serving.now.caller.now self.old.live.values.running.suite.address (asked serving.now.call.now) header.now
+            (judged_each (uuid_of self.old.live.rest.link) self.old.station.real entries.now) →
+            Steps F.Flash self.old heard (boxed outbox.new) result self.new }
+        ensures reliable { StaysReliable F.Flash self.old self.new }
+    {
+        let address = self.store.running().suite.address();
+        fill_texts(entries, &self.relation, &self.real, &mut self.plan);
+        let answers: ArrayVec<BlockError, 16> = self.store.carry_out(self.plan.as_slice());
+        self.answers.blocks.clear();
+        put_write_answer(&mut self.answers.blocks, header);
+        put_outcomes(
+            entries,
+            &self.real,
+            answers.as_slice(),
+            &mut self.relation,
+            &mut self.answers.blocks,
+        );
+        self.relation.hear_controller(true, Ok(()));
+        self.answers
+            .give(&self.identity, address, serving, Ok(()), outbox);
+        Note::Done
     }
 
     // A Write that is refused.
@@ -434,7 +527,7 @@ fn is_ready_due(came: Result<(), CallFault>, by_application: bool) -> bool
 }
 
 // The outcome of a Write whose command has this answer.
-fn written_as(answer: BlockError) -> Result<(), CallFault>
+pub(crate) fn written_as(answer: BlockError) -> Result<(), CallFault>
     ensures { (header : Header) → came_with result (answer_of header) ≡ comes_out header answer }
 {
     match answer {

@@ -1,5 +1,5 @@
 // The DCP requests: Identify, Get and Set (IEC 61158-6-10, 4.3).
-ghost use Rattle.std.specs.Prelude.{◌≡◌, ◌<◌, ◌≤◌, ◌+◌, [], ◌∷◌, ◌++◌, is_some, map};
+ghost use Rattle.std.specs.Prelude.{◌≡◌, ◌<◌, ◌≤◌, ◌+◌, [], ◌∷◌, ◌++◌, is_some, map, option_map};
 ghost use Rattle.std.specs.List.{list_any};
 ghost use Rattle.arrayvec.specs.ArrayVec.{array_vec_len};
 ghost use Rattle.settings_store.specs.Carries.{Holds};
@@ -10,22 +10,24 @@ ghost use Rattle.device_frames.specs.Sendable.{AreSendable, IsSendable};
 ghost use Rattle.device_frames.specs.Sent.{GetAnswer, bytes_of};
 ghost use Rattle.device_core.specs.Behind.{CanSend, frames_of};
 ghost use Rattle.device_core.specs.Handled.{identified};
-ghost use Rattle.device_core.specs.Machine.{farewells_at, finished, is_done as is_done_by, is_reset as is_reset_by, is_signal};
+ghost use Rattle.device_core.specs.Machine.{farewell_at, farewells_at, finished, is_done as is_done_by, is_reset as is_reset_by, is_signal};
 ghost use Rattle.device_core.specs.Machine.{lamp_after as lamp_of, link_after, resets};
+ghost use Rattle.device_core.specs.State.{alias_in};
 ghost use Rattle.device_core.specs.Steps.{StaysReliable, Steps};
 ghost use Rattle.frame_codec.specs.Outbox.{boxed};
 
+use crate::logging::log_err;
 use crate::{Device, Note};
 use dcp_core::{
-    Request, Service, fill_plan, get_answer, identify_answer, identify_matches, read_request,
-    set_answer,
+    AliasName, Request, Service, fill_plan, get_answer, identify_answer, identify_matches,
+    read_request, set_answer,
 };
 use device_frames::{send_dcp_answer, send_farewell};
 use flash_model::Flash;
 use frame_codec::{DCP_GET_SET, DCP_IDENTIFY_RESPONSE, Outbox};
 use pn_alarms::Abort;
 use pn_values::{BlockError, Command, Identity, Mac, SetItem};
-use relations::Relation;
+use relations::{Farewell, Relation};
 
 /// The number of units of 31.25 microseconds for which the lamp flashes after a Signal: 3 seconds.
 const LAMP_UNITS: u32 = 96_000;
@@ -73,8 +75,31 @@ impl<F: Flash<S>, const S: usize> Device<F, S> {
         ensures note { result ≡ (finished self.now.station.identity self.now.live.rest
             (identified self.now.station self.now.live asker (asked request.now)) []).note }
     {
+        match &self.neighbour {
+            Some(neighbour) => {
+                self.identify_as(Some(&neighbour.alias()), asker, request, outbox)
+            }
+            None => self.identify_as(None, asker, request, outbox),
+        }
+    }
+
+    // An Identify request at a station with this name by its place, if it has one.
+    fn identify_as(
+        &self,
+        alias: Option<&AliasName>,
+        asker: Mac,
+        request: &Request<'_>,
+        outbox: &mut Outbox,
+    ) -> Note
+        requires alias { option_map (λ a. a.now.items) alias ≡ alias_in self.now.live.rest.peer }
+        requires empty { outbox.old.items ≡ [] }
+        ensures frames { boxed outbox.new ≡ frames_of self.now (identified self.now.station self.now.live asker (asked request.now)) }
+        ensures sendable { CanSend self.now (identified self.now.station self.now.live asker (asked request.now)) }
+        ensures note { result ≡ (finished self.now.station.identity self.now.live.rest
+            (identified self.now.station self.now.live asker (asked request.now)) []).note }
+    {
         let running = self.store.running();
-        if !identify_matches(&self.identity, running, request) {
+        if !identify_matches(&self.identity, running, alias, request) {
             // An Identify request that does not match is not an error, and is not answered: otherwise every station
             // would answer at once.
             return Note::Filter;
@@ -94,11 +119,35 @@ impl<F: Flash<S>, const S: usize> Device<F, S> {
     fn get(&self, asker: Mac, request: &Request<'_>, outbox: &mut Outbox) -> Note
         requires { outbox.old.items ≡ [] }
         ensures frames { boxed outbox.new
-            ≡ bytes_of self.now.station.identity (GetAnswer asker self.now.live.values.running (asked request.now)) ∷ [] }
-        ensures sendable { IsSendable self.now.station.identity (GetAnswer asker self.now.live.values.running (asked request.now)) }
+            ≡ bytes_of self.now.station.identity (GetAnswer asker self.now.live.values.running (alias_in self.now.live.rest.peer)
+            (asked request.now)) ∷ [] }
+        ensures sendable { IsSendable self.now.station.identity
+            (GetAnswer asker self.now.live.values.running (alias_in self.now.live.rest.peer) (asked request.now)) }
         ensures note { result ≡ Note.Done }
     {
-        let answer = get_answer(&self.identity, self.store.running(), request);
+        match &self.neighbour {
+            Some(neighbour) => self.get_as(Some(&neighbour.alias()), asker, request, outbox),
+            None => self.get_as(None, asker, request, outbox),
+        }
+    }
+
+    // A Get of a station with this name by its place, if it has one.
+    fn get_as(
+        &self,
+        alias: Option<&AliasName>,
+        asker: Mac,
+        request: &Request<'_>,
+        outbox: &mut Outbox,
+    ) -> Note
+        requires { outbox.old.items ≡ [] }
+        ensures frames { boxed outbox.new
+            ≡ bytes_of self.now.station.identity (GetAnswer asker self.now.live.values.running
+            (option_map (λ a. a.now.items) alias.entry) (asked request.now)) ∷ [] }
+        ensures sendable { IsSendable self.now.station.identity
+            (GetAnswer asker self.now.live.values.running (option_map (λ a. a.now.items) alias.entry) (asked request.now)) }
+        ensures note { result ≡ Note.Done }
+    {
+        let answer = get_answer(&self.identity, self.store.running(), alias, request);
         send_dcp_answer(&self.identity, asker, DCP_GET_SET, &answer, outbox);
         Note::Done
     }
@@ -117,7 +166,8 @@ impl<F: Flash<S>, const S: usize> Device<F, S> {
         // A reset that failed leaves the station unchanged, and the relation too.
         let is_ended = is_ended(self.plan.as_slice(), answers.as_slice());
         // Its ERR is sent before the answer, so that a controller does not exchange data with a station that was reset.
-        end_if(is_ended, &self.identity, &mut self.relation, outbox);
+        let farewell = end_if(is_ended, &self.identity, &mut self.relation, outbox);
+        log_err(&mut self.log, self.units, &farewell);
         let answer = set_answer(request, &answers);
         send_dcp_answer(&self.identity, asker, DCP_GET_SET, &answer, outbox);
         Note::Done
@@ -158,9 +208,15 @@ fn is_in_operation(relation: &Relation) -> bool
     relation.phase().is_some()
 }
 
-// If a reset is done: ends the relation, if there is one, and appends its ERR to the outbox.
-fn end_if(is_ended: bool, identity: &Identity, relation: &mut Relation, outbox: &mut Outbox)
+// If a reset is done: ends the relation, if there is one, and appends its ERR to the outbox. Returns that.
+fn end_if(
+    is_ended: bool,
+    identity: &Identity,
+    relation: &mut Relation,
+    outbox: &mut Outbox,
+) -> Option<Farewell>
     requires room { array_vec_len outbox.old < 4 }
+    ensures farewell { result ≡ farewell_at is_ended relation.old }
     ensures link { relation.new ≡ link_after is_ended relation.old }
     ensures frames { boxed outbox.new
         ≡ boxed outbox.old ++ map (bytes_of identity.now) (farewells_at is_ended relation.old) }
@@ -168,11 +224,11 @@ fn end_if(is_ended: bool, identity: &Identity, relation: &mut Relation, outbox: 
     ensures few { array_vec_len outbox.new ≤ array_vec_len outbox.old + 1 }
 {
     if !is_ended {
-        return;
+        return None;
     }
-    if let Some(farewell) = relation.end(Abort::Other) {
-        send_farewell(identity, &farewell, outbox);
-    }
+    let farewell = relation.end(Abort::Other)?;
+    send_farewell(identity, &farewell, outbox);
+    Some(farewell)
 }
 
 // The number of units for which the lamp flashes after these items; before them it was `lamp`.

@@ -14,7 +14,10 @@ ghost use Rattle.device_core.specs.State.{plain};
 
 use crate::calls::Answering;
 use arrayvec::ArrayVec;
+use device_log::Log;
+use diagnosis::Diagnoses;
 use flash_model::{Flash, Order};
+use lldp::Neighbour;
 use pn_values::{Identity, Real, SetItem, Settings};
 use records::TakenRecord;
 use relations::{DeviceOptions, InputStatus, Phase, ProviderStatus, Relation};
@@ -30,22 +33,32 @@ pub struct Device<F: Flash<S>, const S: usize> {
     pub(crate) identity: Identity,
     pub(crate) real: Real,
     pub(crate) options: DeviceOptions,
-    pub(crate) store: Store<F, S>,
     pub(crate) lamp: u32,
     // The answers to calls.
     pub(crate) answers: Answering,
     // The application relation, if there is one.
     pub(crate) relation: Relation,
-    // The units since the start, modulo 65,536.
-    pub(crate) units: u16,
+    // The units since the start, modulo 2^64.
+    pub(crate) units: u64,
     // The statuses that the application gave to its inputs.
     pub(crate) statuses: ArrayVec<InputStatus, 64>,
+    // How relations ended, and which Connects were refused.
+    pub(crate) log: Log,
+    // The neighbour of the station, if one is known.
+    pub(crate) neighbour: Option<Neighbour>,
+    // The diagnoses that exist.
+    pub(crate) diagnoses: Diagnoses,
     // Room for the plan of a Set; it holds the last one.
     pub(crate) plan: ArrayVec<SetItem, 16>,
+    // The settings, and the flash below them. It is the last: the size of a struct that the prover has to bound doubles with each
+    // field that follows one of a type parameter's size.
+    pub(crate) store: Store<F, S>,
 }
 
 impl<F: Flash<S>, const S: usize> Model for Device<F, S> {
+    ghost use Rattle.std.specs.Option.{option_map};
     ghost use Rattle.settings_store.specs.Carries.{Holds};
+    ghost use Rattle.lldp.specs.Views.{peer_as};
     ghost use Rattle.device_core.specs.State.{State};
 
     ghost Value = { State F };
@@ -61,6 +74,9 @@ impl<F: Flash<S>, const S: usize> Model for Device<F, S> {
           link = device.relation;
           units = device.units;
           statuses = device.statuses.items;
+          log = device.log;
+          peer = option_map peer_as device.neighbour;
+          diagnoses = device.diagnoses;
         };
       };
     } };
@@ -251,6 +267,9 @@ impl<F: Flash<S>, const S: usize> Device<F, S> {
             relation: _,
             units: _,
             statuses: _,
+            log: _,
+            neighbour: _,
+            diagnoses: _,
             plan: _,
         } = self;
         (identity, real, store.into_flash())

@@ -1,6 +1,7 @@
 // Several units of time at once.
-ghost use Rattle.std.specs.Prelude.{◌≡◌, ◌<◌, ◌≤◌, ◌+◌, ◌%◌};
+ghost use Rattle.std.specs.Prelude.{◌≡◌, ◌<◌, ◌≤◌};
 ghost use Rattle.frame_codec.specs.Outbox.{boxed};
+ghost use Rattle.device_core.specs.State.{units_after};
 ghost use Rattle.device_core.specs.Leaps.{LeapsAreTicks, NoneSends, OnlyTheLastSends, lamp_off_in, live_due_in, ticks_of};
 
 use crate::{Device, Note};
@@ -53,17 +54,17 @@ impl<F: Flash<S>, const S: usize> Device<F, S> {
         ensures none { NoneSends units self.old.station self.old.live }
     {
         self.lamp = self.lamp.saturating_sub(units);
-        self.units = counter_later(self.units, units);
+        self.units = units_later(self.units, units);
         self.relation.pass(units);
     }
 }
 
-// CycleCounter some units later: it counts modulo 65,536.
-fn counter_later(counter: u16, units: u32) -> u16
-    ensures value { result ≡ (counter + units) % 65536 }
-    ensures fits { counter < 65536 }
+// The units since the start, some units later.
+fn units_later(units: u64, more: u32) -> u64
+    ensures value { result ≡ units_after more units }
+    ensures fits { units < 18446744073709551616 }
 {
-    counter.wrapping_add((units % 65_536) as u16)
+    units.wrapping_add(u64::from(more))
 }
 
 // The number of units up to and with the next one with which the lamp goes off, `NEVER` if it is off.

@@ -8,13 +8,17 @@ mod device;
 mod headline;
 mod law;
 mod leaps;
+mod logging;
+mod low;
+mod neighbour;
 mod run;
+mod several;
 mod sink;
 mod start;
 mod step;
 
 pub use device::Device;
-pub use device_frames::{Event, Note};
+pub use device_frames::{Caller, Event, LongCall, Note};
 pub use headline::{cycle, restart};
 pub use law::steps_make_runs;
 pub use leaps::leaps_are_ticks;

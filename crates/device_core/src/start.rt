@@ -11,6 +11,8 @@ ghost use Rattle.device_core.specs.State.{at_start, with_rest};
 use crate::Device;
 use crate::calls::Answering;
 use arrayvec::ArrayVec;
+use device_log::Log;
+use diagnosis::Diagnoses;
 use flash_model::Flash;
 use pn_alarms::Abort;
 use pn_values::{Identity, Real};
@@ -40,6 +42,9 @@ impl<F: Flash<S>, const S: usize> Device<F, S> {
             relation: Relation::new(),
             units: 0,
             statuses: ArrayVec::new(),
+            log: Log::new(),
+            neighbour: None,
+            diagnoses: Diagnoses::new(),
             plan: ArrayVec::new(),
         }
     }
@@ -98,6 +103,9 @@ impl<F: Flash<S>, const S: usize> Device<F, S> {
         self.lamp = 0;
         self.units = 0;
         self.statuses.clear();
+        self.log = Log::new();
+        self.neighbour = None;
+        self.diagnoses = Diagnoses::new();
         self.answers.kept = CallCache::new();
         // No frame is sent: the controller that had the relation hears nothing, and notices by its own data hold.
         let _ = self.relation.end(Abort::Other);

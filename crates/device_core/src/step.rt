@@ -1,20 +1,22 @@
 // One step: what an event is, and its outcome.
-ghost use Rattle.std.specs.Prelude.{◌≡◌, ◌≢◌, ◌<◌, ◌-◌, ◌^◌, [], true, false, List, ℕ, Option, Some, map, option_map};
+ghost use Rattle.std.specs.Prelude.{◌≡◌, ◌≢◌, ◌<◌, ◌-◌, ◌^◌, ◌&&◌, [], true, false, List, ℕ, Option, Some, map, option_map};
 ghost use Rattle.settings_store.specs.Carries.{Holds};
 ghost use Rattle.dcp_core.specs.Request.{Asked};
-ghost use Rattle.device_frames.specs.Heard.{Asks, heard_alarm, heard_by, heard_content, heard_of};
+ghost use Rattle.device_frames.specs.Heard.{Asks, heard_alarm, heard_by, heard_content, heard_of, heard_reply};
 ghost use Rattle.frame_codec.specs.Frame.{arp, datagram, frame_of};
 ghost use Rattle.frame_codec.specs.Meaning.{IsNoRealTime, RealTime};
 ghost use Rattle.pn_alarms.specs.Message.{message_of};
-ghost use Rattle.device_frames.specs.declared.event.Event.TheVariants.{Frame};
+ghost use Rattle.device_frames.specs.declared.event.Event.TheVariants.{Frame, Call as Joined};
 ghost use Rattle.relations.specs.Farewells.{farewell_of};
 ghost use Rattle.relations.specs.RelationState.{RelationState, flow_of};
-ghost use Rattle.relations.specs.Timers.{left_behind};
-ghost use Rattle.device_core.specs.State.{Live, Station, with_rest};
+ghost use Rattle.relations.specs.Timers.{farewell_for, left_behind};
+ghost use Rattle.device_core.specs.Log.{err_log, with_log};
+ghost use Rattle.device_core.specs.State.{Live, Station, counter_of, with_rest};
 ghost use Rattle.device_frames.specs.Sendable.{AreSendable};
 ghost use Rattle.device_frames.specs.Sent.{bytes_of};
 ghost use Rattle.device_core.specs.Handled.{handled_alarm, handled_message, handled_cyclic, handled_given, handled_raised, handled_rated, handled_received};
 ghost use Rattle.device_core.specs.Handled.{handled_ready, ticked};
+ghost use Rattle.device_core.specs.Behind.{is_low_reply};
 ghost use Rattle.device_frames.specs.Relation.{farewells_in, inputs_of};
 ghost use Rattle.device_core.specs.Behind.{CanSend, behind, brought, due_in, frames_of};
 ghost use Rattle.device_core.specs.Machine.{end_of};
@@ -24,18 +26,21 @@ ghost use Rattle.device_core.specs.Faults.{StepGoesOn};
 ghost use Rattle.device_core.specs.Steps.{Steps, Identifies, IsServed, IsAgain, IsExactStep, StaysReliable};
 ghost use Rattle.frame_codec.specs.Outbox.{boxed};
 
+use crate::logging::{log_err, log_fate, uuid_of};
 use crate::{Device, Event, Note};
+use alarm_reports::Priority;
 use dcp_core::Service;
 use device_frames::{
     Caller, RealTimeKind, is_asked, is_called, kind_of, open_frame, real_time_in, send_alarm,
-    send_alarm_again, send_alarm_reply, send_farewell, send_inputs, send_inputs_of, send_ready,
-    send_ready_again,
+    send_alarm_again, send_alarm_reply, send_farewell, send_inputs, send_inputs_of, send_low_alarm,
+    send_ready, send_ready_again,
 };
+use diagnosis::{Change, Diagnosis};
 use flash_model::Flash;
 use frame_codec::{ContentKind, OpenFrame, Outbox, RealTimeFrame, datagram_at, packet_at};
 use pn_alarms::{Abort, Header, Message, PduFate, read_message};
 use pn_values::Mac;
-use relations::{DataExchange, Elapsed, InputStatus, Received, put_status};
+use relations::{DataExchange, Elapsed, InputStatus, Received, Repeated, put_status};
 
 impl<F: Flash<S>, const S: usize> Device<F, S> {
     /// Handles an event, and replaces the content of the outbox by the frames to be sent.
@@ -89,6 +94,44 @@ impl<F: Flash<S>, const S: usize> Device<F, S> {
         self.hear(octets, outbox)
     }
 
+    /// Handles a call that came in fragments and was joined, from this caller to this IP address. Its octets are only read and
+    /// not kept: it does what `step` does with the event of these octets.
+    pub fn step_call(
+        &mut self,
+        caller: &Caller,
+        address: [u8; 4],
+        octets: &[u8],
+        outbox: &mut Outbox,
+    ) -> Note
+        ensures steps { Steps F.Flash self.old (heard_of self.old.station.identity (Joined caller.now address (record { items = octets.now })))
+            (boxed outbox.new) result self.new }
+
+        // If the failure counter of the flash, below 2^64 - 1, does not rise, the step is exactly the specified one. Over a
+        // reliable flash with no failed commit it always is, the flash stays reliable, and no commit fails.
+        ensures exact { F.failures self.new.flash ≡ F.failures self.old.flash → F.failures self.old.flash < 2 ^ 64 - 1 →
+            IsExactStep self.old (Joined caller.now address (record { items = octets.now })) (boxed outbox.new) result self.new }
+        ensures reliable { F.is_reliable self.old.flash → self.old.live.values.has_failed ≡ false →
+            F.is_reliable self.new.flash × (self.new.live.values.has_failed ≡ false)
+            × IsExactStep self.old (Joined caller.now address (record { items = octets.now })) (boxed outbox.new) result self.new }
+
+        // A call that is not `Done` changes nothing and sends nothing. One that was answered gets the same frame again, while
+        // that frame is kept.
+        ensures refused { result ≢ Note.Done → (self.new ≡ self.old) × (outbox.new.items ≡ []) }
+        ensures identify { (asker : Mac) (request : Asked) →
+            heard_of self.old.station.identity (Joined caller.now address (record { items = octets.now })) ≡ Asks asker request →
+            request.service ≡ Service.Identify →
+            Identifies self.old asker request (boxed outbox.new) result self.new }
+        ensures again { (call : Called) (frame : List ℕ) →
+            IsServed self.old.live (heard_of self.old.station.identity (Joined caller.now address (record { items = octets.now }))) call →
+            looked call.header.activity call.header.sequence self.old.live.rest.calls ≡ again frame →
+            IsAgain self.old frame (boxed outbox.new) result self.new }
+    {
+        // Using a field makes the invariant known here.
+        let _ = &self.identity;
+        outbox.clear(); // as `step` does
+        self.hear_datagram(caller, address, octets, outbox)
+    }
+
     // The outcome of an event.
     fn respond(&mut self, event: &Event, outbox: &mut Outbox) -> Note
         requires empty { outbox.old.items ≡ [] }
@@ -104,8 +147,24 @@ impl<F: Flash<S>, const S: usize> Device<F, S> {
                 self.raise(*slot, *subslot, octets.as_slice(), outbox)
             }
             Event::Status(slot, subslot, is_good) => self.rate(*slot, *subslot, *is_good),
+            Event::Neighbour(neighbour) => self.meet(neighbour),
             Event::Ready => self.get_ready(outbox),
+            Event::Diagnosis(slot, subslot, channel, error, appears) => self.diagnose(
+                &Change {
+                    diagnosis: Diagnosis {
+                        slot: *slot,
+                        subslot: *subslot,
+                        channel: *channel,
+                        error: *error,
+                    },
+                    appears: *appears,
+                },
+                outbox,
+            ),
             Event::Frame(bytes) => self.hear(bytes.as_slice(), outbox),
+            Event::Call(caller, address, octets) => {
+                self.hear_datagram(caller, *address, octets.as_slice(), outbox)
+            }
         }
     }
 
@@ -138,7 +197,7 @@ impl<F: Flash<S>, const S: usize> Device<F, S> {
         let (source, frame_id, body) = (frame.source, frame.frame_id, frame.body);
         match kind_of(&self.identity, frame.destination, frame_id) {
             RealTimeKind::Cyclic => self.hear_cyclic(source, frame_id, body),
-            RealTimeKind::Alarm => self.read_alarm(source, body, outbox),
+            RealTimeKind::Alarm => self.read_alarm(source, frame_id, body, outbox),
             RealTimeKind::Request => self.read_and_serve(source, frame_id, body, outbox),
             RealTimeKind::Elsewhere => Note::NotMine,
         }
@@ -207,16 +266,46 @@ impl<F: Flash<S>, const S: usize> Device<F, S> {
 
     // The octets that follow the FrameID of an alarm frame.
     #[inline(never)]
-    fn read_alarm(&mut self, source: Mac, body: &[u8], outbox: &mut Outbox) -> Note
+    fn read_alarm(&mut self, source: Mac, frame_id: u16, body: &[u8], outbox: &mut Outbox) -> Note
         requires stored { Holds (F.image self.old.flash) self.old.live.values }
         requires empty { outbox.old.items ≡ [] }
-        ensures steps { Steps F.Flash self.old (heard_alarm source (message_of body.now)) (boxed outbox.new) result self.new }
+        ensures steps { Steps F.Flash self.old (heard_alarm source frame_id body.now (message_of body.now)) (boxed outbox.new) result self.new }
         ensures reliable { StaysReliable F.Flash self.old self.new }
     {
         match read_message(body) {
-            Ok((header, message)) => self.hear_alarm(source, &header, &message, outbox),
-            Err(_) => Note::Fault,
+            Ok((header, message)) => {
+                self.hear_under(source, Priority::of(frame_id), &header, &message, outbox)
+            }
+            Err(_) => self.read_low_confirm(source, body, outbox),
         }
+    }
+
+    // What an alarm frame says, under the FrameID of this priority.
+    fn hear_under(
+        &mut self,
+        source: Mac,
+        priority: Priority,
+        header: &Header,
+        message: &Message,
+        outbox: &mut Outbox,
+    ) -> Note
+        requires stored { Holds (F.image self.old.flash) self.old.live.values }
+        requires empty { outbox.old.items ≡ [] }
+        ensures steps { Steps F.Flash self.old (heard_reply source priority header.now message.now) (boxed outbox.new) result self.new }
+        ensures reliable { StaysReliable F.Flash self.old self.new }
+    {
+        if is_low_reply(priority, message) {
+            return self.hear_low_reply(source, header, message, outbox);
+        }
+        self.hear_alarm(source, header, message, outbox)
+    }
+
+    // CycleCounter.
+    #[inline(always)]
+    fn counter(&self) -> u16
+        ensures { result ≡ counter_of self.now.live.rest.units }
+    {
+        (self.units % 65_536) as u16
     }
 
     // A unit of time is over: the timers advance. If a timeout ends the relation, nothing more is done.
@@ -227,7 +316,8 @@ impl<F: Flash<S>, const S: usize> Device<F, S> {
         ensures sendable { CanSend self.old (ticked self.old.live) }
         ensures note { result ≡ Note.Done }
     {
-        // The lamp's time and CycleCounter continue when a relation ends: they belong to the station.
+        // The lamp's time and the units, of which CycleCounter is the end, continue when a relation ends: they belong to the
+        // station.
         self.lamp = self.lamp.saturating_sub(1);
         self.units = self.units.wrapping_add(1);
         let elapsed = self.relation.elapse();
@@ -246,8 +336,8 @@ impl<F: Flash<S>, const S: usize> Device<F, S> {
     #[inline(never)]
     fn bring(&mut self, elapsed: &Elapsed, outbox: &mut Outbox) -> Note
         requires empty { outbox.old.items ≡ [] }
-        ensures state { self.new ≡ with_rest self.old
-            (record self.old.live.rest { link = left_behind elapsed.now.tick.ending self.old.live.rest.link }) }
+        ensures state { self.new ≡ with_rest self.old (with_log (err_log (farewell_for elapsed.now.tick.ending self.old.live.rest.link))
+            (record self.old.live.rest { link = left_behind elapsed.now.tick.ending self.old.live.rest.link })) }
         ensures frames { boxed outbox.new ≡ map (bytes_of self.old.station.identity) (brought self.old elapsed.now) }
         ensures sendable { AreSendable self.old.station.identity (brought self.old elapsed.now) }
         ensures note { result ≡ Note.Done }
@@ -255,7 +345,7 @@ impl<F: Flash<S>, const S: usize> Device<F, S> {
         match elapsed.tick.ending() {
             Some(reason) => self.end(reason, outbox),
             None => self.send_each(
-                elapsed.tick.is_alarm(),
+                repeated_with(elapsed),
                 elapsed.is_ready,
                 elapsed.tick.is_cyclic(),
                 outbox,
@@ -264,16 +354,19 @@ impl<F: Flash<S>, const S: usize> Device<F, S> {
         Note::Done
     }
 
-    // A timeout is over: the relation ends, and its ERR is sent.
+    // A timeout is over: the relation ends, which is logged, and its ERR is sent.
     #[inline(never)]
     fn end(&mut self, reason: Abort, outbox: &mut Outbox)
         requires empty { outbox.old.items ≡ [] }
-        ensures state { self.new ≡ with_rest self.old (record self.old.live.rest { link = None }) }
+        ensures state { self.new ≡ with_rest self.old (with_log (err_log (option_map (farewell_of reason) self.old.live.rest.link))
+            (record self.old.live.rest { link = None })) }
         ensures frames { boxed outbox.new
             ≡ map (bytes_of self.old.station.identity) (farewells_in (option_map (farewell_of reason) self.old.live.rest.link)) }
         ensures sendable { AreSendable self.old.station.identity (farewells_in (option_map (farewell_of reason) self.old.live.rest.link)) }
     {
-        match self.relation.end(reason) {
+        let ended = self.relation.end(reason);
+        log_err(&mut self.log, self.units, &ended);
+        match ended {
             Some(farewell) => send_farewell(&self.identity, &farewell, outbox),
             None => {}
         }
@@ -285,8 +378,8 @@ impl<F: Flash<S>, const S: usize> Device<F, S> {
         requires { outbox.old.items ≡ [] }
         ensures note { result ≡ Note.Done }
         ensures frames { boxed outbox.new
-            ≡ map (bytes_of self.now.station.identity) (inputs_of self.now.live.rest.units (flow_of self.now.live.rest.link)) }
-        ensures sendable { AreSendable self.now.station.identity (inputs_of self.now.live.rest.units (flow_of self.now.live.rest.link)) }
+            ≡ map (bytes_of self.now.station.identity) (inputs_of (counter_of self.now.live.rest.units) (flow_of self.now.live.rest.link)) }
+        ensures sendable { AreSendable self.now.station.identity (inputs_of (counter_of self.now.live.rest.units) (flow_of self.now.live.rest.link)) }
     {
         match self.relation.exchange() {
             Some(exchange) => self.send_inputs_of(exchange, outbox),
@@ -300,24 +393,25 @@ impl<F: Flash<S>, const S: usize> Device<F, S> {
     fn send_inputs_of(&self, exchange: &DataExchange, outbox: &mut Outbox) -> Note
         ensures note { result ≡ Note.Done }
         ensures frames { boxed outbox.new
-            ≡ map (bytes_of self.now.station.identity) (inputs_of self.now.live.rest.units (Some exchange.now)) }
-        ensures sendable { AreSendable self.now.station.identity (inputs_of self.now.live.rest.units (Some exchange.now)) }
+            ≡ map (bytes_of self.now.station.identity) (inputs_of (counter_of self.now.live.rest.units) (Some exchange.now)) }
+        ensures sendable { AreSendable self.now.station.identity (inputs_of (counter_of self.now.live.rest.units) (Some exchange.now)) }
     {
         outbox.clear();
-        send_inputs_of(&self.identity, self.units, exchange, outbox);
+        send_inputs_of(&self.identity, self.counter(), exchange, outbox);
         Note::Done
     }
 
     // An alarm, ApplicationReady and inputs, each if it is due.
     #[inline(never)]
-    fn send_each(&self, is_alarm: bool, is_ready: bool, is_cyclic: bool, outbox: &mut Outbox)
+    fn send_each(&self, repeated: Repeated, is_ready: bool, is_cyclic: bool, outbox: &mut Outbox)
         requires { outbox.old.items ≡ [] }
-        ensures frames { boxed outbox.new ≡ map (bytes_of self.now.station.identity) (due_in self.now is_alarm is_ready is_cyclic) }
-        ensures sendable { AreSendable self.now.station.identity (due_in self.now is_alarm is_ready is_cyclic) }
+        ensures frames { boxed outbox.new ≡ map (bytes_of self.now.station.identity) (due_in self.now repeated is_ready is_cyclic) }
+        ensures sendable { AreSendable self.now.station.identity (due_in self.now repeated is_ready is_cyclic) }
     {
         let address = self.store.running().suite.address();
-        let counter = self.units;
-        send_alarm_again(&self.identity, is_alarm, &self.relation, outbox);
+        let counter = self.counter();
+        send_alarm_again(&self.identity, repeated.high, &self.relation, outbox);
+        send_low_alarm(&self.identity, repeated.low, &self.relation, outbox);
         send_ready_again(&self.identity, address, is_ready, &self.relation, outbox);
         send_inputs(&self.identity, counter, is_cyclic, &self.relation, outbox);
     }
@@ -401,7 +495,7 @@ impl<F: Flash<S>, const S: usize> Device<F, S> {
     // An alarm frame: it belongs to the relation or not. Data is answered, and the ERR of the controller ends the
     // relation.
     #[inline(always)]
-    fn hear_alarm(
+    pub(crate) fn hear_alarm(
         &mut self,
         source: Mac,
         header: &Header,
@@ -423,8 +517,9 @@ impl<F: Flash<S>, const S: usize> Device<F, S> {
         self.hear_message(message, outbox)
     }
 
-    // What an alarm frame of the relation says: data is answered, an ACK counts or does not, and ERR ends the relation.
-    #[tactic(auto, using(crate::proofs::Exchanged::stays_ignored))]
+    // What an alarm frame of the relation says: data is answered, an ACK counts or does not, and ERR ends the relation, which
+    // is logged.
+    #[tactic(auto, using(crate::proofs::Exchanged::stays_ignored, crate::proofs::Logged::message_leaves))]
     fn hear_message(&mut self, message: &Message, outbox: &mut Outbox) -> Note
         requires empty { outbox.old.items ≡ [] }
         ensures state { self.new ≡ behind self.old (handled_message self.old.live message.now) }
@@ -432,15 +527,39 @@ impl<F: Flash<S>, const S: usize> Device<F, S> {
         ensures sendable { CanSend self.old (handled_message self.old.live message.now) }
         ensures note { result ≡ (end_of self.old.station self.old.live (handled_message self.old.live message.now)).note }
     {
-        match self.relation.hear(message) {
+        let uuid = uuid_of(&self.relation);
+        let fate = self.relation.hear(message);
+        log_fate(&mut self.log, self.units, uuid, fate);
+        match fate {
             PduFate::Data(taken) => {
                 send_alarm_reply(&self.identity, taken, &self.relation, outbox);
                 Note::Done
             }
-            PduFate::Done | PduFate::Aborted => Note::Done,
+            PduFate::Done | PduFate::Aborted(_) => Note::Done,
             // A NACK, or an ACK of another number, is not an error, and changes nothing.
             PduFate::Ignored => Note::Filter,
         }
+    }
+}
+
+// Whether an alarm frame under the FrameID of this priority may be an ACK of low priority.
+fn is_low_reply(priority: Priority, message: &Message) -> bool
+    ensures { result ≡ is_low_reply priority message.now }
+{
+    match priority {
+        Priority::High => false,
+        Priority::Low => matches!(message, Message::Ack(_)),
+    }
+}
+
+// The alarms that a unit of time brings again, which it does not if it ends the relation.
+fn repeated_with(elapsed: &Elapsed) -> Repeated
+    ensures { result ≡ record { high = elapsed.now.tick.is_alarm && elapsed.now.repeated.high; low = elapsed.now.tick.is_alarm && elapsed.now.repeated.low } }
+{
+    let is_alarm = elapsed.tick.is_alarm();
+    Repeated {
+        high: is_alarm && elapsed.repeated.high,
+        low: is_alarm && elapsed.repeated.low,
     }
 }
 

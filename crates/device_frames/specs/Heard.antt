@@ -1,5 +1,6 @@
 -- What an event means to a device.
-use Rattle.std.specs.Prelude.{◌==◌, ◌&&◌, ◌||◌, ℕ, Bool, nat_eq, nat_le, List, [], ◌∷◌, if◌then◌else◌, Result, Ok, Err}
+use Rattle.std.specs.Prelude.{◌==◌, ◌&&◌, ◌||◌, ℕ, Bool, nat_eq, nat_le, List, [], ◌∷◌, if◌then◌else◌, Option, Result, Ok, Err}
+use Rattle.std.specs.Option.{option_map}
 use Rattle.std.specs.Cmp.Lexicographic.{pointwise}
 use Rattle.pn_values.specs.declared.mac.Mac.{Mac}
 use Rattle.pn_values.specs.declared.identity.Identity.{Identity}
@@ -13,15 +14,23 @@ use Rattle.frame_codec.specs.Frame.{frame_of}
 use Rattle.dcp_core.specs.declared.request.DcpFault.{DcpFault}
 use Rattle.dcp_core.specs.Request.{Asked}
 use Rattle.dcp_core.specs.Reading.{request_of}
+use Rattle.diagnosis.specs.declared.diagnosis.Change.{Change}
 use Rattle.rpc_core.specs.declared.fault.RpcFault.{RpcFault}
 use Rattle.rpc_core.specs.declared.interface.Interface.TheVariants.{Device}
 use Rattle.rpc_core.specs.Call.{Asked as Call, call_of}
 use Rattle.rpc_core.specs.Response.{Answered, response_of}
+use Rattle.lldp.specs.Peer.{Peer}
+use Rattle.lldp.specs.Views.{peer_as}
 use Rattle.pn_alarms.specs.declared.fault.AlarmFault.{AlarmFault}
+use Rattle.pn_alarms.specs.declared.message.Notice.TheVariants as message
 use Rattle.pn_alarms.specs.declared.pdu.Header.{Header}
+use Rattle.alarm_reports.specs.declared.priority.Priority.{Priority}
+use Rattle.alarm_reports.specs.declared.priority.Priority.TheVariants.{High, Low}
+use Rattle.alarm_reports.specs.Priority.{priority_of}
 use Rattle.pn_alarms.specs.Message.{ToDevice, message_of}
+use Rattle.alarm_reports.specs.Message.{low_message_of}
 use Rattle.device_frames.specs.declared.event.Event.{Event}
-use Rattle.device_frames.specs.declared.event.Event.TheVariants.{Frame, Tick, Input, Alarm, Status, Ready}
+use Rattle.device_frames.specs.declared.event.Event.TheVariants.{Frame, Call as Joined, Tick, Input, Alarm, Status, Diagnosis, Neighbour, Ready}
 
 -- What the body of a datagram says: a call to the device, else a response, else neither.
 pub data Said : Type 0 where
@@ -32,7 +41,9 @@ pub data Said : Type 0 where
 -- What an event is: a unit of time, a frame that cannot be read, a frame for another station, a DCP request and who
 -- sends it, an ARP packet and who sends it, a datagram: who sends it, to which address, and what it says; a cyclic
 -- frame; an alarm frame: who sends it, between which endpoints, and what it says; or, from the application, the input
--- of a submodule, an alarm of one, whether its inputs are good, or that it is ready.
+-- of a submodule, an alarm of one, whether its inputs are good, a diagnosis of one that appears or disappears, or that it is
+-- ready; or which neighbour it has. Of alarm frames those that may be of low priority stand apart: an ACK under the FrameID of
+-- low priority, and data that carries an AlarmAck of low priority.
 pub data Heard : Type 0 where
   Ticks : Heard
   Unreadable : Heard
@@ -42,9 +53,13 @@ pub data Heard : Type 0 where
   Reported : (caller : Caller) → (address : List ℕ) → (said : Said) → Heard
   Cyclic : (source : Mac) → (frame_id : ℕ) → (body : List ℕ) → Heard
   Alarms : (source : Mac) → (header : Header) → (message : ToDevice) → Heard
+  LowReplies : (source : Mac) → (header : Header) → (message : ToDevice) → Heard
+  LowConfirms : (source : Mac) → (header : Header) → (message : ToDevice) → Heard
   Given : (slot : ℕ) → (subslot : ℕ) → (value : List ℕ) → Heard
   Raised : (slot : ℕ) → (subslot : ℕ) → (octets : List ℕ) → Heard
   Rated : (slot : ℕ) → (subslot : ℕ) → (is_good : Bool) → Heard
+  Met : (peer : Option Peer) → Heard
+  Diagnosed : (change : Change) → Heard
   Readied : Heard
 
 -- The multicast address of Identify requests.
@@ -66,10 +81,22 @@ is_taken identity destination frame_id =
     (frame_id == 65277 && is_own identity destination)
     || (frame_id == 65278 && (is_own identity destination || pointwise nat_eq destination.octets identify_multicast))
 
--- Data without a complete AlarmAck cannot be read either, from any sender.
-abbrev pub heard_alarm : Mac → Result (Header × ToDevice) AlarmFault → Heard
-heard_alarm source (Ok x) = Alarms source x.0 x.1
-heard_alarm source (Err fault) = Unreadable
+-- An ACK under the FrameID of low priority is one of low priority, once the relation has sent data of low priority.
+abbrev pub heard_reply : Mac → Priority → Header → ToDevice → Heard
+heard_reply source Low header (message.Ack number) = LowReplies source header (message.Ack number)
+heard_reply source Low header (message.Data number ack) = Alarms source header (message.Data number ack)
+heard_reply source Low header message.Nack = Alarms source header message.Nack
+heard_reply source Low header (message.Abort status) = Alarms source header (message.Abort status)
+heard_reply source High header told = Alarms source header told
+
+-- Data has the priority of its block. Without a complete AlarmAck it cannot be read either, from any sender.
+abbrev pub heard_low : Mac → Result (Header × ToDevice) AlarmFault → Heard
+heard_low source (Ok x) = LowConfirms source x.0 x.1
+heard_low source (Err fault) = Unreadable
+
+abbrev pub heard_alarm : Mac → ℕ → List ℕ → Result (Header × ToDevice) AlarmFault → Heard
+heard_alarm source frame_id body (Ok x) = heard_reply source (priority_of frame_id) x.0 x.1
+heard_alarm source frame_id body (Err fault) = heard_low source (low_message_of body)
 
 abbrev pub heard_request : Mac → Result Asked DcpFault → Heard
 heard_request source (Ok request) = Asks source request
@@ -93,7 +120,7 @@ said_by body = said_first (call_of Device body) (response_of body)
 abbrev pub heard_content : Identity → Mac → Mac → Content → Heard
 heard_content identity destination source (RealTime frame_id body) =
     if is_taken identity destination frame_id then heard_request source (request_of frame_id body)
-    else if is_own identity destination && is_alarm frame_id then heard_alarm source (message_of body)
+    else if is_own identity destination && is_alarm frame_id then heard_alarm source frame_id body (message_of body)
     else if is_own identity destination && is_cyclic frame_id then Cyclic source frame_id body
     else Elsewhere
 heard_content identity destination source (ArpPacket arp) =
@@ -111,10 +138,19 @@ abbrev pub heard_frame : Identity → Result Meaning FrameFault → Heard
 heard_frame identity (Ok meaning) = heard_content identity meaning.destination meaning.source meaning.content
 heard_frame identity (Err fault) = Unreadable
 
+abbrev pub diagnosed : (slot subslot channel error : ℕ) → Bool → Heard
+diagnosed slot subslot channel error appears = Diagnosed (record {
+  diagnosis = record { slot = slot; subslot = subslot; channel = channel; error = error };
+  appears = appears;
+})
+
 unfoldable pub heard_of : Identity → Event → Heard
 heard_of identity (Frame bytes) = heard_frame identity (frame_of bytes.items)
+heard_of identity (Joined caller address octets) = Reported caller address (said_by octets.items)
 heard_of identity Tick = Ticks
 heard_of identity (Input slot subslot value) = Given slot subslot value.items
 heard_of identity (Alarm slot subslot octets) = Raised slot subslot octets.items
 heard_of identity (Status slot subslot is_good) = Rated slot subslot is_good
+heard_of identity (Neighbour neighbour) = Met (option_map peer_as neighbour)
+heard_of identity (Diagnosis slot subslot channel error appears) = diagnosed slot subslot channel error appears
 heard_of identity Ready = Readied

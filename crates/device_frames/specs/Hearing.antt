@@ -13,7 +13,7 @@ use Rattle.device_frames.specs.Heard.{Heard, Unreadable, Elsewhere, Cyclic, hear
 -- A DCP request, an alarm frame and a cyclic frame are read as such.
 abbrev pub heard_as : RealTimeKind → Mac → ℕ → List ℕ → Heard
 heard_as kind.Request source frame_id body = heard_request source (request_of frame_id body)
-heard_as kind.Alarm source frame_id body = heard_alarm source (message_of body)
+heard_as kind.Alarm source frame_id body = heard_alarm source frame_id body (message_of body)
 heard_as kind.Cyclic source frame_id body = Cyclic source frame_id body
 heard_as kind.Elsewhere source frame_id body = Elsewhere
 

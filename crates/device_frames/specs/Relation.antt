@@ -3,7 +3,7 @@ use Rattle.std.specs.Prelude.{◌++◌, ℕ, Bool, List, [], ◌∷◌, if◌the
 use Rattle.pn_alarms.specs.declared.receiver.Taken.{Taken}
 use Rattle.cyclic_exchange.specs.declared.route.Route.{Route}
 use Rattle.relations.specs.exchange.Flow.{Flow}
-use Rattle.relations.specs.exchange.Frames.{Frame, alarm_frame, inputs_frame, reply_frame}
+use Rattle.relations.specs.exchange.Frames.{Frame, alarm_frame, inputs_frame, low_alarm_frame, low_reply_frame, reply_frame}
 use Rattle.relations.specs.declared.farewell.Farewell.{Farewell}
 use Rattle.relations.specs.Timers.{Due}
 use Rattle.relations.specs.RelationState.{RelationState, flow_of}
@@ -33,6 +33,15 @@ abbrev pub replies_of : Taken → Option Flow → List Sent
 replies_of taken None = []
 replies_of taken (Some flow) = Exchanges flow.cyclic.route (reply_frame flow taken) ∷ []
 
+-- The same of low priority.
+abbrev pub low_alarms_of : Option Flow → List Sent
+low_alarms_of None = []
+low_alarms_of (Some flow) = frames_in flow.cyclic.route (low_alarm_frame flow)
+
+abbrev pub low_replies_of : Taken → Option Flow → List Sent
+low_replies_of taken None = []
+low_replies_of taken (Some flow) = Exchanges flow.cyclic.route (low_reply_frame flow taken) ∷ []
+
 -- The ERR that ends it, if there is one.
 abbrev pub farewells_in : Option Farewell → List Sent
 farewells_in None = []
@@ -42,9 +51,10 @@ farewells_in (Some farewell) = Ends farewell ∷ []
 abbrev pub where_due : Bool → List Sent → List Sent
 where_due is_due sent = if is_due then sent else []
 
--- What is sent with a unit: the ERR of a timeout, and nothing else; or the active alarm again, ApplicationReady again,
--- and inputs.
+-- What is sent with a unit: the ERR of a timeout, and nothing else; or the active alarms of each priority again,
+-- ApplicationReady again, and inputs.
 abbrev pub due_frames : List ℕ → ℕ → Due → Option RelationState → List Sent
 due_frames address units due link =
     farewells_in due.farewell
-    ++ (where_due due.is_alarm (alarms_of (flow_of link)) ++ (where_due due.is_ready (ready_calls address link) ++ where_due due.is_cyclic (inputs_of units (flow_of link))))
+    ++ (where_due due.is_alarm (alarms_of (flow_of link)) ++ (where_due due.is_low (low_alarms_of (flow_of link))
+    ++ (where_due due.is_ready (ready_calls address link) ++ where_due due.is_cyclic (inputs_of units (flow_of link)))))

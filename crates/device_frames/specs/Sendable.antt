@@ -14,7 +14,7 @@ use Rattle.device_frames.specs.Sent.{Sent, IdentifyAnswer, GetAnswer, SetAnswer,
 -- A message whose frame can be sent. The frame of an answer that is sent again was sent before.
 abbrev pub IsSendable : Identity → Sent → Type 0
 IsSendable identity (IdentifyAnswer asker running xid) = CanBeSent (carrying asker identity.mac None (RealTime 65279 (identify_bytes identity running xid)))
-IsSendable identity (GetAnswer asker running request) = CanBeSent (carrying asker identity.mac None (RealTime 65277 (get_bytes identity running request)))
+IsSendable identity (GetAnswer asker running alias request) = CanBeSent (carrying asker identity.mac None (RealTime 65277 (get_bytes identity running alias request)))
 IsSendable identity (SetAnswer asker request answers) = CanBeSent (carrying asker identity.mac None (RealTime 65277 (set_bytes request answers)))
 IsSendable identity (ArpReply asker address target) = CanBeSent (carrying asker identity.mac None (reply_content identity address target))
 IsSendable identity (CallAnswer caller address answer) = CanBeSent (carrying caller.mac identity.mac None (response_content caller address answer))

@@ -1,5 +1,5 @@
 -- What a device sends: messages by their meaning, and their one encoding as octets.
-use Rattle.std.specs.Prelude.{ℕ, List, Some, None}
+use Rattle.std.specs.Prelude.{ℕ, List, Option, Some, None}
 use Rattle.pn_values.specs.declared.mac.Mac.{Mac}
 use Rattle.pn_values.specs.declared.identity.Identity.{Identity}
 use Rattle.pn_values.specs.declared.settings.Settings.{Settings}
@@ -27,13 +27,13 @@ use Rattle.cyclic_exchange.specs.declared.route.Route.{Route}
 use Rattle.relations.specs.exchange.Frames.{Frame, tag_of, id_of, body_of}
 use Rattle.frame_codec.specs.declared.udp.Caller.{Caller}
 
--- A message and its destination: the answer to an Identify request, to a Get, or to a Set with the result of each of
+-- A message and its destination: the answer to an Identify request, to a Get of a station with this name by its place, or to a Set with the result of each of
 -- its blocks; who holds an address, sent to the station that asked for it; the answer to a call, from this address; the
 -- frame of such an answer again; the call ApplicationReady, from this address; the ERR with which this device ends its
 -- relation; or a frame of the exchange.
 pub data Sent : Type 0 where
   IdentifyAnswer : (asker : Mac) → (running : Settings) → (xid : ℕ) → Sent
-  GetAnswer : (asker : Mac) → (running : Settings) → (request : Asked) → Sent
+  GetAnswer : (asker : Mac) → (running : Settings) → (alias : Option (List ℕ)) → (request : Asked) → Sent
   SetAnswer : (asker : Mac) → (request : Asked) → (answers : List BlockError) → Sent
   ArpReply : (asker : Mac) → (address : List ℕ) → (target : Holder) → Sent
   CallAnswer : (caller : Caller) → (address : List ℕ) → (answer : Answered) → Sent
@@ -95,7 +95,7 @@ exchange_frame identity route frame = alarm_frame identity route.partner (tag_of
 -- The octets of a message.
 abbrev pub bytes_of : Identity → Sent → List ℕ
 bytes_of identity (IdentifyAnswer asker running xid) = answer_frame identity asker 65279 (identify_bytes identity running xid)
-bytes_of identity (GetAnswer asker running request) = answer_frame identity asker 65277 (get_bytes identity running request)
+bytes_of identity (GetAnswer asker running alias request) = answer_frame identity asker 65277 (get_bytes identity running alias request)
 bytes_of identity (SetAnswer asker request answers) = answer_frame identity asker 65277 (set_bytes request answers)
 bytes_of identity (ArpReply asker address target) = reply_frame identity asker address target
 bytes_of identity (CallAnswer caller address answer) = response_frame identity caller address answer

@@ -14,9 +14,10 @@ mod relation;
 mod sizes;
 
 pub use answers::{send_arp_reply, send_dcp_answer, send_response};
-pub use event::Event;
+pub use event::{Event, LongCall};
 pub use exchange::{
-    send_alarm, send_alarm_again, send_alarm_reply, send_inputs, send_inputs_of, send_ready_again,
+    send_alarm, send_alarm_again, send_alarm_reply, send_inputs, send_inputs_of, send_low_alarm,
+    send_low_reply, send_ready_again,
 };
 pub use frame_codec::Caller;
 pub use hearing::{RealTimeKind, is_asked, is_called, kind_of, open_frame, real_time_in};

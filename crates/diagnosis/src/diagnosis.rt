@@ -34,7 +34,7 @@ impl Diagnosis {
     }
 
     /// Whether the other one is the same.
-    pub(crate) fn is_same(&self, other: &Diagnosis) -> bool
+    pub fn is_same(&self, other: &Diagnosis) -> bool
         ensures { result ≡ is_same self.now other.now }
     {
         other.is_at(self.slot, self.subslot)

@@ -68,6 +68,16 @@ impl Notices {
         self.entries.try_push(notice).is_ok()
     }
 
+    /// The first change, if one waits.
+    pub fn first(&self) -> Option<Notice>
+        ensures { result ≡ first_of self.now }
+    {
+        match self.entries.as_slice() {
+            [first, ..] => Some(*first),
+            [] => None,
+        }
+    }
+
     /// Takes the first change, if one waits.
     pub fn next(&mut self) -> Option<Notice>
         ensures value { result ≡ first_of self.old }

@@ -1,7 +1,8 @@
 -- What holds of each item of a list.
-use Rattle.std.proofs.Common.{◌≡◌, ℕ, zero, suc, List, [], ◌∷◌, ◌++◌, Some, subst}
+use Rattle.std.proofs.Common.{◌≡◌, inl, inr, ◌≤◌, ℕ, zero, suc, List, [], ◌∷◌, ◌++◌, length, Some, refl, ap, ◌∙◌, subst, arith}
 use Rattle.std.specs.List.{AllByRecursion}
 use Rattle.std.specs.Prelude.{slice_get}
+use Rattle.end_laws.specs.both.Steps.{IsPart}
 
 module _ {A : Type 0} where
   some_is : (x y : A) → Some x ≡ Some y → x ≡ y
@@ -21,3 +22,32 @@ module _ {A : Type 0} where
   each_at P [] number x all there = absurd cc
   each_at P (first ∷ xs) zero x all there = subst (λ (y : A). P y) (some_is first x there) all.0
   each_at P (first ∷ xs) (suc number) x all there = each_at P xs number x all.1 there
+
+  -- ---- some items of a list, in order
+
+  pub none_is : (xs : List A) → length xs ≤ 0 → xs ≡ []
+  none_is [] few = refl
+  none_is (x ∷ xs) few = absurd (omega (arith, few))
+
+  pub part_all : (all : List A) → IsPart all all
+  part_all [] = refl
+  part_all (x ∷ all) = inl (refl, part_all all)
+
+  -- with one more before the others
+  pub part_more : (some : List A) (x : A) (all : List A) → IsPart some all → IsPart some (x ∷ all)
+  part_more [] x all part = tt
+  part_more (y ∷ some) x all part = inr part
+
+  -- they are no more, and if they are as many, they are all
+  pub part_few : (some all : List A) → IsPart some all → length some ≤ length all
+  part_few some [] part = omega (arith, ap length part)
+  part_few [] (x ∷ all) part = omega arith
+  part_few (y ∷ some) (x ∷ all) (inl part) = omega (arith, part_few some all part.1)
+  part_few (y ∷ some) (x ∷ all) (inr part) = omega (arith, part_few (y ∷ some) all part)
+
+  pub part_whole : (some all : List A) → IsPart some all → length all ≤ length some → some ≡ all
+  part_whole some [] part enough = part
+  part_whole [] (x ∷ all) part enough = absurd (omega (arith, enough))
+  part_whole (y ∷ some) (x ∷ all) (inl part) enough =
+      ap (λ (z : A). z ∷ some) part.0 ∙ ap (λ (zs : List A). x ∷ zs) (part_whole some all part.1 (omega (arith, enough)))
+  part_whole (y ∷ some) (x ∷ all) (inr part) enough = absurd (omega (arith, enough, part_few (y ∷ some) all part))

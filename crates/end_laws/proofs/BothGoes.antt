@@ -1,32 +1,32 @@
 -- The facts about a frame persist: records that were accepted stay accepted, and what was true of an earlier point
 -- stays true.
-use Rattle.std.proofs.Common.{◌≡◌, inl, inr, ℕ, zero, suc, Bool, true, false, List, Option, Some, None, sym, subst}
+use Rattle.std.proofs.Common.{◌≡◌, inl, inr, ℕ, zero, suc, true, false, List, Option, Some, None, sym, subst}
 use Rattle.end_laws.specs.both.Small.{Ask, ToDevice, Call, Confirms, Idle, ToController, Answers, Readies, Nothing, Rules, RelationState, Kept, Controller, Asking}
 use Rattle.end_laws.specs.both.Steps.{SaysAtMost}
 use Rattle.end_laws.proofs.BothEach.{each_so}
 use Rattle.end_laws.proofs.BothHolds.{Took, Behind, IsCall, TellsDevice, TellsController, IsFine, AreFine, KeepsFine, AsksBehind}
 
-module _ {T Q : Type 0} where
+module _ {T Q : Type 0} (rules : Rules T Q) where
   -- the records that were accepted stay accepted
   abbrev pub Grows : Option Kept → Option (RelationState T Q) → Option Kept → Option (RelationState T Q) → Type 0
-  Grows kept link kept_now link_now = (count : ℕ) → Took count kept link → Took count kept_now link_now
+  Grows kept link kept_now link_now = (count : ℕ) → Took rules count kept link → Took rules count kept_now link_now
 
   module _ (kept kept_now : Option Kept) (link link_now : Option (RelationState T Q)) (grows : Grows kept link kept_now link_now) where
-    behind_on : (skips : Bool) (sequence : ℕ) → Behind skips sequence kept link → Behind skips sequence kept_now link_now
-    behind_on skips zero behind = tt
-    behind_on skips (suc count) behind = λ strict. grows count (behind strict)
+    behind_on : (sequence : ℕ) → Behind rules sequence kept link → Behind rules sequence kept_now link_now
+    behind_on zero behind = tt
+    behind_on (suc count) behind = λ strict. grows count (behind strict)
 
-    call_on : (rules : Rules T Q) (sequence : ℕ) (ask : Ask) → IsCall rules sequence ask kept link → IsCall rules sequence ask kept_now link_now
-    call_on rules sequence ask (inl releases) = inl releases
-    call_on rules sequence ask (inr asked) = inr (asked.0, behind_on rules.skips sequence asked.1)
+    call_on : (sequence : ℕ) (ask : Ask) → IsCall rules sequence ask kept link → IsCall rules sequence ask kept_now link_now
+    call_on sequence ask (inl releases) = inl releases
+    call_on sequence ask (inr asked) = inr (asked.0, behind_on sequence asked.1)
 
-    pub asks_on : (skips : Bool) (state : Controller) → AsksBehind skips kept link state → AsksBehind skips kept_now link_now state
-    asks_on skips (Asking sequence) behind = behind_on skips sequence behind
-    asks_on skips other behind = tt
+    pub asks_on : (state : Controller) → AsksBehind rules kept link state → AsksBehind rules kept_now link_now state
+    asks_on (Asking sequence) behind = behind_on sequence behind
+    asks_on other behind = tt
 
-    module _ (rules : Rules T Q) (Good GoodNow : List ℕ → Type 0) (good_on : (frame : List ℕ) → Good frame → GoodNow frame) where
+    module _ (Good GoodNow : List ℕ → Type 0) (good_on : (frame : List ℕ) → Good frame → GoodNow frame) where
       device_on : (heard : ToDevice) → TellsDevice rules kept link heard → TellsDevice rules kept_now link_now heard
-      device_on (Call sequence ask) tells = call_on rules sequence ask tells
+      device_on (Call sequence ask) tells = call_on sequence ask tells
       device_on Confirms tells = tells
       device_on Idle tells = tt
 
@@ -53,16 +53,16 @@ module _ {T Q : Type 0} where
   same_grows kept link count took = took
 
   -- a frame is fine if what each end hears of it is
-  pub fine_as : (rules : Rules T Q) (Good : List ℕ → Type 0) (kept : Option Kept) (link : Option (RelationState T Q)) (frame : List ℕ) (to_device : ToDevice) (to_controller : ToController)
+  pub fine_as : (Good : List ℕ → Type 0) (kept : Option Kept) (link : Option (RelationState T Q)) (frame : List ℕ) (to_device : ToDevice) (to_controller : ToController)
       → rules.to_device frame ≡ to_device → rules.to_controller frame ≡ to_controller
       → TellsDevice rules kept link to_device → TellsController rules Good kept link frame to_controller → IsFine rules Good kept link frame
-  fine_as rules Good kept link frame to_device to_controller e f device controller = record {
+  fine_as Good kept link frame to_device to_controller e f device controller = record {
     device = subst (λ (heard : ToDevice). TellsDevice rules kept link heard) (sym e) device;
     controller = subst (λ (heard : ToController). TellsController rules Good kept link frame heard) (sym f) controller;
   }
 
   -- the same for a frame of which the controller hears at most this
-  pub fine_at_most : (rules : Rules T Q) (Good : List ℕ → Type 0) (kept : Option Kept) (link : Option (RelationState T Q)) (frame : List ℕ) (heard : ToController)
+  pub fine_at_most : (Good : List ℕ → Type 0) (kept : Option Kept) (link : Option (RelationState T Q)) (frame : List ℕ) (heard : ToController)
       → rules.to_device frame ≡ Idle → SaysAtMost rules heard frame → TellsController rules Good kept link frame heard → IsFine rules Good kept link frame
-  fine_at_most rules Good kept link frame heard idle (inl nothing) tells = fine_as rules Good kept link frame Idle Nothing idle nothing tt tt
-  fine_at_most rules Good kept link frame heard idle (inr says) tells = fine_as rules Good kept link frame Idle heard idle says tt tells
+  fine_at_most Good kept link frame heard idle (inl nothing) tells = fine_as Good kept link frame Idle Nothing idle nothing tt tt
+  fine_at_most Good kept link frame heard idle (inr says) tells = fine_as Good kept link frame Idle heard idle says tt tells

@@ -1,10 +1,10 @@
 -- The invariant of both ends at each point of a start-up: until the controller exchanges data, and from then on. Facts
 -- about earlier points are parameters: `Was`: the controller exchanged data. `Past`: a frame was delivered to the device
 -- since. `Good`: the device sent this ApplicationReady. `Handed`: the controller received one.
-use Rattle.std.proofs.Common.{◌≡◌, ◌⊎◌, ◌<◌, ◌≤◌, ℕ, zero, suc, Bool, true, false, List, ◌++◌, length, Option, Some, None}
+use Rattle.std.proofs.Common.{◌≡◌, ◌⊎◌, ◌<◌, ◌≤◌, ℕ, zero, suc, true, false, List, length, Option, Some, None}
 use Rattle.std.specs.List.{AllByRecursion}
 use Rattle.end_laws.specs.both.Small.{Ask, Releases, ToDevice, Call, Confirms, Idle, ToController, Answers, Readies, Nothing, Rules, Started, Exchanging, RelationState, Kept, Controller, Asking, Exchanges, World}
-use Rattle.end_laws.specs.both.Steps.{IsAsked}
+use Rattle.end_laws.specs.both.Steps.{IsAsked, records_before, records_of}
 
 -- there is a response
 abbrev pub IsSomeKept : Option Kept → Type 0
@@ -12,25 +12,26 @@ IsSomeKept None = ⊥
 IsSomeKept (Some kept) = Unit {0}
 
 module _ {T Q : Type 0} where
-  -- at least this many records were accepted, from the first on, or the relation has ended
+  -- at least this many records were accepted, or the relation has ended
   abbrev pub TookIn : ℕ → Option (RelationState T Q) → Type 0
   TookIn count None = Unit {0}
   TookIn count (Some link) = count ≤ length link.taken
 
-  -- The device accepted the Connect and this many records. This stays true.
-  pub record Took (count : ℕ) (kept : Option Kept) (link : Option (RelationState T Q)) : Type 0 where
+  -- The device accepted the Connect and as many records as this many Writes carry. This stays true.
+  pub record Took (rules : Rules T Q) (count : ℕ) (kept : Option Kept) (link : Option (RelationState T Q)) : Type 0 where
     pub called : IsSomeKept kept
-    pub taken : TookIn count link
+    pub taken : TookIn (length (records_before rules count)) link
 
   -- after PrmEnd no Write is new, and all records were accepted before, unless records may be skipped
   abbrev pub IsPast : Rules T Q → ℕ → RelationState T Q → Type 0
-  IsPast rules sequence link = (link.phase ≡ Started) ⊎ ((length rules.records < sequence) × (rules.skips ≡ false → link.taken ≡ rules.records))
+  IsPast rules sequence link = (link.phase ≡ Started) ⊎ ((rules.count < sequence) × (rules.skips ≡ false → link.taken ≡ records_of rules))
 
-  -- the relation, after the response that is stored: unless records may be skipped, it accepted the first ones
+  -- The relation, after the response that is stored: it accepted no more records than the Writes up to that one carry. If
+  -- it accepted as many, it accepted all of them, in order.
   pub record IsHeld (rules : Rules T Q) (sequence : ℕ) (link : RelationState T Q) : Type 0 where
-    pub few : length link.taken ≤ sequence
+    pub few : length link.taken ≤ length (records_before rules sequence)
     pub made : link.request ≡ rules.request
-    pub begins : rules.skips ≡ false → (rest : List T) × (link.taken ++ rest ≡ rules.records)
+    pub whole : length (records_before rules sequence) ≤ length link.taken → link.taken ≡ records_before rules sequence
     pub past : IsPast rules sequence link
 
   abbrev pub IsHeldIn : Rules T Q → ℕ → Option (RelationState T Q) → Type 0
@@ -43,14 +44,14 @@ module _ {T Q : Type 0} where
   HoldsAt rules (Some kept) link = IsHeldIn rules kept.sequence link
 
   -- what was accepted before the call with a sequence number is made, unless records may be skipped
-  abbrev pub Behind : Bool → ℕ → Option Kept → Option (RelationState T Q) → Type 0
-  Behind skips zero kept link = Unit {0}
-  Behind skips (suc count) kept link = skips ≡ false → Took count kept link
+  abbrev pub Behind : Rules T Q → ℕ → Option Kept → Option (RelationState T Q) → Type 0
+  Behind rules zero kept link = Unit {0}
+  Behind rules (suc count) kept link = rules.skips ≡ false → Took rules count kept link
 
   -- a call that was sent at some time
   abbrev pub IsCall : Rules T Q → ℕ → Ask → Option Kept → Option (RelationState T Q) → Type 0
   IsCall rules sequence ask kept link =
-      (ask ≡ Releases) ⊎ (IsAsked (length rules.records) sequence ask × Behind rules.skips sequence kept link)
+      (ask ≡ Releases) ⊎ (IsAsked rules.count sequence ask × Behind rules sequence kept link)
 
   -- what the device may hear in a frame
   abbrev pub TellsDevice : Rules T Q → Option Kept → Option (RelationState T Q) → ToDevice → Type 0
@@ -60,7 +61,7 @@ module _ {T Q : Type 0} where
 
   -- what the controller may hear in a frame
   abbrev pub TellsController : Rules T Q → (List ℕ → Type 0) → Option Kept → Option (RelationState T Q) → List ℕ → ToController → Type 0
-  TellsController rules Good kept link frame (Answers sequence true) = sequence ≤ length rules.records → rules.skips ≡ false → Took sequence kept link
+  TellsController rules Good kept link frame (Answers sequence true) = sequence ≤ rules.count → rules.skips ≡ false → Took rules sequence kept link
   TellsController rules Good kept link frame (Answers sequence false) = Unit {0}
   TellsController rules Good kept link frame Readies = Good frame
   TellsController rules Good kept link frame Nothing = Unit {0}
@@ -79,9 +80,9 @@ module _ {T Q : Type 0} where
   KeepsFine rules Good kept link (Some answer) = IsFine rules Good kept link answer.frame
 
   -- what was accepted before the controller makes a call, unless records may be skipped
-  abbrev pub AsksBehind : Bool → Option Kept → Option (RelationState T Q) → Controller → Type 0
-  AsksBehind skips kept link (Asking sequence) = Behind skips sequence kept link
-  AsksBehind skips kept link other = Unit {0}
+  abbrev pub AsksBehind : Rules T Q → Option Kept → Option (RelationState T Q) → Controller → Type 0
+  AsksBehind rules kept link (Asking sequence) = Behind rules sequence kept link
+  AsksBehind rules kept link other = Unit {0}
 
   -- the device does not exchange data
   abbrev pub Unconfirmed : Option (RelationState T Q) → Type 0
@@ -93,7 +94,7 @@ module _ {T Q : Type 0} where
     pub held : HoldsAt rules w.device.kept w.device.link
     pub kept : KeepsFine rules Good w.device.kept w.device.link w.device.kept
     pub sent : AreFine rules Good w.device.kept w.device.link w.sent
-    pub asked : AsksBehind rules.skips w.device.kept w.device.link w.controller
+    pub asked : AsksBehind rules w.device.kept w.device.link w.controller
     pub before : w.controller ≡ Exchanges → ⊥
     pub unconfirmed : Unconfirmed w.device.link
 

@@ -1,34 +1,51 @@
 -- The effect of a step of the device: accepted records stay accepted, the invariant of its relation is kept, and what
 -- it sends is fine.
-use Rattle.std.proofs.Common.{◌≡◌, ◌⊎◌, inl, inr, ◌<◌, ◌≤◌, ℕ, suc, Bool, true, false, List, [], ◌∷◌, ◌++◌, length, Option, Some, None, refl, sym, ap, subst, ◌∙◌, append_assoc, append-nil, length-append, arith}
+use Rattle.std.proofs.Common.{◌≡◌, ◌⊎◌, inl, inr, ◌+◌, ◌<◌, ◌≤◌, ℕ, zero, suc, Bool, true, false, List, [], ◌∷◌, ◌++◌, length, Option, Some, None, refl, sym, ap, subst, ◌∙◌, append_assoc, append-nil, length-append, arith}
+use Rattle.std.proofs.lemmas.Bool.{leb-true, leb-false}
 use Rattle.std.specs.List.{AllByRecursion}
-use Rattle.std.specs.Prelude.{slice_get}
+use Rattle.std.specs.Prelude.{nat_le, slice_get}
 use Rattle.end_laws.specs.both.Small.{Ask, Connects, Writes, Parameterized, Releases, Accesses, ToDevice, Call, Confirms, Idle, Answers, Readies, Nothing, Rules, Started, Awaiting, Exchanging, RelationState, Kept, Device}
-use Rattle.end_laws.specs.both.Steps.{IsNew, made, TakesRecord, IsParameterized, Comes, IsReady, IsDull, IsAnswered, IsAgain, Rests, GoesBy, DeviceSteps}
+use Rattle.end_laws.specs.both.Steps.{IsNew, made, records_before, records_of, TakesSome, IsParameterized, Partly, Comes, IsReady, IsDull, IsAnswered, IsAgain, Rests, GoesBy, DeviceSteps}
+use Rattle.end_laws.proofs.BothEach.{none_is, part_all, part_few, part_whole}
 use Rattle.end_laws.proofs.BothHolds.{IsSomeKept, TookIn, Took, IsPast, IsHeld, IsHeldIn, HoldsAt, Behind, IsCall, TellsDevice, TellsController, IsFine, AreFine, KeepsFine, Unconfirmed}
 use Rattle.end_laws.proofs.BothGoes.{Grows, are_fine_on, keeps_on, same_grows, fine_as, fine_at_most}
 
--- ---- lists
-
-some_is : {A : Type 0} (x y : A) → Some x ≡ Some y → x ≡ y
-some_is x y e = cc
-
--- the item at an index is the first of the rest after that many
-next_item : {A : Type 0} (taken rest : List A) (value : A) → slice_get (taken ++ rest) (length taken) ≡ Some value → (more : List A) × (rest ≡ value ∷ more)
-next_item [] [] value is = absurd cc
-next_item {A = A} [] (x ∷ xs) value is = (xs, ap (λ (y : A). y ∷ xs) (some_is x value is))
-next_item (t ∷ taken) rest value is = next_item taken rest value is
-
-next_of : {A : Type 0} (taken rest all : List A) (value : A) (number : ℕ) → taken ++ rest ≡ all → length taken ≡ number → slice_get all number ≡ Some value → (more : List A) × (rest ≡ value ∷ more)
-next_of {A = A} taken rest all value number begins long is =
-    next_item taken rest value (ap (λ (xs : List A). slice_get xs (length taken)) begins ∙ (ap (λ (n : ℕ). slice_get all n) long ∙ is))
-
--- no record is left
-all_taken : {A : Type 0} (taken rest all : List A) → taken ++ rest ≡ all → length all ≤ length taken → taken ≡ all
-all_taken taken [] all begins few = sym (append-nil taken) ∙ begins
-all_taken taken (x ∷ rest) all begins few = absurd (omega (arith, length-append taken (x ∷ rest), ap length begins, few))
-
 module _ {T Q : Type 0} (rules : Rules T Q) where
+  -- ---- the records of the first Writes
+
+  -- their number
+  abbrev pub size : ℕ → ℕ
+  size number = length (records_before rules number)
+
+  -- those of more Writes begin with those of fewer
+  more : (number later : ℕ) → number ≤ later → (rest : List T) × (records_before rules later ≡ records_before rules number ++ rest)
+  more zero zero few = ([], refl)
+  more (suc number) zero few = absurd (omega (arith, few))
+  more number (suc later) few = by_order (nat_le number later) refl (more number later)
+    where
+      by_order : (b : Bool) → nat_le number later ≡ b → (number ≤ later → (rest : List T) × (records_before rules later ≡ records_before rules number ++ rest))
+          → (rest : List T) × (records_before rules (suc later) ≡ records_before rules number ++ rest)
+      by_order true e before =
+          let there = before (leb-true number later e) in (
+            there.0 ++ rules.group later,
+            ap (λ (xs : List T). xs ++ rules.group later) there.1 ∙ append_assoc (records_before rules number) there.0 (rules.group later),
+          )
+      by_order false e before =
+          let same : suc later ≡ number = omega (arith, few, leb-false number later e) in
+          ([], ap (λ (n : ℕ). records_before rules n) same ∙ sym (append-nil (records_before rules number)))
+
+  size_grows : (number later : ℕ) → number ≤ later → size number ≤ size later
+  size_grows number later few =
+      let there = more number later few in
+      omega (arith, ap length there.1, length-append (records_before rules number) there.0)
+
+  -- if they are as many, they are the same
+  same_records : (number later : ℕ) → number ≤ later → size later ≤ size number → records_before rules later ≡ records_before rules number
+  same_records number later few all =
+      let there = more number later few in
+      let rest : there.0 ≡ [] = none_is there.0 (omega (arith, all, ap length there.1, length-append (records_before rules number) there.0)) in
+      there.1 ∙ (ap (λ (xs : List T). records_before rules number ++ xs) rest ∙ append-nil (records_before rules number))
+
   -- ---- a new call
 
   -- no sequence number is below the first
@@ -36,127 +53,158 @@ module _ {T Q : Type 0} (rules : Rules T Q) where
   never_first sequence None first new some = some
   never_first sequence (Some kept) first new some = absurd (omega (arith, first, new))
 
-  took_by : (sequence : ℕ) (ask : Ask) (positive : Bool) (kept : Option Kept) (link after : Option (RelationState T Q)) (count : ℕ)
-      → IsNew sequence kept → IsCall rules sequence ask kept link → Comes rules positive ask link after → Took count kept link → TookIn count after
-  took_by sequence ask false kept link after count new call comes took = subst (λ (l : Option (RelationState T Q)). TookIn count l) (sym comes) took.taken
-  took_by sequence Connects true kept link after count new (inl releases) comes took = absurd cc
-  took_by sequence Connects true kept link after count new (inr asked) comes took = absurd (never_first sequence kept asked.0 new took.called)
-  took_by sequence (Writes number) true kept link after count new call comes took =
-      let before : TookIn count (Some comes.link) = subst (λ (l : Option (RelationState T Q)). TookIn count l) comes.was took.taken in
-      subst (λ (l : Option (RelationState T Q)). TookIn count l) (sym comes.becomes) (omega (arith, before, length-append comes.link.taken (comes.value ∷ [])))
-  took_by sequence Parameterized true kept link after count new call comes took =
-      subst (λ (l : Option (RelationState T Q)). TookIn count l) (sym comes.becomes) (subst (λ (l : Option (RelationState T Q)). TookIn count l) comes.was took.taken)
-  took_by sequence Accesses true kept link after count new (inl releases) comes took = absurd cc
-  took_by sequence Accesses true kept link after count new (inr asked) comes took = absurd asked.0
-  took_by sequence Releases true kept link after count new call comes took = subst (λ (l : Option (RelationState T Q)). TookIn count l) (sym comes) tt
+  -- the effect of a call: none, or at least some of that which it asks for
+  abbrev pub MayCome : Ask → Option (RelationState T Q) → Option (RelationState T Q) → Type 0
+  MayCome ask link after = (after ≡ link) ⊎ Partly rules ask link after
+
+  pub may_come : (ask : Ask) (positive : Bool) (link after : Option (RelationState T Q)) → Comes rules positive ask link after → MayCome ask link after
+  may_come ask false link after comes = comes
+  may_come (Writes number) true link after comes =
+      inr (record { link = comes.link; values = rules.group number; was = comes.was; part = part_all (rules.group number); becomes = comes.becomes })
+  may_come Connects true link after comes = inr comes
+  may_come Parameterized true link after comes = inr comes
+  may_come Releases true link after comes = inr comes
+  may_come Accesses true link after comes = inr comes
+
+  took_by : (sequence : ℕ) (ask : Ask) (kept : Option Kept) (link after : Option (RelationState T Q)) (count : ℕ)
+      → IsNew sequence kept → IsCall rules sequence ask kept link → MayCome ask link after → Took rules count kept link → TookIn (size count) after
+  took_by sequence ask kept link after count new call (inl same) took = subst (λ (l : Option (RelationState T Q)). TookIn (size count) l) (sym same) took.taken
+  took_by sequence Connects kept link after count new (inl releases) (inr comes) took = absurd cc
+  took_by sequence Connects kept link after count new (inr asked) (inr comes) took = absurd (never_first sequence kept asked.0 new took.called)
+  took_by sequence (Writes number) kept link after count new call (inr comes) took =
+      let before : TookIn (size count) (Some comes.link) = subst (λ (l : Option (RelationState T Q)). TookIn (size count) l) comes.was took.taken in
+      subst (λ (l : Option (RelationState T Q)). TookIn (size count) l) (sym comes.becomes) (omega (arith, before, length-append comes.link.taken comes.values))
+  took_by sequence Parameterized kept link after count new call (inr comes) took =
+      subst (λ (l : Option (RelationState T Q)). TookIn (size count) l) (sym comes.becomes) (subst (λ (l : Option (RelationState T Q)). TookIn (size count) l) comes.was took.taken)
+  took_by sequence Accesses kept link after count new (inl releases) (inr comes) took = absurd cc
+  took_by sequence Accesses kept link after count new (inr asked) (inr comes) took = absurd asked.0
+  took_by sequence Releases kept link after count new call (inr comes) took = subst (λ (l : Option (RelationState T Q)). TookIn (size count) l) (sym comes) tt
 
   -- the relation is held after a later response too
   past_later : (sequence later : ℕ) (link : RelationState T Q) → sequence < later → IsPast rules sequence link → IsPast rules later link
   past_later sequence later link before (inl started) = inl started
   past_later sequence later link before (inr past) = inr (omega (arith, before, past.0), past.1)
 
+  few_later : (sequence later : ℕ) (link : RelationState T Q) → sequence ≤ later → IsHeld rules sequence link → length link.taken ≤ size later
+  few_later sequence later link before held = omega (arith, held.few, size_grows sequence later before)
+
+  whole_later : (sequence later : ℕ) (link : RelationState T Q) → sequence ≤ later → IsHeld rules sequence link → size later ≤ length link.taken → link.taken ≡ records_before rules later
+  whole_later sequence later link before held all =
+      let grows = size_grows sequence later before in
+      held.whole (omega (arith, all, grows)) ∙ sym (same_records sequence later before (omega (arith, all, held.few)))
+
   held_later : (sequence : ℕ) (kept : Option Kept) (link : Option (RelationState T Q)) → IsNew sequence kept → HoldsAt rules kept link → IsHeldIn rules sequence link
   held_later sequence None link new none = subst (λ (l : Option (RelationState T Q)). IsHeldIn rules sequence l) (sym none) tt
   held_later sequence (Some kept) None new held = tt
-  held_later sequence (Some kept) (Some link) new held = record {
-    few = omega (arith, new, held.few);
-    made = held.made;
-    begins = held.begins;
-    past = past_later kept.sequence sequence link new held.past;
-  }
+  held_later sequence (Some kept) (Some link) new held =
+      let before : kept.sequence ≤ sequence = omega (arith, new) in
+      record {
+        few = few_later kept.sequence sequence link before held;
+        made = held.made;
+        whole = whole_later kept.sequence sequence link before held;
+        past = past_later kept.sequence sequence link new held.past;
+      }
 
   -- the relation is held after the response that is stored
   is_held : (kept : Option Kept) (link : Option (RelationState T Q)) (there : RelationState T Q) → link ≡ Some there → HoldsAt rules kept link → (answer : Kept) × (kept ≡ Some answer) × IsHeld rules answer.sequence there
   is_held None link there is none = absurd cc
   is_held (Some kept) link there is held = (kept, refl, subst (λ (l : Option (RelationState T Q)). IsHeldIn rules kept.sequence l) is held)
 
-  past_write : (number : ℕ) (sequence : ℕ) (link : RelationState T Q) → number < length rules.records → sequence ≤ number → IsPast rules sequence link
+  past_write : (number : ℕ) (sequence : ℕ) (link : RelationState T Q) → number < rules.count → sequence ≤ number → IsPast rules sequence link
       → link.phase ≡ Started
   past_write number sequence link inside few (inl started) = started
   past_write number sequence link inside few (inr past) = absurd (omega (arith, inside, few, past.0))
 
-  -- the next record is accepted
-  write_held : (sequence number : ℕ) (kept : Option Kept) (link after : Option (RelationState T Q)) → IsNew sequence kept → number < length rules.records → sequence ≡ suc number
-      → (rules.skips ≡ false → Took number kept link) → TakesRecord rules number link after → HoldsAt rules kept link → IsHeldIn rules sequence after
-  write_held sequence number kept link after new inside is took takes holds =
+  -- the records of the next Write are accepted, or some of them
+  write_held : (sequence number : ℕ) (kept : Option Kept) (link after : Option (RelationState T Q)) → IsNew sequence kept → number < rules.count → sequence ≡ suc number
+      → TakesSome rules number link after → HoldsAt rules kept link → IsHeldIn rules sequence after
+  write_held sequence number kept link after new inside is takes holds =
       let held = is_held kept link takes.link takes.was holds in
       let fresh : IsNew sequence (Some held.0) = subst (λ (k : Option Kept). IsNew sequence k) held.1 new in
+      let before : held.0.sequence ≤ number = omega (arith, fresh, is) in
+      let few : length takes.link.taken ≤ size number = few_later held.0.sequence number takes.link before held.2 in
+      let some : length takes.values ≤ length (rules.group number) = part_few takes.values (rules.group number) takes.part in
+      let front : size (suc number) ≡ size number + length (rules.group number) = length-append (records_before rules number) (rules.group number) in
+      let now : length (takes.link.taken ++ takes.values) ≡ length takes.link.taken + length takes.values = length-append takes.link.taken takes.values in
       subst (λ (l : Option (RelationState T Q)). IsHeldIn rules sequence l) (sym takes.becomes) (record {
-        few = omega (arith, held.2.few, fresh, length-append takes.link.taken (takes.value ∷ []));
+        few = subst (λ (n : ℕ). length (takes.link.taken ++ takes.values) ≤ size n) (sym is) (omega (arith, few, some, front, now));
         made = held.2.made;
-        begins = λ strict.
-            let there : TookIn number (Some takes.link) = subst (λ (l : Option (RelationState T Q)). TookIn number l) takes.was (took strict).taken in
-            let begun = held.2.begins strict in
-            let long : length takes.link.taken ≡ number = omega (arith, there, held.2.few, fresh, is) in
-            let next = next_of takes.link.taken begun.0 rules.records takes.value number begun.1 long takes.is in
-            (next.0, append_assoc takes.link.taken (takes.value ∷ []) next.0 ∙ (ap (λ (xs : List T). takes.link.taken ++ xs) (sym next.1) ∙ begun.1));
-        past = inl (past_write number held.0.sequence takes.link inside (omega (arith, fresh, is)) held.2.past);
+        whole = λ all.
+            let enough : size (suc number) ≤ length (takes.link.taken ++ takes.values) = subst (λ (n : ℕ). size n ≤ length (takes.link.taken ++ takes.values)) is all in
+            let first : takes.link.taken ≡ records_before rules number = whole_later held.0.sequence number takes.link before held.2 (omega (arith, enough, some, front, now)) in
+            let others : takes.values ≡ rules.group number = part_whole takes.values (rules.group number) takes.part (omega (arith, enough, few, front, now)) in
+            ap (λ (xs : List T). xs ++ takes.values) first
+            ∙ (ap (λ (xs : List T). records_before rules number ++ xs) others ∙ ap (λ (n : ℕ). records_before rules n) (sym is));
+        past = inl (past_write number held.0.sequence takes.link inside before held.2.past);
       })
 
   -- all records are accepted, or were skipped
-  end_held : (sequence : ℕ) (kept : Option Kept) (link after : Option (RelationState T Q)) → IsNew sequence kept → sequence ≡ suc (length rules.records)
-      → (rules.skips ≡ false → Took (length rules.records) kept link) → IsParameterized link after → HoldsAt rules kept link → IsHeldIn rules sequence after
+  end_held : (sequence : ℕ) (kept : Option Kept) (link after : Option (RelationState T Q)) → IsNew sequence kept → sequence ≡ suc rules.count
+      → (rules.skips ≡ false → Took rules rules.count kept link) → IsParameterized link after → HoldsAt rules kept link → IsHeldIn rules sequence after
   end_held sequence kept link after new is took ends holds =
       let held = is_held kept link ends.link ends.was holds in
       let fresh : IsNew sequence (Some held.0) = subst (λ (k : Option Kept). IsNew sequence k) held.1 new in
       subst (λ (l : Option (RelationState T Q)). IsHeldIn rules sequence l) (sym ends.becomes) (record {
-        few = omega (arith, held.2.few, fresh);
+        few = few_later held.0.sequence sequence ends.link (omega (arith, fresh)) held.2;
         made = held.2.made;
-        begins = held.2.begins;
+        whole = whole_later held.0.sequence sequence ends.link (omega (arith, fresh)) held.2;
         past = inr (
           omega (arith, is),
           λ strict.
-              let there : TookIn (length rules.records) (Some ends.link) = subst (λ (l : Option (RelationState T Q)). TookIn (length rules.records) l) ends.was (took strict).taken in
-              let begun = held.2.begins strict in
-              all_taken ends.link.taken begun.0 rules.records begun.1 there,
+              let there : TookIn (size rules.count) (Some ends.link) = subst (λ (l : Option (RelationState T Q)). TookIn (size rules.count) l) ends.was (took strict).taken in
+              whole_later held.0.sequence rules.count ends.link (omega (arith, fresh, is)) held.2 there,
         );
       })
 
   new_held : (sequence : ℕ) → IsHeld rules sequence (made rules)
-  new_held sequence = record { few = omega arith; made = refl; begins = λ strict. (rules.records, refl); past = inl refl }
+  new_held sequence = record { few = omega arith; made = refl; whole = λ all. sym (none_is (records_before rules sequence) all); past = inl refl }
 
-  behind_suc : (sequence count : ℕ) (kept : Option Kept) (link : Option (RelationState T Q)) → sequence ≡ suc count → Behind rules.skips sequence kept link → rules.skips ≡ false → Took count kept link
-  behind_suc sequence count kept link is behind = subst (λ (s : ℕ). Behind rules.skips s kept link) is behind
+  behind_suc : (sequence count : ℕ) (kept : Option Kept) (link : Option (RelationState T Q)) → sequence ≡ suc count → Behind rules sequence kept link → rules.skips ≡ false → Took rules count kept link
+  behind_suc sequence count kept link is behind = subst (λ (s : ℕ). Behind rules s kept link) is behind
 
-  held_by : (sequence : ℕ) (ask : Ask) (positive : Bool) (kept : Option Kept) (link after : Option (RelationState T Q))
-      → IsNew sequence kept → IsCall rules sequence ask kept link → Comes rules positive ask link after → HoldsAt rules kept link → IsHeldIn rules sequence after
-  held_by sequence ask false kept link after new call comes holds =
-      subst (λ (l : Option (RelationState T Q)). IsHeldIn rules sequence l) (sym comes) (held_later sequence kept link new holds)
-  held_by sequence Connects true kept link after new call comes holds = subst (λ (l : Option (RelationState T Q)). IsHeldIn rules sequence l) (sym comes) (new_held sequence)
-  held_by sequence (Writes number) true kept link after new (inl releases) comes holds = absurd cc
-  held_by sequence (Writes number) true kept link after new (inr asked) comes holds =
+  held_by : (sequence : ℕ) (ask : Ask) (kept : Option Kept) (link after : Option (RelationState T Q))
+      → IsNew sequence kept → IsCall rules sequence ask kept link → MayCome ask link after → HoldsAt rules kept link → IsHeldIn rules sequence after
+  held_by sequence ask kept link after new call (inl same) holds =
+      subst (λ (l : Option (RelationState T Q)). IsHeldIn rules sequence l) (sym same) (held_later sequence kept link new holds)
+  held_by sequence Connects kept link after new call (inr comes) holds = subst (λ (l : Option (RelationState T Q)). IsHeldIn rules sequence l) (sym comes) (new_held sequence)
+  held_by sequence (Writes number) kept link after new (inl releases) (inr comes) holds = absurd cc
+  held_by sequence (Writes number) kept link after new (inr asked) (inr comes) holds =
       let is : sequence ≡ suc number = omega (arith, asked.0.1) in
-      write_held sequence number kept link after new asked.0.0 is (behind_suc sequence number kept link is asked.1) comes holds
-  held_by sequence Parameterized true kept link after new (inl releases) comes holds = absurd cc
-  held_by sequence Parameterized true kept link after new (inr asked) comes holds =
-      let is : sequence ≡ suc (length rules.records) = omega (arith, asked.0) in
-      end_held sequence kept link after new is (behind_suc sequence (length rules.records) kept link is asked.1) comes holds
-  held_by sequence Accesses true kept link after new (inl releases) comes holds = absurd cc
-  held_by sequence Accesses true kept link after new (inr asked) comes holds = absurd asked.0
-  held_by sequence Releases true kept link after new call comes holds = subst (λ (l : Option (RelationState T Q)). IsHeldIn rules sequence l) (sym comes) tt
+      write_held sequence number kept link after new asked.0.0 is comes holds
+  held_by sequence Parameterized kept link after new (inl releases) (inr comes) holds = absurd cc
+  held_by sequence Parameterized kept link after new (inr asked) (inr comes) holds =
+      let is : sequence ≡ suc rules.count = omega (arith, asked.0) in
+      end_held sequence kept link after new is (behind_suc sequence rules.count kept link is asked.1) comes holds
+  held_by sequence Accesses kept link after new (inl releases) (inr comes) holds = absurd cc
+  held_by sequence Accesses kept link after new (inr asked) (inr comes) holds = absurd asked.0
+  held_by sequence Releases kept link after new call (inr comes) holds = subst (λ (l : Option (RelationState T Q)). IsHeldIn rules sequence l) (sym comes) tt
 
   -- a positive response says what was accepted, unless records may be skipped
   reported_by : (sequence : ℕ) (ask : Ask) (kept : Option Kept) (link after : Option (RelationState T Q))
-      → IsCall rules sequence ask kept link → Comes rules true ask link after → sequence ≤ length rules.records → rules.skips ≡ false → TookIn sequence after
+      → IsCall rules sequence ask kept link → Comes rules true ask link after → sequence ≤ rules.count → rules.skips ≡ false → TookIn (size sequence) after
   reported_by sequence Connects kept link after (inr asked) comes few strict =
-      subst (λ (l : Option (RelationState T Q)). TookIn sequence l) (sym comes) (omega (arith, asked.0))
+      let none : size sequence ≤ 0 = subst (λ (n : ℕ). size n ≤ 0) (sym asked.0) (omega arith) in
+      subst (λ (l : Option (RelationState T Q)). TookIn (size sequence) l) (sym comes) none
   reported_by sequence (Writes number) kept link after (inr asked) comes few strict =
       let is : sequence ≡ suc number = omega (arith, asked.0.1) in
       let took = behind_suc sequence number kept link is asked.1 strict in
-      let there : TookIn number (Some comes.link) = subst (λ (l : Option (RelationState T Q)). TookIn number l) comes.was took.taken in
-      subst (λ (l : Option (RelationState T Q)). TookIn sequence l) (sym comes.becomes) (omega (arith, is, there, length-append comes.link.taken (comes.value ∷ [])))
+      let there : TookIn (size number) (Some comes.link) = subst (λ (l : Option (RelationState T Q)). TookIn (size number) l) comes.was took.taken in
+      let enough : size (suc number) ≤ length (comes.link.taken ++ rules.group number) =
+      omega (arith, there, length-append comes.link.taken (rules.group number), length-append (records_before rules number) (rules.group number)) in
+      subst (λ (l : Option (RelationState T Q)). TookIn (size sequence) l) (sym comes.becomes)
+      (subst (λ (n : ℕ). size n ≤ length (comes.link.taken ++ rules.group number)) (sym is) enough)
   reported_by sequence Parameterized kept link after (inr asked) comes few strict = absurd (omega (arith, asked.0, few))
-  reported_by sequence Releases kept link after call comes few strict = subst (λ (l : Option (RelationState T Q)). TookIn sequence l) (sym comes) tt
+  reported_by sequence Releases kept link after call comes few strict = subst (λ (l : Option (RelationState T Q)). TookIn (size sequence) l) (sym comes) tt
   reported_by sequence Accesses kept link after (inr asked) comes few strict = absurd asked.0
   reported_by sequence other kept link after (inl releases) comes few strict = absurd cc
 
   -- while ApplicationReady waits for its response, all records were accepted, unless records may be skipped
-  past_ready : (sequence : ℕ) (link : RelationState T Q) → link.phase ≡ Awaiting → IsPast rules sequence link → rules.skips ≡ false → link.taken ≡ rules.records
+  past_ready : (sequence : ℕ) (link : RelationState T Q) → link.phase ≡ Awaiting → IsPast rules sequence link → rules.skips ≡ false → link.taken ≡ records_of rules
   past_ready sequence link awaits (inl started) strict = absurd cc
   past_ready sequence link awaits (inr past) strict = past.1 strict
 
   pub ready_is : (kept : Option Kept) (link : Option (RelationState T Q)) (there : RelationState T Q) → link ≡ Some there → there.phase ≡ Awaiting → HoldsAt rules kept link
-      → (there.request ≡ rules.request) × (rules.skips ≡ false → there.taken ≡ rules.records)
+      → (there.request ≡ rules.request) × (rules.skips ≡ false → there.taken ≡ records_of rules)
   ready_is kept link there is awaits holds =
       let held = is_held kept link there is holds in
       (held.2.made, past_ready held.0.sequence there awaits held.2.past)
@@ -170,7 +218,7 @@ module _ {T Q : Type 0} (rules : Rules T Q) where
   module _ (Good GoodNow : List ℕ → Type 0) (good_on : (frame : List ℕ) → Good frame → GoodNow frame) where
     -- the effect of a step of the device that sends these frames
     pub record Leaves (before after : Device T Q) (frames : List (List ℕ)) : Type 0 where
-      pub grows : Grows before.kept before.link after.kept after.link
+      pub grows : Grows rules before.kept before.link after.kept after.link
       pub held : HoldsAt rules after.kept after.link
       pub kept : KeepsFine rules GoodNow after.kept after.link after.kept
       pub new : AreFine rules GoodNow after.kept after.link frames
@@ -217,15 +265,15 @@ module _ {T Q : Type 0} (rules : Rules T Q) where
     awaiting_is : Awaiting ≡ Exchanging → ⊥
     awaiting_is e = absurd cc
 
-    unconfirmed_by : (ask : Ask) (positive : Bool) (link after : Option (RelationState T Q)) → Comes rules positive ask link after → Unconfirmed link → Unconfirmed after
-    unconfirmed_by ask false link after comes unconfirmed = still_unconfirmed link after (inl comes) unconfirmed
-    unconfirmed_by Connects true link after comes unconfirmed = subst (λ (l : Option (RelationState T Q)). Unconfirmed l) (sym comes) started_is
-    unconfirmed_by (Writes number) true link after comes unconfirmed =
+    unconfirmed_by : (ask : Ask) (link after : Option (RelationState T Q)) → MayCome ask link after → Unconfirmed link → Unconfirmed after
+    unconfirmed_by ask link after (inl same) unconfirmed = still_unconfirmed link after (inl same) unconfirmed
+    unconfirmed_by Connects link after (inr comes) unconfirmed = subst (λ (l : Option (RelationState T Q)). Unconfirmed l) (sym comes) started_is
+    unconfirmed_by (Writes number) link after (inr comes) unconfirmed =
         subst (λ (l : Option (RelationState T Q)). Unconfirmed l) (sym comes.becomes) (subst (λ (l : Option (RelationState T Q)). Unconfirmed l) comes.was unconfirmed)
-    unconfirmed_by Parameterized true link after comes unconfirmed = subst (λ (l : Option (RelationState T Q)). Unconfirmed l) (sym comes.becomes) awaiting_is
-    unconfirmed_by Releases true link after comes unconfirmed = subst (λ (l : Option (RelationState T Q)). Unconfirmed l) (sym comes) tt
-    unconfirmed_by Accesses true link after (inl same) unconfirmed = still_unconfirmed link after (inl same) unconfirmed
-    unconfirmed_by Accesses true link after (inr takes) unconfirmed =
+    unconfirmed_by Parameterized link after (inr comes) unconfirmed = subst (λ (l : Option (RelationState T Q)). Unconfirmed l) (sym comes.becomes) awaiting_is
+    unconfirmed_by Releases link after (inr comes) unconfirmed = subst (λ (l : Option (RelationState T Q)). Unconfirmed l) (sym comes) tt
+    unconfirmed_by Accesses link after (inr (inl same)) unconfirmed = still_unconfirmed link after (inl same) unconfirmed
+    unconfirmed_by Accesses link after (inr (inr takes)) unconfirmed =
         subst (λ (l : Option (RelationState T Q)). Unconfirmed l) (sym takes.becomes) (subst (λ (l : Option (RelationState T Q)). Unconfirmed l) takes.was unconfirmed)
 
     answer_tells : (sequence : ℕ) (ask : Ask) (positive : Bool) (kept : Option Kept) (link : Option (RelationState T Q)) (answer : Kept) (after : Option (RelationState T Q)) (frame : List ℕ)
@@ -241,6 +289,7 @@ module _ {T Q : Type 0} (rules : Rules T Q) where
       answered_leaves sequence ask call good answered =
           let answer : Kept = record { sequence = sequence; frame = answered.frame } in
           let does = answered.does in
+          let may = may_come ask answered.positive before.link after.link does in
           let fine : IsFine rules GoodNow (Some answer) after.link answered.frame =
           fine_at_most rules GoodNow (Some answer) after.link answered.frame (Answers sequence answered.positive) answered.to_device answered.to_controller
           (answer_tells sequence ask answered.positive before.kept before.link answer after.link answered.frame call does) in
@@ -248,25 +297,25 @@ module _ {T Q : Type 0} (rules : Rules T Q) where
           record {
             grows = λ count took. record {
               called = subst (λ (k : Option Kept). IsSomeKept k) (sym answered.keeps) tt;
-              taken = took_by sequence ask answered.positive before.kept before.link after.link count answered.new call does took;
+              taken = took_by sequence ask before.kept before.link after.link count answered.new call may took;
             };
             held = subst (λ (k : Option Kept). HoldsAt rules k after.link) (sym answered.keeps)
-                (held_by sequence ask answered.positive before.kept before.link after.link answered.new call does held);
+                (held_by sequence ask before.kept before.link after.link answered.new call may held);
             kept = subst (λ (k : Option Kept). KeepsFine rules GoodNow k after.link k) (sym answered.keeps) fine;
             new = subst (λ (fs : List (List ℕ)). AreFine rules GoodNow after.kept after.link fs) (sym answered.sent) (
               subst (λ (k : Option Kept). IsFine rules GoodNow k after.link answered.frame) (sym answered.keeps) fine,
               readies_fine after answered.others (good_behind after answered.frame answered.others behind) answered.readies,
             );
-            unconfirmed = unconfirmed_by ask answered.positive before.link after.link does unconfirmed;
+            unconfirmed = unconfirmed_by ask before.link after.link may unconfirmed;
           }
 
       -- nothing changed, and what is sent was fine
       same_leaves : after ≡ before → AreFine rules Good before.kept before.link frames → Leaves before after frames
       same_leaves same fine = subst (λ (d : Device T Q). Leaves before d frames) (sym same) (record {
-        grows = same_grows before.kept before.link;
+        grows = same_grows rules before.kept before.link;
         held = held;
-        kept = keeps_on before.kept before.kept before.link before.link (same_grows before.kept before.link) rules Good GoodNow good_on before.kept kept;
-        new = are_fine_on before.kept before.kept before.link before.link (same_grows before.kept before.link) rules Good GoodNow good_on frames fine;
+        kept = keeps_on rules before.kept before.kept before.link before.link (same_grows rules before.kept before.link) Good GoodNow good_on before.kept kept;
+        new = are_fine_on rules before.kept before.kept before.link before.link (same_grows rules before.kept before.link) Good GoodNow good_on frames fine;
         unconfirmed = unconfirmed;
       })
 
@@ -297,15 +346,15 @@ module _ {T Q : Type 0} (rules : Rules T Q) where
 
       by_leaves : AreGood after frames → GoesBy rules before after frames → Leaves before after frames
       by_leaves good goes =
-          let grows : Grows before.kept before.link after.kept after.link = λ count took. record {
+          let grows : Grows rules before.kept before.link after.kept after.link = λ count took. record {
             called = subst (λ (k : Option Kept). IsSomeKept k) (sym goes.keeps) took.called;
-            taken = took_same before.link after.link count goes.link took.taken;
+            taken = took_same before.link after.link (size count) goes.link took.taken;
           } in
           record {
             grows = grows;
             held = subst (λ (k : Option Kept). HoldsAt rules k after.link) (sym goes.keeps) (held_same before.kept before.link after.link goes.link held);
             kept = subst (λ (k : Option Kept). KeepsFine rules GoodNow after.kept after.link k) (sym goes.keeps)
-                (keeps_on before.kept after.kept before.link after.link grows rules Good GoodNow good_on before.kept kept);
+                (keeps_on rules before.kept after.kept before.link after.link grows Good GoodNow good_on before.kept kept);
             new = all_dull_fine after frames good goes.sent;
             unconfirmed = still_unconfirmed before.link after.link goes.link unconfirmed;
           }

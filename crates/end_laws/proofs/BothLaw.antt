@@ -1,15 +1,15 @@
 -- The law of a start-up.
-use Rattle.std.proofs.Common.{◌≡◌, ◌⊎◌, inl, inr, ◌+◌, ◌≤◌, ℕ, Bool, true, false, List, [], ◌∷◌, ◌++◌, length, Option, Some, None, refl, sym, ap, subst, ◌∙◌, add-one, append_assoc}
+use Rattle.std.proofs.Common.{◌≡◌, ◌⊎◌, inl, inr, ◌+◌, ◌≤◌, ℕ, Bool, true, false, List, [], ◌∷◌, ◌++◌, Option, Some, None, refl, sym, ap, subst, ◌∙◌, add-one, append_assoc}
 use Rattle.std.specs.List.{AllByRecursion}
 use Rattle.std.specs.Prelude.{slice_get}
 use Rattle.end_laws.specs.both.Small.{Ask, Connects, Writes, Parameterized, Releases, Accesses, ToDevice, Call, Confirms, Idle, ToController, Answers, Readies, Nothing, Rules, Awaiting, Exchanging, RelationState, Kept, Device, Controller, Seeking, Asking, Waiting, Exchanges, Ended, World, Move, ComesToDevice, ComesToController, AtDevice, AtController, IsByController, IsByDevice}
-use Rattle.end_laws.specs.both.Steps.{IsDull, CallsWhile, SaysToDevice, IsSaid, IsNext, Moves, Comes, DeviceSteps, StepsAtDevice, StepsAtController, ComesToDeviceAs, ComesToControllerAs, Steps}
+use Rattle.end_laws.specs.both.Steps.{records_of, IsDull, CallsWhile, SaysToDevice, IsSaid, IsNext, Moves, DeviceSteps, StepsAtDevice, StepsAtController, ComesToDeviceAs, ComesToControllerAs, Steps}
 use Rattle.end_laws.specs.both.StartUp.{IsRun, last_of, Begins, WasSent, WasHanded, WasExchanging}
 use Rattle.end_laws.proofs.BothHolds.{HoldsAt, Took, Behind, IsCall, TellsDevice, TellsController, IsFine, AreFine, KeepsFine, AsksBehind, Unconfirmed, Holds, MadeIn, ConfirmedIn, HoldsSince}
 use Rattle.end_laws.proofs.BothRuns.{holds_behind_run, later_on}
 use Rattle.end_laws.proofs.BothEach.{each_at, each_behind, each_so}
 use Rattle.end_laws.proofs.BothGoes.{asks_on, are_fine_on, keeps_on, same_grows, fine_as}
-use Rattle.end_laws.proofs.BothKept.{device_leaves, made_is, ready_is}
+use Rattle.end_laws.proofs.BothKept.{MayCome, may_come, device_leaves, made_is, ready_is}
 
 module _ {T Q : Type 0} (rules : Rules T Q) where
   -- ---- the controller
@@ -20,49 +20,49 @@ module _ {T Q : Type 0} (rules : Rules T Q) where
 
     -- what the response to the last call says was accepted, unless records may be skipped
     granted_took : (heard : ToController) (frame : List ℕ) (sequence : ℕ) (positive : Bool) → heard ≡ Answers sequence positive → (positive ≡ true) ⊎ (rules.skips ≡ true)
-        → TellsController rules Good kept link frame heard → sequence ≤ length rules.records → rules.skips ≡ false → Took sequence kept link
+        → TellsController rules Good kept link frame heard → sequence ≤ rules.count → rules.skips ≡ false → Took rules sequence kept link
     granted_took heard frame sequence positive e (inl granted) tells few strict =
         let reported : TellsController rules Good kept link frame (Answers sequence true) =
         subst (λ (h : ToController). TellsController rules Good kept link frame h) (e ∙ ap (λ (b : Bool). Answers sequence b) granted) tells in
         reported few strict
     granted_took heard frame sequence positive e (inr skips) tells few strict = absurd (no_skip (sym skips ∙ strict))
 
-    next_asks : (heard : ToController) (frame : List ℕ) (before after : Controller) (next : IsNext rules.skips (length rules.records) heard before after)
+    next_asks : (heard : ToController) (frame : List ℕ) (before after : Controller) (next : IsNext rules.skips rules.count heard before after)
         → TellsController rules Good kept link frame heard
-        → ((next.sequence ≤ length rules.records) × (after ≡ Asking (next.sequence + 1))) ⊎ (after ≡ Waiting) → AsksBehind rules.skips kept link after
+        → ((next.sequence ≤ rules.count) × (after ≡ Asking (next.sequence + 1))) ⊎ (after ≡ Waiting) → AsksBehind rules kept link after
     next_asks heard frame before after next tells (inl more) =
-        subst (λ (c : Controller). AsksBehind rules.skips kept link c) (sym more.1)
-        (subst (λ (s : ℕ). Behind rules.skips s kept link) (sym (add-one next.sequence))
+        subst (λ (c : Controller). AsksBehind rules kept link c) (sym more.1)
+        (subst (λ (s : ℕ). Behind rules s kept link) (sym (add-one next.sequence))
         (λ strict. granted_took heard frame next.sequence next.positive next.answered next.granted tells more.0 strict))
-    next_asks heard frame before after next tells (inr waits) = subst (λ (c : Controller). AsksBehind rules.skips kept link c) (sym waits) tt
+    next_asks heard frame before after next tells (inr waits) = subst (λ (c : Controller). AsksBehind rules kept link c) (sym waits) tt
 
     still_asks : (heard : ToController) (frame : List ℕ) (before after : Controller) → TellsController rules Good kept link frame heard
-        → AsksBehind rules.skips kept link before → Moves rules.skips (length rules.records) heard before after → AsksBehind rules.skips kept link after
-    still_asks heard frame before after tells asks (inl same) = subst (λ (c : Controller). AsksBehind rules.skips kept link c) (sym same) asks
-    still_asks heard frame before after tells asks (inr (inl ended)) = subst (λ (c : Controller). AsksBehind rules.skips kept link c) (sym ended) tt
-    still_asks heard frame before after tells asks (inr (inr (inl first))) = subst (λ (c : Controller). AsksBehind rules.skips kept link c) (sym first) tt
+        → AsksBehind rules kept link before → Moves rules.skips (rules.count) heard before after → AsksBehind rules kept link after
+    still_asks heard frame before after tells asks (inl same) = subst (λ (c : Controller). AsksBehind rules kept link c) (sym same) asks
+    still_asks heard frame before after tells asks (inr (inl ended)) = subst (λ (c : Controller). AsksBehind rules kept link c) (sym ended) tt
+    still_asks heard frame before after tells asks (inr (inr (inl first))) = subst (λ (c : Controller). AsksBehind rules kept link c) (sym first) tt
     still_asks heard frame before after tells asks (inr (inr (inr (inl next)))) = next_asks heard frame before after next tells next.becomes
-    still_asks heard frame before after tells asks (inr (inr (inr (inr readied)))) = subst (λ (c : Controller). AsksBehind rules.skips kept link c) (sym readied.1) tt
+    still_asks heard frame before after tells asks (inr (inr (inr (inr readied)))) = subst (λ (c : Controller). AsksBehind rules kept link c) (sym readied.1) tt
 
-    calls_tell : (now : Controller) (sequence : ℕ) (ask : Ask) → (now ≡ Exchanges → ⊥) → AsksBehind rules.skips kept link now → CallsWhile (length rules.records) now sequence ask
+    calls_tell : (now : Controller) (sequence : ℕ) (ask : Ask) → (now ≡ Exchanges → ⊥) → AsksBehind rules kept link now → CallsWhile (rules.count) now sequence ask
         → IsCall rules sequence ask kept link
     calls_tell now sequence ask before asks (inl releases) = inl releases
-    calls_tell now sequence ask before asks (inr (inl asked)) = inr (asked.1, subst (λ (c : Controller). AsksBehind rules.skips kept link c) asked.0 asks)
+    calls_tell now sequence ask before asks (inr (inl asked)) = inr (asked.1, subst (λ (c : Controller). AsksBehind rules kept link c) asked.0 asks)
     calls_tell now sequence ask before asks (inr (inr accesses)) = absurd (before accesses.1)
 
-    says_tell : (now : Controller) (heard : ToDevice) → (now ≡ Exchanges → ⊥) → AsksBehind rules.skips kept link now → SaysToDevice (length rules.records) now heard → TellsDevice rules kept link heard
+    says_tell : (now : Controller) (heard : ToDevice) → (now ≡ Exchanges → ⊥) → AsksBehind rules kept link now → SaysToDevice (rules.count) now heard → TellsDevice rules kept link heard
     says_tell now (Call sequence ask) before asks says = calls_tell now sequence ask before asks says
     says_tell now Confirms before asks says = before says
     says_tell now Idle before asks says = tt
 
-    said_fine : (now : Controller) (frame : List ℕ) → (now ≡ Exchanges → ⊥) → AsksBehind rules.skips kept link now → IsSaid rules now frame → IsFine rules Good kept link frame
+    said_fine : (now : Controller) (frame : List ℕ) → (now ≡ Exchanges → ⊥) → AsksBehind rules kept link now → IsSaid rules now frame → IsFine rules Good kept link frame
     said_fine now frame before asks said = fine_as rules Good kept link frame (rules.to_device frame) Nothing refl said.0 (by_state said.1) tt
       where
-        by_state : SaysToDevice (length rules.records) now (rules.to_device frame) ⊎ (now ≡ Exchanges) → TellsDevice rules kept link (rules.to_device frame)
+        by_state : SaysToDevice (rules.count) now (rules.to_device frame) ⊎ (now ≡ Exchanges) → TellsDevice rules kept link (rules.to_device frame)
         by_state (inl says) = says_tell now (rules.to_device frame) before asks says
         by_state (inr exchanges) = absurd (before exchanges)
 
-    all_said_fine : (now : Controller) (frames : List (List ℕ)) → (now ≡ Exchanges → ⊥) → AsksBehind rules.skips kept link now → AllByRecursion (IsSaid rules now) frames
+    all_said_fine : (now : Controller) (frames : List (List ℕ)) → (now ≡ Exchanges → ⊥) → AsksBehind rules kept link now → AllByRecursion (IsSaid rules now) frames
         → AreFine rules Good kept link frames
     all_said_fine now [] before asks all = tt
     all_said_fine now (frame ∷ frames) before asks all = (said_fine now frame before asks all.0, all_said_fine now frames before asks all.1)
@@ -74,7 +74,7 @@ module _ {T Q : Type 0} (rules : Rules T Q) where
     pub good_on : (frame : List ℕ) → Good frame → GoodNow frame
     pub good_now : IsByDevice move → (frames : List (List ℕ)) → v.sent ≡ w.sent ++ frames → v.controller ≡ w.controller
         → (number : ℕ) (frame : List ℕ) → slice_get frames number ≡ Some frame
-        → (link : RelationState T Q) → v.device.link ≡ Some link → link.phase ≡ Awaiting → link.request ≡ rules.request → (rules.skips ≡ false → link.taken ≡ rules.records) → GoodNow frame
+        → (link : RelationState T Q) → v.device.link ≡ Some link → link.phase ≡ Awaiting → link.request ≡ rules.request → (rules.skips ≡ false → link.taken ≡ records_of rules) → GoodNow frame
 
   module _ (Good GoodNow : List ℕ → Type 0) (w : World T Q) (move : Move) (v : World T Q)
       (passes : Passes Good GoodNow w move v) (holds : Holds rules Good w) where
@@ -102,9 +102,9 @@ module _ {T Q : Type 0} (rules : Rules T Q) where
           kept = leaves.kept;
           sent = subst (λ (fs : List (List ℕ)). AreFine rules GoodNow after.kept after.link fs) (sym steps.behind)
               (each_behind (IsFine rules GoodNow after.kept after.link) w.sent steps.frames
-              (are_fine_on before.kept after.kept before.link after.link leaves.grows rules Good GoodNow passes.good_on w.sent holds.sent) leaves.new);
-          asked = subst (λ (c : Controller). AsksBehind rules.skips after.kept after.link c) (sym steps.controller)
-              (asks_on before.kept after.kept before.link after.link leaves.grows rules.skips w.controller holds.asked);
+              (are_fine_on rules before.kept after.kept before.link after.link leaves.grows Good GoodNow passes.good_on w.sent holds.sent) leaves.new);
+          asked = subst (λ (c : Controller). AsksBehind rules after.kept after.link c) (sym steps.controller)
+              (asks_on rules before.kept after.kept before.link after.link leaves.grows w.controller holds.asked);
           before = λ exchanges. holds.before (sym steps.controller ∙ exchanges);
           unconfirmed = leaves.unconfirmed;
         }
@@ -115,20 +115,20 @@ module _ {T Q : Type 0} (rules : Rules T Q) where
     at_controller before heard frame tells steps =
         let kept = w.device.kept in
         let link = w.device.link in
-        let grows = same_grows kept link in
+        let grows = same_grows rules kept link in
         let asks = still_asks Good kept link heard frame w.controller v.controller tells holds.asked steps.steps.moves in
         let sent : AreFine rules GoodNow kept link v.sent =
         subst (λ (fs : List (List ℕ)). AreFine rules GoodNow kept link fs) (sym steps.behind)
         (each_behind (IsFine rules GoodNow kept link) w.sent steps.frames
-        (are_fine_on kept kept link link grows rules Good GoodNow passes.good_on w.sent holds.sent)
+        (are_fine_on rules kept kept link link grows Good GoodNow passes.good_on w.sent holds.sent)
         (all_said_fine GoodNow kept link v.controller steps.frames before asks steps.steps.sent)) in
         let same : v.device ≡ w.device = steps.device in
         record {
           held = subst (λ (d : Device T Q). HoldsAt rules d.kept d.link) (sym same) holds.held;
           kept = subst (λ (d : Device T Q). KeepsFine rules GoodNow d.kept d.link d.kept) (sym same)
-              (keeps_on kept kept link link grows rules Good GoodNow passes.good_on kept holds.kept);
+              (keeps_on rules kept kept link link grows Good GoodNow passes.good_on kept holds.kept);
           sent = subst (λ (d : Device T Q). AreFine rules GoodNow d.kept d.link v.sent) (sym same) sent;
-          asked = subst (λ (d : Device T Q). AsksBehind rules.skips d.kept d.link v.controller) (sym same) asks;
+          asked = subst (λ (d : Device T Q). AsksBehind rules d.kept d.link v.controller) (sym same) asks;
           before = before;
           unconfirmed = subst (λ (d : Device T Q). Unconfirmed d.link) (sym same) holds.unconfirmed;
         }
@@ -138,11 +138,11 @@ module _ {T Q : Type 0} (rules : Rules T Q) where
     at_rest same =
         let kept = w.device.kept in
         let link = w.device.link in
-        let grows = same_grows kept link in
+        let grows = same_grows rules kept link in
         subst (λ (u : World T Q). Holds rules GoodNow u) (sym same) (record {
           held = holds.held;
-          kept = keeps_on kept kept link link grows rules Good GoodNow passes.good_on kept holds.kept;
-          sent = are_fine_on kept kept link link grows rules Good GoodNow passes.good_on w.sent holds.sent;
+          kept = keeps_on rules kept kept link link grows Good GoodNow passes.good_on kept holds.kept;
+          sent = are_fine_on rules kept kept link link grows Good GoodNow passes.good_on w.sent holds.sent;
           asked = holds.asked;
           before = holds.before;
           unconfirmed = holds.unconfirmed;
@@ -161,7 +161,7 @@ module _ {T Q : Type 0} (rules : Rules T Q) where
     -- ---- the controller begins to exchange data, or does not
 
     -- the ApplicationReady with which it begins
-    readied_by : (heard : ToController) → Moves rules.skips (length rules.records) heard w.controller v.controller → v.controller ≡ Exchanges → heard ≡ Readies
+    readied_by : (heard : ToController) → Moves rules.skips (rules.count) heard w.controller v.controller → v.controller ≡ Exchanges → heard ≡ Readies
     readied_by heard (inl same) exchanges = absurd (holds.before (sym same ∙ exchanges))
     readied_by heard (inr (inl ended)) exchanges = absurd (not_ended (sym ended ∙ exchanges))
       where
@@ -173,7 +173,7 @@ module _ {T Q : Type 0} (rules : Rules T Q) where
         not_asking s e = absurd cc
     readied_by heard (inr (inr (inr (inl next)))) exchanges = absurd (by_next next.becomes)
       where
-        by_next : ((next.sequence ≤ length rules.records) × (v.controller ≡ Asking (next.sequence + 1))) ⊎ (v.controller ≡ Waiting) → ⊥
+        by_next : ((next.sequence ≤ rules.count) × (v.controller ≡ Asking (next.sequence + 1))) ⊎ (v.controller ≡ Waiting) → ⊥
         by_next (inl more) = not_asking (next.sequence + 1) (sym more.1 ∙ exchanges)
           where
             not_asking : (s : ℕ) → Asking s ≡ Exchanges → ⊥
@@ -229,20 +229,21 @@ module _ {T Q : Type 0} (rules : Rules T Q) where
     pub handed_on : Handed → HandedNow
     pub past_now : (number : ℕ) → move ≡ ComesToDevice number → Was → PastNow
 
-  made_by : (ask : Ask) (positive : Bool) (link after : Option (RelationState T Q)) → Comes rules positive ask link after → MadeIn rules link → MadeIn rules after
-  made_by ask false link after comes is_made = subst (λ (l : Option (RelationState T Q)). MadeIn rules l) (sym comes) is_made
-  made_by Connects true link after comes is_made = subst (λ (l : Option (RelationState T Q)). MadeIn rules l) (sym comes) refl
-  made_by (Writes number) true link after comes is_made =
+  made_by : (ask : Ask) (link after : Option (RelationState T Q)) → MayCome rules ask link after → MadeIn rules link → MadeIn rules after
+  made_by ask link after (inl same) is_made = subst (λ (l : Option (RelationState T Q)). MadeIn rules l) (sym same) is_made
+  made_by Connects link after (inr comes) is_made = subst (λ (l : Option (RelationState T Q)). MadeIn rules l) (sym comes) refl
+  made_by (Writes number) link after (inr comes) is_made =
       subst (λ (l : Option (RelationState T Q)). MadeIn rules l) (sym comes.becomes) (subst (λ (l : Option (RelationState T Q)). MadeIn rules l) comes.was is_made)
-  made_by Parameterized true link after comes is_made =
+  made_by Parameterized link after (inr comes) is_made =
       subst (λ (l : Option (RelationState T Q)). MadeIn rules l) (sym comes.becomes) (subst (λ (l : Option (RelationState T Q)). MadeIn rules l) comes.was is_made)
-  made_by Releases true link after comes is_made = subst (λ (l : Option (RelationState T Q)). MadeIn rules l) (sym comes) tt
-  made_by Accesses true link after (inl same) is_made = subst (λ (l : Option (RelationState T Q)). MadeIn rules l) (sym same) is_made
-  made_by Accesses true link after (inr takes) is_made =
+  made_by Releases link after (inr comes) is_made = subst (λ (l : Option (RelationState T Q)). MadeIn rules l) (sym comes) tt
+  made_by Accesses link after (inr (inl same)) is_made = subst (λ (l : Option (RelationState T Q)). MadeIn rules l) (sym same) is_made
+  made_by Accesses link after (inr (inr takes)) is_made =
       subst (λ (l : Option (RelationState T Q)). MadeIn rules l) (sym takes.becomes) (subst (λ (l : Option (RelationState T Q)). MadeIn rules l) takes.was is_made)
 
   made_on : (heard : ToDevice) (before after : Device T Q) (frames : List (List ℕ)) → DeviceSteps rules heard before after frames → MadeIn rules before.link → MadeIn rules after.link
-  made_on (Call sequence ask) before after frames (inl answered) is_made = made_by ask answered.positive before.link after.link answered.does is_made
+  made_on (Call sequence ask) before after frames (inl answered) is_made =
+      made_by ask before.link after.link (may_come rules ask answered.positive before.link after.link answered.does) is_made
   made_on (Call sequence ask) before after frames (inr (inl again)) is_made = subst (λ (d : Device T Q). MadeIn rules d.link) (sym again.unchanged) is_made
   made_on (Call sequence ask) before after frames (inr (inr rests)) is_made = subst (λ (d : Device T Q). MadeIn rules d.link) (sym rests.0) is_made
   made_on Confirms before after frames (inl confirms) is_made =
@@ -517,7 +518,7 @@ module _ {T Q : Type 0} (rules : Rules T Q) where
       held = subst (λ (k : Option Kept). HoldsAt rules k first.device.link) (sym begins.uncalled) begins.unrelated;
       kept = subst (λ (k : Option Kept). KeepsFine rules (WasSent rules first []) first.device.kept first.device.link k) (sym begins.uncalled) tt;
       sent = dull_fine (WasSent rules first []) first.device.kept first.device.link first.sent begins.dull;
-      asked = subst (λ (c : Controller). AsksBehind rules.skips first.device.kept first.device.link c) (sym begins.seeking) tt;
+      asked = subst (λ (c : Controller). AsksBehind rules first.device.kept first.device.link c) (sym begins.seeking) tt;
       before = λ exchanges. not_seeking (sym begins.seeking ∙ exchanges);
       unconfirmed = subst (λ (l : Option (RelationState T Q)). Unconfirmed l) (sym begins.unrelated) tt;
     })

@@ -1,5 +1,5 @@
 -- Each turn of a controller, as far as a start-up is concerned.
-use Rattle.std.proofs.Common.{◌≡◌, ◌⊎◌, inl, inr, ◌+◌, ◌<◌, ◌≤◌, ◌==◌, ◌&&◌, ℕ, Bool, true, false, cond, List, [], ◌∷◌, ◌++◌, length, Option, Some, None, refl, sym, ap, subst, ◌∙◌, arith}
+use Rattle.std.proofs.Common.{◌≡◌, ◌⊎◌, inl, inr, ◌+◌, ◌<◌, ◌≤◌, ◌==◌, ◌&&◌, ℕ, Bool, true, false, cond, List, [], ◌∷◌, ◌++◌, Option, Some, None, refl, sym, ap, subst, ◌∙◌, add-one, arith}
 use Rattle.std.specs.Prelude.{nat_lt, nat_eq}
 use Rattle.std.specs.List.{AllByRecursion}
 use Rattle.std.specs.Cmp.Lexicographic.{pointwise}
@@ -11,9 +11,9 @@ use Rattle.rpc_core.specs.Response.{Answered as Response, is_done}
 use Rattle.connect_blocks.specs.declared.control.ControlBlock.{ControlBlock}
 use Rattle.record_blocks.specs.declared.alarm_ack.AlarmAck.{AlarmAck}
 use Rattle.record_blocks.specs.declared.alarm_notification.AlarmNotification.{AlarmNotification}
-use Rattle.pn_alarms.specs.declared.priority.Priority.{Priority}
-use Rattle.pn_alarms.specs.declared.priority.Priority.TheVariants.{High, Low}
-use Rattle.pn_alarms.specs.declared.report.Report.{Report}
+use Rattle.alarm_reports.specs.declared.priority.Priority.{Priority}
+use Rattle.alarm_reports.specs.declared.priority.Priority.TheVariants.{High, Low}
+use Rattle.alarm_reports.specs.declared.report.Report.{Report}
 use Rattle.pn_alarms.specs.declared.receiver.Taken.{Taken}
 use Rattle.pn_alarms.specs.declared.receiver.Taken.TheVariants.{New, Again, Refused}
 use Rattle.pn_alarms.specs.Controller.{confirmed, with_ack, with_data}
@@ -27,7 +27,7 @@ use Rattle.controller_frames.specs.declared.setup.Setup.{Setup}
 use Rattle.controller_frames.specs.declared.request.Request.{Request}
 use Rattle.controller_frames.specs.declared.request.Request.TheVariants as asks
 use Rattle.controller_frames.specs.Heard.{Heard, Responds, heard_of}
-use Rattle.controller_frames.specs.Requests.{sequence_of, writing_from}
+use Rattle.controller_frames.specs.Requests.{sequence_of, write_count, writing_from}
 use Rattle.controller_frames.specs.Sent.{Sent}
 use Rattle.controller_core.specs.declared.state.Cause.{Cause}
 use Rattle.controller_core.specs.declared.state.State.{State}
@@ -37,20 +37,21 @@ use Rattle.controller_core.specs.declared.event.Event.TheVariants.{Frame}
 use Rattle.controller_core.specs.State.{Live}
 use Rattle.controller_core.specs.Alarms.{ack_of, kept_alarm}
 use Rattle.controller_core.specs.Answers.{is_answer, is_call}
-use Rattle.controller_core.specs.Machine.{Turn, stays, next_sequence, noted, released, writing, standing, end_of, with_end, keeping, acking, behind_data, behind_ack, confirming, taken, is_again, later, where_due, requests_of, accesses_by, pending_by, pending_of, acks_in, acks_of, outputs_of, flow_later, due_frames, brought, turn_of}
+use Rattle.controller_core.specs.Outcomes.{are_written}
+use Rattle.controller_core.specs.Machine.{Turn, stays, next_sequence, noted, released, writing, standing, end_of, with_end, keeping, acking, behind_data, behind_ack, diagnosing, confirming, taken, is_again, later, where_due, requests_of, accesses_by, pending_by, pending_of, acks_in, acks_of, outputs_of, flow_later, due_frames, brought, turn_of}
 use Rattle.end_laws.specs.turns.Ended.{IsReleased}
 use Rattle.end_laws.specs.turns.Turns.{Came, Hears, IsGranted, IsKind, IsReadied, IsSkipped, IsTurn, Kind, Rests, Connects, Addresses, Ends, Releases, Relates, Writes, Skips, Waits, Forgets, Begins, Repeats, Takes, IsAcked, Asks, IsReplied, Flows, Breaks, Idles, came_by, turn_by}
 use Rattle.end_laws.specs.both.Small as small
 use Rattle.end_laws.specs.both.Small.{Controller, ToController, ToDevice}
 use Rattle.end_laws.specs.both.Steps.{SaysToDevice}
-use Rattle.end_laws.specs.controller.Small.{asking_of, state_of, small_of, IsInStep, MayWait, IsSteady, readied_by, said_to, asked_by, said_by, said_in, GoesOn}
+use Rattle.end_laws.specs.controller.Small.{asking_of, state_of, small_of, IsInStep, MayWait, IsSteady, says_written, is_positive, readied_by, said_to, asked_by, said_by, said_in, GoesOn}
 
 some_is : {A : Type 0} (x y : A) → Some x ≡ Some y → x ≡ y
 some_is x y e = cc
 
 module _ (plan : Parts) where
   abbrev count : ℕ
-  count = length plan.records.items
+  count = write_count plan
 
   -- a message that says nothing of a start-up
   abbrev IsInactive : Sent → Type 0
@@ -119,8 +120,8 @@ module _ (setup : Setup) where
   Tells phase asked asks.Identify = Unit {0}
   Tells phase asked asks.Address = Unit {0}
   Tells phase asked asks.Connect = state_of setup.plan phase asked ≡ small.Asking 0
-  Tells phase asked (asks.Write number) = (number < length setup.plan.records.items) × (state_of setup.plan phase asked ≡ small.Asking (number + 1))
-  Tells phase asked asks.PrmEnd = state_of setup.plan phase asked ≡ small.Asking (length setup.plan.records.items + 1)
+  Tells phase asked (asks.Write number) = (number < write_count setup.plan) × (state_of setup.plan phase asked ≡ small.Asking (number + 1))
+  Tells phase asked asks.PrmEnd = state_of setup.plan phase asked ≡ small.Asking (write_count setup.plan + 1)
   Tells phase asked (asks.Release sequence) = IsInStep setup.plan phase None × (state_of setup.plan phase None ≡ small.Ended)
 
   tells_so : (phase : State) (asked : Option Request) (one request : Request) → asked ≡ Some one → Tells phase asked one → asked ≡ Some request → Tells phase asked request
@@ -149,16 +150,16 @@ module _ (setup : Setup) where
   -- the next request is made by the next call
   module _ (live after : Live) (number : ℕ) (heard : ToController) (positive : Bool) (before : small_of setup.plan live ≡ small.Asking number)
       (answers : heard ≡ small.Answers number positive) (granted : (positive ≡ true) ⊎ (setup.plan.continue_on_refused_record ≡ true))
-      (few : number ≤ length setup.plan.records.items) (idle : after.access.waiting ≡ None) where
-    writing_by : (b : Bool) → nat_lt number (length setup.plan.records.items) ≡ b
+      (few : number ≤ write_count setup.plan) (idle : after.access.waiting ≡ None) where
+    writing_by : (b : Bool) → nat_lt number (write_count setup.plan) ≡ b
         → GoesOn setup.plan heard live (writing (cond b (asks.Write number) asks.PrmEnd) after)
     writing_by true below = record {
-      in_step = record { asked = (number, ltb-true number (length setup.plan.records.items) below, refl); waiting = idle };
+      in_step = record { asked = (number, ltb-true number (write_count setup.plan) below, refl); waiting = idle };
       moves = inr (inr (inr (inl (record { sequence = number; positive = positive; asked = before; answered = answers; granted = granted; becomes = inl (few, refl) }))));
-      says = (inr (inl (refl, (ltb-true number (length setup.plan.records.items) below, refl))), tt);
+      says = (inr (inl (refl, (ltb-true number (write_count setup.plan) below, refl))), tt);
     }
     writing_by false above =
-        let last : length setup.plan.records.items ≡ number = omega (arith, few, ltb-false number (length setup.plan.records.items) above) in
+        let last : write_count setup.plan ≡ number = omega (arith, few, ltb-false number (write_count setup.plan) above) in
         record {
           in_step = record { asked = refl; waiting = idle };
           moves = inr (inr (inr (inl (record { sequence = number; positive = positive; asked = before; answered = answers; granted = granted; becomes = inl (few, ap (λ (n : ℕ). small.Asking (n + 1)) last) }))));
@@ -166,21 +167,41 @@ module _ (setup : Setup) where
         }
 
     writing_goes : GoesOn setup.plan heard live (writing (writing_from setup.plan number) after)
-    writing_goes = writing_by (nat_lt number (length setup.plan.records.items)) refl
+    writing_goes = writing_by (nat_lt number (write_count setup.plan)) refl
+
+  -- whether the response to a request says that all went well
+  abbrev is_well : Request → Response → Bool
+  is_well request response = is_done response.status && says_written setup.plan (sequence_of setup.plan request) response.blocks
 
   -- a response is heard as the response that it is
   is_heard : (request : Request) (response : Response) → is_answer setup request response.header ≡ true
-      → said_to setup (Responds response) ≡ small.Answers (sequence_of setup.plan request) (is_done response.status)
+      → said_to setup (Responds response) ≡ small.Answers (sequence_of setup.plan request) (is_well request response)
   is_heard request response e =
       let call = and_parts (is_call request) (pointwise nat_eq response.header.activity setup.activity && (response.header.sequence == sequence_of setup.plan request)) e in
       let parts = and_parts (pointwise nat_eq response.header.activity setup.activity) (response.header.sequence == sequence_of setup.plan request) call.1 in
       let sequence : response.header.sequence ≡ sequence_of setup.plan request = eqb-true response.header.sequence (sequence_of setup.plan request) parts.1 in
-      heard_answer (pointwise nat_eq response.header.activity setup.activity) response.header.sequence (is_done response.status) parts.0
-      ∙ ap (λ (s : ℕ). small.Answers s (is_done response.status)) sequence
+      heard_answer (pointwise nat_eq response.header.activity setup.activity) response.header.sequence (is_positive setup.plan response) parts.0
+      ∙ ap (λ (s : ℕ). small.Answers s (is_done response.status && says_written setup.plan s response.blocks)) sequence
     where
       heard_answer : (b : Bool) (s : ℕ) (d : Bool) → b ≡ true → cond b (small.Answers s d) small.Nothing ≡ small.Answers s d
       heard_answer true s d own = refl
       heard_answer false s d own = absurd cc
+
+  -- what the blocks of a response say: nothing but those of a Write
+  unless : (b one : Bool) → (b ≡ true → one ≡ true) → cond b one true ≡ true
+  unless true one so = so refl
+  unless false one so = refl
+
+  write_says : (number : ℕ) (blocks : List ℕ) → are_written setup.plan number blocks ≡ true → says_written setup.plan (number + 1) blocks ≡ true
+  write_says number blocks written =
+      ap (λ (s : ℕ). says_written setup.plan s blocks) (add-one number)
+      ∙ unless (nat_lt number (write_count setup.plan)) (are_written setup.plan number blocks) (λ _. written)
+
+  end_says : (blocks : List ℕ) → says_written setup.plan (write_count setup.plan + 1) blocks ≡ true
+  end_says blocks =
+      let count = write_count setup.plan in
+      ap (λ (s : ℕ). says_written setup.plan s blocks) (add-one count)
+      ∙ unless (nat_lt count count) (are_written setup.plan count blocks) (λ e. let below = ltb-true count count e in absurd (omega (arith, below)))
 
   -- an end of alarms, and an alarm that is stored, change nothing of a start-up
   record IsAlike (live after : Live) : Type 0 where
@@ -202,12 +223,16 @@ module _ (setup : Setup) where
   alike_on : (live next after : Live) → IsAlike live next → IsAlike next after → IsAlike live after
   alike_on live next after one other = record { phase = other.phase ∙ one.phase; asked = other.asked ∙ one.asked; waits = other.waits ∙ one.waits }
 
+  diagnosing_alike : (live after : Live) (report : Report) → IsAlike live after → IsAlike live (diagnosing report after)
+  diagnosing_alike live after report is = record { phase = is.phase; asked = is.asked; waits = is.waits }
+
   confirming_alike : (live after : Live) (report : Report) → IsAlike live after → IsAlike live (confirming after report)
   confirming_alike live after report is =
       let acked = acking after report.priority (ack_of report.notification) in
-      alike_on live acked (confirming after report)
+      let kept = keeping acked report.priority (kept_alarm report.notification) report.user_structure in
+      diagnosing_alike live kept report (alike_on live acked kept
       (alike_on live after acked is (end_alike after report.priority (confirmed (end_of after report.priority) (ack_of report.notification))))
-      (keeping_alike acked report.priority (kept_alarm report.notification) report.user_structure)
+      (keeping_alike acked report.priority (kept_alarm report.notification) report.user_structure))
 
   alike_goes : (heard : ToController) (live after : Live) (sent : List Sent) → IsSteady setup.plan live → IsAlike live after → AllByRecursion (IsInactive setup.plan) sent
       → GoesOn setup.plan heard live (record { live = after; sent = sent })
@@ -221,7 +246,7 @@ module _ (setup : Setup) where
 
   -- the pending request says what it may
   request_says : (phase : State) (asked : Option Request) (request : Request) → Tells phase asked request
-      → SaysToDevice (length setup.plan.records.items) (state_of setup.plan phase asked) (asked_by setup.plan request)
+      → SaysToDevice (write_count setup.plan) (state_of setup.plan phase asked) (asked_by setup.plan request)
   request_says phase asked asks.Identify reported = tt
   request_says phase asked asks.Address reported = tt
   request_says phase asked asks.Connect reported = inr (inl (reported, refl))
@@ -230,7 +255,7 @@ module _ (setup : Setup) where
   request_says phase asked (asks.Release sequence) reported = inl refl
 
   abbrev AreSaid : Controller → List Sent → Type 0
-  AreSaid now sent = AllByRecursion (λ message. SaysToDevice (length setup.plan.records.items) now (said_by setup.plan message)) sent
+  AreSaid now sent = AllByRecursion (λ message. SaysToDevice (write_count setup.plan) now (said_by setup.plan message)) sent
 
   requests_say : (device : Mac) (phase : State) (asked request : Option Request) → request ≡ asked → IsInStep setup.plan phase asked → AreSaid (state_of setup.plan phase asked) (requests_of device request)
   requests_say device phase asked (Some request) is in_step = (request_says phase asked request (tells phase asked in_step request (sym is)), tt)
@@ -303,13 +328,15 @@ module _ (setup : Setup) where
     idle_asked : (request : Request) → live.asked ≡ Some request → live.access.waiting ≡ None
     idle_asked request stood = none_waits setup.plan live.phase live.asked request live.access.waiting in_step stood steady.waiting
 
-    granted_said : (request : Request) → (g : IsGranted setup live came request) → heard ≡ small.Answers (sequence_of setup.plan request) true
-    granted_said request g =
-        ap said_of g.comes ∙ is_heard request g.response g.right ∙ ap (λ (d : Bool). small.Answers (sequence_of setup.plan request) d) g.granted
+    granted_said : (request : Request) → (g : IsGranted setup live came request) → says_written setup.plan (sequence_of setup.plan request) g.response.blocks ≡ true
+        → heard ≡ small.Answers (sequence_of setup.plan request) true
+    granted_said request g says =
+        ap said_of g.comes ∙ is_heard request g.response g.right
+        ∙ ap (λ (d : Bool). small.Answers (sequence_of setup.plan request) (d && says_written setup.plan (sequence_of setup.plan request) g.response.blocks)) g.granted
+        ∙ ap (λ (d : Bool). small.Answers (sequence_of setup.plan request) d) says
 
-    skipped_said : (number : ℕ) → (s : IsSkipped setup live came number) → heard ≡ small.Answers (sequence_of setup.plan (asks.Write number)) false
-    skipped_said number s =
-        ap said_of s.comes ∙ is_heard (asks.Write number) s.response s.right ∙ ap (λ (d : Bool). small.Answers (sequence_of setup.plan (asks.Write number)) d) s.refused
+    skipped_said : (number : ℕ) → (s : IsSkipped setup live came number) → heard ≡ small.Answers (sequence_of setup.plan (asks.Write number)) (is_well (asks.Write number) s.response)
+    skipped_said number s = ap said_of s.comes ∙ is_heard (asks.Write number) s.response s.right
 
     readied_said : (caller : Caller) (call : Call) (block : ControlBlock) → IsReadied setup came caller call block → heard ≡ small.Readies
     readied_said caller call block ready =
@@ -330,22 +357,24 @@ module _ (setup : Setup) where
     kind_goes (Releases reason) holds = released_goes heard reason live
     kind_goes (Relates chosen) holds =
         let granted = holds.0 in
-        writing_goes live (standing setup live chosen) 0 heard true (tells live.phase live.asked in_step asks.Connect granted.stood) (granted_said asks.Connect granted) (inl refl) (omega arith)
+        writing_goes live (standing setup live chosen) 0 heard true (tells live.phase live.asked in_step asks.Connect granted.stood) (granted_said asks.Connect granted refl) (inl refl) (omega arith)
         (idle_asked asks.Connect granted.stood)
     kind_goes (Writes number) holds =
+        let granted = holds.0 in
+        let there = tells live.phase live.asked in_step (asks.Write number) granted.stood in
+        writing_goes live live (number + 1) heard true there.1 (granted_said (asks.Write number) granted (write_says number granted.response.blocks holds.1)) (inl refl)
+        (omega (arith, there.0)) (idle_asked (asks.Write number) granted.stood)
+    kind_goes (Skips number refused status) holds =
         let there = tells live.phase live.asked in_step (asks.Write number) holds.stood in
-        writing_goes live live (number + 1) heard true there.1 (granted_said (asks.Write number) holds) (inl refl) (omega (arith, there.0)) (idle_asked (asks.Write number) holds.stood)
-    kind_goes (Skips number status) holds =
-        let there = tells live.phase live.asked in_step (asks.Write number) holds.stood in
-        writing_goes live (noted status number live) (number + 1) heard false there.1 (skipped_said number holds) (inr holds.goes_on) (omega (arith, there.0))
+        writing_goes live (noted status refused live) (number + 1) heard (is_well (asks.Write number) holds.response) there.1 (skipped_said number holds) (inr holds.goes_on) (omega (arith, there.0))
         (idle_asked (asks.Write number) holds.stood)
     kind_goes Waits holds = record {
       in_step = record { asked = refl; waiting = idle_asked asks.PrmEnd holds.stood };
       moves = inr (inr (inr (inl (record {
-        sequence = length setup.plan.records.items + 1;
+        sequence = write_count setup.plan + 1;
         positive = true;
         asked = tells live.phase live.asked in_step asks.PrmEnd holds.stood;
-        answered = granted_said asks.PrmEnd holds;
+        answered = granted_said asks.PrmEnd holds (end_says holds.response.blocks);
         granted = inl refl;
         becomes = inr refl;
       }))));

@@ -39,8 +39,12 @@ use Rattle.records.specs.reads.Listing.{is_of_relation, is_there, listed_at, lis
 use Rattle.records.specs.reads.Within.{record_within, request_within as read_within}
 use Rattle.relation_records.specs.Own.{own_of}
 use Rattle.relation_records.specs.Reading.{relation_read}
+use Rattle.relation_records.specs.Sources.{Known}
 use Rattle.records.specs.declared.writes.taken.TakenRecord.{TakenRecord}
-use Rattle.records.specs.writes.Handled.{effect_of, is_known, handled_request as write_handled, targeted, write_of, written}
+use Rattle.records.specs.declared.writes.writing.Writing.TheVariants.{One, Each}
+use Rattle.records.specs.writes.Asked.{handled_writing, several_of, writing_of}
+use Rattle.records.specs.writes.Handled.{effect_of, is_known, handled_request as write_handled, targeted, written}
+use Rattle.records.specs.writes.Several.{is_several, list_behind}
 use Rattle.records.specs.writes.Taken.{keep_of}
 use Rattle.relations.specs.RelationState.{RelationState, differing_in, is_named, is_session, is_started, phase_of, uuid_of}
 use Rattle.relations.specs.Phases.{keeping}
@@ -178,19 +182,32 @@ written_plain real request behind = handled_plain
     (or_fault fault.WriteLength (effect_of real request (take request.header.record_data_length behind))) (tt, (tt, (tt, tt)))
     (fault_plain fault.WriteLength (effect_of real request (take request.header.record_data_length behind)) tt)
 
-request_plain : (standing : Option (List ℕ)) (real : Real) (request : IodWriteReq) (behind : List ℕ) → IsPlainIn (write_handled standing real request behind)
+pub request_plain : (standing : Option (List ℕ)) (real : Real) (request : IodWriteReq) (behind : List ℕ) → IsPlainIn (write_handled standing real request behind)
 unfolding write_handled
 request_plain standing real request behind =
     bind_plain (targeted standing real request) (λ _. written real request behind >>= λ effect. Ok (record { request = request; effect = effect })) (targeted_plain standing real request)
     (λ _. bind_plain (written real request behind) (λ effect. Ok (record { request = request; effect = effect })) (written_plain real request behind) (λ effect. tt))
 
-pub write_plain : (standing : Option (List ℕ)) (real : Real) (blocks : List ℕ) → IsPlainIn (write_of standing real blocks)
-unfolding write_of
-write_plain standing real blocks =
-    bind_plain (single_of kind.IodWriteReq blocks) (λ x. or_fault fault.BlockForm (in_iod_write_req x.0) >>= λ request. write_handled standing real request x.1)
+several_plain : (standing : Option (List ℕ)) (request : IodWriteReq) (behind : List ℕ) → IsPlainIn (several_of standing request behind)
+unfolding several_of
+several_plain standing request behind =
+    bind_plain (in_relation standing request.header.ar_uuid) (λ _. or_fault fault.WriteLength (list_behind request behind)) (related_plain standing request.header.ar_uuid)
+    (λ _. fault_plain fault.WriteLength (list_behind request behind) tt)
+
+asked_plain : (standing : Option (List ℕ)) (real : Real) (request : IodWriteReq) (behind : List ℕ) → IsPlainIn (handled_writing standing real request behind)
+asked_plain standing real request behind = by_kind (is_several request)
+  where
+    by_kind : (b : Bool) → IsPlainIn (cond b (several_of standing request behind >>= λ entries. Ok (Each request entries)) (write_handled standing real request behind >>= λ write. Ok (One write)))
+    by_kind true = bind_plain (several_of standing request behind) (λ entries. Ok (Each request entries)) (several_plain standing request behind) (λ entries. tt)
+    by_kind false = bind_plain (write_handled standing real request behind) (λ write. Ok (One write)) (request_plain standing real request behind) (λ write. tt)
+
+pub writing_plain : (standing : Option (List ℕ)) (real : Real) (blocks : List ℕ) → IsPlainIn (writing_of standing real blocks)
+unfolding writing_of
+writing_plain standing real blocks =
+    bind_plain (single_of kind.IodWriteReq blocks) (λ x. or_fault fault.BlockForm (in_iod_write_req x.0) >>= λ request. handled_writing standing real request x.1)
     (single_plain kind.IodWriteReq blocks)
-    (λ x. bind_plain (or_fault fault.BlockForm (in_iod_write_req x.0)) (λ request. write_handled standing real request x.1) (fault_plain fault.BlockForm (in_iod_write_req x.0) tt)
-    (λ request. request_plain standing real request x.1))
+    (λ x. bind_plain (or_fault fault.BlockForm (in_iod_write_req x.0)) (λ request. handled_writing standing real request x.1) (fault_plain fault.BlockForm (in_iod_write_req x.0) tt)
+    (λ request. asked_plain standing real request x.1))
 
 keep_plain : (value : TakenRecord) (records : List TakenRecord) → IsPlainIn (keep_of value records)
 unfolding keep_of
@@ -257,12 +274,12 @@ served_plain is_within real own request readable = by_listing (listing_of real r
     by_listing (Some x) = listed_plain is_within real own request x.0 x.1
     by_listing None = record_plain real request readable
 
-pub read_plain : (link : Option RelationState) (identity : Identity) (real : Real) (running : Settings) (blocks : List ℕ) → IsPlainIn (relation_read link identity real running blocks)
+pub read_plain : (known : Known) (identity : Identity) (real : Real) (running : Settings) (blocks : List ℕ) → IsPlainIn (relation_read known identity real running blocks)
 unfolding relation_read
-read_plain link identity real running blocks =
-    bind_plain (read_within (uuid_of link) blocks)
-    (λ request. read_served true real (own_of link real request) request (record_within (differing_in link) request identity real running)) (within_request_plain (uuid_of link) blocks)
-    (λ request. served_plain true real (own_of link real request) request (record_within (differing_in link) request identity real running))
+read_plain known identity real running blocks =
+    bind_plain (read_within (uuid_of known.link) blocks)
+    (λ request. read_served true real (own_of true known real request) request (record_within (differing_in known.link) request identity real running)) (within_request_plain (uuid_of known.link) blocks)
+    (λ request. served_plain true real (own_of true known real request) request (record_within (differing_in known.link) request identity real running))
 
 -- ---- a Write whose record the settings store
 

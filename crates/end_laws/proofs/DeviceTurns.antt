@@ -1,6 +1,6 @@
 -- Each turn of a device, as far as a start-up is concerned: drawn from what the turn does.
-use Rattle.std.proofs.Common.{◌≡◌, ◌⊎◌, inl, inr, ◌-◌, ◌<◌, ◌==◌, ℕ, Bool, true, false, cond, List, [], ◌∷◌, map, take, Option, Some, None, option_map, Result, Ok, Err, refl, sym, ap, subst, ◌∙◌, arith}
-use Rattle.std.specs.Prelude.{nat_lt, nat_eq, slice_get, unwrap_or}
+use Rattle.std.proofs.Common.{◌≡◌, ◌⊎◌, inl, inr, ◌-◌, ◌<◌, ◌==◌, ℕ, Bool, true, false, cond, List, [], ◌∷◌, ◌++◌, map, take, Option, Some, None, option_map, Result, Ok, Err, refl, sym, ap, subst, ◌∙◌, arith}
+use Rattle.std.specs.Prelude.{◌&&◌, nat_lt, nat_eq, unwrap_or}
 use Rattle.std.specs.List.{AllByRecursion}
 use Rattle.std.specs.Cmp.Lexicographic.{pointwise, other_text}
 use Rattle.std.proofs.lemmas.Bool.{false≢true, eq-eqb, ltb-true, ltb-false}
@@ -16,30 +16,30 @@ use Rattle.records.specs.status.Status.{status_of}
 use Rattle.connect_requests.specs.Request.{Request}
 use Rattle.records.specs.declared.writes.taken.TakenRecord.{TakenRecord}
 use Rattle.records.specs.declared.writes.write.Effect.TheVariants.{Stores, Keeps}
+use Rattle.records.specs.declared.writes.write.Write.{Write}
+use Rattle.records.specs.declared.writes.writing.Writing.TheVariants.{One, Each}
 use Rattle.relations.specs.declared.ready.Ready.{Ready}
 use Rattle.relations.specs.RelationState.{RelationState, uuid_of}
 use Rattle.pn_values.specs.declared.im_value.ImValue.{ImValue}
 use Rattle.device_frames.specs.Heard.{Heard, Reported, Calls}
-use Rattle.device_frames.specs.Sent.{Sent, CallAnswer, Again, ReadyCall, bytes_of}
+use Rattle.device_frames.specs.Sent.{Sent, CallAnswer, Again, Exchanges, ReadyCall, bytes_of}
 use Rattle.settings_store.specs.Machine.{Outcome}
 use Rattle.device_core.specs.State.{Station, Rest, Live}
-use Rattle.device_core.specs.Machine.{handled_step, heard_step}
+use Rattle.device_core.specs.Machine.{handled_step, heard_step, statuses_of}
+use Rattle.device_core.specs.Several.{judged_each}
 use Rattle.device_core.specs.Handled.{outcome_of, answer_from, kept_for}
 use Rattle.end_laws.specs.both.Small as small
-use Rattle.end_laws.specs.both.Small.{Rules, ToDevice, ToController}
-use Rattle.end_laws.specs.both.Steps.{IsNew, Comes, SaysAtMost, IsReady, IsDull, DeviceSteps}
-use Rattle.relations.specs.Phases.{parameterized_from, restarted}
-use Rattle.end_laws.specs.device.Small.{Planned, phase_in, link_of, kept_in, small_of, written_by, asked_by, heard_as, IsPlannedAs, IsPlannedCall, IsPlanned, IsHeardAs}
-use Rattle.end_laws.specs.device.Does.{AreReadied, Confirms, Does, GoesBy, IsEffect, IsOther, IsReadied, Repeats, Rests, Serves, Stored, Written, readied_from}
+use Rattle.end_laws.specs.both.Small.{Rules, ToDevice}
+use Rattle.end_laws.specs.both.Steps.{IsNew, Carries, Comes, SaysAtMost, IsReady, IsDull, DeviceSteps}
+use Rattle.relations.specs.Phases.{Named, parameterized_from, restarted, updated}
+use Rattle.end_laws.specs.device.Small.{Planned, phase_in, link_of, kept_in, small_of, written_by, asked_by, heard_as, IsPlannedAs, IsPlannedCall, IsPlanned, IsHeardAs, IsWritingOf}
+use Rattle.end_laws.specs.device.Does.{AreReadied, Confirms, Does, GoesBy, IsEffect, IsExchange, IsOther, IsReadied, Repeats, Rests, Serves, Stored, Written, WrittenEach, readied_from, with_more}
+use Rattle.end_laws.proofs.BothKept.{may_come}
+use Rattle.end_laws.proofs.DeviceLists.{TakesOf, keeps_take, none_listed, outcomes_are}
 use Rattle.end_laws.proofs.DeviceOwing.{same_request}
 
 some_is : {A : Type 0} (x y : A) → Some x ≡ Some y → x ≡ y
 some_is x y e = cc
-
--- whether a call succeeded
-abbrev is_well : {A : Type 0} → Result A CallFault → Bool
-is_well (Ok value) = true
-is_well (Err why) = false
 
 -- ---- the response that is stored
 
@@ -140,15 +140,30 @@ module _ (refusals_are_not_done : RefusalsAreNotDone) (rules : Rules TakenRecord
   all_other after [] others heard = tt
   all_other after (message ∷ sent) others heard = (one_other after message others.0 heard.0, all_other after sent others.1 heard.1)
 
+  -- frames of the exchange say nothing of a start-up
+  one_dull : (message : Sent) → IsExchange message → IsHeardAs rules station.identity message → IsDull rules (bytes_of station.identity message)
+  one_dull (Exchanges route frame) exchange heard =
+      (heard.0, hears_nothing (bytes_of station.identity (Exchanges route frame)) heard.1)
+  one_dull message exchange heard = absurd exchange
+
+  all_dull : (sent : List Sent) → AllByRecursion IsExchange sent → AreHeard sent → AllByRecursion (IsDull rules) (frames_of sent)
+  all_dull [] exchange heard = tt
+  all_dull (message ∷ sent) exchange heard = (one_dull message exchange.0 heard.0, all_dull sent exchange.1 heard.1)
+
   all_ready : (after : Rest) (address : List ℕ) (ready : Option Ready) → AreReadied live after.link ready → AreHeard (readied_from address ready)
       → AllByRecursion (IsReady rules (small_in after)) (frames_of (readied_from address ready))
   all_ready after address None readied heard = tt
   all_ready after address (Some ready) readied heard = (one_ready after address ready readied heard.0, tt)
 
-  -- a response says whether the call succeeded
-  says_done : (which : Operation) (outcome : Result (List ℕ) CallFault) → is_done (outcome_of which outcome).0 ≡ is_well outcome
-  says_done which (Ok blocks) = refl
-  says_done which (Err why) = refusals_are_not_done which why
+  -- a response says whether the call succeeded, and with it each of its records
+  abbrev positive_of : ℕ → Result (List ℕ) CallFault → Bool
+  positive_of sequence (Ok octets) = rules.grants sequence octets
+  positive_of sequence (Err why) = false
+
+  says_done : (which : Operation) (sequence : ℕ) (outcome : Result (List ℕ) CallFault)
+      → (is_done (outcome_of which outcome).0 && rules.grants sequence (outcome_of which outcome).1) ≡ positive_of sequence outcome
+  says_done which sequence (Ok octets) = refl
+  says_done which sequence (Err why) = ap (λ (b : Bool). b && rules.grants sequence []) (refusals_are_not_done which why)
 
   module _ (heard : Heard) (planned : IsPlanned rules activity station.real heard) (after : Rest) (sent : List Sent) (all : AreHeard sent) where
     -- ---- calls
@@ -192,54 +207,109 @@ module _ (refusals_are_not_done : RefusalsAreNotDone) (rules : Rules TakenRecord
     restarted_small None = refl
     restarted_small (Some link) = refl
 
+    -- the records of several that a relation accepts
+    takes_more : (values : List TakenRecord) (link : Option RelationState) → Comes rules true small.Accesses (option_map link_of link) (option_map link_of (option_map (with_more values) link))
+    takes_more values None = inl refl
+    takes_more values (Some link) = inr (record { link = link_of link; values = values; was = refl; becomes = refl })
+
     stores_none : (value : ImValue) (planned : TakenRecord) → Stores value ≡ Keeps planned → ⊥
     stores_none value planned e = absurd cc
 
+    -- a call that succeeds, whatever its response says of its records
+    comes_so : (granted : Bool) (ask : small.Ask) (before now : Option (small.RelationState TakenRecord Request)) → Carries rules ask before now → Comes rules granted ask before now
+    comes_so true ask before now carries = carries
+    comes_so false ask before now carries = may_come rules ask true before now carries
+
+    -- the records of a Write of the start-up
+    each_comes : (before now : Option RelationState) (sequence number : ℕ) (blocks octets : List ℕ) (it : WrittenEach station blocks octets before now)
+        → IsWritingOf rules station.real (uuid_of before) sequence (rules.group number) (Each it.header it.entries)
+        → (granted : Bool) → rules.grants sequence octets ≡ granted → Comes rules granted (small.Writes number) (option_map link_of before) (option_map link_of now)
+    each_comes None now sequence number blocks octets it keeps granted e = absurd (none_listed station.real blocks it.header it.entries it.judged)
+    each_comes (Some link) now sequence number blocks octets it keeps granted e = by_granted granted e
+      where
+        takes : TakesOf (judged_each (uuid_of (Some link)) station.real it.entries) (rules.group number) it.answers link
+        takes = keeps_take refusals_are_not_done (judged_each (uuid_of (Some link)) station.real it.entries) (rules.group number) keeps.0 it.answers link
+
+        behind : option_map link_of now ≡ Some (record (link_of link) { taken = link.taken ++ takes.values })
+        behind = ap (λ (l : Option RelationState). option_map link_of l) (it.carried ∙ ap (updated Named) takes.becomes)
+
+        by_granted : (b : Bool) → rules.grants sequence octets ≡ b → Comes rules b (small.Writes number) (Some (link_of link)) (option_map link_of now)
+        by_granted true f =
+            let judged = judged_each (uuid_of (Some link)) station.real it.entries in
+            let says = sym (ap (λ (o : List ℕ). rules.grants sequence o) it.tells) ∙ f in
+            let all = takes.whole (keeps.1 (statuses_of judged it.answers (Some link)) (outcomes_are (uuid_of (Some link)) station.real it.entries it.answers (Some link)) says) in
+            record {
+              link = link_of link;
+              was = refl;
+              becomes = behind ∙ ap (λ (values : List TakenRecord). let o : Option (small.RelationState TakenRecord Request) = Some (record (link_of link) { taken = link.taken ++ values }) in o) all;
+            }
+        by_granted false f = inr (record { link = link_of link; values = takes.values; was = refl; part = takes.part; becomes = behind })
+
     -- what a Write does, which is one of the start-up or not
-    writes : (sequence : ℕ) (blocks : List ℕ) (b : Bool) → rules.is_planned sequence blocks ≡ b → IsPlannedAs rules station.real sequence blocks (Some operation.Write)
-        → Written station blocks live.rest.link after.link ⊎ Stored station blocks live.rest.link after.link
-        → Comes rules true (written_ask b sequence) (option_map link_of live.rest.link) (option_map link_of after.link)
-    writes sequence blocks true e asks (inl it) =
+    writes : (sequence : ℕ) (blocks octets : List ℕ) (b : Bool) → rules.is_planned sequence blocks ≡ b → IsPlannedAs rules station.real sequence blocks (Some operation.Write)
+        → Written station blocks live.rest.link after.link ⊎ (Stored station blocks live.rest.link after.link ⊎ WrittenEach station blocks octets live.rest.link after.link)
+        → (granted : Bool) → rules.grants sequence octets ≡ granted → Comes rules granted (written_ask b sequence) (option_map link_of live.rest.link) (option_map link_of after.link)
+    writes sequence blocks octets true e asks (inl it) granted g =
         let plan = asks e in
-        record {
+        let keeps = plan.keeps (uuid_of live.rest.link) (One it.write) it.judged in
+        let number : sequence - 1 ≡ plan.number = omega (arith, plan.is) in
+        let values : it.value ∷ [] ≡ rules.group (sequence - 1) =
+        ap (λ (v : TakenRecord). v ∷ []) (same_kept it.value keeps.0 (sym it.keeps ∙ keeps.2)) ∙ (sym keeps.1 ∙ ap rules.group (sym number)) in
+        comes_so granted (small.Writes (sequence - 1)) (option_map link_of live.rest.link) (option_map link_of after.link) (record {
           link = link_of it.link;
-          value = it.value;
           was = ap (λ (l : Option RelationState). option_map link_of l) it.was;
-          is =
-              let number : sequence - 1 ≡ plan.number = omega (arith, plan.is) in
-              ap (λ (n : ℕ). slice_get rules.records n) number
-              ∙ (plan.there ∙ ap (λ (v : TakenRecord). Some v) (same_kept plan.value it.value (sym (plan.keeps _ it.write it.judged) ∙ it.keeps)));
-          becomes = ap (λ (l : Option RelationState). option_map link_of l) it.becomes;
-        }
-    writes sequence blocks true e asks (inr it) =
+          becomes = ap (λ (l : Option RelationState). option_map link_of l) it.becomes
+              ∙ ap (λ (more : List TakenRecord). let o : Option (small.RelationState TakenRecord Request) = Some (record (link_of it.link) { taken = it.link.taken ++ more }) in o) values;
+        })
+    writes sequence blocks octets true e asks (inr (inl it)) granted g =
         let plan = asks e in
-        absurd (stores_none it.value plan.value (sym it.stores ∙ plan.keeps _ it.write it.judged))
-    writes sequence blocks false e asks (inl it) = inr (record {
+        let keeps = plan.keeps (uuid_of live.rest.link) (One it.write) it.judged in
+        absurd (stores_none it.value keeps.0 (sym it.stores ∙ keeps.2))
+    writes sequence blocks octets true e asks (inr (inr it)) granted g =
+        let plan = asks e in
+        let keeps = plan.keeps (uuid_of live.rest.link) (Each it.header it.entries) it.judged in
+        let number : plan.number ≡ sequence - 1 = omega (arith, plan.is) in
+        subst (λ (n : ℕ). Comes rules granted (small.Writes n) (option_map link_of live.rest.link) (option_map link_of after.link)) number
+        (each_comes live.rest.link after.link sequence plan.number blocks octets it keeps granted g)
+    writes sequence blocks octets false e asks (inl it) granted g = comes_so granted small.Accesses (option_map link_of live.rest.link) (option_map link_of after.link) (inr (record {
       link = link_of it.link;
-      value = it.value;
+      values = it.value ∷ [];
       was = ap (λ (l : Option RelationState). option_map link_of l) it.was;
       becomes = ap (λ (l : Option RelationState). option_map link_of l) it.becomes;
-    })
-    writes sequence blocks false e asks (inr it) = inl (ap (λ (l : Option RelationState). option_map link_of l) it.same ∙ restarted_small live.rest.link)
+    }))
+    writes sequence blocks octets false e asks (inr (inl it)) granted g =
+        comes_so granted small.Accesses (option_map link_of live.rest.link) (option_map link_of after.link)
+        (inl (ap (λ (l : Option RelationState). option_map link_of l) it.same ∙ restarted_small live.rest.link))
+    writes sequence blocks octets false e asks (inr (inr it)) granted g =
+        let taken = takes_more it.values live.rest.link in
+        comes_so granted small.Accesses (option_map link_of live.rest.link) (option_map link_of after.link)
+        (subst (λ (l : Option RelationState). Comes rules true small.Accesses (option_map link_of live.rest.link) (option_map link_of l)) (sym it.becomes) taken)
 
     -- what a call does to the relation, as the small machine does it
     comes : (caller : Caller) (sequence : ℕ) (blocks : List ℕ) (outcome : Result (List ℕ) CallFault) (which : Operation) → IsPlannedAs rules station.real sequence blocks (Some which)
         → IsEffect station caller blocks outcome which live.rest.link after.link
-        → Comes rules (is_well outcome) (ask_of rules.is_planned sequence blocks (Some which)) (option_map link_of live.rest.link) (option_map link_of after.link)
-    comes caller sequence blocks (Err why) which plan same = ap (λ (l : Option RelationState). option_map link_of l) same
+        → Comes rules (positive_of sequence outcome) (ask_of rules.is_planned sequence blocks (Some which)) (option_map link_of live.rest.link) (option_map link_of after.link)
+    comes caller sequence blocks (Err why) which plan same = inl (ap (λ (l : Option RelationState). option_map link_of l) same)
     comes caller sequence blocks (Ok octets) operation.Connect plan it =
-        ap (λ (l : Option RelationState). option_map link_of l) it.made
+        comes_so (rules.grants sequence octets) small.Connects (option_map link_of live.rest.link) (option_map link_of after.link)
+        (ap (λ (l : Option RelationState). option_map link_of l) it.made
         ∙ ap (λ (r : Request). Some (record { phase = small.Started; request = r; taken = [] }))
-        (same_request (uuid_of live.rest.link) blocks it.request rules.request it.read plan)
-    comes caller sequence blocks (Ok octets) operation.Write plan it = writes sequence blocks (rules.is_planned sequence blocks) refl plan it
-    comes caller sequence blocks (Ok octets) operation.Control plan it = record {
-      link = link_of it.link;
-      was = ap (λ (l : Option RelationState). option_map link_of l) it.was;
-      started = ap phase_in it.started;
-      becomes = ap (λ (l : Option RelationState). option_map link_of l) it.becomes ∙ parameterized_small it.link it.by_application;
-    }
-    comes caller sequence blocks (Ok octets) operation.Release plan it = ap (λ (l : Option RelationState). option_map link_of l) it.gone
-    comes caller sequence blocks (Ok octets) operation.Read plan it = inl (ap (λ (l : Option RelationState). option_map link_of l) it ∙ restarted_small live.rest.link)
+        (same_request (uuid_of live.rest.link) blocks it.request rules.request it.read plan))
+    comes caller sequence blocks (Ok octets) operation.Write plan it =
+        writes sequence blocks octets (rules.is_planned sequence blocks) refl plan it (rules.grants sequence octets) refl
+    comes caller sequence blocks (Ok octets) operation.Control plan it =
+        comes_so (rules.grants sequence octets) small.Parameterized (option_map link_of live.rest.link) (option_map link_of after.link) (record {
+          link = link_of it.link;
+          was = ap (λ (l : Option RelationState). option_map link_of l) it.was;
+          started = ap phase_in it.started;
+          becomes = ap (λ (l : Option RelationState). option_map link_of l) it.becomes ∙ parameterized_small it.link it.by_application;
+        })
+    comes caller sequence blocks (Ok octets) operation.Release plan it =
+        comes_so (rules.grants sequence octets) small.Releases (option_map link_of live.rest.link) (option_map link_of after.link)
+        (ap (λ (l : Option RelationState). option_map link_of l) it.gone)
+    comes caller sequence blocks (Ok octets) operation.Read plan it =
+        comes_so (rules.grants sequence octets) small.Accesses (option_map link_of live.rest.link) (option_map link_of after.link)
+        (inl (ap (λ (l : Option RelationState). option_map link_of l) it ∙ restarted_small live.rest.link))
     comes caller sequence blocks (Ok octets) operation.ReadImplicit plan it = absurd plan
 
     module _ (it : Serves station live heard after sent) where
@@ -265,13 +335,13 @@ module _ (refusals_are_not_done : RefusalsAreNotDone) (rules : Rules TakenRecord
       serves : Goes (heard_as rules.is_planned heard) after sent
       serves = hears_call it.caller it.address it.call it.blocks it.is it.counted (inl (record {
         new = new_is sequence (kept_of activity live.rest.calls) (sym (ap (λ (a : List ℕ). looked a sequence live.rest.calls) plan.own) ∙ it.fresh);
-        positive = is_well it.outcome;
+        positive = positive_of sequence it.outcome;
         frame = bytes_of station.identity answer;
         keeps = ap (λ (k : Option Answer). option_map kept_in k) (ap (λ (c : List Answer). kept_of activity c) it.keeps ∙ kept_last activity (kept_for station.identity it.call answer) live.rest.calls plan.own);
-        does = subst (λ (o : Option Operation). Comes rules (is_well it.outcome) (ask_of rules.is_planned sequence it.blocks o) (option_map link_of live.rest.link) (option_map link_of after.link)) (sym it.asks)
+        does = subst (λ (o : Option Operation). Comes rules (positive_of sequence it.outcome) (ask_of rules.is_planned sequence it.blocks o) (option_map link_of live.rest.link) (option_map link_of after.link)) (sym it.asks)
             (comes it.caller sequence it.blocks it.outcome it.which asks it.effect);
         to_device = all_heard.0.0;
-        to_controller = subst (λ (b : Bool). SaysAtMost rules (small.Answers sequence b) (bytes_of station.identity answer)) (says_done it.which it.outcome) all_heard.0.1;
+        to_controller = subst (λ (b : Bool). SaysAtMost rules (small.Answers sequence b) (bytes_of station.identity answer)) (says_done it.which sequence it.outcome) all_heard.0.1;
         others = frames_of (readied_from from it.ready);
         sent = ap frames_of it.sends;
         readies = all_ready after from it.ready it.readied all_heard.1;
@@ -303,8 +373,8 @@ module _ (refusals_are_not_done : RefusalsAreNotDone) (rules : Rules TakenRecord
       link = link_of it.link;
       was = ap (λ (l : Option RelationState). option_map link_of l) it.was;
       awaits = ap phase_in it.awaits;
-      becomes = ap small_in it.becomes;
-      silent = ap frames_of it.silent;
+      becomes = ap small_in it.becomes ∙ ap (λ (l : small.RelationState TakenRecord Request). let d : small.Device TakenRecord Request = record (small_in live.rest) { link = Some l } in d) it.exchanges;
+      dull = all_dull sent it.others all;
     }))
 
     pub turn_goes : Does station live heard after sent → DeviceSteps rules (heard_as rules.is_planned heard) (small_in live.rest) (small_in after) (frames_of sent)

@@ -1,8 +1,9 @@
 -- One turn of a device: what it does, what becomes of its relation and of the responses that it stores, and where its
 -- messages come from.
-use Rattle.std.proofs.Common.{◌≡◌, ◌⊎◌, inl, inr, ap, ◌+◌, ◌-◌, ℕ, Bool, true, false, cond, List, [], ◌∷◌, ◌++◌, length, Option, Some, None, option_map, Result, Ok, Err, refl, sym, subst, not, ◌∙◌}
-use Rattle.std.specs.Prelude.{◌%◌, ◌&&◌, is_some, nat_eq, nat_lt, ◌==◌}
+use Rattle.std.proofs.Common.{◌≡◌, ◌⊎◌, inl, inr, ap, ◌+◌, ◌-◌, ℕ, Bool, true, false, cond, List, [], ◌∷◌, ◌++◌, length, Option, Some, None, option_map, Result, Ok, Err, refl, sym, subst, not, ◌∙◌, append_assoc}
+use Rattle.std.specs.Prelude.{◌&&◌, is_some, nat_eq, nat_lt, ◌==◌}
 use Rattle.std.specs.List.{AllByRecursion}
+use Rattle.lldp.specs.Peer.{Peer}
 use Rattle.std.specs.Cmp.Lexicographic.{pointwise, same_text}
 use Rattle.wire.specs.Codec.{◌>>=◌}
 use Rattle.pn_values.specs.declared.mac.Mac.{Mac}
@@ -28,7 +29,10 @@ use Rattle.records.specs.declared.writes.taken.TakenRecord.{TakenRecord}
 use Rattle.records.specs.declared.writes.write.Effect.{Effect}
 use Rattle.records.specs.declared.writes.write.Effect.TheVariants.{Stores, Keeps}
 use Rattle.records.specs.declared.writes.write.Write.{Write}
-use Rattle.records.specs.writes.Handled.{write_of}
+use Rattle.records.specs.declared.writes.writing.Writing.{Writing}
+use Rattle.records.specs.declared.writes.writing.Writing.TheVariants.{One, Each}
+use Rattle.records.specs.writes.Asked.{writing_of}
+use Rattle.records.specs.writes.Entry.{Entry}
 use Rattle.relation_records.specs.Reading.{relation_read}
 use Rattle.pn_values.specs.declared.im_value.ImValue.{ImValue}
 use Rattle.pn_alarms.specs.declared.abort.Abort.{Abort}
@@ -38,29 +42,34 @@ use Rattle.cyclic_exchange.specs.declared.received.Received.{Received}
 use Rattle.cyclic_exchange.specs.declared.received.Received.TheVariants as received
 use Rattle.cyclic_exchange.specs.declared.route.Route.{Route}
 use Rattle.relations.specs.exchange.Flow.{Flow}
-use Rattle.relations.specs.exchange.Frames.{Frame, alarm_frame}
+use Rattle.relations.specs.exchange.Diagnosis.{begins_with_one, behind_low, diagnoses_begun, next_reported}
+use Rattle.relations.specs.exchange.Frames.{Frame, alarm_frame, low_alarm_frame}
 use Rattle.relations.specs.declared.hearing.ReadyAnswer.{ReadyAnswer}
 use Rattle.relations.specs.declared.hearing.ReadyAnswer.TheVariants as to_ready
-use Rattle.relations.specs.RelationState.{RelationState, flow_of, is_alarm_of, uuid_of, is_started, is_awaiting, is_preparing, phase_of}
-use Rattle.relations.specs.Phases.{Ended, Exchanged, Named, Parameterized, Prepared, answered, keeping, parameterized_from, updated, passing, passing_by, taking, Confirmed, made_of, with_flow, restarted, with_taken}
+use Rattle.relations.specs.RelationState.{RelationState, flow_of, is_alarm_of, uuid_of, is_started, is_awaiting, is_exchanging, is_preparing, phase_of}
+use Rattle.relations.specs.Phases.{Ended, Exchanged, Named, Parameterized, Prepared, answered, keeping, parameterized_from, updated, passing, passing_by, taking, Confirmed, exchanging_from, made_of, with_flow, restarted, with_taken}
 use Rattle.relations.specs.Calls.{done_of, prm_end_of, release_of, control_block, in_started, named_of}
 use Rattle.relations.specs.Connect.{connect_blocks, connect_within, differing_of, making, rows_of}
+use Rattle.relations.specs.Diagnosed.{diagnose_one, diagnosing, has_sent_low, heard_low, hearing_low, is_full_in}
 use Rattle.relations.specs.Ready.{answer_of as ready_answer, confirmed_block, confirmed_by, is_wanted, is_answer_to, ready_of}
 use Rattle.relations.specs.Timers.{due_by, due_of, ending_of, is_again, unit_later}
 use Rattle.relations.specs.Exchanged.{given_to, heard_by, hearing, raised_to, rating, received_by, receiving, hearing_as, receiving_as}
-use Rattle.device_frames.specs.Heard.{Heard, Ticks, Unreadable, Elsewhere, Asks, Resolves, Reported, Cyclic, Alarms, Given, Raised, Rated, Readied, Said, Calls, Responds, Garbled}
-use Rattle.device_frames.specs.Relation.{alarms_of, frames_in, inputs_of, ready_calls, replies_of, where_due, due_frames}
+use Rattle.device_frames.specs.Heard.{Heard, Ticks, Unreadable, Elsewhere, Asks, Resolves, Reported, Cyclic, Alarms, LowReplies, LowConfirms, Diagnosed, Given, Raised, Rated, Met, Readied, Said, Calls, Responds, Garbled}
+use Rattle.device_frames.specs.Relation.{alarms_of, frames_in, inputs_of, low_alarms_of, low_replies_of, ready_calls, replies_of, where_due, due_frames}
 use Rattle.device_frames.specs.Sent.{Sent, IdentifyAnswer, GetAnswer, SetAnswer, ArpReply, Again, Ends, CallAnswer, ReadyCall}
 use Rattle.device_frames.specs.declared.note.Note.{Note}
 use Rattle.device_frames.specs.declared.note.Note.TheVariants as note
 use Rattle.settings_store.specs.Machine.{Outcome, carried}
-use Rattle.device_core.specs.State.{Station, Live, Rest}
-use Rattle.device_core.specs.Handled.{Handled, Refuses, Sets, Moves, is_running, is_request, outcome_of, served, ready_behind, partner_of, kept_answer, handled_effect, handled_write, handled_new, handled_looked, handled_blocks, handled_call, handled_answer, handled_said, handled_received, handled_input, handled_notice, handled_pdu, handled_message, handled_request, goes_on_with, kept_status, starting_of, handled}
-use Rattle.device_core.specs.Machine.{first_answer, resets, farewells_at, finished, items_in, handled_step, heard_step, link_after, written_as}
+use Rattle.device_core.specs.State.{Station, Live, Rest, alias_in, counter_of, units_after}
+use Rattle.device_core.specs.Handled.{Handled, Refuses, Sets, Moves, is_running, is_request, outcome_of, served, ready_behind, partner_of, kept_answer, handled_effect, handled_write, handled_new, handled_looked, handled_blocks, handled_call, handled_alarm, handled_answer, handled_beginning, handled_change, handled_low, handled_low_message, handled_low_pdu, handled_said, handled_received, handled_input, handled_met, handled_notice, handled_pdu, handled_message, handled_request, goes_on_with, kept_status, starting_of, handled, known_of}
+use Rattle.device_core.specs.Several.{Judged, judged_each}
+use Rattle.device_core.specs.Machine.{effect_link, first_answer, link_behind, one_link, several_answer, resets, farewells_at, finished, items_in, handled_step, heard_step, link_after, written_as}
+use Rattle.device_log.specs.declared.entry.LogEntry.{LogEntry}
+use Rattle.device_core.specs.Log.{but_rest, connect_log, end_log, err_log, release_log}
 use Rattle.end_laws.specs.both.Small.{Rules}
 use Rattle.end_laws.specs.device.Owed.{IsOwed}
 use Rattle.end_laws.proofs.DeviceConnects.{unlimited}
-use Rattle.end_laws.proofs.DeviceOwing.{IsPlainIn, connect_plain, keeping_plain, outcome_sized, prm_plain, read_plain, release_plain, stored_plain, write_plain, IsPlain, bind_ok}
+use Rattle.end_laws.proofs.DeviceOwing.{IsPlainIn, connect_plain, keeping_plain, outcome_sized, prm_plain, read_plain, release_plain, stored_plain, writing_plain, IsPlain, bind_ok}
 use Rattle.rpc_core.specs.Response.{Answered as Response, answer_to, is_done}
 use Rattle.relations.specs.Farewells.{farewell_of}
 use Rattle.relations.specs.exchange.Notices.{behind_message}
@@ -69,7 +78,7 @@ use Rattle.relations.specs.exchange.Marks.{awaits}
 use Rattle.relations.specs.Statuses.{statuses_at}
 use Rattle.relations.specs.declared.statuses.InputStatus.{InputStatus}
 use Rattle.relations.specs.exchange.Received.{behind_frame, received_as}
-use Rattle.relations.specs.exchange.Units.{flow_later, tick_of}
+use Rattle.relations.specs.exchange.Units.{flow_later, repeated_of, tick_of}
 use Rattle.cyclic_data.specs.Image.{Shown as Image, cell_at, changed, has_size, with_value}
 use Rattle.cyclic_data.specs.declared.place.PlaceKind.TheVariants.{Data as at_data}
 use Rattle.pn_alarms.specs.declared.abort.Abort.TheVariants.{Other}
@@ -78,8 +87,14 @@ use Rattle.pn_alarms.specs.declared.pdu.Header.{Header}
 use Rattle.pn_alarms.specs.Numbers.{is_last}
 use Rattle.pn_alarms.specs.Receiver.{taken_as}
 use Rattle.pn_values.specs.declared.real.RealModule.{RealModule}
+use Rattle.module_diff.specs.Plugged.{submodule_ident}
+use Rattle.diagnosis.specs.Existing.{changed as changed_list}
+use Rattle.diagnosis.specs.declared.diagnosis.Change.{Change}
+use Rattle.diagnosis.specs.declared.diagnosis.Diagnosis.{Diagnosis}
+use Rattle.diagnosis_alarms.specs.Alarms.{is_next}
 use Rattle.rpc_core.specs.Cache.{Kept as Answer, Reported as Looked, new, again, old, kept_of, reported_by, looked}
 use Rattle.std.proofs.lemmas.Bool.{eqb-true}
+use Rattle.std.proofs.lemmas.List.{append-nil}
 use Rattle.block_codec.specs.declared.block_type.BlockType.TheVariants as kind
 use Rattle.records.specs.declared.status.call_fault.CallFault.TheVariants as fault
 use Rattle.records.specs.writes.Taken.{keep_of}
@@ -89,8 +104,8 @@ use Rattle.relations.specs.declared.phase.Phase.TheVariants.{Started, Preparing,
 use Rattle.relations.specs.declared.ready.Ready.{Ready}
 use Rattle.end_laws.specs.both.Small as small
 use Rattle.end_laws.specs.device.Small.{IsPlanned, IsPlannedAs, IsPlannedIn, Planned, confirms, heard_as, link_of, names_own, phase_in}
-use Rattle.end_laws.specs.device.Does.{AreReadied, GoesBy, IsEffect, IsOther, IsRestarted, readied_from}
-use Rattle.end_laws.specs.device.Turn.{AreCalm, IsCalm, IsRaise, IsSameOr, IsTurn, Raises, Standing, Turn, standing_of}
+use Rattle.end_laws.specs.device.Does.{AreReadied, GoesBy, IsEffect, IsExchange, IsOther, IsRestarted, readied_from, with_more}
+use Rattle.end_laws.specs.device.Turn.{AreCalm, Diagnoses, IsCalm, IsHigh, IsLow, IsRaise, IsSameOr, IsTurn, Raises, Standing, Turn, standing_of}
 
 -- ---- what is sent
 
@@ -221,13 +236,57 @@ never_released blocks block e =
     err_ok _ block first.2
 
 -- a record that is stored is one more
-kept_is : (value : TakenRecord) (records taken : List TakenRecord) → keep_of value records ≡ Ok taken → taken ≡ records ++ value ∷ []
+pub kept_is : (value : TakenRecord) (records taken : List TakenRecord) → keep_of value records ≡ Ok taken → taken ≡ records ++ value ∷ []
 unfolding keep_of
 kept_is value records taken e = by_room (nat_lt (length records) 64) e
   where
     by_room : (b : Bool) → cond b (Ok (records ++ value ∷ [])) (Err fault.TooManyRecords) ≡ Ok taken → taken ≡ records ++ value ∷ []
     by_room true f = sym (same_ok (records ++ value ∷ []) taken f)
     by_room false f = absurd cc
+
+-- ---- several records of one Write
+
+-- the relation has these records after its others
+abbrev Takes : List Judged → Option RelationState → RelationState → Type 0
+Takes judged after link = (values : List TakenRecord) × (link_behind judged after ≡ Some (with_taken (link.taken ++ values) link))
+
+-- the records that were accepted after one, or after none
+one_takes : (others : List Judged) (link : RelationState) → ((next : RelationState) → Takes others (Some next) next) → (one : Result Write CallFault) → Takes others (one_link one (Some link)) link
+one_takes others link later (Err why) = later link
+one_takes others link later (Ok write) = by_effect write.effect
+  where
+    by_keeping : (value : TakenRecord) (kept : Result (List TakenRecord) CallFault) → keep_of value link.taken ≡ kept → Takes others (updated (taking kept) (Some link)) link
+    by_keeping value (Err why) is = later link
+    by_keeping value (Ok taken) is =
+        let there = later (with_taken taken link) in
+        let all : taken ++ there.0 ≡ link.taken ++ (value ∷ there.0) = ap (λ (records : List TakenRecord). records ++ there.0) (kept_is value link.taken taken is) ∙ append_assoc link.taken (value ∷ []) there.0 in
+        (value ∷ there.0, there.1 ∙ ap (λ (records : List TakenRecord). Some (with_taken records link)) all)
+
+    by_effect : (effect : Effect) → Takes others (effect_link effect (Some link)) link
+    by_effect (Stores value) = later link
+    by_effect (Keeps value) = by_keeping value (keep_of value link.taken) refl
+
+link_takes : (judged : List Judged) (link : RelationState) → Takes judged (Some link) link
+link_takes [] link = ([], ap (λ (taken : List TakenRecord). Some (with_taken taken link)) (sym (append-nil link.taken)))
+link_takes (one ∷ others) link = one_takes others link (link_takes others) one.1
+
+one_none : (one : Result Write CallFault) → one_link one None ≡ None
+one_none (Err why) = refl
+one_none (Ok write) = by_effect write.effect
+  where
+    by_effect : (effect : Effect) → effect_link effect None ≡ None
+    by_effect (Stores value) = refl
+    by_effect (Keeps value) = refl
+
+link_none : (judged : List Judged) → link_behind judged None ≡ None
+link_none [] = refl
+link_none (one ∷ others) = ap (link_behind others) (one_none one.1) ∙ link_none others
+
+each_takes : (judged : List Judged) (link : Option RelationState) → (values : List TakenRecord) × (updated Named (link_behind judged link) ≡ option_map (with_more values) link)
+each_takes judged None = ([], ap (updated Named) (link_none judged))
+each_takes judged (Some link) =
+    let takes = link_takes judged link in
+    (takes.0, ap (updated Named) takes.1)
 
 again_is : (sequence : ℕ) (kept : Option Answer) (frame : List ℕ) → reported_by sequence kept ≡ again frame
     → (answer : Answer) × (kept ≡ Some answer) × (answer.sequence ≡ sequence) × (answer.frame ≡ frame)
@@ -349,28 +408,31 @@ module _ (rules : Rules TakenRecord Request) (activity : List ℕ) (station : St
     other_owed after (message ∷ sent) others = (tt, other_owed after sent others.1)
 
     -- something that is no call
-    goes : (after : Rest) (sent : List Sent) → IsTurn station.real.modules.items live.rest.calls before heard after.link sent → GoesBy live heard after sent → Turn station live heard after sent
-    goes after sent is by = record { does = inr (inl by); is = is; answers = inl by.calls; owed = other_owed after.link sent by.others }
+    goes : (after : Rest) (sent : List Sent) → after.diagnoses ≡ live.rest.diagnoses → IsTurn station.real.modules.items live.rest.calls live.rest.diagnoses after.diagnoses before heard after.link sent → GoesBy live heard after sent
+        → Turn station live heard after sent
+    goes after sent same is by = record { does = inr (inl by); is = is; diagnoses = inl same; answers = inl by.calls; owed = other_owed after.link sent by.others }
 
     refuses : (why : Note) → Comes_to heard (Refuses why)
-    refuses why answers = record { does = inl (record { same = refl; silent = refl }); is = inl (record { link = inl refl; calm = tt }); answers = inl refl; owed = tt }
+    refuses why answers = record { does = inl (record { same = refl; silent = refl }); is = inl (record { link = inl refl; calm = tt }); diagnoses = inl refl; answers = inl refl; owed = tt }
 
     module _ (idle : (planned : Planned) → heard_as planned heard ≡ small.Idle) where
-      stays : (after : Rest) (sent : List Sent) → after.calls ≡ live.rest.calls → IsKept before after.link → AreCalm before sent → AreOthers after.link sent → Turn station live heard after sent
-      stays after sent calls kept calm others =
-          goes after sent (inl (record { link = kept.0; calm = calm })) (record { idle = idle; calls = calls; link = kept.1; others = others })
+      stays : (after : Rest) (sent : List Sent) → after.calls ≡ live.rest.calls → after.diagnoses ≡ live.rest.diagnoses → IsKept before after.link → AreCalm before sent → AreOthers after.link sent
+          → Turn station live heard after sent
+      stays after sent calls same kept calm others =
+          goes after sent same (inl (record { link = kept.0; calm = calm })) (record { idle = idle; calls = calls; link = kept.1; others = others })
 
       tells : (message : Sent) → IsCalm before message → IsOther live before message → Comes_to heard (Moves live.rest (message ∷ []))
-      tells message calm other answers = stays live.rest (message ∷ []) refl (inl refl, inl refl) (calm, tt) (other, tt)
+      tells message calm other answers = stays live.rest (message ∷ []) refl refl (inl refl, inl refl) (calm, tt) (other, tt)
 
       -- the relation became this
-      becomes : (link : Option RelationState) (sent : List Sent) → IsTurn station.real.modules.items live.rest.calls before heard link sent → option_map link_of link ≡ option_map link_of before
+      becomes : (link : Option RelationState) (sent : List Sent) → IsTurn station.real.modules.items live.rest.calls live.rest.diagnoses live.rest.diagnoses before heard link sent → option_map link_of link ≡ option_map link_of before
           → AreOthers link sent → Comes_to heard (Moves (record live.rest { link = link }) sent)
-      becomes link sent is same others answers = goes (record live.rest { link = link }) sent is (record { idle = idle; calls = refl; link = inl same; others = others })
+      becomes link sent is same others answers = goes (record live.rest { link = link }) sent refl is (record { idle = idle; calls = refl; link = inl same; others = others })
 
       -- the relation ended
-      ends : (lamp units : ℕ) (sent : List Sent) → AreCalm before sent → AreOthers None sent → Comes_to heard (Moves (record live.rest { lamp = lamp; link = None; units = units }) sent)
-      ends lamp units sent calm others answers = stays (record live.rest { lamp = lamp; link = None; units = units }) sent refl (inr refl, inr refl) calm others
+      ends : (lamp units : ℕ) (log : List LogEntry) (sent : List Sent) → AreCalm before sent → AreOthers None sent
+          → Comes_to heard (Moves (record live.rest { lamp = lamp; link = None; units = units; log = log }) sent)
+      ends lamp units log sent calm others answers = stays (record live.rest { lamp = lamp; link = None; units = units; log = log }) sent refl refl (inr refl, inr refl) calm others
 
   -- ---- DCP and ARP
 
@@ -379,7 +441,7 @@ module _ (rules : Rules TakenRecord Request) (activity : List ℕ) (station : St
       let end = finished station.identity live.rest (Sets asker request in_operation) answers in
       let reset = resets (plan_of in_operation request) answers in
       let answer = SetAnswer asker request answers ∷ [] in
-      stays (Asks asker asked) (λ planned. refl) end.rest end.sent refl (reset_keeps reset before)
+      stays (Asks asker asked) (λ planned. refl) end.rest end.sent refl refl (reset_keeps reset before)
       (each_behind (IsCalm before) (farewells_at reset before) answer (farewells_calm reset before) (tt, tt))
       (each_behind (IsOther live end.rest.link) (farewells_at reset before) answer (farewells_other end.rest.link reset before) (tt, tt))
 
@@ -389,8 +451,8 @@ module _ (rules : Rules TakenRecord Request) (activity : List ℕ) (station : St
   identifies asker request false = refuses (Asks asker request) note.Filter
 
   requests : (asker : Mac) (which : Service) (request : Asked) → Comes_to (Asks asker request) (handled_request station live asker which request)
-  requests asker service.Identify request = identifies asker request (matches station.identity live.values.running request)
-  requests asker service.Get request = tells (Asks asker request) (λ planned. refl) (GetAnswer asker live.values.running request) tt tt
+  requests asker service.Identify request = identifies asker request (matches station.identity live.values.running (alias_in live.rest.peer) request)
+  requests asker service.Get request = tells (Asks asker request) (λ planned. refl) (GetAnswer asker live.values.running (alias_in live.rest.peer) request) tt tt
   requests asker service.Set request = sets asker request request (is_some before)
 
   resolves : (asker : Mac) (packet : Arp) (b : Bool) → Comes_to (Resolves asker packet) (cond b (Moves live.rest (ArpReply asker from packet.sender ∷ [])) (Refuses note.NotMine))
@@ -414,18 +476,21 @@ module _ (rules : Rules TakenRecord Request) (activity : List ℕ) (station : St
       by_fate received.Short e = refuses (Cyclic source frame_id body) note.Fault
       by_fate received.Stale e = refuses (Cyclic source frame_id body) note.StaleCycle
       by_fate received.Taken e = becomes (Cyclic source frame_id body) (λ planned. refl) (Some (with_flow (behind_frame link.flow source frame_id body) link)) []
-          (inr (inr (inr (inr (inr (inr (record { source = source; frame_id = frame_id; body = body; is = refl; link = link; was = was; taken = e; becomes = refl; silent = refl })))))))
+          (inr (inr (inr (inr (inr (inr (inl (record { source = source; frame_id = frame_id; body = body; is = refl; link = link; was = was; taken = e; becomes = refl; silent = refl }))))))))
           (flows link (behind_frame link.flow source frame_id body) was) tt
 
   gives : (slot subslot : ℕ) (value : List ℕ) (flow : Option Flow) → given_to slot subslot value before ≡ flow → Comes_to (Given slot subslot value) (handled_input live flow)
   gives slot subslot value (Some flow) is = λ answers.
-      stays (Given slot subslot value) (λ planned. refl) (record live.rest { link = updated (Exchanged flow) before }) [] refl (given_keeps slot subslot value before flow is) tt tt
+      stays (Given slot subslot value) (λ planned. refl) (record live.rest { link = updated (Exchanged flow) before }) [] refl refl (given_keeps slot subslot value before flow is) tt tt
   gives slot subslot value None is = refuses (Given slot subslot value) note.Refused
 
   rates : (slot subslot : ℕ) (is_good : Bool) (statuses : Option (List InputStatus)) → Comes_to (Rated slot subslot is_good) (kept_status live slot subslot is_good statuses)
   rates slot subslot is_good (Some statuses) = λ answers.
-      stays (Rated slot subslot is_good) (λ planned. refl) (record live.rest { link = updated (rating slot subslot is_good before) before; statuses = statuses }) [] refl (rated_keeps slot subslot is_good before) tt tt
+      stays (Rated slot subslot is_good) (λ planned. refl) (record live.rest { link = updated (rating slot subslot is_good before) before; statuses = statuses }) [] refl refl (rated_keeps slot subslot is_good before) tt tt
   rates slot subslot is_good None = refuses (Rated slot subslot is_good) note.Refused
+
+  meets : (peer : Option Peer) → Comes_to (Met peer) (handled_met live peer)
+  meets peer = λ answers. stays (Met peer) (λ planned. refl) (record live.rest { peer = peer }) [] refl refl (inl refl, inl refl) tt tt
 
   -- ---- the application is ready
 
@@ -437,7 +502,11 @@ module _ (rules : Rules TakenRecord Request) (activity : List ℕ) (station : St
       by_test : (b : Bool) → is_preparing (Some link.phase) ≡ b
           → Comes_to Readied (cond b (goes_on_with live (Some (cond b (readied link) link)) (ready_calls from (Some (cond b (readied link) link)))) (Refuses note.Refused))
       by_test true is = becomes Readied (λ planned. refl) (Some (readied link)) (ready_calls from (Some (readied link)))
-          (inl (record { link = inl (sym (ap (λ (l : Option RelationState). option_map standing_of l) was)); calm = (tt, tt) }))
+          (inl (record {
+            link = inl (ap (λ (b : Bool). let o : Option Standing = Some (record (standing_of link) { exchanges = b }) in o) (sym (ap is_exchanging (preparing_is link.phase is)))
+                ∙ sym (ap (λ (l : Option RelationState). option_map standing_of l) was));
+            calm = (tt, tt);
+          }))
           (
           ap (λ (p : small.Phase). let o : Option (small.RelationState TakenRecord Request) = Some (record { phase = p; request = link.request; taken = link.taken }) in o)
           (sym (ap phase_in (preparing_is link.phase is)))
@@ -456,41 +525,126 @@ module _ (rules : Rules TakenRecord Request) (activity : List ℕ) (station : St
       (exchanged_same before flow) (alarms_other link (flow_of link))
   raises slot subslot octets None raised = refuses (Raised slot subslot octets) note.Refused
 
-  acks : (source : Mac) (header : Header) (number : ℕ) (link : RelationState) (b : Bool) → before ≡ Some link
-      → Comes_to (Alarms source header (notice.Ack number)) (handled_pdu live (cond b fate.Done fate.Ignored) (updated (hearing_as (cond b fate.Done fate.Ignored) (behind_message link.flow (notice.Ack number))) (Some link)))
-  acks source header number link true was =
-      let flow = behind_message link.flow (notice.Ack number) in
-      becomes (Alarms source header (notice.Ack number)) (λ planned. refl) (Some (with_flow flow link)) []
-      (inr (inr (inr (inl (record { source = source; header = header; number = number; is = refl; link = link; was = was; becomes = refl; silent = refl }))))) (flows link flow was) tt
-  acks source header number link false was = refuses (Alarms source header (notice.Ack number)) note.Filter
+  -- what is heard of high priority, in this way
+  module _ (heard : Heard) (source : Mac) (header : Header) (idle : (planned : Planned) → heard_as planned heard ≡ small.Idle) where
+    acks : (number : ℕ) (link : RelationState) (b : Bool) → IsHigh heard source header (notice.Ack number) → before ≡ Some link
+        → Comes_to heard (handled_pdu live (cond b fate.Done fate.Ignored) (updated (hearing_as (cond b fate.Done fate.Ignored) (behind_message link.flow (notice.Ack number))) (Some link)))
+    acks number link true is was =
+        let flow = behind_message link.flow (notice.Ack number) in
+        becomes heard idle (Some (with_flow flow link)) []
+        (inr (inr (inr (inl (record { source = source; header = header; number = number; is = is; link = link; was = was; becomes = refl; silent = refl }))))) (flows link flow was) tt
+    acks number link false is was = refuses heard note.Filter
 
-  pdus : (source : Mac) (header : Header) (message : Message) (link : Option RelationState) → before ≡ link
-      → Comes_to (Alarms source header message) (handled_pdu live (heard_by message link) (updated (hearing message link) link))
-  pdus source header message None was = refuses (Alarms source header message) note.Filter
-  pdus source header (notice.Data number ack) (Some link) was =
-      let flow = behind_message link.flow (notice.Data number ack) in
-      becomes (Alarms source header (notice.Data number ack)) (λ planned. refl) (Some (with_flow flow link)) (replies_of (taken_as link.flow.alarms.seen number) (Some flow))
-      (inr (inr (inr (inr (inl (record { source = source; header = header; number = number; ack = ack; is = refl; link = link; was = was; becomes = refl; sends = refl })))))) (flows link flow was) (tt, tt)
-  pdus source header (notice.Ack number) (Some link) was = acks source header number link (is_last link.flow.alarms.sender.sending.last number) was
-  pdus source header notice.Nack (Some link) was = refuses (Alarms source header notice.Nack) note.Filter
-  pdus source header notice.Abort (Some link) was = ends (Alarms source header notice.Abort) (λ planned. refl) live.rest.lamp live.rest.units [] tt tt
+    pdus : (message : Message) (link : Option RelationState) → IsHigh heard source header message → before ≡ link
+        → Comes_to heard (handled_pdu live (heard_by message link) (updated (hearing message link) link))
+    pdus message None is was = refuses heard note.Filter
+    pdus (notice.Data number ack) (Some link) is was =
+        let flow = behind_message link.flow (notice.Data number ack) in
+        becomes heard idle (Some (with_flow flow link)) (replies_of (taken_as link.flow.alarms.seen number) (Some flow))
+        (inr (inr (inr (inr (inl (record { source = source; header = header; number = number; ack = ack; is = is; link = link; was = was; becomes = refl; sends = refl })))))) (flows link flow was) (tt, tt)
+    pdus (notice.Ack number) (Some link) is was = acks number link (is_last link.flow.alarms.sender.sending.last number) is was
+    pdus notice.Nack (Some link) is was = refuses heard note.Filter
+    pdus (notice.Abort status) (Some link) is was = ends heard idle live.rest.lamp live.rest.units (end_log (uuid_of before) status live.rest.units live.rest.log) [] tt tt
 
-  alarms : (source : Mac) (header : Header) (message : Message) (b : Bool) → Comes_to (Alarms source header message) (cond b (handled_message live message) (Refuses note.NoRelation))
-  alarms source header message true = pdus source header message before refl
-  alarms source header message false = refuses (Alarms source header message) note.NoRelation
+    alarms : (message : Message) (b : Bool) → IsHigh heard source header message → Comes_to heard (cond b (handled_message live message) (Refuses note.NoRelation))
+    alarms message true is = pdus message before is refl
+    alarms message false is = refuses heard note.NoRelation
+
+  -- ---- alarms of low priority
+
+  low_other : (after : Option RelationState) (b : Bool) (flow : Flow) → AreOthers after (where_due b (low_alarms_of (Some flow)))
+  low_other after b flow = due_each (IsOther live after) b (low_alarms_of (Some flow)) (frames_other after flow.cyclic.route (low_alarm_frame flow))
+
+  lows_other : (after : Option RelationState) (b : Bool) (link : Option RelationState) → AreOthers after (where_due b (low_alarms_of (flow_of link)))
+  lows_other after b None = due_each (IsOther live after) b [] tt
+  lows_other after b (Some link) = low_other after b link.flow
+
+  module _ (heard : Heard) (source : Mac) (header : Header) (idle : (planned : Planned) → heard_as planned heard ≡ small.Idle) where
+    low_acks : (number : ℕ) (link : RelationState) (b : Bool) → IsLow heard source header (notice.Ack number) → before ≡ Some link
+        → Comes_to heard (handled_low_pdu station live (cond b fate.Done fate.Ignored) (Some (with_flow (behind_low link.flow (notice.Ack number)) link)))
+    low_acks number link true is was =
+        let flow = behind_low link.flow (notice.Ack number) in
+        becomes heard idle (Some (with_flow flow link)) []
+        (inr (inr (inr (inr (inr (inr (inr (inl (record { source = source; header = header; number = number; is = is; link = link; was = was; becomes = refl; silent = refl }))))))))) (flows link flow was) tt
+    low_acks number link false is was = refuses heard note.Filter
+
+    lows : (message : Message) (link : Option RelationState) → IsLow heard source header message → before ≡ link
+        → Comes_to heard (handled_low_pdu station live (heard_low message link) (updated (hearing_low message link) link))
+    lows message None is was = refuses heard note.Filter
+    lows (notice.Data number ack) (Some link) is was =
+        let real = station.real.modules.items in
+        let flow = behind_low link.flow (notice.Data number ack) in
+        let next = next_reported real flow in
+        becomes heard idle (Some (with_flow next link))
+        (low_replies_of (taken_as link.flow.low.alarms.seen number) (Some flow) ++ where_due (is_next real flow.low) (low_alarms_of (Some next)))
+        (inr (inr (inr (inr (inr (inr (inr (inr (inl (record { source = source; header = header; number = number; ack = ack; is = is; link = link; was = was; becomes = refl; sends = refl }))))))))))
+        (flows link next was) (tt, low_other (Some (with_flow next link)) (is_next real flow.low) next)
+    lows (notice.Ack number) (Some link) is was = low_acks number link (is_last link.flow.low.alarms.sender.sending.last number) is was
+    lows notice.Nack (Some link) is was = refuses heard note.Filter
+    lows (notice.Abort status) (Some link) is was = refuses heard note.Filter
+
+    low_alarms : (message : Message) (b : Bool) → IsLow heard source header message → Comes_to heard (cond b (handled_low_message station live message) (Refuses note.NoRelation))
+    low_alarms message true is = lows message before is refl
+    low_alarms message false is = refuses heard note.NoRelation
+
+  low_replies : (source : Mac) (header : Header) (message : Message) (b : Bool)
+      → Comes_to (LowReplies source header message) (cond b (handled_low station live source header message) (handled_alarm live source header message))
+  low_replies source header message true =
+      low_alarms (LowReplies source header message) source header (λ planned. refl) message (is_alarm_of source header.destination header.source before) (inl refl)
+  low_replies source header message false =
+      alarms (LowReplies source header message) source header (λ planned. refl) message (is_alarm_of source header.destination header.source before) (inr refl)
+
+  low_confirms : (source : Mac) (header : Header) (message : Message) (b : Bool)
+      → Comes_to (LowConfirms source header message) (cond b (handled_low station live source header message) (Refuses note.Fault))
+  low_confirms source header message true =
+      low_alarms (LowConfirms source header message) source header (λ planned. refl) message (is_alarm_of source header.destination header.source before) (inr refl)
+  low_confirms source header message false = refuses (LowConfirms source header message) note.Fault
+
+  -- ---- diagnoses
+
+  changes : (change : Change) (later : Option (List Diagnosis)) → is_full_in before ≡ false → changed_list change live.rest.diagnoses ≡ later
+      → Comes_to (Diagnosed change) (handled_change station live change later)
+  changes change None room is = refuses (Diagnosed change) note.Refused
+  changes change (Some later) room is = λ answers.
+      let real = station.real.modules.items in
+      let link = updated (diagnosing real change later before) before in
+      let sent = where_due (diagnose_one real change later before) (low_alarms_of (flow_of link)) in
+      let how : Diagnoses real live.rest.diagnoses later before (Diagnosed change) link sent =
+      record { change = change; is = refl; open_room = room; changes = is; becomes = refl; sends = refl } in
+      let others = lows_other link (diagnose_one real change later before) link in
+      record {
+        does = inr (inl (record { idle = λ planned. refl; calls = refl; link = inl (diagnosing_same real change later before); others = others }));
+        is = inr (inr (inr (inr (inr (inr (inr (inr (inr (inr how)))))))));
+        diagnoses = inr how;
+        answers = inl refl;
+        owed = other_owed (Diagnosed change) link sent others;
+      }
+    where
+      diagnosing_same : (real : List RealModule) (change : Change) (later : List Diagnosis) (link : Option RelationState)
+          → option_map link_of (updated (diagnosing real change later link) link) ≡ option_map link_of link
+      diagnosing_same real change later None = refl
+      diagnosing_same real change later (Some link) = refl
+
+  diagnoses_as : (change : Change) (b c : Bool) → is_full_in before ≡ c
+      → Comes_to (Diagnosed change) (cond (b && not c) (handled_change station live change (changed_list change live.rest.diagnoses)) (Refuses note.Refused))
+  diagnoses_as change true true room = refuses (Diagnosed change) note.Refused
+  diagnoses_as change true false room = changes change (changed_list change live.rest.diagnoses) room refl
+  diagnoses_as change false c room = refuses (Diagnosed change) note.Refused
 
   -- ---- units
 
-  ticks_as : (lamp units : ℕ) (link : RelationState) (ending : Option Abort) → before ≡ Some link
-      → Comes_to Ticks (Moves (record live.rest { lamp = lamp; link = updated (passing_by ending) (Some link); units = units }) (due_frames from units (due_by link ending) (updated (passing_by ending) (Some link))))
-  ticks_as lamp units link (Some reason) was = ends Ticks (λ planned. refl) lamp units _ ((reason, link, was, refl), tt) (tt, tt)
-  ticks_as lamp units link None was = λ answers.
+  ticks_as : (lamp units : ℕ) (log : List LogEntry) (link : RelationState) (ending : Option Abort) → before ≡ Some link
+      → Comes_to Ticks (Moves (record live.rest { lamp = lamp; link = updated (passing_by ending) (Some link); units = units; log = log }) (due_frames from (counter_of units) (due_by link ending) (updated (passing_by ending) (Some link))))
+  ticks_as lamp units log link (Some reason) was = ends Ticks (λ planned. refl) lamp units log _ ((reason, link, was, refl), tt) (tt, tt)
+  ticks_as lamp units log link None was = λ answers.
       let tick = tick_of link.flow in
+      let again = repeated_of link.flow in
       let later = Some (unit_later link) in
-      let alarm = where_due tick.is_alarm (alarms_of (Some (flow_later link.flow))) in
+      let alarm = where_due (tick.is_alarm && again.high) (alarms_of (Some (flow_later link.flow))) in
+      let low = where_due (tick.is_alarm && again.low) (low_alarms_of (Some (flow_later link.flow))) in
       let readies = where_due (is_again link) (ready_calls from later) in
-      let inputs = where_due tick.is_cyclic (inputs_of units (Some (flow_later link.flow))) in
-      goes Ticks (record live.rest { lamp = lamp; link = later; units = units }) (alarm ++ (readies ++ inputs))
+      let inputs = where_due tick.is_cyclic (inputs_of (counter_of units) (Some (flow_later link.flow))) in
+      goes Ticks (record live.rest { lamp = lamp; link = later; units = units; log = log }) (alarm ++ (low ++ (readies ++ inputs))) refl
       (inr (inr (inr (inr (inr (inl (record {
         is = refl;
         link = link;
@@ -504,40 +658,56 @@ module _ (rules : Rules TakenRecord Request) (activity : List ℕ) (station : St
         idle = λ planned. refl;
         calls = refl;
         link = inl (sym (ap (λ (l : Option RelationState). option_map link_of l) was));
-        others = each_behind (IsOther live later) alarm (readies ++ inputs) (due_each (IsOther live later) tick.is_alarm _ (alarms_other later (Some (flow_later link.flow))))
-            (each_behind (IsOther live later) readies inputs (again_other link (is_again link) was refl) (due_each (IsOther live later) tick.is_cyclic _ (tt, tt)));
+        others = each_behind (IsOther live later) alarm (low ++ (readies ++ inputs)) (due_each (IsOther live later) (tick.is_alarm && again.high) _ (alarms_other later (Some (flow_later link.flow))))
+            (each_behind (IsOther live later) low (readies ++ inputs) (low_other later (tick.is_alarm && again.low) (flow_later link.flow))
+            (each_behind (IsOther live later) readies inputs (again_other link (is_again link) was refl) (due_each (IsOther live later) tick.is_cyclic _ (tt, tt))));
       })
 
-  ticks_with : (lamp units : ℕ) (link : Option RelationState) → before ≡ link
-      → Comes_to Ticks (Moves (record live.rest { lamp = lamp; link = updated (passing link) link; units = units }) (due_frames from units (due_of link) (updated (passing link) link)))
-  ticks_with lamp units None was = ends Ticks (λ planned. refl) lamp units [] tt tt
-  ticks_with lamp units (Some link) was = ticks_as lamp units link (ending_of link) was
+  ticks_with : (lamp units : ℕ) (log : List LogEntry) (link : Option RelationState) → before ≡ link
+      → Comes_to Ticks (Moves (record live.rest { lamp = lamp; link = updated (passing link) link; units = units; log = log }) (due_frames from (counter_of units) (due_of link) (updated (passing link) link)))
+  ticks_with lamp units log None was = ends Ticks (λ planned. refl) lamp units log [] tt tt
+  ticks_with lamp units log (Some link) was = ticks_as lamp units log link (ending_of link) was
 
   -- ---- the response to ApplicationReady
 
-  answers_as : (caller : Caller) (address : List ℕ) (response : Response) (answer : ReadyAnswer) → IsMeaning response before answer
-      → Comes_to (Reported caller address (Responds response)) (handled_answer live answer)
-  answers_as caller address response to_ready.NotWanted is = refuses (Reported caller address (Responds response)) note.Filter
-  answers_as caller address response to_ready.Garbled is = refuses (Reported caller address (Responds response)) note.Filter
-  answers_as caller address response to_ready.Confirmed is = λ answers. record {
-    does = inr (inr (inl (record {
-      confirms = λ planned. ap (λ (b : Bool). cond b small.Confirms small.Idle) is.3;
-      link = is.0;
-      was = is.1;
-      awaits = is.2;
-      becomes = ap (λ (l : Option RelationState). record live.rest { link = updated Confirmed l }) is.1;
-      silent = refl;
-    })));
-    is = inl (record { link = inl (confirmed_same before); calm = tt });
-    answers = inl refl;
-    owed = tt;
-  }
+  begins_as : (heard : Heard) (response : Response) (link : RelationState) → ((planned : Planned) → heard_as planned heard ≡ cond (confirms response) small.Confirms small.Idle) → before ≡ Some link → link.phase ≡ Awaiting
+      → confirms response ≡ true → Comes_to heard (handled_beginning station live (Some (exchanging_from link)))
+  begins_as heard response link said was awaits is = λ answers.
+      let real = station.real.modules.items in
+      let now = exchanging_from link in
+      let flow = diagnoses_begun real live.rest.diagnoses now.flow in
+      let next = with_flow flow now in
+      let sent = where_due (begins_with_one real live.rest.diagnoses now.flow) (low_alarms_of (Some flow)) in
+      record {
+        does = inr (inr (inl (record {
+          confirms = λ planned. said planned ∙ ap (λ (b : Bool). cond b small.Confirms small.Idle) is;
+          link = link;
+          was = was;
+          awaits = awaits;
+          next = next;
+          exchanges = refl;
+          becomes = refl;
+          others = due_each IsExchange (begins_with_one real live.rest.diagnoses now.flow) (low_alarms_of (Some flow)) (exchanges_in flow.cyclic.route (low_alarm_frame flow));
+        })));
+        is = inr (inr (inr (inr (inr (inr (inr (inr (inr (inl (record { link = link; was = was; awaits = awaits; becomes = refl; sends = refl }))))))))));
+        diagnoses = inl refl;
+        answers = inl refl;
+        owed = other_owed heard (Some next) sent (low_other (Some next) (begins_with_one real live.rest.diagnoses now.flow) flow);
+      }
     where
-      confirmed_same : (link : Option RelationState) → option_map standing_of (updated Confirmed link) ≡ option_map standing_of link
-      confirmed_same None = refl
-      confirmed_same (Some link) = refl
+      exchanges_in : (route : Route) (frame : Option Frame) → AllByRecursion IsExchange (frames_in route frame)
+      exchanges_in route (Some frame) = (tt, tt)
+      exchanges_in route None = tt
+
+  answers_as : (caller : Caller) (address : List ℕ) (response : Response) (answer : ReadyAnswer) → IsMeaning response before answer
+      → Comes_to (Reported caller address (Responds response)) (handled_answer station live answer)
+  answers_as caller address response to_ready.NotWanted is = refuses (Reported caller address (Responds response)) note.NoRelation
+  answers_as caller address response to_ready.Garbled is = refuses (Reported caller address (Responds response)) note.Fault
+  answers_as caller address response to_ready.Confirmed is =
+      subst (λ (l : Option RelationState). Comes_to (Reported caller address (Responds response)) (handled_beginning station live (updated Confirmed l))) (sym is.1)
+      (begins_as (Reported caller address (Responds response)) response is.0 (λ planned. refl) is.1 is.2 is.3)
   answers_as caller address response (to_ready.Refused farewell) is =
-      ends (Reported caller address (Responds response)) (λ planned. ap (λ (b : Bool). cond b small.Confirms small.Idle) is.3) live.rest.lamp live.rest.units (Ends farewell ∷ [])
+      ends (Reported caller address (Responds response)) (λ planned. ap (λ (b : Bool). cond b small.Confirms small.Idle) is.3) live.rest.lamp live.rest.units (err_log (Some farewell) live.rest.units live.rest.log) (Ends farewell ∷ [])
       ((Other, is.0, is.1, is.2), tt) (tt, tt)
 
   -- ---- calls
@@ -550,14 +720,22 @@ module _ (rules : Rules TakenRecord Request) (activity : List ℕ) (station : St
     restarted_same None = refl
     restarted_same (Some link) = refl
 
+    more_same : (values : List TakenRecord) (link : Option RelationState) → option_map standing_of (option_map (with_more values) link) ≡ option_map standing_of link
+    more_same values None = refl
+    more_same values (Some link) = refl
+
+    parameterized_same : (link : RelationState) (by_application : Bool) → link.phase ≡ Started → standing_of (parameterized_from by_application link) ≡ standing_of link
+    parameterized_same link true started = ap (λ (b : Bool). record (standing_of link) { exchanges = b }) (sym (ap is_exchanging started))
+    parameterized_same link false started = ap (λ (b : Bool). record (standing_of link) { exchanges = b }) (sym (ap is_exchanging started))
+
     restarted_turns : (link : Option RelationState) (sent : List Sent) → IsRestarted before link → AreCalm before sent
-        → IsTurn station.real.modules.items live.rest.calls before heard link sent
+        → IsTurn station.real.modules.items live.rest.calls live.rest.diagnoses live.rest.diagnoses before heard link sent
     restarted_turns link sent same calm = inl (record { link = inl (ap (λ (l : Option RelationState). option_map standing_of l) same ∙ restarted_same before); calm = calm })
 
     -- what a call does, for outputs and alarms
     effect_turns : (blocks : List ℕ) (outcome : Result (List ℕ) CallFault) (which : Operation) (link : Option RelationState) (sent : List Sent) → operation_of call.header.operation ≡ Some which
         → call.blocks ≡ Some blocks → looked call.header.activity call.header.sequence live.rest.calls ≡ new → IsEffect station caller blocks outcome which before link → AreCalm before sent
-        → IsTurn station.real.modules.items live.rest.calls before heard link sent
+        → IsTurn station.real.modules.items live.rest.calls live.rest.diagnoses live.rest.diagnoses before heard link sent
     effect_turns blocks (Err why) which link sent asks counted fresh same calm = inl (record { link = inl (ap (λ (l : Option RelationState). option_map standing_of l) same); calm = calm })
     effect_turns blocks (Ok octets) operation.Connect link sent asks counted fresh it calm = inr (inl (record {
       caller = caller;
@@ -579,21 +757,29 @@ module _ (rules : Rules TakenRecord Request) (activity : List ℕ) (station : St
     effect_turns blocks (Ok octets) operation.Release link sent asks counted fresh it calm = inl (record { link = inr it.gone; calm = calm })
     effect_turns blocks (Ok octets) operation.Read link sent asks counted fresh it calm = restarted_turns link sent it calm
     effect_turns blocks (Ok octets) operation.ReadImplicit link sent asks counted fresh it calm = absurd it
-    effect_turns blocks (Ok octets) operation.Write link sent asks counted fresh (inr it) calm = restarted_turns link sent it.same calm
+    effect_turns blocks (Ok octets) operation.Write link sent asks counted fresh (inr (inl it)) calm = restarted_turns link sent it.same calm
+    effect_turns blocks (Ok octets) operation.Write link sent asks counted fresh (inr (inr it)) calm =
+        inl (record { link = inl (ap (λ (l : Option RelationState). option_map standing_of l) it.becomes ∙ more_same it.values before); calm = calm })
     effect_turns blocks (Ok octets) operation.Write link sent asks counted fresh (inl it) calm =
         inl (record { link = inl (ap (λ (l : Option RelationState). option_map standing_of l) it.becomes ∙ sym (ap (λ (l : Option RelationState). option_map standing_of l) it.was)); calm = calm })
-    effect_turns blocks (Ok octets) operation.Control link sent asks counted fresh it calm =
-        inl (record { link = inl (ap (λ (l : Option RelationState). option_map standing_of l) it.becomes ∙ sym (ap (λ (l : Option RelationState). option_map standing_of l) it.was)); calm = calm })
+    effect_turns blocks (Ok octets) operation.Control link sent asks counted fresh it calm = inl (record {
+      link = inl (ap (λ (l : Option RelationState). option_map standing_of l) it.becomes
+          ∙ (ap (λ (x : Standing). Some x) (parameterized_same it.link it.by_application it.started) ∙ sym (ap (λ (l : Option RelationState). option_map standing_of l) it.was)));
+      calm = calm;
+    })
 
     readied_owed : (after : Option RelationState) (ready : Option Ready) → AreReadied live after ready → AllByRecursion (IsOwed heard live) (readied_from from ready)
     readied_owed after None readied = tt
     readied_owed after (Some ready) readied = (readied.0, tt)
 
     module _ (blocks : List ℕ) (counted : call.blocks ≡ Some blocks) (fresh : looked call.header.activity call.header.sequence live.rest.calls ≡ new) where
-      -- the call is answered like this; then this is the relation
-      serves : (which : Operation) (outcome : Result (List ℕ) CallFault) (link : Option RelationState) (ready : Option Ready) → operation_of call.header.operation ≡ Some which → IsPlainIn outcome
-          → IsEffect station caller blocks outcome which before link → AreReadied live link ready → Comes_to heard (served station live caller call which outcome link (readied_from from ready))
-      serves which outcome link ready asks plain effect readied = λ answers. record {
+      -- the call is answered like this; then this is the relation, and this the log
+      abbrev logging : List LogEntry → Live
+      logging log = but_rest live (record live.rest { log = log })
+
+      serves : (log : List LogEntry) (which : Operation) (outcome : Result (List ℕ) CallFault) (link : Option RelationState) (ready : Option Ready) → operation_of call.header.operation ≡ Some which → IsPlainIn outcome
+          → IsEffect station caller blocks outcome which before link → AreReadied live link ready → Comes_to heard (served station (logging log) caller call which outcome link (readied_from from ready))
+      serves log which outcome link ready asks plain effect readied = λ answers. record {
         does = inr (inr (inr (inr (record {
           caller = caller;
           address = address;
@@ -613,6 +799,7 @@ module _ (rules : Rules TakenRecord Request) (activity : List ℕ) (station : St
           sends = refl;
         }))));
         is = effect_turns blocks outcome which link _ asks counted fresh effect (tt, readied_calm before from ready);
+        diagnoses = inl refl;
         answers = inr (record {
           call = call;
           caller = caller;
@@ -625,24 +812,28 @@ module _ (rules : Rules TakenRecord Request) (activity : List ℕ) (station : St
         owed = (record { address = address; call = call; is = refl; header = refl; maximum = refl; status = outcome_sized which outcome plain }, readied_owed link ready readied);
       }
 
-      fails : (which : Operation) (why : CallFault) (link : Option RelationState) → operation_of call.header.operation ≡ Some which → IsPlain why → before ≡ link
-          → Comes_to heard (served station live caller call which (Err why) link [])
-      fails which why link asks plain was = serves which (Err why) link None asks plain (sym was) tt
+      fails : (log : List LogEntry) (which : Operation) (why : CallFault) (link : Option RelationState) → operation_of call.header.operation ≡ Some which → IsPlain why → before ≡ link
+          → Comes_to heard (served station (logging log) caller call which (Err why) link [])
+      fails log which why link asks plain was = serves log which (Err why) link None asks plain (sym was) tt
+
+      -- what is not logged
+      abbrev unlogged : List LogEntry
+      unlogged = live.rest.log
 
       connects_as : (request : Result Request CallFault) → operation_of call.header.operation ≡ Some operation.Connect → connect_within station.options.smallest_interval before blocks ≡ request → IsPlainIn request
-          → Comes_to heard (served station live caller call operation.Connect (request >>= λ r. Ok (connect_blocks station.identity r (differing_of r station.real)))
+          → Comes_to heard (served station (logging (connect_log blocks (request >>= λ r. Ok (connect_blocks station.identity r (differing_of r station.real))) live.rest.units live.rest.log)) caller call operation.Connect (request >>= λ r. Ok (connect_blocks station.identity r (differing_of r station.real)))
           (updated (making station.real (partner_of caller) (starting_of station live) request) before) [])
       connects_as (Ok request) asks read plain =
-          serves operation.Connect (Ok (connect_blocks station.identity request (differing_of request station.real))) (Some (made_of request (partner_of caller) (rows_of request station.real) (starting_of station live))) None asks tt
+          serves unlogged operation.Connect (Ok (connect_blocks station.identity request (differing_of request station.real))) (Some (made_of request (partner_of caller) (rows_of request station.real) (starting_of station live))) None asks tt
           (record { request = request; starting = starting_of station live; read = unlimited station.options.smallest_interval before blocks request read; made = refl; answer = refl }) tt
-      connects_as (Err why) asks read plain = fails operation.Connect why before asks plain refl
+      connects_as (Err why) asks read plain = fails (connect_log {A = List ℕ} blocks (Err why) live.rest.units live.rest.log) operation.Connect why before asks plain refl
 
       keeps_as : (header : IodWriteReq) (write : Write) (value : TakenRecord) (link : Option RelationState) (kept : Result (List TakenRecord) CallFault) → operation_of call.header.operation ≡ Some operation.Write
-          → write_of (uuid_of before) station.real blocks ≡ Ok write → write.effect ≡ Keeps value → before ≡ link → keeping value link ≡ kept → IsPlainIn kept
+          → writing_of (uuid_of before) station.real blocks ≡ Ok (One write) → write.effect ≡ Keeps value → before ≡ link → keeping value link ≡ kept → IsPlainIn kept
           → Comes_to heard (served station live caller call operation.Write (kept_answer header kept) (updated (answered Named kept) (updated (taking kept) link)) [])
-      keeps_as header write value link (Err why) asks judged keeps was is plain = fails operation.Write why link asks plain was
+      keeps_as header write value link (Err why) asks judged keeps was is plain = fails unlogged operation.Write why link asks plain was
       keeps_as header write value None (Ok taken) asks judged keeps was is plain = absurd cc
-      keeps_as header write value (Some link) (Ok taken) asks judged keeps was is plain = serves operation.Write (Ok (answer_of header)) (Some (restarted (with_taken taken link))) None asks tt
+      keeps_as header write value (Some link) (Ok taken) asks judged keeps was is plain = serves unlogged operation.Write (Ok (answer_of header)) (Some (restarted (with_taken taken link))) None asks tt
           (inl (record {
             link = link;
             was = was;
@@ -655,60 +846,70 @@ module _ (rules : Rules TakenRecord Request) (activity : List ℕ) (station : St
 
       -- a record that the settings store, or do not
       stores_as : (write : Write) (value : ImValue) (outcome : Result (List ℕ) CallFault) → operation_of call.header.operation ≡ Some operation.Write
-          → write_of (uuid_of before) station.real blocks ≡ Ok write → write.effect ≡ Stores value → IsPlainIn outcome
+          → writing_of (uuid_of before) station.real blocks ≡ Ok (One write) → write.effect ≡ Stores value → IsPlainIn outcome
           → Comes_to heard (served station live caller call operation.Write outcome (updated (answered Named outcome) before) [])
       stores_as write value (Ok octets) asks judged is plain =
-          serves operation.Write (Ok octets) (updated Named before) None asks tt (inr (record { write = write; judged = judged; value = value; stores = is; same = refl })) tt
-      stores_as write value (Err why) asks judged is plain = fails operation.Write why before asks plain refl
+          serves unlogged operation.Write (Ok octets) (updated Named before) None asks tt (inr (inl (record { write = write; judged = judged; value = value; stores = is; same = refl }))) tt
+      stores_as write value (Err why) asks judged is plain = fails unlogged operation.Write why before asks plain refl
 
-      effect_as : (write : Write) (effect : Effect) → operation_of call.header.operation ≡ Some operation.Write → write_of (uuid_of before) station.real blocks ≡ Ok write
+      effect_as : (write : Write) (effect : Effect) → operation_of call.header.operation ≡ Some operation.Write → writing_of (uuid_of before) station.real blocks ≡ Ok (One write)
           → write.effect ≡ effect → Comes_to heard (handled_effect station live caller call write.request effect)
       effect_as write (Stores value) asks judged is = λ answers.
           stores_as write value (written_as write.request (first_answer answers)) asks judged is (stored_plain write.request (first_answer answers)) answers
       effect_as write (Keeps value) asks judged is =
           keeps_as write.request write value before (keeping value before) asks judged is refl refl (keeping_plain value before)
 
-      writes_as : (write : Result Write CallFault) → operation_of call.header.operation ≡ Some operation.Write → write_of (uuid_of before) station.real blocks ≡ write → IsPlainIn write
-          → Comes_to heard (handled_write station live caller call write)
-      writes_as (Ok write) asks judged plain = effect_as write write.effect asks judged refl
-      writes_as (Err why) asks judged plain = fails operation.Write why before asks plain refl
+      -- several records, each for itself
+      each_as : (header : IodWriteReq) (entries : List Entry) → operation_of call.header.operation ≡ Some operation.Write
+          → writing_of (uuid_of before) station.real blocks ≡ Ok (Each header entries) → Comes_to heard (handled_write station live caller call (Ok (Each header entries)))
+      each_as header entries asks judged = λ answers.
+          let each = judged_each (uuid_of before) station.real entries in
+          let takes = each_takes each before in
+          serves unlogged operation.Write (Ok (several_answer header each answers before)) (updated Named (link_behind each before)) None asks tt
+          (inr (inr (record { header = header; entries = entries; judged = judged; answers = answers; tells = refl; carried = refl; values = takes.0; becomes = takes.1 }))) tt answers
+
+      writes_as : (writing : Result Writing CallFault) → operation_of call.header.operation ≡ Some operation.Write → writing_of (uuid_of before) station.real blocks ≡ writing → IsPlainIn writing
+          → Comes_to heard (handled_write station live caller call writing)
+      writes_as (Ok (One write)) asks judged plain = effect_as write write.effect asks judged refl
+      writes_as (Ok (Each header entries)) asks judged plain = each_as header entries asks judged
+      writes_as (Err why) asks judged plain = fails unlogged operation.Write why before asks plain refl
 
       reads_as : (read : Result (List ℕ) CallFault) → operation_of call.header.operation ≡ Some operation.Read → IsPlainIn read
           → Comes_to heard (served station live caller call operation.Read read (updated (answered Named read) before) [])
-      reads_as (Ok octets) asks plain = serves operation.Read (Ok octets) (updated Named before) None asks tt refl tt
-      reads_as (Err why) asks plain = fails operation.Read why before asks plain refl
+      reads_as (Ok octets) asks plain = serves unlogged operation.Read (Ok octets) (updated Named before) None asks tt refl tt
+      reads_as (Err why) asks plain = fails unlogged operation.Read why before asks plain refl
 
       controls_as : (by_application : Bool) (link : Option RelationState) (ended : Result ControlBlock CallFault) → operation_of call.header.operation ≡ Some operation.Control → before ≡ link → prm_end_of link blocks ≡ ended → IsPlainIn ended
           → Comes_to heard (served station live caller call operation.Control (ended >>= λ block. Ok (block_bytes (variant.PrmEndRes (done_of block)))) (updated (answered (Parameterized by_application) ended) link)
           (ready_behind by_application from (updated (answered (Parameterized by_application) ended) link) ended))
-      controls_as by_application link (Err why) asks was is plain = fails operation.Control why link asks plain was
+      controls_as by_application link (Err why) asks was is plain = fails unlogged operation.Control why link asks plain was
       controls_as by_application None (Ok block) asks was is plain = absurd (prm_started None blocks block is)
       controls_as true (Some link) (Ok block) asks was is plain =
-          serves operation.Control (Ok (block_bytes (variant.PrmEndRes (done_of block)))) (Some (parameterized_from true link)) None asks tt
+          serves unlogged operation.Control (Ok (block_bytes (variant.PrmEndRes (done_of block)))) (Some (parameterized_from true link)) None asks tt
           (record { link = link; was = was; started = prm_started (Some link) blocks block is; by_application = true; becomes = refl }) tt
       controls_as false (Some link) (Ok block) asks was is plain =
           let after = parameterized_from false link in
-          serves operation.Control (Ok (block_bytes (variant.PrmEndRes (done_of block)))) (Some after) (Some (ready_of after)) asks tt
+          serves unlogged operation.Control (Ok (block_bytes (variant.PrmEndRes (done_of block)))) (Some after) (Some (ready_of after)) asks tt
           (record { link = link; was = was; started = prm_started (Some link) blocks block is; by_application = false; becomes = refl })
           (record { link = link; is = was; header = refl; block = refl }, record { link = after; is = refl; awaits = refl })
 
       releases_as : (link : Option RelationState) (ended : Result ControlBlock CallFault) → operation_of call.header.operation ≡ Some operation.Release → before ≡ link → release_of link blocks ≡ ended → IsPlainIn ended
-          → Comes_to heard (served station live caller call operation.Release (ended >>= λ block. Ok (block_bytes (variant.ReleaseRes (done_of block)))) (updated (answered Ended ended) link) [])
-      releases_as link (Err why) asks was is plain = fails operation.Release why link asks plain was
+          → Comes_to heard (served station (logging (release_log (uuid_of before) (ended >>= λ block. Ok (block_bytes (variant.ReleaseRes (done_of block)))) live.rest.units live.rest.log)) caller call operation.Release (ended >>= λ block. Ok (block_bytes (variant.ReleaseRes (done_of block)))) (updated (answered Ended ended) link) [])
+      releases_as link (Err why) asks was is plain = fails unlogged operation.Release why link asks plain was
       releases_as None (Ok block) asks was is plain = absurd (never_released blocks block is)
       releases_as (Some link) (Ok block) asks was is plain =
-          serves operation.Release (Ok (block_bytes (variant.ReleaseRes (done_of block)))) None None asks tt (record { link = link; was = was; gone = refl }) tt
+          serves (release_log (uuid_of before) (Ok block) live.rest.units live.rest.log) operation.Release (Ok (block_bytes (variant.ReleaseRes (done_of block)))) None None asks tt (record { link = link; was = was; gone = refl }) tt
 
       new_call : (which : Operation) → operation_of call.header.operation ≡ Some which → IsPlannedAs rules station.real call.header.sequence blocks (Some which)
           → Comes_to heard (handled_new station live caller call blocks which)
       new_call operation.Connect asks plan = connects_as (connect_within station.options.smallest_interval before blocks) asks refl
           (connect_plain station.options.smallest_interval before blocks rules.request plan)
       new_call operation.Release asks plan = releases_as before (release_of before blocks) asks refl refl (release_plain before blocks)
-      new_call operation.Write asks plan = writes_as (write_of (uuid_of before) station.real blocks) asks refl (write_plain (uuid_of before) station.real blocks)
+      new_call operation.Write asks plan = writes_as (writing_of (uuid_of before) station.real blocks) asks refl (writing_plain (uuid_of before) station.real blocks)
       new_call operation.Control asks plan = controls_as station.options.ready_by_application before (prm_end_of before blocks) asks refl refl (prm_plain before blocks)
       new_call operation.Read asks plan =
-          reads_as (relation_read before station.identity station.real live.values.running blocks) asks
-          (read_plain before station.identity station.real live.values.running blocks)
+          reads_as (relation_read (known_of station live) station.identity station.real live.values.running blocks) asks
+          (read_plain (known_of station live) station.identity station.real live.values.running blocks)
       new_call operation.ReadImplicit asks plan = absurd plan
 
     repeats : (frame : List ℕ) → looked call.header.activity call.header.sequence live.rest.calls ≡ again frame → Comes_to heard (Moves live.rest (Again frame ∷ []))
@@ -727,6 +928,7 @@ module _ (rules : Rules TakenRecord Request) (activity : List ℕ) (station : St
             sends = ap (λ (f : List ℕ). Again f ∷ []) (sym there.3);
           }))));
           is = inl (record { link = inl refl; calm = (tt, tt) });
+          diagnoses = inl refl;
           answers = inl refl;
           owed = (record { caller = caller; address = address; call = call; is = refl; kept = there.0; there = there.1; same = there.3 }, tt);
         }
@@ -765,14 +967,21 @@ module _ (rules : Rules TakenRecord Request) (activity : List ℕ) (station : St
   turns (Asks asker request) plan = requests asker request.service request
   turns (Resolves asker packet) plan = resolves asker packet (is_request packet.operation && is_running live.values.running packet.target.address)
   turns (Reported caller address said) plan = reported caller address said (is_running live.values.running address) plan
-  turns (Alarms source header message) plan = alarms source header message (is_alarm_of source header.destination header.source before)
+  turns (Alarms source header message) plan =
+      alarms (Alarms source header message) source header (λ planned. refl) message (is_alarm_of source header.destination header.source before) (inl refl)
+  turns (LowReplies source header message) plan = low_replies source header message (has_sent_low before)
+  turns (LowConfirms source header message) plan = low_confirms source header message (has_sent_low before)
+  turns (Diagnosed change) plan =
+      diagnoses_as change (is_some (submodule_ident station.real.modules.items change.diagnosis.slot change.diagnosis.subslot)) (is_full_in before) refl
   turns (Cyclic source frame_id body) plan = receives source frame_id body before refl
   turns (Given slot subslot value) plan = gives slot subslot value (given_to slot subslot value before) refl
   turns (Raised slot subslot octets) plan = raises slot subslot octets (raised_to station.real.modules.items slot subslot octets before) refl
   turns (Rated slot subslot is_good) plan =
       rates slot subslot is_good (statuses_at station.real.modules.items (record { slot = slot; subslot = subslot; is_good = is_good }) live.rest.statuses)
+  turns (Met peer) plan = meets peer
   turns Readied plan = readies before refl
-  turns Ticks plan = ticks_with (live.rest.lamp - 1) ((live.rest.units + 1) % 65536) before refl
+  turns Ticks plan = ticks_with (live.rest.lamp - 1) (units_after 1 live.rest.units)
+      (err_log (due_of before).farewell (units_after 1 live.rest.units) live.rest.log) before refl
   turns Unreadable plan = refuses Unreadable note.Fault
   turns Elsewhere plan = refuses Elsewhere note.NotMine
 

@@ -20,9 +20,10 @@ use Rattle.pn_alarms.specs.declared.fault.AlarmFault.{AlarmFault}
 use Rattle.pn_alarms.specs.declared.pdu.Header.{Header}
 use Rattle.pn_alarms.specs.declared.pdu.PduType.{PduType}
 use Rattle.pn_alarms.specs.declared.pdu.PduType.TheVariants.{Data, Nack, Ack, Error}
-use Rattle.pn_alarms.specs.Format.{frame_id_of}
-use Rattle.pn_alarms.specs.Message.{ToController, alarm_of}
-use Rattle.pn_alarms.specs.Priority.{priority_of}
+use Rattle.alarm_reports.specs.declared.priority.Priority.{Priority}
+use Rattle.alarm_reports.specs.declared.priority.Priority.TheVariants.{High, Low}
+use Rattle.alarm_reports.specs.Message.{ToController, alarm_of}
+use Rattle.alarm_reports.specs.Priority.{frame_id_at, priority_of}
 use Rattle.plans.specs.declared.parts.Controller.{Controller}
 use Rattle.controller_frames.specs.Heard.{Alarms, Answers, Calls, Cyclic, Heard, Nothing, Responds, heard_alarm, heard_answer, heard_body, heard_call, heard_content, heard_first, heard_of, heard_read, heard_real_time, heard_refusal, heard_response, is_to}
 use Rattle.controller_frames.specs.Refusal.{refusal_of}
@@ -53,20 +54,24 @@ cyclic_heard reads mine destination source tag frame_id body is cyclic =
     data_heard reads mine destination source tag frame_id body is
     ∙ ap (λ (h : Heard). mine_hears mine destination h) (cyclic_is source frame_id (padded source destination tag frame_id body) cyclic)
 
-alarm_is : (source : Mac) (kind : PduType) (body : List ℕ) → heard_real_time source (frame_id_of kind) body ≡ heard_alarm source (frame_id_of kind) (alarm_of body)
+alarm_is : (source : Mac) (priority : Priority) (kind : PduType) (body : List ℕ) → heard_real_time source (frame_id_at priority kind) body ≡ heard_alarm source (frame_id_at priority kind) (alarm_of body)
 unfolding heard_real_time
-alarm_is source Data body = refl
-alarm_is source Nack body = refl
-alarm_is source Ack body = refl
-alarm_is source Error body = refl
+alarm_is source Low kind body = refl
+alarm_is source High Data body = refl
+alarm_is source High Nack body = refl
+alarm_is source High Ack body = refl
+alarm_is source High Error body = refl
 
-pub alarm_heard : DataIsRead → (mine : Controller) (destination source : Mac) (tag : Option ℕ) (kind : PduType) (body : List ℕ) (header : Header) (reported : ToController)
-    → CanBeSent (carrying destination source tag (RealTime (frame_id_of kind) body)) → ((more : List ℕ) → alarm_of (body ++ more) ≡ Ok (header, reported))
-    → heard_of mine (frame_bytes (carrying destination source tag (RealTime (frame_id_of kind) body))) ≡ mine_hears mine destination (Alarms source (priority_of (frame_id_of kind)) header reported)
-alarm_heard reads mine destination source tag kind body header reported is says =
-    data_heard reads mine destination source tag (frame_id_of kind) body is
+pub alarm_heard : DataIsRead → (mine : Controller) (destination source : Mac) (tag : Option ℕ) (priority : Priority) (kind : PduType) (body : List ℕ) (header : Header) (reported : ToController)
+    → CanBeSent (carrying destination source tag (RealTime (frame_id_at priority kind) body)) → ((more : List ℕ) → alarm_of (body ++ more) ≡ Ok (header, reported))
+    → heard_of mine (frame_bytes (carrying destination source tag (RealTime (frame_id_at priority kind) body)))
+    ≡ mine_hears mine destination (Alarms source (priority_of (frame_id_at priority kind)) header reported)
+alarm_heard reads mine destination source tag priority kind body header reported is says =
+    let frame_id = frame_id_at priority kind in
+    data_heard reads mine destination source tag frame_id body is
     ∙ ap (λ (h : Heard). mine_hears mine destination h)
-    (alarm_is source kind (padded source destination tag (frame_id_of kind) body) ∙ ap (λ (r : Result (Header × ToController) AlarmFault). heard_alarm source (frame_id_of kind) r) (says (padding_of (carrying destination source tag (RealTime (frame_id_of kind) body)))))
+    (alarm_is source priority kind (padded source destination tag frame_id body)
+    ∙ ap (λ (r : Result (Header × ToController) AlarmFault). heard_alarm source frame_id r) (says (padding_of (carrying destination source tag (RealTime frame_id body)))))
 
 -- responses of DCP: to an Identify, and to a Get or a Set
 pub identify_is : (source : Mac) (body : List ℕ) → heard_real_time source 65279 body ≡ heard_answer source (answer_of 65279 body)

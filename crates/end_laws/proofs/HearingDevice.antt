@@ -19,10 +19,13 @@ use Rattle.rpc_core.specs.Response.{Answered, response_bytes, response_of}
 use Rattle.pn_alarms.specs.declared.fault.AlarmFault.{AlarmFault}
 use Rattle.pn_alarms.specs.declared.pdu.Header.{Header}
 use Rattle.pn_alarms.specs.declared.pdu.PduType.{PduType}
-use Rattle.pn_alarms.specs.declared.priority.Priority.{Priority}
-use Rattle.pn_alarms.specs.Priority.{frame_id_at}
+use Rattle.alarm_reports.specs.declared.priority.Priority.{Priority}
+use Rattle.alarm_reports.specs.declared.priority.Priority.TheVariants.{High, Low}
+use Rattle.alarm_reports.specs.Message.{low_message_of}
+use Rattle.alarm_reports.specs.Priority.{frame_id_at, priority_of}
+use Rattle.pn_alarms.specs.declared.message.Notice.TheVariants as notice
 use Rattle.pn_alarms.specs.Message.{ToDevice, message_of}
-use Rattle.device_frames.specs.Heard.{Calls, Cyclic, Elsewhere, Garbled, Heard, Resolves, Responds, Said, heard_alarm, heard_content, heard_frame, heard_of, heard_request, identify_multicast, is_own, is_taken, said_by, said_else, said_first}
+use Rattle.device_frames.specs.Heard.{Calls, Cyclic, Elsewhere, Garbled, Heard, Resolves, Responds, Said, heard_alarm, heard_content, heard_frame, heard_low, heard_of, heard_reply, heard_request, identify_multicast, is_own, is_taken, said_by, said_else, said_first}
 use Rattle.codec_laws.specs.frames.Sendable.{CanBeSent, IsMac, IsRealTime, IsRealTimeOrNone, IsTag, carrying}
 use Rattle.rpc_core.specs.Sendable.{CanBeAnswered, CanBeCalled}
 use Rattle.end_laws.specs.hearing.Hearing.{IsUnreported, all_hears, comes, own_hears, own_reported, padded}
@@ -46,19 +49,19 @@ cyclic_heard reads identity destination source tag frame_id body is cyclic =
     let all = padded source destination tag frame_id body in
     data_heard reads identity destination source tag frame_id body is
     ∙ cyclic_chosen (is_own identity destination) (pointwise nat_eq destination.octets identify_multicast) (frame_id == 65277) (frame_id == 65278) (is_alarm frame_id) (is_cyclic frame_id)
-    (heard_request source (request_of frame_id all)) (heard_alarm source (message_of all)) (Cyclic source frame_id all) Elsewhere
+    (heard_request source (request_of frame_id all)) (heard_alarm source frame_id all (message_of all)) (Cyclic source frame_id all) Elsewhere
     (no_get_set frame_id cyclic) (no_identify frame_id cyclic) (no_alarm frame_id cyclic) cyclic
 
 -- an alarm frame, of which something is read whatever follows it
 pub alarm_heard : DataIsRead → (identity : Identity) (destination source : Mac) (tag : Option ℕ) (priority : Priority) (kind : PduType) (body : List ℕ) (heard : Heard)
-    → CanBeSent (carrying destination source tag (RealTime (frame_id_at priority kind) body)) → ((more : List ℕ) → heard_alarm source (message_of (body ++ more)) ≡ heard)
+    → CanBeSent (carrying destination source tag (RealTime (frame_id_at priority kind) body)) → ((more : List ℕ) → heard_alarm source (frame_id_at priority kind) (body ++ more) (message_of (body ++ more)) ≡ heard)
     → heard_of identity (comes (frame_bytes (carrying destination source tag (RealTime (frame_id_at priority kind) body)))) ≡ own_hears identity destination heard
 alarm_heard reads identity destination source tag priority kind body heard is says =
     let frame_id = frame_id_at priority kind in
     let all = padded source destination tag frame_id body in
     data_heard reads identity destination source tag frame_id body is
     ∙ alarm_chosen (is_own identity destination) (pointwise nat_eq destination.octets identify_multicast) (frame_id == 65277) (frame_id == 65278) (is_alarm frame_id) (is_cyclic frame_id)
-    (heard_request source (request_of frame_id all)) (heard_alarm source (message_of all)) (Cyclic source frame_id all) Elsewhere
+    (heard_request source (request_of frame_id all)) (heard_alarm source frame_id all (message_of all)) (Cyclic source frame_id all) Elsewhere
     (alarm_no_get_set priority kind) (alarm_no_identify priority kind) (alarm_is priority kind)
     ∙ ap (λ (h : Heard). own_hears identity destination h) (says (padding_of (carrying destination source tag (RealTime frame_id body))))
 
@@ -107,14 +110,25 @@ unreported_request : (source : Mac) (read : Result Asked DcpFault) → IsUnrepor
 unreported_request source (Ok request) = tt
 unreported_request source (Err fault) = tt
 
-unreported_alarm : (source : Mac) (read : Result (Header × ToDevice) AlarmFault) → IsUnreported (heard_alarm source read)
-unreported_alarm source (Ok x) = tt
-unreported_alarm source (Err fault) = tt
+unreported_reply : (source : Mac) (priority : Priority) (header : Header) (message : ToDevice) → IsUnreported (heard_reply source priority header message)
+unreported_reply source Low header (notice.Ack number) = tt
+unreported_reply source Low header (notice.Data number ack) = tt
+unreported_reply source Low header notice.Nack = tt
+unreported_reply source Low header (notice.Abort status) = tt
+unreported_reply source High header message = tt
+
+unreported_low : (source : Mac) (read : Result (Header × ToDevice) AlarmFault) → IsUnreported (heard_low source read)
+unreported_low source (Ok x) = tt
+unreported_low source (Err fault) = tt
+
+unreported_alarm : (source : Mac) (frame_id : ℕ) (body : List ℕ) (read : Result (Header × ToDevice) AlarmFault) → IsUnreported (heard_alarm source frame_id body read)
+unreported_alarm source frame_id body (Ok x) = unreported_reply source (priority_of frame_id) x.0 x.1
+unreported_alarm source frame_id body (Err fault) = unreported_low source (low_message_of body)
 
 unreported_content : (identity : Identity) (destination source : Mac) (content : Content) → IsRealTime content → IsUnreported (heard_content identity destination source content)
 unreported_content identity destination source (RealTime frame_id body) is =
     holds_if IsUnreported (is_taken identity destination frame_id) _ _ (unreported_request source (request_of frame_id body))
-    (holds_if IsUnreported (is_own identity destination && is_alarm frame_id) _ _ (unreported_alarm source (message_of body))
+    (holds_if IsUnreported (is_own identity destination && is_alarm frame_id) _ _ (unreported_alarm source frame_id body (message_of body))
     (holds_if IsUnreported (is_own identity destination && is_cyclic frame_id) (Cyclic source frame_id body) Elsewhere tt tt))
 unreported_content identity destination source (ArpPacket arp) is = absurd is
 unreported_content identity destination source (UdpDatagram from to body) is = absurd is

@@ -1,5 +1,5 @@
 -- What a relation exchanges, from one end to the other.
-use Rattle.std.proofs.Common.{◌≡◌, ◌≤◌, ◌<◌, ℕ, Bool, false, cond, nat_eq, List, ◌++◌, length, Some, Result, Ok, refl, ap, ◌∙◌, arith}
+use Rattle.std.proofs.Common.{◌≡◌, ◌⊎◌, inl, inr, ◌≤◌, ◌<◌, ℕ, Bool, false, cond, nat_eq, List, ◌++◌, length, Some, Result, Ok, refl, ap, ◌∙◌, arith}
 use Rattle.pn_values.specs.declared.identity.Identity.{Identity}
 use Rattle.pn_values.specs.declared.mac.Mac.{Mac}
 use Rattle.frame_codec.specs.Meaning.{RealTime}
@@ -9,15 +9,18 @@ use Rattle.pn_alarms.specs.declared.pdu.PduType.{PduType}
 use Rattle.pn_alarms.specs.declared.pdu.PduType.TheVariants as pdu
 use Rattle.pn_alarms.specs.Format.{Said, frame_id_of, pdu_bytes}
 use Rattle.pn_alarms.specs.declared.fault.AlarmFault.{AlarmFault}
-use Rattle.pn_alarms.specs.declared.priority.Priority.{Priority}
-use Rattle.pn_alarms.specs.declared.priority.Priority.TheVariants.{High, Low}
-use Rattle.pn_alarms.specs.Message.{ToController, ToDevice, alarm_of, message_of}
-use Rattle.pn_alarms.specs.Priority.{frame_id_at, priority_of}
+use Rattle.alarm_reports.specs.declared.priority.Priority.{Priority}
+use Rattle.alarm_reports.specs.declared.priority.Priority.TheVariants.{High, Low}
+use Rattle.pn_alarms.specs.Message.{ToDevice, message_of}
+use Rattle.alarm_reports.specs.Message.{ToController, alarm_of, low_message_of}
+use Rattle.pn_alarms.specs.declared.message.Notice.TheVariants as notice
+use Rattle.record_blocks.specs.declared.alarm_ack.AlarmAck.{AlarmAck}
+use Rattle.alarm_reports.specs.Priority.{frame_id_at, priority_of}
 use Rattle.cyclic_exchange.specs.declared.route.Route.{Route}
-use Rattle.cyclic_exchange.specs.Frames.{cyclic_body, tagged_frame}
+use Rattle.cyclic_exchange.specs.Frames.{body_at, tagged_frame}
 use Rattle.relations.specs.exchange.Frames.{Inputs}
 use Rattle.plans.specs.declared.parts.Controller.{Controller}
-use Rattle.device_frames.specs.Heard.{Alarms, Cyclic, Unreadable, heard_alarm, heard_of as device_hears}
+use Rattle.device_frames.specs.Heard.{Alarms, Cyclic, LowConfirms, heard_alarm, heard_low, heard_of as device_hears, heard_reply}
 use Rattle.device_frames.specs.Sent.{Exchanges, bytes_of as device_bytes}
 use Rattle.std.specs.Cmp.Lexicographic.{pointwise}
 use Rattle.controller_frames.specs.Heard.{Alarms as Alarmed, Cyclic as Comes, Nothing, heard_of as controller_hears, heard_real_time}
@@ -39,22 +42,22 @@ cyclic_sent source route body one is few =
     let small = cyclic_small route.sent_id is.cyclic in
     record { destination = is.partner; source = one; tag = is.tag; content = (omega (arith, small), few) }
 
-pub inputs_at_controller : DataIsRead → (mine : Controller) (identity : Identity) (route : Route) (inputs : Shown) (counter : ℕ)
-    → IsDevice identity → IsRoute route → length (cyclic_body inputs counter) ≤ 1498
-    → controller_hears mine (device_bytes identity (Exchanges route (Inputs inputs counter)))
+pub inputs_at_controller : DataIsRead → (mine : Controller) (identity : Identity) (route : Route) (has_problem : Bool) (inputs : Shown) (counter : ℕ)
+    → IsDevice identity → IsRoute route → length (body_at has_problem inputs counter) ≤ 1498
+    → controller_hears mine (device_bytes identity (Exchanges route (Inputs has_problem inputs counter)))
     ≡ mine_hears mine route.partner (Comes identity.mac route.sent_id
-    (padded identity.mac route.partner (Some route.sent_tag) route.sent_id (cyclic_body inputs counter)))
-inputs_at_controller reads mine identity route inputs counter good is few =
-    controller.cyclic_heard reads mine route.partner identity.mac (Some route.sent_tag) route.sent_id (cyclic_body inputs counter)
+    (padded identity.mac route.partner (Some route.sent_tag) route.sent_id (body_at has_problem inputs counter)))
+inputs_at_controller reads mine identity route has_problem inputs counter good is few =
+    controller.cyclic_heard reads mine route.partner identity.mac (Some route.sent_tag) route.sent_id (body_at has_problem inputs counter)
     (cyclic_sent _ route _ good is few) is.cyclic
 
-pub inputs_at_device : DataIsRead → (other identity : Identity) (route : Route) (inputs : Shown) (counter : ℕ)
-    → IsDevice identity → IsRoute route → length (cyclic_body inputs counter) ≤ 1498
-    → device_hears other (comes (device_bytes identity (Exchanges route (Inputs inputs counter))))
+pub inputs_at_device : DataIsRead → (other identity : Identity) (route : Route) (has_problem : Bool) (inputs : Shown) (counter : ℕ)
+    → IsDevice identity → IsRoute route → length (body_at has_problem inputs counter) ≤ 1498
+    → device_hears other (comes (device_bytes identity (Exchanges route (Inputs has_problem inputs counter))))
     ≡ own_hears other route.partner (Cyclic identity.mac route.sent_id
-    (padded identity.mac route.partner (Some route.sent_tag) route.sent_id (cyclic_body inputs counter)))
-inputs_at_device reads other identity route inputs counter good is few =
-    device.cyclic_heard reads other route.partner identity.mac (Some route.sent_tag) route.sent_id (cyclic_body inputs counter)
+    (padded identity.mac route.partner (Some route.sent_tag) route.sent_id (body_at has_problem inputs counter)))
+inputs_at_device reads other identity route has_problem inputs counter good is few =
+    device.cyclic_heard reads other route.partner identity.mac (Some route.sent_tag) route.sent_id (body_at has_problem inputs counter)
     (cyclic_sent _ route _ good is few) is.cyclic
 
 -- ---- alarm frames
@@ -79,18 +82,24 @@ module _ (reads : DataIsRead) (long : PdusAreLong) where
   -- a PDU from one station to another
   pub pdu_at_device : (identity : Identity) (destination source : Mac) (tag : ℕ) (priority : Priority) (kind : PduType) (said : Said) (header : Header) (reported : ToDevice)
       → IsMac destination → IsMac source → tag < 65536 → length said.body ≤ 1486 → ((more : List ℕ) → message_of (pdu_bytes said ++ more) ≡ Ok (header, reported))
-      → device_hears identity (comes (tagged_frame source destination tag (RealTime (frame_id_at priority kind) (pdu_bytes said)))) ≡ own_hears identity destination (Alarms source header reported)
+      → device_hears identity (comes (tagged_frame source destination tag (RealTime (frame_id_at priority kind) (pdu_bytes said))))
+      ≡ own_hears identity destination (heard_reply source (priority_of (frame_id_at priority kind)) header reported)
   pdu_at_device identity destination source tag priority kind said header reported one other tagged few says =
-      device.alarm_heard reads identity destination source (Some tag) priority kind (pdu_bytes said) (Alarms source header reported) (pdu_sent destination source tag priority kind said one other tagged few)
-      (λ more. ap (λ (r : Result (Header × ToDevice) AlarmFault). heard_alarm source r) (says more))
+      device.alarm_heard reads identity destination source (Some tag) priority kind (pdu_bytes said) (heard_reply source (priority_of (frame_id_at priority kind)) header reported)
+      (pdu_sent destination source tag priority kind said one other tagged few)
+      (λ more. ap (λ (r : Result (Header × ToDevice) AlarmFault). heard_alarm source (frame_id_at priority kind) (pdu_bytes said ++ more) r) (says more))
 
-  -- a PDU that the device cannot read
-  pub pdu_unread : (identity : Identity) (destination source : Mac) (tag : ℕ) (priority : Priority) (kind : PduType) (said : Said)
+  -- a PDU that carries an AlarmAck of low priority
+  pub low_at_device : (identity : Identity) (destination source : Mac) (tag : ℕ) (priority : Priority) (kind : PduType) (said : Said) (header : Header) (reported : ToDevice)
       → IsMac destination → IsMac source → tag < 65536 → length said.body ≤ 1486 → ((more : List ℕ) → IsErr (message_of (pdu_bytes said ++ more)))
-      → device_hears identity (comes (tagged_frame source destination tag (RealTime (frame_id_at priority kind) (pdu_bytes said)))) ≡ own_hears identity destination Unreadable
-  pdu_unread identity destination source tag priority kind said one other tagged few fails =
-      device.alarm_heard reads identity destination source (Some tag) priority kind (pdu_bytes said) Unreadable (pdu_sent destination source tag priority kind said one other tagged few)
-      (λ more. faulty (λ (r : Result (Header × ToDevice) AlarmFault). heard_alarm source r) Unreadable (message_of (pdu_bytes said ++ more)) (λ fault. refl) (fails more))
+      → ((more : List ℕ) → low_message_of (pdu_bytes said ++ more) ≡ Ok (header, reported))
+      → device_hears identity (comes (tagged_frame source destination tag (RealTime (frame_id_at priority kind) (pdu_bytes said)))) ≡ own_hears identity destination (LowConfirms source header reported)
+  low_at_device identity destination source tag priority kind said header reported one other tagged few fails says =
+      device.alarm_heard reads identity destination source (Some tag) priority kind (pdu_bytes said) (LowConfirms source header reported) (pdu_sent destination source tag priority kind said one other tagged few)
+      (λ more.
+      faulty (λ (r : Result (Header × ToDevice) AlarmFault). heard_alarm source (frame_id_at priority kind) (pdu_bytes said ++ more) r) (heard_low source (low_message_of (pdu_bytes said ++ more)))
+      (message_of (pdu_bytes said ++ more)) (λ fault. refl) (fails more)
+      ∙ ap (λ (r : Result (Header × ToDevice) AlarmFault). heard_low source r) (says more))
 
   -- a PDU to another station than this controller
   pub pdu_unheard : (mine : Controller) (destination source : Mac) (tag : ℕ) (priority : Priority) (kind : PduType) (said : Said)
@@ -100,8 +109,26 @@ module _ (reads : DataIsRead) (long : PdusAreLong) where
       controller.data_heard reads mine destination source (Some tag) (frame_id_at priority kind) (pdu_bytes said) (pdu_sent destination source tag priority kind said one other tagged few)
       ∙ ap (λ (b : Bool). cond b (heard_real_time source (frame_id_at priority kind) (padded source destination (Some tag) (frame_id_at priority kind) (pdu_bytes said))) Nothing) apart
 
-  pub pdu_at_controller : (mine : Controller) (destination source : Mac) (tag : ℕ) (kind : PduType) (said : Said) (header : Header) (reported : ToController)
+  pub pdu_at_controller : (mine : Controller) (destination source : Mac) (tag : ℕ) (priority : Priority) (kind : PduType) (said : Said) (header : Header) (reported : ToController)
       → IsMac destination → IsMac source → tag < 65536 → length said.body ≤ 1486 → ((more : List ℕ) → alarm_of (pdu_bytes said ++ more) ≡ Ok (header, reported))
-      → controller_hears mine (tagged_frame source destination tag (RealTime (frame_id_of kind) (pdu_bytes said))) ≡ mine_hears mine destination (Alarmed source (priority_of (frame_id_of kind)) header reported)
-  pdu_at_controller mine destination source tag kind said header reported one other tagged few says =
-      controller.alarm_heard reads mine destination source (Some tag) kind (pdu_bytes said) header reported (pdu_sent destination source tag High kind said one other tagged few) says
+      → controller_hears mine (tagged_frame source destination tag (RealTime (frame_id_at priority kind) (pdu_bytes said)))
+      ≡ mine_hears mine destination (Alarmed source (priority_of (frame_id_at priority kind)) header reported)
+  pdu_at_controller mine destination source tag priority kind said header reported one other tagged few says =
+      controller.alarm_heard reads mine destination source (Some tag) priority kind (pdu_bytes said) header reported (pdu_sent destination source tag priority kind said one other tagged few) says
+
+-- ---- replies
+
+-- the priority under whose FrameID a reply is sent
+pub reply_under : (priority : Priority) (kind : PduType) → (kind ≡ pdu.Ack) ⊎ (kind ≡ pdu.Nack) → priority_of (frame_id_at priority kind) ≡ priority
+reply_under Low kind is = refl
+reply_under High kind (inl is) = ap (λ (k : PduType). priority_of (frame_id_of k)) is
+reply_under High kind (inr is) = ap (λ (k : PduType). priority_of (frame_id_of k)) is
+
+-- data, a NACK or an ERR is heard alike under either FrameID
+pub data_as : (priority : Priority) (source : Mac) (header : Header) (number : ℕ) (ack : AlarmAck) → heard_reply source priority header (notice.Data number ack) ≡ Alarms source header (notice.Data number ack)
+data_as High source header number ack = refl
+data_as Low source header number ack = refl
+
+pub nack_as : (priority : Priority) (source : Mac) (header : Header) → heard_reply source priority header notice.Nack ≡ Alarms source header notice.Nack
+nack_as High source header = refl
+nack_as Low source header = refl

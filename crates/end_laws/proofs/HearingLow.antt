@@ -16,12 +16,12 @@ use Rattle.pn_alarms.specs.declared.fault.AlarmFault.{AlarmFault}
 use Rattle.pn_alarms.specs.declared.pdu.Header.{Header}
 use Rattle.pn_alarms.specs.declared.pdu.PduType.{PduType}
 use Rattle.pn_alarms.specs.declared.pdu.PduType.TheVariants as pdu
-use Rattle.pn_alarms.specs.declared.priority.Priority.TheVariants.{Low}
+use Rattle.alarm_reports.specs.declared.priority.Priority.TheVariants.{Low}
 use Rattle.pn_alarms.specs.Carried.{ack_of, wanted}
 use Rattle.pn_alarms.specs.Format.{Said, is_long, pdu_bytes, pdu_of}
 use Rattle.pn_alarms.specs.declared.message.Notice.TheVariants as notice
 use Rattle.pn_alarms.specs.Message.{ToDevice, message_of, notice_in}
-use Rattle.pn_alarms.specs.Report.{low_ack}
+use Rattle.alarm_reports.specs.Report.{low_ack}
 use Rattle.controller_frames.specs.Sent.{ack_pdu}
 use Rattle.codec_laws.specs.alarms.Sendable.{CanBeSaid, IsHeader}
 

@@ -1,6 +1,7 @@
 -- Each call of a controller for its plan can be sent.
-use Rattle.std.proofs.Common.{◌≡◌, ◌≤◌, ◌<◌, ℕ, zero, suc, List, [], ◌∷◌, length, refl, arith}
-use Rattle.std.specs.List.{slice_get}
+use Rattle.std.proofs.Common.{◌≡◌, ◌≤◌, ◌<◌, ◌+◌, ◌-◌, ◌*◌, ◌/◌, ℕ, zero, suc, Bool, true, false, cond, List, [], ◌∷◌, length, take, drop, Some, refl, arith}
+use Rattle.std.specs.List.{AllByRecursion, slice_get}
+use Rattle.std.specs.Prelude.{replicate}
 use Rattle.std.proofs.lemmas.Bool.{leb-true}
 use Rattle.std.proofs.lemmas.List.{length-append}
 use Rattle.block_fields.specs.Fields.{body, version}
@@ -29,13 +30,14 @@ use Rattle.controller_frames.specs.declared.request.Request.{Request}
 use Rattle.controller_frames.specs.declared.request.Request.TheVariants as asks
 use Rattle.controller_frames.specs.declared.setup.Setup.{Setup}
 use Rattle.controller_frames.specs.RecordRequests.{read_of, record_blocks, record_call, service_operation, written_of}
-use Rattle.controller_frames.specs.Requests.{blocks_of as blocks_for, call_for, control_of, header_of, object_of, operation_of, sequence_of, write_blocks, write_of}
+use Rattle.controller_frames.specs.Requests.{blocks_of as blocks_for, call_for, control_of, entries_bytes, entry_bytes, first_of, group_of, header_of, list_blocks, list_of, object_of, operation_of, padding_of, per_call, sequence_of, write_blocks, write_of}
 use Rattle.relations.specs.declared.ready.Ready.{Ready}
 use Rattle.rpc_core.specs.Call.{Asked as Call}
 use Rattle.controller_frames.specs.Sent.{ready_answer, ready_done}
 use Rattle.rpc_core.specs.Sendable.{CanBeAnswered, CanBeCalled, IsHeader, IsUuid}
 use Rattle.end_laws.specs.hearing.Stations.{IsCalled, IsNumbered, IsRecordCall, IsSetup, ready_call}
 use Rattle.end_laws.proofs.HearingGiven.{BlocksAreLong}
+use Rattle.end_laws.proofs.SendingSizes.{count_few}
 
 -- ---- the header
 
@@ -48,7 +50,7 @@ sequence_small plan asks.Identify is numbered = omega arith
 sequence_small plan asks.Address is numbered = omega arith
 sequence_small plan asks.Connect is numbered = omega arith
 sequence_small plan (asks.Write number) is numbered = omega (arith, numbered)
-sequence_small plan asks.PrmEnd is numbered = omega (arith, is.few_records)
+sequence_small plan asks.PrmEnd is numbered = omega (arith, count_few plan is)
 sequence_small plan (asks.Release sequence) is numbered = numbered
 
 operation_small : (request : Request) → operation_of request < 65536
@@ -103,6 +105,26 @@ read_size : (block : IodReadReq) → length block.header.ar_uuid ≡ 16 → leng
 unfolding block_size fields_of body version iod_read_req place_of
 read_size block sixteen other = omega (arith, sixteen, other)
 
+-- ---- some items of a list
+
+take_few : {A : Type 0} (n : ℕ) (xs : List A) → length (take n xs) ≤ n
+take_few zero [] = omega arith
+take_few zero (x ∷ xs) = omega arith
+take_few (suc n) [] = omega arith
+take_few (suc n) (x ∷ xs) = omega (arith, take_few n xs)
+
+each_take : {A : Type 0} (P : A → Type 0) (n : ℕ) (xs : List A) → AllByRecursion P xs → AllByRecursion P (take n xs)
+each_take P zero [] all = tt
+each_take P zero (x ∷ xs) all = tt
+each_take P (suc n) [] all = tt
+each_take P (suc n) (x ∷ xs) all = (all.0, each_take P n xs all.1)
+
+each_drop : {A : Type 0} (P : A → Type 0) (n : ℕ) (xs : List A) → AllByRecursion P xs → AllByRecursion P (drop n xs)
+each_drop P zero [] all = tt
+each_drop P zero (x ∷ xs) all = all
+each_drop P (suc n) [] all = tt
+each_drop P (suc n) (x ∷ xs) all = each_drop P n xs all.1
+
 module _ (long : BlocksAreLong) where
   bytes_long : (blocks : List Block) → length (bytes_of blocks) ≡ size_of blocks
   bytes_long [] = refl
@@ -113,17 +135,67 @@ module _ (long : BlocksAreLong) where
       let fits = leb-true (size_of (blocks_of setup.plan some_uuid)) 1372 good.plan.connect in
       omega (arith, bytes_long (blocks_of setup.plan setup.ar), ar_size setup.plan setup.ar good.ar, fits)
 
+  -- a record of a list has at most 128 octets with its block and its padding
+  padding_few : (size : ℕ) → size ≤ 64 → size + length (padding_of size) ≤ 64
+  padding_few size few =
+      let zeros : List ℕ = replicate 3 0 in
+      omega (arith, few, take_few ((size + 3) / 4 * 4 - size) zeros)
+
+  entries_few : (setup : Setup) (number : ℕ) (entries : List PlanRecord) → IsSetup setup → AreShort entries → length (entries_bytes setup number entries) ≤ 128 * length entries
+  entries_few setup number [] good short = omega arith
+  entries_few setup number (entry ∷ entries) good short =
+      let block = write_of setup number entry in
+      omega (
+        arith,
+        length-append (entry_bytes setup number entry) (entries_bytes setup number entries),
+        length-append (write_blocks setup number (Some entry)) (padding_of (length entry.data.items)),
+        length-append (block_bytes (is.IodWriteReq block)) entry.data.items,
+        long (is.IodWriteReq block),
+        written_size block good.ar,
+        padding_few (length entry.data.items) short.0,
+        entries_few setup number entries good short.1,
+      )
+
+  list_few : (setup : Setup) (number : ℕ) (entries : List PlanRecord) → IsSetup setup → AreShort entries → length entries ≤ 10 → length (list_blocks setup number entries) ≤ 1372
+  list_few setup number [] good short few = omega arith
+  list_few setup number (entry ∷ entries) good short few =
+      let octets = entries_bytes setup number (entry ∷ entries) in
+      let block = list_of setup number (length octets) in
+      omega (
+        arith,
+        few,
+        length-append (block_bytes (is.IodWriteReq block)) octets,
+        long (is.IodWriteReq block),
+        written_size block good.ar,
+        entries_few setup number (entry ∷ entries) good short,
+      )
+
   record_few : (setup : Setup) (number : ℕ) (entries : List PlanRecord) (at : ℕ) → IsSetup setup → AreShort entries → length (write_blocks setup number (slice_get entries at)) ≤ 1372
   record_few setup number [] at good short = omega arith
   record_few setup number (entry ∷ entries) zero good short =
       omega (arith, length-append (block_bytes (is.IodWriteReq (write_of setup number entry))) entry.data.items, long (is.IodWriteReq (write_of setup number entry)), write_size (write_of setup number entry) good.ar, short.0)
   record_few setup number (entry ∷ entries) (suc at) good short = record_few setup number entries at good short.1
 
+  either_few : (b : Bool) (one other : List ℕ) → length one ≤ 1372 → length other ≤ 1372 → length (cond b one other) ≤ 1372
+  either_few true one other few more = few
+  either_few false one other few more = more
+
+  call_few : (b : Bool) → cond b 10 1 ≤ 10
+  call_few true = omega arith
+  call_few false = omega arith
+
   blocks_few : (setup : Setup) (request : Request) → IsSetup setup → length (blocks_for setup request) ≤ 1372
   blocks_few setup asks.Identify good = omega arith
   blocks_few setup asks.Address good = omega arith
   blocks_few setup asks.Connect good = connect_few setup good
-  blocks_few setup (asks.Write number) good = record_few setup number setup.plan.records.items number good good.plan.short_records
+  blocks_few setup (asks.Write number) good =
+      let records = setup.plan.records.items in
+      either_few setup.plan.multiple_write (list_blocks setup number (group_of setup.plan number)) (write_blocks setup number (slice_get records number))
+      (list_few setup number (group_of setup.plan number) good
+      (each_take (λ (entry : PlanRecord). length entry.data.items ≤ 64) (per_call setup.plan) (drop (first_of setup.plan number) records)
+      (each_drop (λ (entry : PlanRecord). length entry.data.items ≤ 64) (first_of setup.plan number) records good.plan.short_records))
+      (omega (arith, take_few (per_call setup.plan) (drop (first_of setup.plan number) records), call_few setup.plan.multiple_write)))
+      (record_few setup number records number good good.plan.short_records)
   blocks_few setup asks.PrmEnd good = omega (arith, long (is.PrmEnd (control_of setup 1)), control_size (control_of setup 1) good.ar)
   blocks_few setup (asks.Release sequence) good = omega (arith, long (is.Release (control_of setup 4)), release_size (control_of setup 4) good.ar)
 

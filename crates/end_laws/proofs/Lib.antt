@@ -12,6 +12,7 @@ pub mod TurnsWhole
 pub mod TurnsEnded
 pub mod TurnsInactive
 pub mod TurnsAlarms
+pub mod TurnsListed
 pub mod SendingSizes
 pub mod SendingTurns
 pub mod SendingAimed
@@ -25,5 +26,6 @@ pub mod BothGiven
 pub mod DeviceTurns
 mod DeviceConnects
 pub mod DeviceOwing
+pub mod DeviceLists
 pub mod DeviceWalk
 pub mod ControllerTurns

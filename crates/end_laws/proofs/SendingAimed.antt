@@ -12,9 +12,9 @@ use Rattle.pn_alarms.specs.declared.receiver.Taken.{Taken}
 use Rattle.pn_alarms.specs.declared.receiver.Taken.TheVariants.{New, Again, Refused}
 use Rattle.pn_alarms.specs.Receiver.{taken_as}
 use Rattle.pn_alarms.specs.Ends.{ControllerEnd}
-use Rattle.pn_alarms.specs.declared.priority.Priority.{Priority}
-use Rattle.pn_alarms.specs.declared.priority.Priority.TheVariants.{High, Low}
-use Rattle.pn_alarms.specs.declared.report.Report.{Report}
+use Rattle.alarm_reports.specs.declared.priority.Priority.{Priority}
+use Rattle.alarm_reports.specs.declared.priority.Priority.TheVariants.{High, Low}
+use Rattle.alarm_reports.specs.declared.report.Report.{Report}
 use Rattle.cyclic_exchange.specs.Cyclic.{Cyclic}
 use Rattle.cyclic_exchange.specs.Opening.{begun_of}
 use Rattle.cyclic_exchange.specs.Received.{behind_frame}
@@ -33,8 +33,8 @@ use Rattle.controller_core.specs.declared.state.State.TheVariants.{Addressing, C
 use Rattle.controller_core.specs.State.{Live}
 use Rattle.end_laws.specs.turns.Turns.{Came, Hears, IsKind, IsReadied, IsTurn, Kind, Rests, Connects, Addresses, Ends, Releases, Relates, Writes, Skips, Waits, Forgets, Begins, Repeats, Follows, Takes, IsAcked, Asks, IsReplied, Gives, GivesStatus, Flows, Breaks, Idles, came_by, turn_by}
 use Rattle.codec_laws.specs.frames.Sendable.{IsMac}
-use Rattle.controller_core.specs.Connect.{Chosen}
-use Rattle.controller_core.specs.Machine.{Turn, accesses_by, acking, acks_in, acks_of, asking, behind_data, brought, confirming, due_frames, end_of, first, flow_later, is_again, keeping, next_sequence, noted, over, pending_by, pending_of, phase_for, released, requests_of, standing, stays, taken, turn_of, where_due, with_end, writing}
+use Rattle.connect_answers.specs.Connect.{Chosen}
+use Rattle.controller_core.specs.Machine.{Turn, accesses_by, acking, acks_in, acks_of, asking, behind_data, brought, confirming, diagnosing, due_frames, end_of, first, flow_later, is_again, keeping, next_sequence, noted, over, pending_by, pending_of, phase_for, released, requests_of, standing, stays, taken, turn_of, where_due, with_end, writing}
 use Rattle.controller_core.specs.Alarms.{ack_of}
 use Rattle.end_laws.specs.hearing.Stations.{IsRecordCall, IsSetup}
 use Rattle.end_laws.specs.sending.Addressed.{IsAimed, IsAimedAt, IsDirection, IsEventFrom, IsHeardFrom}
@@ -87,10 +87,13 @@ module _ (mac : Mac) where
   keeping_aimed live High alarm structure is = record { device = is.device; asked = is.asked; way = is.way; access = is.access }
   keeping_aimed live Low alarm structure is = record { device = is.device; asked = is.asked; way = is.way; access = is.access }
 
+  diagnosing_aimed : (live : Live) (report : Report) → IsAimed live → IsAimed (diagnosing report live)
+  diagnosing_aimed live report is = record { device = is.device; asked = is.asked; way = is.way; access = is.access }
+
   confirming_aimed : (live : Live) (report : Report) → IsAimed live → IsAimed (confirming live report)
   confirming_aimed live report is =
-      keeping_aimed (acking live report.priority (ack_of report.notification)) report.priority _ report.user_structure
-      (with_end_aimed live report.priority _ is)
+      diagnosing_aimed _ report (keeping_aimed (acking live report.priority (ack_of report.notification)) report.priority _ report.user_structure
+      (with_end_aimed live report.priority _ is))
 
   taken_sent : (live : Live) (report : Report) (as_is : Taken) → IsAimed live → IsSent mac (taken live report as_is)
   taken_sent live report New is = let confirms = confirming_aimed live report is in record { live = confirms; sent = (is.way, (confirms.way, tt)) }
@@ -152,7 +155,7 @@ module _ (mac : Mac) where
     kind_sent (Releases why) holds = released_sent setup why live good is
     kind_sent (Relates chosen) holds = writing_sent setup 0 (standing setup live chosen) good (stands_aimed setup live chosen is)
     kind_sent (Writes number) holds = writing_sent setup (number + 1) live good is
-    kind_sent (Skips number status) holds = writing_sent setup (number + 1) (noted status number live) good (record { device = is.device; asked = is.asked; way = is.way; access = is.access })
+    kind_sent (Skips number refused status) holds = writing_sent setup (number + 1) (noted status refused live) good (record { device = is.device; asked = is.asked; way = is.way; access = is.access })
     kind_sent Waits holds = record { live = unasked live Waiting is; sent = tt }
     kind_sent Forgets holds = record { live = unasked live live.phase is; sent = tt }
     kind_sent (Begins caller call block) holds = record { live = begun_aimed live is; sent = (agrees caller call block holds.1, tt) }

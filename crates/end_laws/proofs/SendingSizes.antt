@@ -1,5 +1,5 @@
 -- The lengths of what a controller sends.
-use Rattle.std.proofs.Common.{◌≡◌, ◌≤◌, ◌<◌, ◌+◌, ◌%◌, ◌&&◌, nat_eq, nat_lt, ℕ, Bool, true, false, List, [], ◌∷◌, ◌++◌, length, Option, Some, None, Result, Ok, Err, if◌then◌else◌, refl, sym, ap, ◌∙◌, arith}
+use Rattle.std.proofs.Common.{◌≡◌, ◌≤◌, ◌<◌, ◌+◌, ◌/◌, ◌%◌, ◌&&◌, cond, nat_eq, nat_lt, ℕ, Bool, true, false, List, [], ◌∷◌, ◌++◌, length, Option, Some, None, Result, Ok, Err, if◌then◌else◌, refl, sym, ap, ◌∙◌, arith}
 use Rattle.std.specs.List.{AllByRecursion}
 use Rattle.std.specs.Cmp.Lexicographic.{pointwise, same_text}
 use Rattle.std.proofs.lemmas.Bool.{and_parts, ltb-true}
@@ -28,9 +28,9 @@ use Rattle.plans.specs.Plan.{IsPlan}
 use Rattle.controller_frames.specs.declared.request.Request.{Request}
 use Rattle.controller_frames.specs.declared.request.Request.TheVariants as asks
 use Rattle.controller_frames.specs.Heard.{Heard}
-use Rattle.controller_frames.specs.Requests.{writing_from}
+use Rattle.controller_frames.specs.Requests.{write_count, writing_from}
 use Rattle.controller_frames.specs.Sent.{Sent, ready_answer, ready_done}
-use Rattle.controller_core.specs.Access.{call_number}
+use Rattle.record_access.specs.Access.{call_number}
 use Rattle.controller_core.specs.Machine.{next_sequence, where_due}
 use Rattle.end_laws.specs.turns.Turns.{Came, Hears, Passes, Gets, GetsStatus, AsksRead, AsksWrite, Halts}
 use Rattle.rpc_core.specs.Sendable.{CanBeAnswered, IsHeader}
@@ -91,12 +91,20 @@ picked_few : (number : ℕ) (test : Bool) → (test ≡ true → number < 32) �
 picked_few number true few = few refl
 picked_few number false few = tt
 
+-- there are no more Writes than records
+few_by : (is_list : Bool) (count : ℕ) → count ≤ 32 → cond is_list ((count + 9) / 10) count ≤ 32
+few_by true count few = omega (arith, few)
+few_by false count few = few
+
+pub count_few : (plan : Parts) → IsPlan plan → write_count plan ≤ 32
+count_few plan is = few_by plan.multiple_write (length plan.records.items) is.few_records
+
 pub writing_few : (plan : Parts) (number : ℕ) → IsPlan plan → IsFew (writing_from plan number)
 writing_few plan number is =
-    picked_few number (nat_lt number (length plan.records.items)) (λ e. let below = ltb-true number (length plan.records.items) e in omega (arith, below, is.few_records))
+    picked_few number (nat_lt number (write_count plan)) (λ e. let below = ltb-true number (write_count plan) e in omega (arith, below, count_few plan is))
 
 pub number_few : (plan : Parts) (calls : ℕ) → call_number plan calls < 4294967296
-number_few plan calls = mod-lt (length plan.records.items + 2 + calls) (omega arith)
+number_few plan calls = mod-lt (write_count plan + 2 + calls) (omega arith)
 
 pub sequence_few : (plan : Parts) (calls : ℕ) (asked : Option Request) → AreFew asked → next_sequence plan calls asked < 4294967296
 sequence_few plan calls (Some asks.Connect) few = omega arith

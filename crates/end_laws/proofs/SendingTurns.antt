@@ -8,9 +8,9 @@ use Rattle.pn_alarms.specs.declared.message.Notice.TheVariants as notice
 use Rattle.pn_alarms.specs.Numbers.{ack_number, is_last, next_number, send_number}
 use Rattle.pn_alarms.specs.Sending.{Sending}
 use Rattle.pn_alarms.specs.Ends.{ControllerEnd}
-use Rattle.pn_alarms.specs.declared.priority.Priority.{Priority}
-use Rattle.pn_alarms.specs.declared.priority.Priority.TheVariants.{High, Low}
-use Rattle.pn_alarms.specs.declared.report.Report.{Report}
+use Rattle.alarm_reports.specs.declared.priority.Priority.{Priority}
+use Rattle.alarm_reports.specs.declared.priority.Priority.TheVariants.{High, Low}
+use Rattle.alarm_reports.specs.declared.report.Report.{Report}
 use Rattle.pn_values.specs.declared.mac.Mac.{Mac}
 use Rattle.dcp_core.specs.Response.{Answered}
 use Rattle.rpc_core.specs.Call.{Asked as Call}
@@ -33,7 +33,7 @@ use Rattle.controller_frames.specs.Requests.{writing_from}
 use Rattle.controller_frames.specs.Sent.{Agrees, ready_answer}
 use Rattle.controller_core.specs.declared.event.Event.{Event}
 use Rattle.controller_core.specs.declared.event.Event.TheVariants.{Frame, Give, Read, Status, Stop, Tick, Write}
-use Rattle.controller_core.specs.Access.{Accessing}
+use Rattle.record_access.specs.Access.{Accessing}
 use Rattle.controller_core.specs.declared.outputs.OutputMark.{OutputMark}
 use Rattle.controller_core.specs.declared.state.Cause.{Cause}
 use Rattle.controller_core.specs.declared.state.State.{State}
@@ -42,8 +42,8 @@ use Rattle.controller_core.specs.State.{Live}
 use Rattle.end_laws.specs.turns.Turns.{Came, Hears, IsKind, IsReadied, IsTurn, Kind, Rests, Connects, Addresses, Ends, Releases, Relates, Writes, Skips, Waits, Forgets, Begins, Repeats, Follows, Takes, IsAcked, Asks, IsReplied, Gives, GivesStatus, Flows, Breaks, Idles, came_by, turn_by}
 use Rattle.codec_laws.specs.frames.Sendable.{IsMac}
 use Rattle.controller_core.specs.Alarms.{ack_of, header_of}
-use Rattle.controller_core.specs.Connect.{Chosen}
-use Rattle.controller_core.specs.Machine.{Turn, accesses_by, acking, acks_in, acks_of, asking, behind_ack, behind_data, brought, confirming, due_frames, end_of, first, flow_later, given, is_again, keeping, later, next_sequence, noted, over, pending_by, pending_of, phase_for, rated, released, requests_of, standing, stays, taken, turn_of, where_due, with_end, writing}
+use Rattle.connect_answers.specs.Connect.{Chosen}
+use Rattle.controller_core.specs.Machine.{Turn, accesses_by, acking, acks_in, acks_of, asking, behind_ack, behind_data, brought, confirming, diagnosing, due_frames, end_of, first, flow_later, given, is_again, keeping, later, next_sequence, noted, over, pending_by, pending_of, phase_for, rated, released, requests_of, standing, stays, taken, turn_of, where_due, with_end, writing}
 use Rattle.codec_laws.specs.alarms.Sendable.{IsHeader}
 use Rattle.codec_laws.specs.blocks.Writable.{IsAck}
 use Rattle.end_laws.specs.hearing.Stations.{IsRecordCall, IsSetup}
@@ -156,10 +156,13 @@ keeping_live : (live : Live) (priority : Priority) (alarm : AlarmNotification) (
 keeping_live live High alarm structure is = record { device = is.device; asked = is.asked; way = is.way; few = is.few; high = is.high; low = is.low; access = is.access }
 keeping_live live Low alarm structure is = record { device = is.device; asked = is.asked; way = is.way; few = is.few; high = is.high; low = is.low; access = is.access }
 
+diagnosing_live : (live : Live) (report : Report) → IsLive live → IsLive (diagnosing report live)
+diagnosing_live live report is = record { device = is.device; asked = is.asked; way = is.way; few = is.few; high = is.high; low = is.low; access = is.access }
+
 confirming_live : (live : Live) (report : Report) → IsLive live → IsNoted report.notification → IsLive (confirming live report)
-confirming_live live report is noted =
-    keeping_live (acking live report.priority (ack_of report.notification)) report.priority _ report.user_structure
-    (acking_live live report.priority (ack_of report.notification) is (ack_is report.notification noted))
+confirming_live live report is known =
+    diagnosing_live _ report (keeping_live (acking live report.priority (ack_of report.notification)) report.priority _ report.user_structure
+    (acking_live live report.priority (ack_of report.notification) is (ack_is report.notification known)))
 
 taken_right : (setup : Setup) (live : Live) (report : Report) (as_is : Taken) → IsLive live → IsNoted report.notification → IsRight setup (taken live report as_is)
 taken_right setup live report New is noted =
@@ -277,7 +280,7 @@ module _ (long : BlocksAreLong) (setup : Setup) (live : Live) (came : Came) (goo
       let sized_so : IsSized (Responds holds.0.response) = reported (Hears (Responds holds.0.response)) holds.0.comes in
       writing_right setup 0 (standing setup live chosen) good (stands_live setup live chosen is (sized_so chosen holds.1))
   kind_right (Writes number) holds = writing_right setup (number + 1) live good is
-  kind_right (Skips number status) holds = writing_right setup (number + 1) (noted status number live) good
+  kind_right (Skips number refused status) holds = writing_right setup (number + 1) (noted status refused live) good
       (record { device = is.device; asked = is.asked; way = is.way; few = is.few; high = is.high; low = is.low; access = is.access })
   kind_right Waits holds = record { live = unasked live Waiting is; sent = tt }
   kind_right Forgets holds = record { live = unasked live live.phase is; sent = tt }

@@ -1,5 +1,5 @@
 -- Each turn of a controller is of one of the kinds.
-use Rattle.std.proofs.Common.{◌≡◌, inl, inr, ◌≤◌, ◌&&◌, ℕ, Bool, true, false, not, List, [], length, Option, Some, None, refl, sym, ap, subst, ◌∙◌, arith}
+use Rattle.std.proofs.Common.{◌≡◌, inl, inr, ◌≤◌, ◌+◌, ◌&&◌, ℕ, Bool, true, false, not, List, [], length, Option, Some, None, refl, sym, ap, subst, ◌∙◌, arith}
 use Rattle.std.specs.Prelude.{if◌then◌else◌, is_some, nat_lt, option_and_then}
 use Rattle.std.proofs.lemmas.Bool.{and_parts, false≢true, ltb-false}
 use Rattle.pn_values.specs.declared.mac.Mac.{Mac}
@@ -14,8 +14,8 @@ use Rattle.block_codec.specs.Block.{block_of}
 use Rattle.pn_alarms.specs.declared.abort.Abort.{Abort}
 use Rattle.pn_alarms.specs.declared.message.Notice.TheVariants as notice
 use Rattle.pn_alarms.specs.declared.pdu.Header.{Header}
-use Rattle.pn_alarms.specs.declared.priority.Priority.{Priority}
-use Rattle.pn_alarms.specs.Message.{ToController}
+use Rattle.alarm_reports.specs.declared.priority.Priority.{Priority}
+use Rattle.alarm_reports.specs.Message.{ToController}
 use Rattle.pn_alarms.specs.Sending.{due}
 use Rattle.cyclic_exchange.specs.Received.{behind_frame}
 use Rattle.controller_frames.specs.declared.record_request.RecordRequest.{RecordRequest}
@@ -28,6 +28,7 @@ use Rattle.controller_frames.specs.declared.request.Request.TheVariants as asks
 use Rattle.controller_frames.specs.Heard.{Heard, Nothing, Answers, Responds, Refuses, Calls, Alarms, heard_of}
 use Rattle.controller_frames.specs.Heard.{Cyclic as Comes}
 use Rattle.controller_frames.specs.RecordRequests.{most_record_octets}
+use Rattle.controller_frames.specs.Requests.{first_of}
 use Rattle.controller_frames.specs.Sent.{done as no_error}
 use Rattle.controller_core.specs.declared.event.Event.{Event}
 use Rattle.controller_core.specs.declared.event.Event.TheVariants.{Frame, Tick, Give, Status, Read, Write, Stop}
@@ -36,11 +37,15 @@ use Rattle.controller_core.specs.declared.state.Cause.TheVariants as why
 use Rattle.controller_core.specs.declared.state.State.{State}
 use Rattle.controller_core.specs.declared.state.State.TheVariants.{Looking, Addressing, Ending, Waiting, Exchanging, Ended}
 use Rattle.controller_core.specs.State.{Live}
-use Rattle.controller_core.specs.Access.{answered_with, is_rejected, is_reply, record_in}
+use Rattle.record_access.specs.Access.{answered_with, is_rejected, is_reply, record_in}
 use Rattle.controller_core.specs.Alarms.{is_alarm}
 use Rattle.controller_core.specs.Answers.{is_addressed, is_answer, is_found, is_ready, is_refused, is_right, is_set_answer}
-use Rattle.controller_core.specs.Connect.{Chosen, chosen_of, found_in, is_whole, nothing}
-use Rattle.controller_core.specs.Machine.{Turn, acked_under, answered, brings, brought, called, can_request, connected, decided, done, failed, flow_later, flowed, granted, is_again, is_exchanging, handled, later, noticed, readied, ready_in, past_record, refused, refused_by, rejected, related_by, replied, replied_by, request_for, requested, requests_of, responded, stays, stopped, turn_of, turned, undone, noted, where_due, written}
+use Rattle.connect_answers.specs.Connect.{Chosen, chosen_of, found_in, is_whole, nothing}
+use Rattle.controller_core.specs.declared.outcomes.Outcomes.{Outcomes}
+use Rattle.controller_core.specs.declared.outcomes.Outcomes.TheVariants.{AllWritten, Unreadable}
+use Rattle.controller_core.specs.declared.outcomes.Outcomes.TheVariants.{Refused as Denied}
+use Rattle.controller_core.specs.Outcomes.{are_written, is_all_written, outcomes_of}
+use Rattle.controller_core.specs.Machine.{Turn, acked_under, after_write, answered, brings, brought, called, can_request, connected, decided, done, failed, flow_later, flowed, granted, is_again, is_exchanging, handled, later, noticed, readied, ready_in, past_record, refused, refused_by, rejected, related_by, replied, replied_by, request_for, requested, requests_of, responded, stays, stopped, turn_of, turned, undone, noted, where_due, written}
 use Rattle.end_laws.specs.turns.Turns.{Came, Hears, Passes, Gets, GetsStatus, AsksRead, AsksWrite, Halts, Found, IsGoing, IsGranted, IsKind, IsReadied, IsSought, IsReported, IsTurn, Kind, Rests, Connects, Addresses, Ends, Releases, Relates, Writes, Skips, Waits, Forgets, Begins, Repeats, Follows, Takes, IsAcked, Gives, GivesStatus, Asks, IsReplied, Flows, Breaks, Idles, came_by, chosen_in, turn_by, turn_for}
 
 -- No other phase is an end.
@@ -139,28 +144,39 @@ module _ (setup : Setup) (live : Live) where
           (rests heard_now)
       connected_is None e = rests heard_now
 
+    -- a record is refused, which is the one with this number
+    passed_is : (number refused : ℕ) (status : Code) → live.asked ≡ Some (asks.Write number) → is_answer setup (asks.Write number) response.header ≡ true
+        → (is_done response.status && are_written setup.plan number response.blocks) ≡ false
+        → IsTurn setup live heard_now (past_record setup number (noted status refused live))
+    passed_is number refused status stood right negative =
+        by_cases setup.plan.continue_on_refused_record
+        (λ goes. as_kind heard_now (Skips number refused status)
+        (record { stood = stood; response = response; comes = refl; right = right; refused = negative; goes_on = goes }))
+        (λ ends. as_kind heard_now (Ends why.Refused (Some status) (Some (record { number = refused; status = status })))
+        (asked_going (asks.Write number) stood refl))
+
+    -- a Write is answered, and this became of its records
+    outcomes_is : (number : ℕ) → live.asked ≡ Some (asks.Write number) → is_answer setup (asks.Write number) response.header ≡ true → is_done response.status ≡ true
+        → (outcomes : Outcomes) → outcomes_of setup.plan number response.blocks ≡ outcomes → IsTurn setup live heard_now (after_write setup live number outcomes)
+    outcomes_is number stood right granted AllWritten e = as_kind heard_now (Writes number) (granted_by (asks.Write number) stood right granted, ap is_all_written e)
+    outcomes_is number stood right granted (Denied place status) e =
+        passed_is number (first_of setup.plan number + place) status stood right
+        (ap (λ (b : Bool). b && are_written setup.plan number response.blocks) granted ∙ ap is_all_written e)
+    outcomes_is number stood right granted Unreadable e = rests heard_now
+
     done_is : (request : Request) → live.asked ≡ Some request → is_answer setup request response.header ≡ true → is_done response.status ≡ true
         → IsTurn setup live heard_now (done setup live response.blocks request)
     done_is asks.Identify stood right granted = rests heard_now
     done_is asks.Address stood right granted = rests heard_now
     done_is asks.Connect stood right granted = connected_is stood right granted (found_in 400 response.blocks nothing) refl
-    done_is (asks.Write number) stood right granted = as_kind heard_now (Writes number) (granted_by (asks.Write number) stood right granted)
+    done_is (asks.Write number) stood right granted = outcomes_is number stood right granted (outcomes_of setup.plan number response.blocks) refl
     done_is asks.PrmEnd stood right granted = as_kind heard_now Waits (granted_by asks.PrmEnd stood right granted)
     done_is (asks.Release sequence) stood right granted = forgets sequence stood right
 
-    -- a record is refused
-    passed_is : (number : ℕ) → live.asked ≡ Some (asks.Write number) → is_answer setup (asks.Write number) response.header ≡ true → is_done response.status ≡ false
-        → IsTurn setup live heard_now (past_record setup number (noted response.status number live))
-    passed_is number stood right negative =
-        by_cases setup.plan.continue_on_refused_record
-        (λ goes. as_kind heard_now (Skips number response.status)
-        (record { stood = stood; response = response; comes = refl; right = right; refused = negative; goes_on = goes }))
-        (λ ends. as_kind heard_now (Ends why.Refused (Some response.status) (Some (record { number = number; status = response.status })))
-        (asked_going (asks.Write number) stood refl))
-
     undone_is : (request : Request) → live.asked ≡ Some request → is_answer setup request response.header ≡ true → is_release request ≡ false → is_done response.status ≡ false
         → IsTurn setup live heard_now (undone setup live response.status request)
-    undone_is (asks.Write number) stood right other negative = passed_is number stood right negative
+    undone_is (asks.Write number) stood right other negative =
+        passed_is number (first_of setup.plan number) response.status stood right (ap (λ (b : Bool). b && are_written setup.plan number response.blocks) negative)
     undone_is request stood right other negative = as_kind heard_now (Ends why.Refused (Some response.status) live.refused_record) (asked_going request stood other)
 
     handled_is : (request : Request) → live.asked ≡ Some request → is_answer setup request response.header ≡ true → is_release request ≡ false
@@ -249,7 +265,7 @@ module _ (setup : Setup) (live : Live) where
   noticed_is source under header (notice.Data number report) up = as_kind _ (Takes number report) (up, source, under, header, refl)
   noticed_is source under header (notice.Ack number) up = as_kind _ (IsAcked (acked_under live under) number) (up, source, under, header, refl, refl)
   noticed_is source under header notice.Nack up = rests _
-  noticed_is source under header notice.Abort up = as_kind _ (Ends why.Aborted live.refusal live.refused_record) (up_going up)
+  noticed_is source under header (notice.Abort status) up = as_kind _ (Ends why.Aborted live.refusal live.refused_record) (up_going up)
 
   come_is : (source : Mac) (frame_id : ℕ) (body : List ℕ) (is : Bool) → live.stands ≡ is
       → IsTurn setup live (Hears (Comes source frame_id body)) (stays (if is then record live { cyclic = behind_frame live.cyclic source frame_id body } else live))

@@ -4,9 +4,9 @@ use Rattle.std.proofs.Common.{◌≡◌, ◌⊎◌, inl, inr, ◌+◌, ◌++◌,
 use Rattle.record_blocks.specs.declared.alarm_notification.AlarmNotification.{AlarmNotification}
 use Rattle.pn_alarms.specs.declared.receiver.Taken.{Taken}
 use Rattle.pn_alarms.specs.declared.receiver.Taken.TheVariants.{New, Again, Refused}
-use Rattle.pn_alarms.specs.declared.priority.Priority.{Priority}
-use Rattle.pn_alarms.specs.declared.priority.Priority.TheVariants.{High, Low}
-use Rattle.pn_alarms.specs.declared.report.Report.{Report}
+use Rattle.alarm_reports.specs.declared.priority.Priority.{Priority}
+use Rattle.alarm_reports.specs.declared.priority.Priority.TheVariants.{High, Low}
+use Rattle.alarm_reports.specs.declared.report.Report.{Report}
 use Rattle.pn_alarms.specs.Controller.{confirmed, with_ack, with_data}
 use Rattle.pn_alarms.specs.Ends.{ControllerEnd}
 use Rattle.pn_alarms.specs.Receiver.{taken_as}
@@ -21,7 +21,7 @@ use Rattle.controller_core.specs.declared.state.Cause.{Cause}
 use Rattle.controller_core.specs.declared.state.State.TheVariants.{Ended}
 use Rattle.controller_core.specs.State.{Controlling, Live}
 use Rattle.controller_core.specs.Alarms.{ack_of, kept_alarm}
-use Rattle.controller_core.specs.Machine.{Turn, acking, behind_ack, behind_data, cause_of, confirming, end_of, first, flow_later, fresh, keeping, noted, over, phase_for, released, standing, stays, step_of, taken, turn_of, with_end, writing}
+use Rattle.controller_core.specs.Machine.{Turn, acking, behind_ack, behind_data, cause_of, confirming, diagnosing, end_of, first, flow_later, fresh, keeping, noted, over, phase_for, released, standing, stays, step_of, taken, turn_of, with_end, writing}
 use Rattle.end_laws.specs.turns.Ended.{HasEnded, may_release}
 use Rattle.end_laws.specs.turns.Runs.{IsReached, behind_all}
 use Rattle.end_laws.specs.turns.Turns.{Came, IsEnd, IsKind, IsReported, Kind, Rests, Connects, Addresses, Ends, Releases, Relates, Writes, Skips, Waits, Forgets, Begins, Repeats, Follows, Takes, IsAcked, Gives, GivesStatus, Asks, IsReplied, Flows, Breaks, Idles, came_by, turn_by}
@@ -99,11 +99,16 @@ alike_on live next after one other = record {
   waits = other.waits ∙ one.waits;
 }
 
+diagnosing_alike : (live after : Live) (report : Report) → IsAlike live after → IsAlike live (diagnosing report after)
+diagnosing_alike live after report is = record { phase = is.phase; stands = is.stands; asked = is.asked; waits = is.waits }
+
 confirming_alike : (live : Live) (report : Report) → IsAlike live (confirming live report)
 confirming_alike live report =
-    alike_on live (acking live report.priority (ack_of report.notification)) (confirming live report)
+    let acked = acking live report.priority (ack_of report.notification) in
+    let kept = keeping acked report.priority (kept_alarm report.notification) report.user_structure in
+    diagnosing_alike live kept report (alike_on live acked kept
     (end_alike live report.priority (confirmed (end_of live report.priority) (ack_of report.notification)))
-    (keeping_alike (acking live report.priority (ack_of report.notification)) report.priority (kept_alarm report.notification) report.user_structure)
+    (keeping_alike acked report.priority (kept_alarm report.notification) report.user_structure))
 
 alike_kept : (live next : Live) (sent : List Sent) → IsAlike live next → Kept (stays live) → Kept (record { live = next; sent = sent })
 alike_kept live next sent is k = same live next sent is.phase is.stands is.asked (inl is.waits) k
@@ -121,7 +126,7 @@ kept_by setup live came (Ends cause refusal refused) holds k = ends cause (recor
 kept_by setup live came (Releases cause) holds k = releases setup cause live holds.1
 kept_by setup live came (Relates chosen) holds k = writing_kept (writing_from setup.plan 0) (standing setup live chosen)
 kept_by setup live came (Writes number) holds k = writing_kept (writing_from setup.plan (number + 1)) live
-kept_by setup live came (Skips number status) holds k = writing_kept (writing_from setup.plan (number + 1)) (noted status number live)
+kept_by setup live came (Skips number refused status) holds k = writing_kept (writing_from setup.plan (number + 1)) (noted status refused live)
 kept_by setup live came Waits holds k = goes_on _ _ refl
 kept_by setup live came Forgets holds k = unasked live k
 kept_by setup live came (Begins caller call block) holds k = goes_on _ _ refl

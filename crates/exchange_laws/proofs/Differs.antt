@@ -15,7 +15,7 @@ use Rattle.startup_law.specs.request.Request.{request_for}
 use Rattle.relations.specs.Connect.{connect_blocks, differing_of}
 use Rattle.controller_frames.specs.declared.setup.Setup.{Setup}
 use Rattle.end_laws.specs.hearing.Stations.{IsDevice, IsSetup}
-use Rattle.controller_core.specs.Connect.{Chosen, Keeps, chosen_by, found_in, is_looked_for, next_found, nothing, with_alarm, with_block}
+use Rattle.connect_answers.specs.Connect.{Chosen, Keeps, chosen_by, found_in, is_looked_for, next_found, nothing, with_alarm, with_block}
 use Rattle.end_laws.specs.sending.Sized.{Found}
 use Rattle.exchange_laws.specs.Sized.{IsChosenWell}
 

@@ -8,11 +8,11 @@ use Rattle.connect_blocks.specs.declared.control.ControlBlock.{ControlBlock}
 use Rattle.record_blocks.specs.declared.alarm_ack.AlarmAck.{AlarmAck}
 use Rattle.record_blocks.specs.declared.alarm_notification.AlarmNotification.{AlarmNotification}
 use Rattle.pn_alarms.specs.Ends.{ControllerEnd}
-use Rattle.pn_alarms.specs.declared.priority.Priority.{Priority}
-use Rattle.pn_alarms.specs.declared.priority.Priority.TheVariants.{High, Low}
+use Rattle.alarm_reports.specs.declared.priority.Priority.{Priority}
+use Rattle.alarm_reports.specs.declared.priority.Priority.TheVariants.{High, Low}
 use Rattle.pn_alarms.specs.declared.receiver.Taken.{Taken}
 use Rattle.pn_alarms.specs.declared.receiver.Taken.TheVariants.{New, Again, Refused}
-use Rattle.pn_alarms.specs.declared.report.Report.{Report}
+use Rattle.alarm_reports.specs.declared.report.Report.{Report}
 use Rattle.pn_alarms.specs.Receiver.{taken_as}
 use Rattle.pn_values.specs.declared.mac.Mac.{Mac}
 use Rattle.device_core.specs.State.{Station}
@@ -28,7 +28,7 @@ use Rattle.controller_core.specs.declared.event.Event.TheVariants as event
 use Rattle.controller_core.specs.declared.state.State.{State}
 use Rattle.controller_core.specs.declared.state.State.TheVariants.{Exchanging}
 use Rattle.controller_core.specs.Alarms.{ack_of}
-use Rattle.controller_core.specs.Machine.{Turn, accesses_by, acking, acks_in, acks_of, asking, behind_data, brought, due_frames, end_of, flow_later, is_again, is_exchanging, keeping, pending_by, pending_of, phase_for, ready_in, requests_of, taken, turn_of, where_due, with_end}
+use Rattle.controller_core.specs.Machine.{Turn, accesses_by, acking, diagnosing, acks_in, acks_of, asking, behind_data, brought, due_frames, end_of, flow_later, is_again, is_exchanging, keeping, pending_by, pending_of, phase_for, ready_in, requests_of, taken, turn_of, where_due, with_end}
 use Rattle.controller_core.specs.State.{Live}
 use Rattle.controller_core.specs.Answers.{is_ready}
 use Rattle.end_laws.specs.both.Small as small
@@ -91,9 +91,13 @@ keeping_early : (live : Live) (priority : Priority) (alarm : AlarmNotification) 
 keeping_early live High alarm structure is = record { phase = is.phase; waiting = is.waiting }
 keeping_early live Low alarm structure is = record { phase = is.phase; waiting = is.waiting }
 
+diagnosing_early : (report : Report) (live : Live) → IsEarlyAt live → IsEarlyAt (diagnosing report live)
+diagnosing_early report live is = record { phase = is.phase; waiting = is.waiting }
+
 taken_early : (live : Live) (report : Report) (as_is : Taken) → IsEarlyAt live → EarlyTurn (taken live report as_is)
 taken_early live report New is = record {
-  live = keeping_early (acking live report.priority (ack_of report.notification)) report.priority _ report.user_structure (with_end_early live report.priority _ is);
+  live = diagnosing_early report _
+      (keeping_early (acking live report.priority (ack_of report.notification)) report.priority _ report.user_structure (with_end_early live report.priority _ is));
   sent = (tt, (tt, tt));
 }
 taken_early live report Again is = record { live = is; sent = (tt, tt) }
@@ -148,7 +152,7 @@ module _ (setup : Setup) (live : Live) (came : Came) (is : IsEarlyAt live) (unre
   kind_early (Releases why) holds = record { live = record { phase = refl; waiting = refl }; sent = (tt, tt) }
   kind_early (Relates chosen) holds = record { live = record { phase = written_phase (writing_from setup.plan 0); waiting = is.waiting }; sent = (tt, tt) }
   kind_early (Writes number) holds = record { live = record { phase = written_phase (writing_from setup.plan (number + 1)); waiting = is.waiting }; sent = (tt, tt) }
-  kind_early (Skips number status) holds = record { live = record { phase = written_phase (writing_from setup.plan (number + 1)); waiting = is.waiting }; sent = (tt, tt) }
+  kind_early (Skips number refused status) holds = record { live = record { phase = written_phase (writing_from setup.plan (number + 1)); waiting = is.waiting }; sent = (tt, tt) }
   kind_early Waits holds = record { live = record { phase = refl; waiting = is.waiting }; sent = tt }
   kind_early Forgets holds = record { live = record { phase = is.phase; waiting = is.waiting }; sent = tt }
   kind_early (Begins caller call block) holds = absurd (readies caller call block holds.1)

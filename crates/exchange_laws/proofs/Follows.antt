@@ -1,5 +1,5 @@
--- Both ends of a network, as the alarms of a relation that some moves led to.
-use Rattle.std.proofs.Common.{◌≡◌, ◌⊎◌, inl, inr, ◌==◌, ◌++◌, ℕ, Bool, true, false, cond, List, [], ◌∷◌, map, length, Option, Some, None, option_map, Result, Ok, refl, sym, ap, subst, ◌∙◌, append-nil, append_assoc, arith}
+-- Both ends of a network, as the alarms of one priority of a relation that some moves led to.
+use Rattle.std.proofs.Common.{◌≡◌, ◌⊎◌, inl, inr, ◌==◌, ◌&&◌, ◌||◌, ◌++◌, ℕ, Bool, true, false, cond, List, [], ◌∷◌, map, length, Option, Some, None, option_map, Result, Ok, refl, sym, ap, subst, ◌∙◌, append-nil, append_assoc, arith}
 use Rattle.std.specs.Prelude.{nat_lt, slice_get, unwrap_or}
 use Rattle.std.specs.List.{AllByRecursion}
 use Rattle.std.proofs.lemmas.Bool.{eq-eqb, false≢true, ltb-false}
@@ -19,6 +19,7 @@ use Rattle.controller_frames.specs.declared.record_request.RecordService.TheVari
 use Rattle.controller_frames.specs.RecordRequests.{record_blocks, service_operation}
 use Rattle.connect_requests.specs.Request.{Request}
 use Rattle.records.specs.declared.writes.taken.TakenRecord.{TakenRecord}
+use Rattle.pn_alarms.specs.Abort.{status_of}
 use Rattle.pn_alarms.specs.declared.message.Notice.{Notice}
 use Rattle.pn_alarms.specs.declared.message.Notice.TheVariants as notice
 use Rattle.pn_alarms.specs.declared.pdu.Header.{Header}
@@ -28,10 +29,10 @@ use Rattle.pn_alarms.specs.declared.receiver.Taken.{Taken}
 use Rattle.pn_alarms.specs.declared.receiver.Taken.TheVariants.{New, Again as Once_more, Refused as Not_taken}
 use Rattle.pn_alarms.specs.Device.{idle}
 use Rattle.pn_alarms.specs.Receiver.{taken_as}
-use Rattle.pn_alarms.specs.declared.priority.Priority.{Priority}
-use Rattle.pn_alarms.specs.declared.priority.Priority.TheVariants.{High}
-use Rattle.pn_alarms.specs.declared.report.Report.{Report}
-use Rattle.pn_alarms.specs.Report.{ours}
+use Rattle.alarm_reports.specs.declared.priority.Priority.{Priority}
+use Rattle.alarm_reports.specs.declared.priority.Priority.TheVariants.{High, Low}
+use Rattle.alarm_reports.specs.declared.report.Report.{Report}
+use Rattle.reported_diagnosis.specs.Channel.{channel_report}
 use Rattle.cyclic_exchange.specs.declared.route.Route.{Route}
 use Rattle.relations.specs.Connect.{connect_of}
 use Rattle.relations.specs.RelationState.{RelationState}
@@ -48,9 +49,9 @@ use Rattle.controller_frames.specs.Heard.{heard_of as heard_by}
 use Rattle.controller_frames.specs.Sent as said
 use Rattle.controller_core.specs.declared.event.Event.{Event}
 use Rattle.controller_core.specs.declared.event.Event.TheVariants as event
-use Rattle.controller_core.specs.Machine.{Turn, alarmed, turn_of, turned}
+use Rattle.controller_core.specs.Machine.{Turn, alarmed, end_of, turn_of, turned}
 use Rattle.controller_core.specs.State.{Live as ControllerLive}
-use Rattle.end_laws.specs.turns.Alarms.{Relation, Move, AlarmComes, AckComes, Hears, PassesAtController, Gives, GivesStatus, Reads, Stops, Writes, ack_comes, alarm_comes, behind, behind_one, is_looked_at, start, turns}
+use Rattle.end_laws.specs.turns.Alarms.{IsQuiet, Relation, Move, AlarmComes, Hears, PassesAtController, Gives, GivesStatus, Reads, Stops, Writes, alarm_comes, behind, behind_one, is_looked_at, is_priority, report_as, start, turns}
 use Rattle.end_laws.specs.both.Small as small
 use Rattle.end_laws.specs.both.Small.{Rules, ToDevice}
 use Rattle.end_laws.specs.both.Steps.{DeviceSteps}
@@ -60,8 +61,8 @@ use Rattle.end_laws.specs.device.Small as ends
 use Rattle.startup_law.specs.View.{IsSaidAs, is_planned, rules_of, says_to_device}
 use Rattle.exchange_laws.proofs.Early.{EarlyTurn, IsEarlyAt, IsEarlyFrame, IsUnreadyAt, messages_early, turn_early}
 use Rattle.exchange_laws.proofs.OutputsTurns.{KindsSo}
-use Rattle.exchange_laws.proofs.Reported.{IsCallIn, IsCalledAs, IsGood, IsNotedAs, IsNotedBy, IsReportedAs, IsWell, IsWellSent, noted_at, noted_by, noted_in, noted_of, reply_of, reported_in, reported_of}
-use Rattle.exchange_laws.specs.Over.{taken_by, taken_of}
+use Rattle.exchange_laws.proofs.Reported.{IsCallIn, IsCalledAs, IsGood, IsNotedAs, IsNotedBy, IsReportedAs, IsWell, IsWellSent, ack_in, alarm_in, data_in, noted_at, noted_by, noted_of, reported_in, reported_of, reported_reply}
+use Rattle.exchange_laws.specs.Over.{taken_by}
 use Rattle.exchange_laws.proofs.Lists.{Extends, each_behind, each_on, more_extends, none_some, some_is, unchanged}
 use Rattle.end_laws.specs.hearing.Stations.{IsSetup}
 use Rattle.startup_law.specs.request.Request.{request_for}
@@ -77,42 +78,63 @@ use Rattle.exchange_laws.proofs.Tied.{Goes, IsFresh, IsHeard, IsSaid, IsTied, he
 -- What either end hears of alarms in the frame was said. A Connect in it is the first call, and each call has its
 -- sizes. What the controller hears in it comes from its device, and a positive response to the Connect chooses a
 -- suitable FrameID for outputs.
-pub record IsIn (setup : Setup) (identity : Identity) (r : Relation) (frame : List ℕ) : Type 0 where
-  pub noted : IsSaid r.alarms.pdus r.acks (noted_of setup frame)
-  pub reported : IsHeard r.reported (reported_of identity frame)
+pub record IsIn (priority : Priority) (setup : Setup) (identity : Identity) (r : Relation) (frame : List ℕ) : Type 0 where
+  pub noted : IsSaid r.alarms.pdus (alarm_in priority (noted_of setup frame))
+  pub reported : IsHeard priority r.reported (ack_in priority (reported_of identity frame))
   pub first : (sequence : ℕ) → heard_as (is_planned setup) (heard_of identity (Frame (record { items = frame }))) ≡ small.Call sequence small.Connects → sequence ≡ 0
   pub called : IsCallIn setup (heard_of identity (Frame (record { items = frame })))
   pub good : IsGood identity.mac (heard_by setup.plan.controller frame)
   pub well : IsWell setup (heard_by setup.plan.controller frame)
 
-in_stays : (setup : Setup) (identity : Identity) (r next : Relation) (frame : List ℕ) → Extends r.alarms.pdus next.alarms.pdus → Extends r.acks next.acks → Extends r.reported next.reported
-    → IsIn setup identity r frame → IsIn setup identity next frame
-in_stays setup identity r next frame p a t is = record {
-  noted = said_stays r.alarms.pdus next.alarms.pdus r.acks next.acks (noted_of setup frame) p a is.noted;
-  reported = heard_stays r.reported next.reported (reported_of identity frame) t is.reported;
+in_stays : (priority : Priority) (setup : Setup) (identity : Identity) (r next : Relation) (frame : List ℕ) → Extends r.alarms.pdus next.alarms.pdus → Extends r.reported next.reported
+    → IsIn priority setup identity r frame → IsIn priority setup identity next frame
+in_stays priority setup identity r next frame p t is = record {
+  noted = said_stays r.alarms.pdus next.alarms.pdus (alarm_in priority (noted_of setup frame)) p is.noted;
+  reported = heard_stays priority r.reported next.reported (ack_in priority (reported_of identity frame)) t is.reported;
   first = is.first;
   called = is.called;
   good = is.good;
   well = is.well;
 }
 
+-- what is no data is quiet
+abbrev IsPlainMove : Move → Type 0
+IsPlainMove (Hears heard) = ⊥
+IsPlainMove other = Unit {0}
+
+quiet_move : (move : Move) → IsPlainMove move → (priority : Priority) → IsQuiet priority move
+quiet_move move plain High = tt
+quiet_move (Hears heard) plain Low = absurd plain
+quiet_move move plain Low = tt
+
+abbrev IsPlainHeard : controller.Heard → Type 0
+IsPlainHeard (controller.Alarms source under header (notice.Data number report)) = ⊥
+IsPlainHeard other = Unit {0}
+
+quiet_heard : (heard : controller.Heard) (priority : Priority) → IsPlainHeard heard → IsQuiet priority (Hears heard)
+quiet_heard heard High plain = tt
+quiet_heard (controller.Alarms source under header (notice.Data number report)) Low plain = absurd plain
+quiet_heard heard Low plain = tt
+
 -- ---- both ends
 
 abbrev pub kept_at : Setup → Live → Option small.Kept
 kept_at setup live = (small_of setup.activity live).kept
 
-pub record Follows (setup : Setup) (station : Station) (live : Live) (controlling : ControllerLive) (sent : List (List ℕ)) (raised taken : List AlarmNotification) : Type 0 where
+pub record Follows (priority : Priority) (setup : Setup) (station : Station) (live : Live) (controlling : ControllerLive) (sent : List (List ℕ)) (raised taken : List AlarmNotification) : Type 0 where
   pub relation : Relation
   pub moves : List Move
-  pub made : behind setup moves (start setup) ≡ relation
+  pub made : behind priority setup moves (start setup) ≡ relation
+  pub quiet : AllByRecursion (IsQuiet priority) moves
   pub same : relation.live ≡ controlling
   pub raises : relation.alarms.sent ≡ raised
   pub takes : relation.alarms.taken ≡ taken
-  pub tied : IsTied relation live.rest.link
+  pub tied : IsTied priority relation live.rest.link
   pub unmade : kept_at setup live ≡ None → relation.device ≡ idle 1 3
+  pub unraised : kept_at setup live ≡ None → raised ≡ []
   pub linked : (link : small.RelationState TakenRecord Request) → (small_of setup.activity live).link ≡ Some link → kept_at setup live ≡ None → ⊥
-  pub again : (answer : small.Kept) → kept_at setup live ≡ Some answer → IsIn setup station.identity relation answer.frame
-  pub frames : AllByRecursion (IsIn setup station.identity relation) sent
+  pub again : (answer : small.Kept) → kept_at setup live ≡ Some answer → IsIn priority setup station.identity relation answer.frame
+  pub frames : AllByRecursion (IsIn priority setup station.identity relation) sent
   -- until the device answered a call, no data is exchanged, and the application makes no request
   pub early : kept_at setup live ≡ None → IsEarlyAt controlling × AllByRecursion (IsEarlyFrame setup station) sent
   -- the addresses differ, and the numbers have their sizes
@@ -123,9 +145,9 @@ pub record Follows (setup : Setup) (station : Station) (live : Live) (controllin
   pub lives : IsLive controlling
   pub placed : IsPlaced station.identity.mac controlling
 
-runs_on : (setup : Setup) (moves more : List Move) (r : Relation) → behind setup (moves ++ more) r ≡ behind setup more (behind setup moves r)
-runs_on setup [] more r = refl
-runs_on setup (move ∷ moves) more r = runs_on setup moves more (behind_one setup r move)
+runs_on : (priority : Priority) (setup : Setup) (moves more : List Move) (r : Relation) → behind priority setup (moves ++ more) r ≡ behind priority setup more (behind priority setup moves r)
+runs_on priority setup [] more r = refl
+runs_on priority setup (move ∷ moves) more r = runs_on priority setup moves more (behind_one priority setup r move)
 
 -- ---- the response that is stored, and the relation
 
@@ -206,15 +228,15 @@ early_by setup station frame says is_idle at_most other = (λ sequence e. idle_c
     by_saying e (inl none) = nothing_readies (sym none ∙ e)
     by_saying e (inr same) = other (sym same ∙ e)
 
-module _ (setup : Setup) (station : Station) (live : Live) (controlling : ControllerLive) (sent : List (List ℕ)) (raised taken : List AlarmNotification)
-    (follows : Follows setup station live controlling sent raised taken) where
+module _ (priority : Priority) (setup : Setup) (station : Station) (live : Live) (controlling : ControllerLive) (sent : List (List ℕ)) (raised taken : List AlarmNotification)
+    (follows : Follows priority setup station live controlling sent raised taken) where
   abbrev rules : Rules TakenRecord Request
   rules = rules_of setup station
 
   module _ (heard : Heard) (planned : IsPlanned rules setup.activity station.real heard)
       (first : (sequence : ℕ) → heard_as (is_planned setup) heard ≡ small.Call sequence small.Connects → sequence ≡ 0)
       (late : (sequence : ℕ) → heard_as (is_planned setup) heard ≡ small.Call sequence small.Accesses → kept_at setup live ≡ None → ⊥) where
-    unlinked : (link : Option RelationState) → live.rest.link ≡ link → kept_at setup live ≡ None → live.rest.link ≡ None
+    pub unlinked : (link : Option RelationState) → live.rest.link ≡ link → kept_at setup live ≡ None → live.rest.link ≡ None
     unlinked None e none = e
     unlinked (Some link) e none = absurd (follows.linked (link_of link) (ap (λ (l : Option RelationState). option_map link_of l) e) none)
 
@@ -246,7 +268,7 @@ module _ (setup : Setup) (station : Station) (live : Live) (controlling : Contro
         ap (λ (l : Option RelationState). connect_of l makes.blocks) (unlinked live.rest.link refl unkept) ∙ (ap (λ (b : List ℕ). connect_of None b) (sym same) ∙ asks) in
         (unkept, same_ok makes.request rules.request (sym makes.read ∙ reads))
 
-    pub makes_fresh : (after : Option RelationState) (messages : List Sent) → IsFresh setup follows.relation live.rest.calls live.rest.link heard after messages
+    pub makes_fresh : (after : Option RelationState) (messages : List Sent) → IsFresh priority setup follows.relation live.rest.calls live.rest.link heard after messages
     makes_fresh after messages makes =
         let so = makes_planned after messages makes in
         ap (λ (r : Request). idle r.alarm.timeout_factor r.alarm.retries) so.1 ∙ sym (follows.unmade so.0)
@@ -257,7 +279,7 @@ module _ (setup : Setup) (station : Station) (live : Live) (controlling : Contro
         (meant : AllByRecursion (IsHeardAs rules station.identity) (heard_step outcomes station live heard).sent)
         (noted : AllByRecursion (IsNotedAs setup station.identity) (heard_step outcomes station live heard).sent)
         (well : AllByRecursion (IsWellSent setup station.identity) (heard_step outcomes station live heard).sent)
-        (goes : Goes setup follows.relation live.rest.link (heard_step outcomes station live heard).live.rest.link (heard_step outcomes station live heard).sent now)
+        (goes : Goes priority setup follows.relation live.rest.link (heard_step outcomes station live heard).live.rest.link (heard_step outcomes station live heard).sent now)
         (sized : AreSizedIn (request_for setup.plan setup.ar) (heard_step outcomes station live heard).live.rest.link) where
       abbrev r : Relation
       r = follows.relation
@@ -265,44 +287,44 @@ module _ (setup : Setup) (station : Station) (live : Live) (controlling : Contro
       abbrev next : Relation
       next = goes.next
 
-      stays : (frame : List ℕ) → IsIn setup station.identity r frame → IsIn setup station.identity next frame
-      stays frame is = in_stays setup station.identity r next frame goes.pdus goes.acks (subst (λ (reported : List said.Sent). Extends r.reported reported) (sym goes.reported) (unchanged r.reported)) is
+      stays : (frame : List ℕ) → IsIn priority setup station.identity r frame → IsIn priority setup station.identity next frame
+      stays frame is = in_stays priority setup station.identity r next frame goes.pdus (subst (λ (reported : List said.Sent). Extends r.reported reported) (sym goes.reported) (unchanged r.reported)) is
 
       -- the frame of a repeated response
-      again_in : (frame : List ℕ) → IsOfKept heard live frame → IsIn setup station.identity next frame
+      again_in : (frame : List ℕ) → IsOfKept heard live frame → IsIn priority setup station.identity next frame
       again_in frame owed_so =
           let plan : IsPlannedCall rules setup.activity station.real owed_so.call = subst (λ (h : Heard). IsPlanned rules setup.activity station.real h) owed_so.is planned in
           let kept : kept_of setup.activity live.rest.calls ≡ Some owed_so.kept = ap (λ (a : List ℕ). kept_of a live.rest.calls) (sym plan.own) ∙ owed_so.there in
-          subst (λ (f : List ℕ). IsIn setup station.identity next f) owed_so.same
+          subst (λ (f : List ℕ). IsIn priority setup station.identity next f) owed_so.same
           (stays owed_so.kept.frame (follows.again (kept_in owed_so.kept) (ap (λ (k : Option Answer). option_map kept_in k) kept)))
 
-      in_by : (frame : List ℕ) (says : Option (Notice AlarmNotification)) → IsNotedBy setup station.identity frame says → IsSaid next.alarms.pdus next.acks says
-          → rules.to_device frame ≡ small.Idle → IsWell setup (heard_by setup.plan.controller frame) → IsIn setup station.identity next frame
+      in_by : (frame : List ℕ) (says : Option (Notice Report)) → IsNotedBy setup station.identity frame says → IsSaid next.alarms.pdus (alarm_in priority says)
+          → rules.to_device frame ≡ small.Idle → IsWell setup (heard_by setup.plan.controller frame) → IsIn priority setup station.identity next frame
       in_by frame says heard_so is idle_is well_so = record {
         noted = as_said heard_so.0;
-        reported = subst (λ (o : Option (Notice AlarmAck)). IsHeard next.reported o) (sym heard_so.1) tt;
+        reported = subst (λ (o : Option (Option Priority × Notice AlarmAck)). IsHeard priority next.reported (ack_in priority o)) (sym heard_so.1) tt;
         first = λ sequence e. absurd (idle_call sequence (sym idle_is ∙ e));
         called = λ caller address call is_call other. absurd (other idle_is);
         good = heard_so.2;
         well = well_so;
       }
         where
-          as_said : (noted_of setup frame ≡ says) ⊎ (noted_of setup frame ≡ None) → IsSaid next.alarms.pdus next.acks (noted_of setup frame)
-          as_said (inl same) = subst (λ (o : Option (Notice AlarmNotification)). IsSaid next.alarms.pdus next.acks o) (sym same) is
-          as_said (inr none) = subst (λ (o : Option (Notice AlarmNotification)). IsSaid next.alarms.pdus next.acks o) (sym none) tt
+          as_said : (noted_of setup frame ≡ says) ⊎ (noted_of setup frame ≡ None) → IsSaid next.alarms.pdus (alarm_in priority (noted_of setup frame))
+          as_said (inl same) = subst (λ (o : Option (Notice Report)). IsSaid next.alarms.pdus (alarm_in priority o)) (sym same) is
+          as_said (inr none) = subst (λ (o : Option (Notice Report)). IsSaid next.alarms.pdus (alarm_in priority o)) (sym none) tt
 
           idle_call : (sequence : ℕ) → small.Idle ≡ small.Call sequence small.Connects → ⊥
           idle_call sequence e = absurd cc
 
       message_in : (message : Sent) → IsOwed heard live message → IsHeardAs rules station.identity message → IsNotedAs setup station.identity message
-          → IsWellSent setup station.identity message → IsSaid next.alarms.pdus next.acks (noted_in message) → IsIn setup station.identity next (bytes_of station.identity message)
+          → IsWellSent setup station.identity message → IsSaid next.alarms.pdus (data_in priority message) → IsIn priority setup station.identity next (bytes_of station.identity message)
       message_in (Again frame) owed_so heard_so noted_so well_so is = again_in frame owed_so
       message_in (Exchanges route frame) owed_so heard_so noted_so well_so is = in_by _ (noted_by frame) noted_so is heard_so.0 well_so
-      message_in (Ends farewell) owed_so heard_so noted_so well_so is = in_by _ (Some notice.Abort) noted_so is heard_so.0 well_so
+      message_in (Ends farewell) owed_so heard_so noted_so well_so is = in_by _ (Some (notice.Abort (status_of farewell.reason))) noted_so is heard_so.0 well_so
       message_in other owed_so heard_so noted_so well_so is = in_by _ None noted_so is heard_so.0 well_so
 
       messages_in : (messages : List Sent) → AllByRecursion (IsOwed heard live) messages → AllByRecursion (IsHeardAs rules station.identity) messages → AllByRecursion (IsNotedAs setup station.identity) messages
-          → AllByRecursion (IsWellSent setup station.identity) messages → AllByRecursion (λ message. IsSaid next.alarms.pdus next.acks (noted_in message)) messages → AllByRecursion (IsIn setup station.identity next) (map (bytes_of station.identity) messages)
+          → AllByRecursion (IsWellSent setup station.identity) messages → AllByRecursion (λ message. IsSaid next.alarms.pdus (data_in priority message)) messages → AllByRecursion (IsIn priority setup station.identity next) (map (bytes_of station.identity) messages)
       messages_in [] owed_so heard_so noted_so well_so is = tt
       messages_in (message ∷ messages) owed_so heard_so noted_so well_so is =
           (message_in message owed_so.0 heard_so.0 noted_so.0 well_so.0 is.0, messages_in messages owed_so.1 heard_so.1 noted_so.1 well_so.1 is.1)
@@ -327,11 +349,11 @@ module _ (setup : Setup) (station : Station) (live : Live) (controlling : Contro
       unfolding heard_step handled_step
       frames_early none = messages_early_so none (heard_step outcomes station live heard).sent owed meant
 
-      frames_in : AllByRecursion (IsIn setup station.identity next) (heard_step outcomes station live heard).frames
+      frames_in : AllByRecursion (IsIn priority setup station.identity next) (heard_step outcomes station live heard).frames
       unfolding heard_step handled_step
       frames_in = messages_in (heard_step outcomes station live heard).sent owed meant noted well goes.said
 
-      pub device_follows : Follows setup station (heard_step outcomes station live heard).live controlling (sent ++ (heard_step outcomes station live heard).frames) (raised ++ now) taken
+      pub device_follows : Follows priority setup station (heard_step outcomes station live heard).live controlling (sent ++ (heard_step outcomes station live heard).frames) (raised ++ now) taken
       device_follows =
           let step = heard_step outcomes station live heard in
           let before = small_of setup.activity live in
@@ -339,18 +361,22 @@ module _ (setup : Setup) (station : Station) (live : Live) (controlling : Contro
           record {
             relation = next;
             moves = follows.moves ++ goes.moves;
-            made = runs_on setup follows.moves goes.moves (start setup) ∙ (ap (λ (x : Relation). behind setup goes.moves x) follows.made ∙ goes.made);
+            made = runs_on priority setup follows.moves goes.moves (start setup) ∙ (ap (λ (x : Relation). behind priority setup goes.moves x) follows.made ∙ goes.made);
+            quiet = each_behind (IsQuiet priority) follows.moves goes.moves follows.quiet goes.quiet;
             same = goes.live ∙ follows.same;
             raises = goes.raised ∙ ap (λ (xs : List AlarmNotification). xs ++ now) follows.raises;
             takes = goes.taken ∙ follows.takes;
             tied = goes.tied;
             unmade = λ none. let was = none_kept rules (heard_as (is_planned setup) heard) before after step.frames steps none in
                 ap (λ (x : Relation). x.device) (goes.still (unlinked live.rest.link refl was)) ∙ follows.unmade was;
+            unraised = λ none. let was = none_kept rules (heard_as (is_planned setup) heard) before after step.frames steps none in
+                sym (goes.raised ∙ ap (λ (xs : List AlarmNotification). xs ++ now) follows.raises)
+                ∙ (ap (λ (x : Relation). x.alarms.sent) (goes.still (unlinked live.rest.link refl was)) ∙ (follows.raises ∙ follows.unraised was));
             linked = linked_on rules (heard_as (is_planned setup) heard) before after step.frames steps follows.linked;
-            again = kept_is rules (IsIn setup station.identity next) (heard_as (is_planned setup) heard) before after step.frames steps
+            again = kept_is rules (IsIn priority setup station.identity next) (heard_as (is_planned setup) heard) before after step.frames steps
                 (λ answer is. stays answer.frame (follows.again answer is)) frames_in;
-            frames = each_behind (IsIn setup station.identity next) sent step.frames
-                (each_on (IsIn setup station.identity r) (IsIn setup station.identity next) sent stays follows.frames) frames_in;
+            frames = each_behind (IsIn priority setup station.identity next) sent step.frames
+                (each_on (IsIn priority setup station.identity r) (IsIn priority setup station.identity next) sent stays follows.frames) frames_in;
             early = λ none. let was = none_kept rules (heard_as (is_planned setup) heard) before after step.frames steps none in
                 let until = follows.early was in
                 (until.0, each_behind (IsEarlyFrame setup station) sent step.frames until.1 (frames_early was));
@@ -368,26 +394,26 @@ module _ (setup : Setup) (station : Station) (live : Live) (controlling : Contro
   record Turned (turn : Turn) (now : List AlarmNotification) : Type 0 where
     next : Relation
     moves : List Move
-    made : behind setup moves follows.relation ≡ next
+    made : behind priority setup moves follows.relation ≡ next
+    quiet : AllByRecursion (IsQuiet priority) moves
     live_is : next.live ≡ turn.live
     reported_is : next.reported ≡ follows.relation.reported ++ turn.sent
     device_is : next.device ≡ follows.relation.device
     pdus_are : next.alarms.pdus ≡ follows.relation.alarms.pdus
-    acks_are : next.acks ≡ follows.relation.acks
     raised_are : next.alarms.sent ≡ follows.relation.alarms.sent
     taken_are : next.alarms.taken ≡ follows.relation.alarms.taken ++ now
 
-  -- a turn that has nothing to do with alarm data and ACKs
-  turned_by : (move : Move) (turn : Turn) → behind_one setup follows.relation move ≡ turns follows.relation turn → Turned turn []
-  turned_by move turn is = record {
+  -- a turn that has nothing to do with alarm data of this priority
+  turned_by : (move : Move) (turn : Turn) → IsQuiet priority move → behind_one priority setup follows.relation move ≡ turns follows.relation turn → Turned turn []
+  turned_by move turn quiet is = record {
     next = turns follows.relation turn;
     moves = move ∷ [];
     made = is;
+    quiet = (quiet, tt);
     live_is = refl;
     reported_is = refl;
     device_is = refl;
     pdus_are = refl;
-    acks_are = refl;
     raised_are = refl;
     taken_are = sym (append-nil follows.relation.alarms.taken);
   }
@@ -397,84 +423,116 @@ module _ (setup : Setup) (station : Station) (live : Live) (controlling : Contro
   more_is taken_so_far alarm Once_more = sym (append-nil taken_so_far)
   more_is taken_so_far alarm Not_taken = sym (append-nil taken_so_far)
 
-  data_turned : (source : Mac) (under : Priority) (header : Header) (number : ℕ) (alarm : AlarmNotification) → IsSaid follows.relation.alarms.pdus follows.relation.acks (Some (notice.Data number alarm))
-      → Turned (alarmed follows.relation.live source under header (notice.Data number (ours alarm))) (taken_of follows.relation.live source header (notice.Data number (ours alarm)))
+  abbrev looked_taken : Mac → Header → ℕ → AlarmNotification → List AlarmNotification
+  looked_taken source header number alarm =
+      cond (is_looked_at follows.relation source header) (more_taken [] alarm (taken_as (end_of follows.relation.live priority).seen number)) []
+
+  data_turned : (source : Mac) (under : Priority) (header : Header) (number : ℕ) (alarm : AlarmNotification) → IsSaid follows.relation.alarms.pdus (Some (number, alarm))
+      → Turned (alarmed follows.relation.live source under header (notice.Data number (report_as priority alarm))) (looked_taken source header number alarm)
   data_turned source under header number alarm is =
       let r = follows.relation in
-      let turn = alarmed r.live source High header (notice.Data number (ours alarm)) in
-      let next : Relation = record (turns r turn) { alarms = cond (is_looked_at r source header) (with_come r.alarms r.live.alarms.seen (number, alarm)) r.alarms } in
+      let turn = alarmed r.live source under header (notice.Data number (report_as priority alarm)) in
+      let next : Relation = record (turns r turn) { alarms = cond (is_looked_at r source header) (with_come r.alarms (end_of r.live priority).seen (number, alarm)) r.alarms } in
       record {
         next = next;
-        moves = AlarmComes source header is.0 ∷ [];
-        made = ap (λ (o : Option (ℕ × AlarmNotification)). alarm_comes r source header o) is.1;
+        moves = AlarmComes source under header is.0 ∷ [];
+        made = ap (λ (o : Option (ℕ × AlarmNotification)). alarm_comes priority r source under header o) is.1;
+        quiet = (alarms_quiet priority, tt);
         live_is = refl;
         reported_is = refl;
         device_is = refl;
         pdus_are = same_pdus (is_looked_at r source header);
-        acks_are = refl;
         raised_are = same_sent (is_looked_at r source header);
         taken_are = more_or (is_looked_at r source header);
       }
     where
-      same_pdus : (b : Bool) → (cond b (with_come follows.relation.alarms follows.relation.live.alarms.seen (number, alarm)) follows.relation.alarms).pdus ≡ follows.relation.alarms.pdus
+      alarms_quiet : (p : Priority) → IsQuiet p (AlarmComes source under header is.0)
+      alarms_quiet High = tt
+      alarms_quiet Low = tt
+
+      same_pdus : (b : Bool) → (cond b (with_come follows.relation.alarms (end_of follows.relation.live priority).seen (number, alarm)) follows.relation.alarms).pdus ≡ follows.relation.alarms.pdus
       same_pdus true = refl
       same_pdus false = refl
 
-      same_sent : (b : Bool) → (cond b (with_come follows.relation.alarms follows.relation.live.alarms.seen (number, alarm)) follows.relation.alarms).sent ≡ follows.relation.alarms.sent
+      same_sent : (b : Bool) → (cond b (with_come follows.relation.alarms (end_of follows.relation.live priority).seen (number, alarm)) follows.relation.alarms).sent ≡ follows.relation.alarms.sent
       same_sent true = refl
       same_sent false = refl
 
-      more_or : (b : Bool) → (cond b (with_come follows.relation.alarms follows.relation.live.alarms.seen (number, alarm)) follows.relation.alarms).taken
-          ≡ follows.relation.alarms.taken ++ cond b (more_taken [] alarm (taken_as follows.relation.live.alarms.seen number)) []
-      more_or true = more_is follows.relation.alarms.taken alarm (taken_as follows.relation.live.alarms.seen number)
+      more_or : (b : Bool) → (cond b (with_come follows.relation.alarms (end_of follows.relation.live priority).seen (number, alarm)) follows.relation.alarms).taken
+          ≡ follows.relation.alarms.taken ++ cond b (more_taken [] alarm (taken_as (end_of follows.relation.live priority).seen number)) []
+      more_or true = more_is follows.relation.alarms.taken alarm (taken_as (end_of follows.relation.live priority).seen number)
       more_or false = sym (append-nil follows.relation.alarms.taken)
 
-  report_turned : (source : Mac) (under : Priority) (header : Header) (number : ℕ) (report : Report) → IsSaid follows.relation.alarms.pdus follows.relation.acks (Some (notice.Data number report.notification))
-      → report ≡ ours report.notification
-      → Turned (alarmed follows.relation.live source under header (notice.Data number report)) (taken_of follows.relation.live source header (notice.Data number report))
-  report_turned source under header number report is own =
-      subst (λ (one : Report). Turned (alarmed follows.relation.live source under header (notice.Data number one)) (taken_of follows.relation.live source header (notice.Data number one))) (sym own)
+  -- data of this priority, or of the other
+  same_priority : (one other : Priority) → is_priority one other ≡ true → other ≡ one
+  same_priority High High e = refl
+  same_priority Low Low e = refl
+  same_priority High Low e = absurd cc
+  same_priority Low High e = absurd cc
+
+  and_false : (b : Bool) → (b && false) ≡ false
+  and_false true = refl
+  and_false false = refl
+
+  -- data of high priority of this product's device reports no diagnosis
+  high_silent : (alarm : AlarmNotification) → channel_report (report_as High alarm) ≡ None
+  high_silent alarm = rw (and_false (alarm.alarm_type == 1 || alarm.alarm_type == 0x000C)) refl
+
+  other_quiet : (p : Priority) (source : Mac) (under : Priority) (header : Header) (number : ℕ) (report : Report) → is_priority p report.priority ≡ false → report ≡ report_as report.priority report.notification
+      → IsQuiet p (Hears (controller.Alarms source under header (notice.Data number report)))
+  other_quiet High source under header number report e own = tt
+  other_quiet Low source under header number report e own = by_priority report.priority e own
+    where
+      by_priority : (q : Priority) → is_priority Low q ≡ false → report ≡ report_as q report.notification → channel_report report ≡ None
+      by_priority High f same = ap (λ (one : Report). channel_report one) same ∙ high_silent report.notification
+      by_priority Low f same = absurd cc
+
+  report_turned : (source : Mac) (under : Priority) (header : Header) (number : ℕ) (report : Report) (b : Bool) → is_priority priority report.priority ≡ b
+      → IsSaid follows.relation.alarms.pdus (cond b (Some (number, report.notification)) None) → report ≡ report_as report.priority report.notification
+      → Turned (alarmed follows.relation.live source under header (notice.Data number report)) (cond (b && is_looked_at follows.relation source header) (more_taken [] report.notification (taken_as (end_of follows.relation.live priority).seen number)) [])
+  report_turned source under header number report true e is own =
+      let same : report ≡ report_as priority report.notification = own ∙ ap (λ (p : Priority). report_as p report.notification) (same_priority priority report.priority e) in
+      subst (λ (one : Report). Turned (alarmed follows.relation.live source under header (notice.Data number one)) (looked_taken source header number report.notification)) (sym same)
       (data_turned source under header number report.notification is)
+  report_turned source under header number report false e is own =
+      turned_by (Hears (controller.Alarms source under header (notice.Data number report))) (alarmed follows.relation.live source under header (notice.Data number report))
+      (other_quiet priority source under header number report e own)
+      (ap (λ (b : Bool). cond b follows.relation (turns follows.relation (alarmed follows.relation.live source under header (notice.Data number report)))) e)
 
-  ack_turned : (source : Mac) (under : Priority) (header : Header) (number : ℕ) → IsSaid follows.relation.alarms.pdus follows.relation.acks (Some (notice.Ack number)) → under ≡ High
-      → Turned (alarmed follows.relation.live source under header (notice.Ack number)) []
-  ack_turned source under header number is high =
-      subst (λ (p : Priority). Turned (alarmed follows.relation.live source p header (notice.Ack number)) []) (sym high)
-      (turned_by (AckComes source header is.0) (alarmed follows.relation.live source High header (notice.Ack number)) (ap (λ (o : Option ℕ). ack_comes follows.relation source header o) is.1))
-
-  heard_turned : (reported : controller.Heard) → IsSaid follows.relation.alarms.pdus follows.relation.acks (noted_at reported) → IsGood station.identity.mac reported
-      → Turned (turned setup follows.relation.live reported) (taken_by follows.relation.live reported)
-  heard_turned (controller.Alarms source under header (notice.Data number report)) is own = report_turned source under header number report is own.1
-  heard_turned (controller.Alarms source under header (notice.Ack number)) is own = ack_turned source under header number is own.1
-  heard_turned (controller.Alarms source under header notice.Nack) is own = turned_by (Hears (controller.Alarms source under header notice.Nack)) _ refl
-  heard_turned (controller.Alarms source under header notice.Abort) is own = turned_by (Hears (controller.Alarms source under header notice.Abort)) _ refl
-  heard_turned controller.Nothing is own = turned_by (Hears controller.Nothing) _ refl
-  heard_turned (controller.Answers source answer) is own = turned_by (Hears (controller.Answers source answer)) _ refl
-  heard_turned (controller.Responds response) is own = turned_by (Hears (controller.Responds response)) _ refl
-  heard_turned (controller.Refuses refusal) is own = turned_by (Hears (controller.Refuses refusal)) _ refl
-  heard_turned (controller.Calls caller call) is own = turned_by (Hears (controller.Calls caller call)) _ refl
-  heard_turned (controller.Cyclic source frame_id body) is own = turned_by (Hears (controller.Cyclic source frame_id body)) _ refl
+  heard_turned : (reported : controller.Heard) → IsSaid follows.relation.alarms.pdus (alarm_in priority (noted_at reported)) → IsGood station.identity.mac reported
+      → Turned (turned setup follows.relation.live reported) (taken_by priority follows.relation.live reported)
+  heard_turned (controller.Alarms source under header (notice.Data number report)) is own =
+      report_turned source under header number report (is_priority priority report.priority) refl is own.1
+  heard_turned (controller.Alarms source under header (notice.Ack number)) is own = turned_by (Hears (controller.Alarms source under header (notice.Ack number))) _ (quiet_heard (controller.Alarms source under header (notice.Ack number)) priority tt) refl
+  heard_turned (controller.Alarms source under header notice.Nack) is own = turned_by (Hears (controller.Alarms source under header notice.Nack)) _ (quiet_heard (controller.Alarms source under header notice.Nack) priority tt) refl
+  heard_turned (controller.Alarms source under header (notice.Abort status)) is own = turned_by (Hears (controller.Alarms source under header (notice.Abort status))) _ (quiet_heard (controller.Alarms source under header (notice.Abort status)) priority tt) refl
+  heard_turned controller.Nothing is own = turned_by (Hears controller.Nothing) _ (quiet_heard controller.Nothing priority tt) refl
+  heard_turned (controller.Answers source answer) is own = turned_by (Hears (controller.Answers source answer)) _ (quiet_heard (controller.Answers source answer) priority tt) refl
+  heard_turned (controller.Responds response) is own = turned_by (Hears (controller.Responds response)) _ (quiet_heard (controller.Responds response) priority tt) refl
+  heard_turned (controller.Refuses refusal) is own = turned_by (Hears (controller.Refuses refusal)) _ (quiet_heard (controller.Refuses refusal) priority tt) refl
+  heard_turned (controller.Calls caller call) is own = turned_by (Hears (controller.Calls caller call)) _ (quiet_heard (controller.Calls caller call) priority tt) refl
+  heard_turned (controller.Cyclic source frame_id body) is own = turned_by (Hears (controller.Cyclic source frame_id body)) _ (quiet_heard (controller.Cyclic source frame_id body) priority tt) refl
 
   -- what is delivered is among what was said, and comes from the device, and the alarms accepted with it; until the device
   -- answered a call it is no ApplicationReady
   abbrev pub IsEventIn : Event → Type 0
   IsEventIn (event.Frame bytes) =
-      IsSaid follows.relation.alarms.pdus follows.relation.acks (noted_of setup bytes.items) × IsGood station.identity.mac (heard_by setup.plan.controller bytes.items)
+      IsSaid follows.relation.alarms.pdus (alarm_in priority (noted_of setup bytes.items)) × IsGood station.identity.mac (heard_by setup.plan.controller bytes.items)
       × (kept_at setup live ≡ None → IsEarlyFrame setup station bytes.items)
   IsEventIn other = Unit {0}
 
   abbrev pub taken_at : Event → List AlarmNotification
-  taken_at (event.Frame bytes) = taken_by follows.relation.live (heard_by setup.plan.controller bytes.items)
+  taken_at (event.Frame bytes) = taken_by priority follows.relation.live (heard_by setup.plan.controller bytes.items)
   taken_at other = []
 
   event_turned : (one : Event) → IsEventIn one → Turned (turn_of setup follows.relation.live one) (taken_at one)
   event_turned (event.Frame bytes) is = heard_turned (heard_by setup.plan.controller bytes.items) is.0 is.1
-  event_turned event.Tick is = turned_by PassesAtController _ refl
-  event_turned (event.Give slot subslot value) is = turned_by (Gives slot subslot value.items) _ refl
-  event_turned (event.Status slot subslot is_good) is = turned_by (GivesStatus slot subslot is_good) _ refl
-  event_turned (event.Read slot subslot index) is = turned_by (Reads slot subslot index) _ refl
-  event_turned (event.Write slot subslot index octets) is = turned_by (Writes slot subslot index octets.items) _ refl
-  event_turned event.Stop is = turned_by Stops _ refl
+  event_turned event.Tick is = turned_by PassesAtController _ (quiet_move PassesAtController tt priority) refl
+  event_turned (event.Give slot subslot value) is = turned_by (Gives slot subslot value.items) _ (quiet_move (Gives slot subslot value.items) tt priority) refl
+  event_turned (event.Status slot subslot is_good) is = turned_by (GivesStatus slot subslot is_good) _ (quiet_move (GivesStatus slot subslot is_good) tt priority) refl
+  event_turned (event.Read slot subslot index) is = turned_by (Reads slot subslot index) _ (quiet_move (Reads slot subslot index) tt priority) refl
+  event_turned (event.Write slot subslot index octets) is = turned_by (Writes slot subslot index octets.items) _ (quiet_move (Writes slot subslot index octets.items) tt priority) refl
+  event_turned event.Stop is = turned_by Stops _ (quiet_move Stops tt priority) refl
 
   event_unready : (one : Event) → IsEventIn one → kept_at setup live ≡ None → IsUnreadyAt setup one
   event_unready (event.Frame bytes) is none = (is.2 none).1
@@ -499,14 +557,22 @@ module _ (setup : Setup) (station : Station) (live : Live) (controlling : Contro
     subst (λ (all : List said.Sent). AllByRecursion (λ one. (k : ℕ) × (slice_get all k ≡ Some one)) messages) (append_assoc front (message ∷ []) messages) (placed (front ++ message ∷ []) messages),
   )
 
-  reply_heard : (reported : List said.Sent) (route : Route) (priority : Priority) (header : Header) (kind : PduType) (k : ℕ) → header.kind ≡ kind → slice_get reported k ≡ Some (said.Replies route priority header)
-      → IsHeard reported (reply_of header.ack_number kind)
-  reply_heard reported route priority header pdu.Ack k is there = record { place = k; route = route; priority = priority; header = header; there = there; kind = is; same = refl }
-  reply_heard reported route priority header other k is there = tt
+  confirm_heard : (p q : Priority) (reported : List said.Sent) (route : Route) (header : Header) (ack : AlarmAck) (k : ℕ) → slice_get reported k ≡ Some (said.Confirms route q header ack)
+      → IsHeard p reported (ack_in p (reported_in (said.Confirms route q header ack)))
+  confirm_heard High High reported route header ack k there = record { place = k; route = route; header = header; there = there; same = refl }
+  confirm_heard Low Low reported route header ack k there = record { place = k; route = route; header = header; there = there; same = refl }
+  confirm_heard High Low reported route header ack k there = tt
+  confirm_heard Low High reported route header ack k there = tt
 
-  said_heard : (reported : List said.Sent) (message : said.Sent) (k : ℕ) → slice_get reported k ≡ Some message → IsHeard reported (reported_in message)
-  said_heard reported (said.Confirms route High header ack) k there = record { place = k; route = route; header = header; there = there; same = refl }
-  said_heard reported (said.Replies route priority header) k there = reply_heard reported route priority header header.kind k refl there
+  reply_heard : (reported : List said.Sent) (p : Priority) (number : ℕ) (kind : PduType) → IsHeard priority reported (ack_in priority (reported_reply p number kind))
+  reply_heard reported p number pdu.Ack = tt
+  reply_heard reported p number pdu.Nack = tt
+  reply_heard reported p number pdu.Data = tt
+  reply_heard reported p number pdu.Error = tt
+
+  said_heard : (reported : List said.Sent) (message : said.Sent) (k : ℕ) → slice_get reported k ≡ Some message → IsHeard priority reported (ack_in priority (reported_in message))
+  said_heard reported (said.Confirms route q header ack) k there = confirm_heard priority q reported route header ack k there
+  said_heard reported (said.Replies route q header) k there = reply_heard reported q header.ack_number header.kind
   said_heard reported other k there = tt
 
   -- the Connect of the controller is the call of number 0
@@ -530,9 +596,9 @@ module _ (setup : Setup) (station : Station) (live : Live) (controlling : Contro
   first_said other sequence e = absurd cc
 
   said_in : (next : Relation) (message : said.Sent) → (k : ℕ) × (slice_get next.reported k ≡ Some message) → IsSaidAs setup station message → IsReportedAs setup station.identity message
-      → IsCalledAs setup station.identity message → IsIn setup station.identity next (said.bytes_of setup message)
+      → IsCalledAs setup station.identity message → IsIn priority setup station.identity next (said.bytes_of setup message)
   said_in next message there meant reported called = record {
-    noted = subst (λ (h : controller.Heard). IsSaid next.alarms.pdus next.acks (noted_at h)) (sym reported.1) tt;
+    noted = subst (λ (h : controller.Heard). IsSaid next.alarms.pdus (alarm_in priority (noted_at h))) (sym reported.1) tt;
     reported = as_reported reported.0;
     first = λ sequence e. as_first sequence e meant.1;
     called = called;
@@ -541,9 +607,9 @@ module _ (setup : Setup) (station : Station) (live : Live) (controlling : Contro
   }
     where
       as_reported : (reported_of station.identity (said.bytes_of setup message) ≡ reported_in message) ⊎ (reported_of station.identity (said.bytes_of setup message) ≡ None)
-          → IsHeard next.reported (reported_of station.identity (said.bytes_of setup message))
-      as_reported (inl same) = subst (λ (o : Option (Notice AlarmAck)). IsHeard next.reported o) (sym same) (said_heard next.reported message there.0 there.1)
-      as_reported (inr none) = subst (λ (o : Option (Notice AlarmAck)). IsHeard next.reported o) (sym none) tt
+          → IsHeard priority next.reported (ack_in priority (reported_of station.identity (said.bytes_of setup message)))
+      as_reported (inl same) = subst (λ (o : Option (Option Priority × Notice AlarmAck)). IsHeard priority next.reported (ack_in priority o)) (sym same) (said_heard next.reported message there.0 there.1)
+      as_reported (inr none) = subst (λ (o : Option (Option Priority × Notice AlarmAck)). IsHeard priority next.reported (ack_in priority o)) (sym none) tt
 
       idle_call : (sequence : ℕ) → small.Idle ≡ small.Call sequence small.Connects → ⊥
       idle_call sequence e = absurd cc
@@ -555,36 +621,37 @@ module _ (setup : Setup) (station : Station) (live : Live) (controlling : Contro
 
   all_said_in : (then : Relation) (messages : List said.Sent) → AllByRecursion (λ message. (k : ℕ) × (slice_get then.reported k ≡ Some message)) messages
       → AllByRecursion (IsSaidAs setup station) messages → AllByRecursion (IsReportedAs setup station.identity) messages
-      → AllByRecursion (IsCalledAs setup station.identity) messages → AllByRecursion (IsIn setup station.identity then) (map (said.bytes_of setup) messages)
+      → AllByRecursion (IsCalledAs setup station.identity) messages → AllByRecursion (IsIn priority setup station.identity then) (map (said.bytes_of setup) messages)
   all_said_in then [] there meant reported called = tt
   all_said_in then (message ∷ messages) there meant reported called =
       (said_in then message there.0 meant.0 reported.0 called.0, all_said_in then messages there.1 meant.1 reported.1 called.1)
 
   turn_follows : (turn : Turn) (now : List AlarmNotification) → Turned turn now → AllByRecursion (IsSaidAs setup station) turn.sent → AllByRecursion (IsReportedAs setup station.identity) turn.sent
       → AllByRecursion (IsCalledAs setup station.identity) turn.sent → IsLive turn.live → IsPlaced station.identity.mac turn.live → (kept_at setup live ≡ None → EarlyTurn turn)
-      → Follows setup station live turn.live (sent ++ map (said.bytes_of setup) turn.sent) raised (taken ++ now)
+      → Follows priority setup station live turn.live (sent ++ map (said.bytes_of setup) turn.sent) raised (taken ++ now)
   turn_follows turn now turned_so meant reported called lives placed_so early_so =
       let r = follows.relation in
       let next = turned_so.next in
       let pdus : Extends r.alarms.pdus next.alarms.pdus = subst (λ (xs : List (ℕ × AlarmNotification)). Extends r.alarms.pdus xs) (sym turned_so.pdus_are) (unchanged r.alarms.pdus) in
-      let acks : Extends r.acks next.acks = subst (λ (xs : List ℕ). Extends r.acks xs) (sym turned_so.acks_are) (unchanged r.acks) in
       let more : Extends r.reported next.reported = subst (λ (xs : List said.Sent). Extends r.reported xs) (sym turned_so.reported_is) (more_extends r.reported turn.sent) in
-      let stays = λ (frame : List ℕ) (is : IsIn setup station.identity r frame). in_stays setup station.identity r next frame pdus acks more is in
+      let stays = λ (frame : List ℕ) (is : IsIn priority setup station.identity r frame). in_stays priority setup station.identity r next frame pdus more is in
       let places : AllByRecursion (λ message. (k : ℕ) × (slice_get next.reported k ≡ Some message)) turn.sent =
       subst (λ (all : List said.Sent). AllByRecursion (λ one. (k : ℕ) × (slice_get all k ≡ Some one)) turn.sent) (sym turned_so.reported_is) (placed r.reported turn.sent) in
       record {
         relation = next;
         moves = follows.moves ++ turned_so.moves;
-        made = runs_on setup follows.moves turned_so.moves (start setup) ∙ (ap (λ (x : Relation). behind setup turned_so.moves x) follows.made ∙ turned_so.made);
+        made = runs_on priority setup follows.moves turned_so.moves (start setup) ∙ (ap (λ (x : Relation). behind priority setup turned_so.moves x) follows.made ∙ turned_so.made);
+        quiet = each_behind (IsQuiet priority) follows.moves turned_so.moves follows.quiet turned_so.quiet;
         same = turned_so.live_is;
         raises = turned_so.raised_are ∙ follows.raises;
         takes = turned_so.taken_are ∙ ap (λ (xs : List AlarmNotification). xs ++ now) follows.takes;
         tied = λ l is. follows.tied l is ∙ sym turned_so.device_is;
         unmade = λ none. turned_so.device_is ∙ follows.unmade none;
+        unraised = follows.unraised;
         linked = follows.linked;
         again = λ answer is. stays answer.frame (follows.again answer is);
-        frames = each_behind (IsIn setup station.identity next) sent (map (said.bytes_of setup) turn.sent)
-            (each_on (IsIn setup station.identity r) (IsIn setup station.identity next) sent stays follows.frames)
+        frames = each_behind (IsIn priority setup station.identity next) sent (map (said.bytes_of setup) turn.sent)
+            (each_on (IsIn priority setup station.identity r) (IsIn priority setup station.identity next) sent stays follows.frames)
             (all_said_in next turn.sent places meant reported called);
         early = λ none. let now_so = early_so none in
             (now_so.live, each_behind (IsEarlyFrame setup station) sent (map (said.bytes_of setup) turn.sent) (follows.early none).1 (messages_early setup station turn.sent now_so.sent meant));
@@ -600,11 +667,11 @@ module _ (setup : Setup) (station : Station) (live : Live) (controlling : Contro
   pub controller_follows : KindsSo → (one : Event) → IsEventIn one → AllByRecursion (IsSaidAs setup station) (turn_of setup controlling one).sent
       → AllByRecursion (IsReportedAs setup station.identity) (turn_of setup controlling one).sent
       → AllByRecursion (IsCalledAs setup station.identity) (turn_of setup controlling one).sent
-      → IsLive (turn_of setup controlling one).live → IsPlaced station.identity.mac (turn_of setup controlling one).live → Follows setup station live (turn_of setup controlling one).live (sent ++ map (said.bytes_of setup) (turn_of setup controlling one).sent) raised (taken ++ taken_at one)
+      → IsLive (turn_of setup controlling one).live → IsPlaced station.identity.mac (turn_of setup controlling one).live → Follows priority setup station live (turn_of setup controlling one).live (sent ++ map (said.bytes_of setup) (turn_of setup controlling one).sent) raised (taken ++ taken_at one)
   controller_follows kinds one is meant reported called lives placed_so =
       subst (λ (l : ControllerLive). AllByRecursion (IsSaidAs setup station) (turn_of setup l one).sent → AllByRecursion (IsReportedAs setup station.identity) (turn_of setup l one).sent
       → AllByRecursion (IsCalledAs setup station.identity) (turn_of setup l one).sent
       → IsLive (turn_of setup l one).live → IsPlaced station.identity.mac (turn_of setup l one).live → (kept_at setup live ≡ None → EarlyTurn (turn_of setup l one))
-      → Follows setup station live (turn_of setup l one).live (sent ++ map (said.bytes_of setup) (turn_of setup l one).sent) raised (taken ++ taken_at one)) follows.same
+      → Follows priority setup station live (turn_of setup l one).live (sent ++ map (said.bytes_of setup) (turn_of setup l one).sent) raised (taken ++ taken_at one)) follows.same
       (turn_follows (turn_of setup follows.relation.live one) (taken_at one) (event_turned one is)) meant reported called lives placed_so
       (λ none. turn_early kinds setup controlling one (follows.early none).0 (event_unready one is none))

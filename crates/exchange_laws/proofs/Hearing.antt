@@ -21,7 +21,8 @@ use Rattle.rpc_core.specs.declared.fault.RpcFault.{RpcFault}
 use Rattle.rpc_core.specs.Call.{Asked as Call, call_of}
 use Rattle.rpc_core.specs.Response.{Answered as Response, response_of}
 use Rattle.rpc_core.specs.declared.interface.Interface.TheVariants.{Controller as controllers}
-use Rattle.pn_alarms.specs.Message.{alarm_of, message_of}
+use Rattle.pn_alarms.specs.Message.{message_of}
+use Rattle.alarm_reports.specs.Message.{alarm_of}
 use Rattle.plans.specs.declared.parts.Controller.{Controller}
 use Rattle.device_frames.specs.Heard.{Heard, Elsewhere, Resolves, Reported, Cyclic, broadcast, heard_alarm, heard_content, heard_frame, heard_of, heard_request, is_own, is_taken, said_by}
 use Rattle.controller_frames.specs.Heard as controller
@@ -57,7 +58,7 @@ unreported_content : (identity : Identity) (destination source : Mac) (frame_id 
     → IsUnreported (heard_content identity destination source (RealTime frame_id body))
 unreported_content identity destination source frame_id body e =
     holds_if IsUnreported (is_taken identity destination frame_id) (heard_request source (request_of frame_id body)) _ (unreported_request source (request_of frame_id body))
-    (none_of_both IsUnreported (is_own identity destination) (is_alarm frame_id) (heard_alarm source (message_of body)) _ e
+    (none_of_both IsUnreported (is_own identity destination) (is_alarm frame_id) (heard_alarm source frame_id body (message_of body)) _ e
     (holds_if IsUnreported (is_own identity destination && is_cyclic frame_id) (Cyclic source frame_id body) Elsewhere refl refl))
 
 pub data_unreported : (identity : Identity) (destination source : Mac) (tag : Option ℕ) (frame_id : ℕ) (body more : List ℕ)

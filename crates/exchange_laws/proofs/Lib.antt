@@ -12,8 +12,13 @@ pub mod OutputsOneFrame
 pub mod OutputsPlaced
 pub mod Lists
 pub mod Reported
+pub mod HeardAlarm
 pub mod Turns
+pub mod NextTold
 pub mod Tied
+pub mod LowTied
+pub mod Known
+pub mod Knows
 pub mod Sizes
 pub mod Opening
 pub mod Hearing
@@ -26,4 +31,5 @@ pub mod Differs
 pub mod Served
 pub mod Well
 pub mod Law
+pub mod Reporting
 pub mod Both

@@ -25,19 +25,21 @@ use Rattle.connect_blocks.specs.declared.control.ControlBlock.{ControlBlock}
 use Rattle.connect_requests.specs.Request.{Request as Asked_for}
 use Rattle.record_blocks.specs.declared.alarm_ack.AlarmAck.{AlarmAck}
 use Rattle.record_blocks.specs.declared.alarm_notification.AlarmNotification.{AlarmNotification}
+use Rattle.pn_alarms.specs.Abort.{status_of}
 use Rattle.pn_alarms.specs.declared.abort.Abort.{Abort}
 use Rattle.pn_alarms.specs.declared.message.Notice.TheVariants as notice
 use Rattle.pn_alarms.specs.declared.pdu.Header.{Header}
 use Rattle.pn_alarms.specs.declared.pdu.PduType.{PduType}
 use Rattle.pn_alarms.specs.declared.pdu.PduType.TheVariants as pdu
-use Rattle.pn_alarms.specs.declared.priority.Priority.{Priority}
-use Rattle.pn_alarms.specs.declared.priority.Priority.TheVariants.{High, Low}
+use Rattle.alarm_reports.specs.declared.priority.Priority.{Priority}
+use Rattle.alarm_reports.specs.declared.priority.Priority.TheVariants.{High, Low}
 use Rattle.pn_alarms.specs.Format.{frame_id_of}
-use Rattle.pn_alarms.specs.Report.{ours}
-use Rattle.pn_alarms.specs.Message.{ToDevice}
+use Rattle.alarm_reports.specs.declared.report.Report.{Report}
+use Rattle.alarm_reports.specs.Report.{diagnosed, ours}
+use Rattle.pn_alarms.specs.declared.message.Notice.{Notice}
 use Rattle.cyclic_exchange.specs.declared.route.Route.{Route}
-use Rattle.cyclic_exchange.specs.Frames.{cyclic_body}
-use Rattle.relations.specs.exchange.Frames.{Frame, Inputs, Notifies, Replies as Answers, body_of}
+use Rattle.cyclic_exchange.specs.Frames.{body_at, cyclic_body}
+use Rattle.relations.specs.exchange.Frames.{Frame, Inputs, Notifies, Replies as Answers, Reports, RepliesLow, body_of}
 use Rattle.plans.specs.declared.parts.Controller.{Controller}
 use Rattle.startup_law.specs.request.Request.{request_for}
 use Rattle.relations.specs.declared.ready.Ready.{Ready}
@@ -45,7 +47,7 @@ use Rattle.relations.specs.declared.farewell.Farewell.{Farewell}
 use Rattle.relations.specs.Connect.{connect_blocks, differing_of}
 use Rattle.relations.specs.Farewells.{said_by}
 use Rattle.device_frames.specs.Heard as device
-use Rattle.device_frames.specs.Heard.{Heard, heard_of, is_own}
+use Rattle.device_frames.specs.Heard.{Heard, heard_of, heard_reply, is_own}
 use Rattle.device_frames.specs.Sendable.{IsSendable}
 use Rattle.device_frames.specs.Sent as sent
 use Rattle.device_frames.specs.Sent.{bytes_of, ready_frame, response_frame}
@@ -70,9 +72,9 @@ use Rattle.end_laws.specs.device.Owed.{IsOwed}
 use Rattle.exchange_laws.specs.Sized.{IsChosenWell}
 use Rattle.exchange_laws.proofs.Lists.{holds_if}
 use Rattle.exchange_laws.proofs.Sizes.{AreSizedIn, IsSizedFrame, IsSizedSent}
-use Rattle.exchange_laws.proofs.Reported.{IsGood, IsNotedAs, IsNotedBy, IsReportedAs, IsReportedBy, noted_at, noted_by, noted_of, reply_of, reported_at, reported_of}
+use Rattle.exchange_laws.proofs.Reported.{IsGood, IsNotedAs, IsNotedBy, IsReportedAs, IsReportedBy, noted_at, noted_by, noted_of, reply_of, reported_at, reported_of, reported_reply}
 use Rattle.exchange_laws.proofs.Hearing.{data_good, data_unheard, data_unnoted, data_unreported, datagram_good, packet_good, packet_unnoted, packet_unreported}
-use Rattle.exchange_laws.proofs.Opening.{alarms_unheard, asks_unheard}
+use Rattle.exchange_laws.proofs.Opening.{IsAlarming, alarms_unheard, asks_unheard}
 
 -- ---- a message of the controller
 
@@ -112,23 +114,30 @@ pub record HearsSo : Type 0 where
       → heard_by mine (bytes_of identity (sent.Exchanges route (Answers header))) ≡ mine_hears mine route.partner (controller.Alarms identity.mac High header (notice.Ack header.ack_number))
   pub nack : (mine : Controller) (identity : Identity) (route : Route) (header : Header) → IsDevice identity → IsRoute route → header.kind ≡ pdu.Nack → IsHeader header
       → heard_by mine (bytes_of identity (sent.Exchanges route (Answers header))) ≡ mine_hears mine route.partner (controller.Alarms identity.mac High header notice.Nack)
+  pub low_alarm : (mine : Controller) (identity : Identity) (route : Route) (tag : ℕ) (header : Header) (one : AlarmNotification)
+      → IsDevice identity → IsRoute route → tag < 65536 → header.kind ≡ pdu.Data → IsHeader header → IsAlarm one
+      → heard_by mine (bytes_of identity (sent.Exchanges route (Reports tag header one))) ≡ mine_hears mine route.partner (controller.Alarms identity.mac Low header (notice.Data header.send_number (diagnosed one)))
+  pub low_ack : (mine : Controller) (identity : Identity) (route : Route) (tag : ℕ) (header : Header) → IsDevice identity → IsRoute route → tag < 65536 → header.kind ≡ pdu.Ack → IsHeader header
+      → heard_by mine (bytes_of identity (sent.Exchanges route (RepliesLow tag header))) ≡ mine_hears mine route.partner (controller.Alarms identity.mac Low header (notice.Ack header.ack_number))
+  pub low_nack : (mine : Controller) (identity : Identity) (route : Route) (tag : ℕ) (header : Header) → IsDevice identity → IsRoute route → tag < 65536 → header.kind ≡ pdu.Nack → IsHeader header
+      → heard_by mine (bytes_of identity (sent.Exchanges route (RepliesLow tag header))) ≡ mine_hears mine route.partner (controller.Alarms identity.mac Low header notice.Nack)
   pub end_heard : (mine : Controller) (identity : Identity) (farewell : Farewell) → IsDevice identity → IsMac farewell.initiator → farewell.tag < 65536 → IsHeader (said_by farewell).header
-      → heard_by mine (bytes_of identity (sent.Ends farewell)) ≡ mine_hears mine farewell.initiator (controller.Alarms identity.mac Low (said_by farewell).header notice.Abort)
+      → heard_by mine (bytes_of identity (sent.Ends farewell)) ≡ mine_hears mine farewell.initiator (controller.Alarms identity.mac Low (said_by farewell).header (notice.Abort (status_of farewell.reason)))
   pub confirms : (identity : Identity) (setup : Setup) (route : Route) (header : Header) (one : AlarmAck)
       → IsSetup setup → IsRoute route → header.kind ≡ pdu.Data → IsHeader header → IsAck one
       → heard_of identity (comes (said.bytes_of setup (said.Confirms route High header one))) ≡ own_hears identity route.partner (device.Alarms setup.plan.controller.mac header (notice.Data header.send_number one))
   pub low : (identity : Identity) (setup : Setup) (route : Route) (header : Header) (one : AlarmAck)
       → IsSetup setup → IsRoute route → header.kind ≡ pdu.Data → IsHeader header → IsAck one
-      → heard_of identity (comes (said.bytes_of setup (said.Confirms route Low header one))) ≡ own_hears identity route.partner device.Unreadable
+      → heard_of identity (comes (said.bytes_of setup (said.Confirms route Low header one))) ≡ own_hears identity route.partner (device.LowConfirms setup.plan.controller.mac header (notice.Data header.send_number one))
   pub unheard : (mine : Controller) (setup : Setup) (route : Route) (header : Header) (one : AlarmAck)
       → IsSetup setup → IsRoute route → header.kind ≡ pdu.Data → pointwise nat_eq route.partner.octets mine.mac.octets ≡ false
       → heard_by mine (said.bytes_of setup (said.Confirms route Low header one)) ≡ controller.Nothing
   pub acks : (identity : Identity) (setup : Setup) (route : Route) (priority : Priority) (header : Header) → IsSetup setup → IsRoute route → header.kind ≡ pdu.Ack → IsHeader header
-      → heard_of identity (comes (said.bytes_of setup (said.Replies route priority header))) ≡ own_hears identity route.partner (device.Alarms setup.plan.controller.mac header (notice.Ack header.ack_number))
+      → heard_of identity (comes (said.bytes_of setup (said.Replies route priority header))) ≡ own_hears identity route.partner (heard_reply setup.plan.controller.mac priority header (notice.Ack header.ack_number))
   pub nacks : (identity : Identity) (setup : Setup) (route : Route) (priority : Priority) (header : Header) → IsSetup setup → IsRoute route → header.kind ≡ pdu.Nack → IsHeader header
       → heard_of identity (comes (said.bytes_of setup (said.Replies route priority header))) ≡ own_hears identity route.partner (device.Alarms setup.plan.controller.mac header notice.Nack)
   pub ends : (identity : Identity) (setup : Setup) (route : Route) (header : Header) (reason : Abort) → IsSetup setup → IsRoute route → IsHeader header
-      → heard_of identity (comes (said.bytes_of setup (said.Ends route header reason))) ≡ own_hears identity route.partner (device.Alarms setup.plan.controller.mac (end_pdu header reason).header notice.Abort)
+      → heard_of identity (comes (said.bytes_of setup (said.Ends route header reason))) ≡ own_hears identity route.partner (device.Alarms setup.plan.controller.mac (end_pdu header reason).header (notice.Abort (status_of reason)))
   pub identify : (identity : Identity) (setup : Setup) (to : Mac) → IsSetup setup
       → heard_of identity (comes (said.bytes_of setup (said.Requests to asks.Identify))) ≡ device.Asks setup.plan.controller.mac (identify_asked setup.plan)
   pub address : (identity : Identity) (setup : Setup) (to : Mac) → IsSetup setup → IsMac to
@@ -185,6 +194,13 @@ alarm_route route = record { partner = route.partner; sent_id = 0x8000; sent_tag
 
 route_is : (route : Route) → IsMac route.partner → route.alarm_tag < 65536 → IsRoute (alarm_route route)
 route_is route mac tag = record { partner = mac; cyclic = refl; tag = omega arith; alarm_tag = tag }
+
+-- the same of low priority, whose tag is another
+abbrev way_to : Route → Route
+way_to route = record { partner = route.partner; sent_id = 0x8000; sent_tag = 0; taken_id = 0; alarm_tag = 0; reference = 0 }
+
+way_is : (route : Route) → IsMac route.partner → IsRoute (way_to route)
+way_is route mac = record { partner = mac; cyclic = refl; tag = omega arith; alarm_tag = omega arith }
 
 -- what is heard in a frame to this controller, or nothing in a frame to another station
 noted_or : (b : Bool) (heard : controller.Heard) → (noted_at (cond b heard controller.Nothing) ≡ noted_at heard) ⊎ (noted_at (cond b heard controller.Nothing) ≡ None)
@@ -291,9 +307,31 @@ module _ (so : HearsSo) (setup : Setup) (identity : Identity) where
   alarm_unreported destination tag frame_id body apart can =
       data_unreported identity destination identity.mac tag frame_id body _ (so.data_read destination identity.mac tag frame_id body can) (inl (other_mac destination identity.mac apart))
 
+  -- a reply, an ACK or a NACK
+  abbrev HeardAs : Route → Frame → Option (Notice Report) → Type 0
+  HeardAs route frame says = (heard : controller.Heard) × (noted_at heard ≡ says) × IsGood identity.mac heard
+      × (heard_by mine (bytes_of identity (sent.Exchanges route frame)) ≡ mine_hears mine route.partner heard)
+
+  as_noted : (route : Route) (frame : Frame) (says : Option (Notice Report)) → reported_of identity (bytes_of identity (sent.Exchanges route frame)) ≡ None → HeardAs route frame says
+      → IsNotedBy setup identity (bytes_of identity (sent.Exchanges route frame)) says
+  as_noted route frame says none law = (
+    subst (λ (o : Option (Notice Report)). (noted_of setup (bytes_of identity (sent.Exchanges route frame)) ≡ o) ⊎ (noted_of setup (bytes_of identity (sent.Exchanges route frame)) ≡ None)) law.1
+        (noted_by_law (bytes_of identity (sent.Exchanges route frame)) route.partner law.0 law.3),
+    none,
+    good_by_law (bytes_of identity (sent.Exchanges route frame)) route.partner law.0 law.3 law.2,
+  )
+
+  replied_as : (route : Route) (frame : Frame) (number : ℕ) (kind : PduType) → reported_of identity (bytes_of identity (sent.Exchanges route frame)) ≡ None
+      → (kind ≡ pdu.Ack → HeardAs route frame (Some (notice.Ack number))) → (kind ≡ pdu.Nack → HeardAs route frame (Some notice.Nack)) → (kind ≡ pdu.Ack) ⊎ (kind ≡ pdu.Nack)
+      → IsNotedBy setup identity (bytes_of identity (sent.Exchanges route frame)) (reply_of number kind)
+  replied_as route frame number kind none ack nack (inl is) =
+      subst (λ (k : PduType). IsNotedBy setup identity (bytes_of identity (sent.Exchanges route frame)) (reply_of number k)) (sym is) (as_noted route frame (Some (notice.Ack number)) none (ack is))
+  replied_as route frame number kind none ack nack (inr is) =
+      subst (λ (k : PduType). IsNotedBy setup identity (bytes_of identity (sent.Exchanges route frame)) (reply_of number k)) (sym is) (as_noted route frame (Some notice.Nack) none (nack is))
+
   frame_noted : (route : Route) (frame : Frame) → IsSendable identity (sent.Exchanges route frame) → IsSizedFrame identity route frame
       → IsNotedBy setup identity (bytes_of identity (sent.Exchanges route frame)) (noted_by frame)
-  frame_noted route (Inputs inputs counter) can sized = plain_noted route.partner (Some route.sent_tag) route.sent_id (cyclic_body inputs counter) sized can
+  frame_noted route (Inputs has_problem inputs counter) can sized = plain_noted route.partner (Some route.sent_tag) route.sent_id (body_at has_problem inputs counter) sized can
   frame_noted route (Notifies header one) can sized = (
     noted_by_law (bytes_of identity (sent.Exchanges route (Notifies header one))) route.partner (controller.Alarms identity.mac High header (notice.Data header.send_number (ours one)))
         (so.alarm mine identity (alarm_route route) header one can.source (route_is route can.destination can.tag) sized.1 sized.2 sized.3),
@@ -301,38 +339,33 @@ module _ (so : HearsSo) (setup : Setup) (identity : Identity) where
     good_by_law (bytes_of identity (sent.Exchanges route (Notifies header one))) route.partner (controller.Alarms identity.mac High header (notice.Data header.send_number (ours one)))
         (so.alarm mine identity (alarm_route route) header one can.source (route_is route can.destination can.tag) sized.1 sized.2 sized.3) ((sized.2.send_number, noted_alarm one sized.3), refl),
   )
+  frame_noted route (Reports tag header one) can sized =
+      let law = so.low_alarm mine identity (way_to route) tag header one can.source (way_is route can.destination) can.tag sized.1 sized.2 sized.3 in
+      let heard = controller.Alarms identity.mac Low header (notice.Data header.send_number (diagnosed one)) in (
+        noted_by_law (bytes_of identity (sent.Exchanges route (Reports tag header one))) route.partner heard law,
+        alarm_unreported route.partner (Some tag) _ (body_of (Reports tag header one)) sized.0 can,
+        good_by_law (bytes_of identity (sent.Exchanges route (Reports tag header one))) route.partner heard law ((sized.2.send_number, noted_alarm one sized.3), refl),
+      )
   frame_noted route (Answers header) can sized =
-      (by_kind sized.1, alarm_unreported route.partner (Some route.alarm_tag) (frame_id_of header.kind) (body_of (Answers header)) sized.0 can, good_kind sized.1)
-    where
-      good_kind : (header.kind ≡ pdu.Ack) ⊎ (header.kind ≡ pdu.Nack) → IsGood identity.mac (heard_by mine (bytes_of identity (sent.Exchanges route (Answers header))))
-      good_kind (inl kind) = good_by_law (bytes_of identity (sent.Exchanges route (Answers header))) route.partner (controller.Alarms identity.mac High header (notice.Ack header.ack_number))
-          (so.ack mine identity (alarm_route route) header can.source (route_is route can.destination can.tag) kind sized.2) (tt, refl)
-      good_kind (inr kind) = good_by_law (bytes_of identity (sent.Exchanges route (Answers header))) route.partner (controller.Alarms identity.mac High header notice.Nack)
-          (so.nack mine identity (alarm_route route) header can.source (route_is route can.destination can.tag) kind sized.2) (tt, tt)
-
-      by_kind : (header.kind ≡ pdu.Ack) ⊎ (header.kind ≡ pdu.Nack)
-          → (noted_of setup (bytes_of identity (sent.Exchanges route (Answers header))) ≡ reply_of header.ack_number header.kind)
-          ⊎ (noted_of setup (bytes_of identity (sent.Exchanges route (Answers header))) ≡ None)
-      by_kind (inl kind) = subst (λ (k : PduType). (noted_of setup (bytes_of identity (sent.Exchanges route (Answers header))) ≡ reply_of header.ack_number k)
-          ⊎ (noted_of setup (bytes_of identity (sent.Exchanges route (Answers header))) ≡ None)) (sym kind)
-          (noted_by_law (bytes_of identity (sent.Exchanges route (Answers header))) route.partner (controller.Alarms identity.mac High header (notice.Ack header.ack_number))
-          (so.ack mine identity (alarm_route route) header can.source (route_is route can.destination can.tag) kind sized.2))
-      by_kind (inr kind) = subst (λ (k : PduType). (noted_of setup (bytes_of identity (sent.Exchanges route (Answers header))) ≡ reply_of header.ack_number k)
-          ⊎ (noted_of setup (bytes_of identity (sent.Exchanges route (Answers header))) ≡ None)) (sym kind)
-          (noted_by_law (bytes_of identity (sent.Exchanges route (Answers header))) route.partner (controller.Alarms identity.mac High header notice.Nack)
-          (so.nack mine identity (alarm_route route) header can.source (route_is route can.destination can.tag) kind sized.2))
+      replied_as route (Answers header) header.ack_number header.kind (alarm_unreported route.partner (Some route.alarm_tag) (frame_id_of header.kind) (body_of (Answers header)) sized.0 can)
+      (λ kind. (controller.Alarms identity.mac High header (notice.Ack header.ack_number), refl, (tt, tt), so.ack mine identity (alarm_route route) header can.source (route_is route can.destination can.tag) kind sized.2))
+      (λ kind. (controller.Alarms identity.mac High header notice.Nack, refl, (tt, tt), so.nack mine identity (alarm_route route) header can.source (route_is route can.destination can.tag) kind sized.2)) sized.1
+  frame_noted route (RepliesLow tag header) can sized =
+      replied_as route (RepliesLow tag header) header.ack_number header.kind (alarm_unreported route.partner (Some tag) _ (body_of (RepliesLow tag header)) sized.0 can)
+      (λ kind. (controller.Alarms identity.mac Low header (notice.Ack header.ack_number), refl, (tt, tt), so.low_ack mine identity (way_to route) tag header can.source (way_is route can.destination) can.tag kind sized.2))
+      (λ kind. (controller.Alarms identity.mac Low header notice.Nack, refl, (tt, tt), so.low_nack mine identity (way_to route) tag header can.source (way_is route can.destination) can.tag kind sized.2)) sized.1
 
   message_noted : (message : sent.Sent) → IsSendable identity message → IsSizedSent identity message → IsReady message → IsNotedAs setup identity message
   message_noted (sent.Exchanges route frame) can sized ready_so = frame_noted route frame can sized
   message_noted (sent.Ends farewell) can sized ready_so = (
-    noted_by_law (bytes_of identity (sent.Ends farewell)) farewell.initiator (controller.Alarms identity.mac Low (said_by farewell).header notice.Abort)
+    noted_by_law (bytes_of identity (sent.Ends farewell)) farewell.initiator (controller.Alarms identity.mac Low (said_by farewell).header (notice.Abort (status_of farewell.reason)))
         (so.end_heard mine identity farewell can.source can.destination can.tag sized.1),
     alarm_unreported farewell.initiator (Some farewell.tag) _ _ sized.0 can,
-    good_by_law (bytes_of identity (sent.Ends farewell)) farewell.initiator (controller.Alarms identity.mac Low (said_by farewell).header notice.Abort)
+    good_by_law (bytes_of identity (sent.Ends farewell)) farewell.initiator (controller.Alarms identity.mac Low (said_by farewell).header (notice.Abort (status_of farewell.reason)))
         (so.end_heard mine identity farewell can.source can.destination can.tag sized.1) (tt, tt),
   )
   message_noted (sent.IdentifyAnswer asker running xid) can sized ready_so = plain_noted asker None 65279 _ refl can
-  message_noted (sent.GetAnswer asker running request) can sized ready_so = plain_noted asker None 65277 _ refl can
+  message_noted (sent.GetAnswer asker running alias request) can sized ready_so = plain_noted asker None 65277 _ refl can
   message_noted (sent.SetAnswer asker request answers) can sized ready_so = plain_noted asker None 65277 _ refl can
   message_noted (sent.ArpReply asker address target) can sized ready_so =
       let reads = so.packet_read asker identity.mac None _ can in
@@ -371,10 +404,23 @@ module _ (so : HearsSo) (setup : Setup) (identity : Identity) where
 
   module _ (good : IsSetup setup) (apart : identity.mac ≡ setup.plan.controller.mac → ⊥) where
     -- the controller does not hear an alarm frame to another station
-    alarm_unheard : (destination : Mac) (octets : List ℕ) (source : Mac) (header : Header) (message : ToDevice) → (destination ≡ mine.mac → ⊥)
-        → heard_of (at_partner destination) (comes octets) ≡ own_hears (at_partner destination) destination (device.Alarms source header message) → heard_by mine octets ≡ controller.Nothing
-    alarm_unheard destination octets source header message apart e =
-        alarms_unheard (at_partner destination) setup octets source header message (own_heard destination octets (device.Alarms source header message) e) (other_mac destination mine.mac apart)
+    alarm_unheard : (destination : Mac) (octets : List ℕ) (heard : Heard) → IsAlarming heard → (destination ≡ mine.mac → ⊥)
+        → heard_of (at_partner destination) (comes octets) ≡ own_hears (at_partner destination) destination heard → heard_by mine octets ≡ controller.Nothing
+    alarm_unheard destination octets heard alarming apart e =
+        alarms_unheard (at_partner destination) setup octets heard alarming (own_heard destination octets heard e) (other_mac destination mine.mac apart)
+
+    -- an ACK is heard under the FrameID of its priority
+    ack_alarming : (source : Mac) (priority : Priority) (header : Header) (number : ℕ) → IsAlarming (heard_reply source priority header (notice.Ack number))
+    ack_alarming source High header number = tt
+    ack_alarming source Low header number = tt
+
+    ack_way : (source : Mac) (priority : Priority) (header : Header) (number : ℕ) → reported_at (heard_reply source priority header (notice.Ack number)) ≡ reported_reply priority number pdu.Ack
+    ack_way source High header number = refl
+    ack_way source Low header number = refl
+
+    nack_way : (priority : Priority) (number : ℕ) → reported_reply priority number pdu.Nack ≡ Some (Some High, notice.Nack)
+    nack_way High number = refl
+    nack_way Low number = refl
 
     called_reported : (to : Mac) (call : Call) → IsMac to → CanBeCalled devices call → IsReportedBy setup identity (call_frame setup to call) None
     called_reported to call mac can = (
@@ -399,18 +445,22 @@ module _ (so : HearsSo) (setup : Setup) (identity : Identity) where
     request_reported to (asks.Release sequence) mac numbered aimed = call_reported to (asks.Release sequence) mac tt numbered
 
     reply_reported : (route : Route) (priority : Priority) (header : Header) → IsMac route.partner → route.alarm_tag < 65536 → (route.partner ≡ mine.mac → ⊥) → (header.kind ≡ pdu.Ack) ⊎ (header.kind ≡ pdu.Nack) → IsHeader header
-        → IsReportedBy setup identity (said.bytes_of setup (said.Replies route priority header)) (reply_of header.ack_number header.kind)
+        → IsReportedBy setup identity (said.bytes_of setup (said.Replies route priority header)) (reported_reply priority header.ack_number header.kind)
     reply_reported route priority header mac tag apart (inl kind) sized =
-        let way = route_is route mac tag in (
-          subst (λ (k : PduType). (reported_of identity (said.bytes_of setup (said.Replies route priority header)) ≡ reply_of header.ack_number k) ⊎ (reported_of identity (said.bytes_of setup (said.Replies route priority header)) ≡ None)) (sym kind)
-              (reported_by_law (said.bytes_of setup (said.Replies route priority header)) route.partner _ (so.acks identity setup (alarm_route route) priority header good way kind sized)),
-          alarm_unheard route.partner (said.bytes_of setup (said.Replies route priority header)) _ _ _ apart (so.acks (at_partner route.partner) setup (alarm_route route) priority header good way kind sized),
+        let way = route_is route mac tag in
+        let octets = said.bytes_of setup (said.Replies route priority header) in (
+          subst (λ (o : Option (Option Priority × Notice AlarmAck)). (reported_of identity octets ≡ o) ⊎ (reported_of identity octets ≡ None))
+              (ack_way mine.mac priority header header.ack_number ∙ ap (λ (k : PduType). reported_reply priority header.ack_number k) (sym kind))
+              (reported_by_law octets route.partner _ (so.acks identity setup (alarm_route route) priority header good way kind sized)),
+          alarm_unheard route.partner octets _ (ack_alarming mine.mac priority header header.ack_number) apart (so.acks (at_partner route.partner) setup (alarm_route route) priority header good way kind sized),
         )
     reply_reported route priority header mac tag apart (inr kind) sized =
-        let way = route_is route mac tag in (
-          subst (λ (k : PduType). (reported_of identity (said.bytes_of setup (said.Replies route priority header)) ≡ reply_of header.ack_number k) ⊎ (reported_of identity (said.bytes_of setup (said.Replies route priority header)) ≡ None)) (sym kind)
-              (reported_by_law (said.bytes_of setup (said.Replies route priority header)) route.partner _ (so.nacks identity setup (alarm_route route) priority header good way kind sized)),
-          alarm_unheard route.partner (said.bytes_of setup (said.Replies route priority header)) _ _ _ apart (so.nacks (at_partner route.partner) setup (alarm_route route) priority header good way kind sized),
+        let way = route_is route mac tag in
+        let octets = said.bytes_of setup (said.Replies route priority header) in (
+          subst (λ (o : Option (Option Priority × Notice AlarmAck)). (reported_of identity octets ≡ o) ⊎ (reported_of identity octets ≡ None))
+              (sym (nack_way priority header.ack_number) ∙ ap (λ (k : PduType). reported_reply priority header.ack_number k) (sym kind))
+              (reported_by_law octets route.partner _ (so.nacks identity setup (alarm_route route) priority header good way kind sized)),
+          alarm_unheard route.partner octets _ tt apart (so.nacks (at_partner route.partner) setup (alarm_route route) priority header good way kind sized),
         )
 
     message_reported : (message : said.Sent) → IsSizedSaid setup message → IsReportedAs setup identity message
@@ -437,14 +487,14 @@ module _ (so : HearsSo) (setup : Setup) (identity : Identity) where
     message_reported (said.Confirms route High header one) sized =
         let way = route_is route sized.0.0.partner sized.0.0.alarm_tag in (
           reported_by_law (said.bytes_of setup (said.Confirms route High header one)) route.partner _ (so.confirms identity setup (alarm_route route) header one good way sized.0.1 sized.0.2 sized.0.3),
-          alarm_unheard route.partner (said.bytes_of setup (said.Confirms route High header one)) _ _ _ sized.1
+          alarm_unheard route.partner (said.bytes_of setup (said.Confirms route High header one)) _ tt sized.1
               (so.confirms (at_partner route.partner) setup (alarm_route route) header one good way sized.0.1 sized.0.2 sized.0.3),
         )
     message_reported (said.Replies route priority header) sized = reply_reported route priority header sized.0.0.partner sized.0.0.alarm_tag sized.1 sized.0.1 sized.0.2
     message_reported (said.Ends route header reason) sized =
         let way = route_is route sized.0.0.partner sized.0.0.alarm_tag in (
           reported_by_law (said.bytes_of setup (said.Ends route header reason)) route.partner _ (so.ends identity setup (alarm_route route) header reason good way sized.0.1),
-          alarm_unheard route.partner (said.bytes_of setup (said.Ends route header reason)) _ _ _ sized.1 (so.ends (at_partner route.partner) setup (alarm_route route) header reason good way sized.0.1),
+          alarm_unheard route.partner (said.bytes_of setup (said.Ends route header reason)) _ tt sized.1 (so.ends (at_partner route.partner) setup (alarm_route route) header reason good way sized.0.1),
         )
 
     pub all_reported : (messages : List said.Sent) → AllByRecursion (IsSizedSaid setup) messages → AllByRecursion (IsReportedAs setup identity) messages

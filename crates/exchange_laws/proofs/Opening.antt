@@ -16,11 +16,12 @@ use Rattle.pn_alarms.specs.declared.fault.AlarmFault.{AlarmFault}
 use Rattle.pn_alarms.specs.declared.pdu.Header.{Header}
 use Rattle.pn_alarms.specs.Message.{ToDevice, message_of}
 use Rattle.plans.specs.declared.parts.Controller.{Controller}
-use Rattle.device_frames.specs.Heard.{Heard, Elsewhere, Asks, Resolves, Reported, Cyclic, Alarms, broadcast, heard_alarm, heard_content, heard_frame, heard_of, heard_request, identify_multicast, is_own, is_taken, said_by}
+use Rattle.device_frames.specs.Heard.{Heard, Elsewhere, Asks, Resolves, Reported, Cyclic, Alarms, LowConfirms, LowReplies, broadcast, heard_alarm, heard_content, heard_frame, heard_of, heard_request, identify_multicast, is_own, is_taken, said_by}
 use Rattle.controller_frames.specs.declared.setup.Setup.{Setup}
 use Rattle.controller_frames.specs.Heard as controller
 use Rattle.controller_frames.specs.Heard.{heard_real_time, heard_read}
 use Rattle.end_laws.specs.hearing.Hearing.{comes}
+use Rattle.exchange_laws.proofs.HeardAlarm.{alarm_holds}
 use Rattle.exchange_laws.proofs.Lists.{holds_if}
 
 -- a DCP request is heard
@@ -28,9 +29,8 @@ abbrev IsAsking : Heard → Type 0
 IsAsking (Asks source request) = Unit {0}
 IsAsking other = ⊥
 
-no_alarm : (source : Mac) (read : Result (Header × ToDevice) AlarmFault) → IsAsking (heard_alarm source read) → ⊥
-no_alarm source (Ok x) is = is
-no_alarm source (Err fault) is = is
+no_alarm : (source : Mac) (frame_id : ℕ) (body : List ℕ) (read : Result (Header × ToDevice) AlarmFault) → IsAsking (heard_alarm source frame_id body read) → ⊥
+no_alarm = alarm_holds (λ (h : Heard). IsAsking h → ⊥) (λ source header message is. is) (λ source header message is. is) (λ source header message is. is) (λ is. is)
 
 identify_heard : (source : Mac) (body : List ℕ) → heard_real_time source 65278 body ≡ controller.Nothing
 unfolding heard_real_time
@@ -48,13 +48,13 @@ asks_owned : (identity : Identity) (destination source : Mac) (frame_id : ℕ) (
     → (is_own identity destination ≡ true) ⊎ ((frame_id == 65278) ≡ true)
 asks_owned identity destination source frame_id body is = by_taken (is_taken identity destination frame_id) refl is
   where
-    none_asked : IsAsking (cond (is_own identity destination && is_alarm frame_id) (heard_alarm source (message_of body))
+    none_asked : IsAsking (cond (is_own identity destination && is_alarm frame_id) (heard_alarm source frame_id body (message_of body))
         (cond (is_own identity destination && is_cyclic frame_id) (Cyclic source frame_id body) Elsewhere)) → ⊥
-    none_asked = holds_if (λ (h : Heard). IsAsking h → ⊥) (is_own identity destination && is_alarm frame_id) (heard_alarm source (message_of body)) _ (no_alarm source (message_of body))
+    none_asked = holds_if (λ (h : Heard). IsAsking h → ⊥) (is_own identity destination && is_alarm frame_id) (heard_alarm source frame_id body (message_of body)) _ (no_alarm source frame_id body (message_of body))
         (holds_if (λ (h : Heard). IsAsking h → ⊥) (is_own identity destination && is_cyclic frame_id) (Cyclic source frame_id body) Elsewhere (λ i. i) (λ i. i))
 
     by_taken : (b : Bool) → is_taken identity destination frame_id ≡ b
-        → IsAsking (cond b (heard_request source (request_of frame_id body)) (cond (is_own identity destination && is_alarm frame_id) (heard_alarm source (message_of body))
+        → IsAsking (cond b (heard_request source (request_of frame_id body)) (cond (is_own identity destination && is_alarm frame_id) (heard_alarm source frame_id body (message_of body))
         (cond (is_own identity destination && is_cyclic frame_id) (Cyclic source frame_id body) Elsewhere)))
         → (is_own identity destination ≡ true) ⊎ ((frame_id == 65278) ≡ true)
     by_taken true e asking =
@@ -104,8 +104,10 @@ asks_unheard identity setup octets source request e apart =
 
 -- ---- an alarm frame that a device hears goes to it, and to no controller with another address
 
-abbrev IsAlarming : Heard → Type 0
+abbrev pub IsAlarming : Heard → Type 0
 IsAlarming (Alarms source header message) = Unit {0}
+IsAlarming (LowReplies source header message) = Unit {0}
+IsAlarming (LowConfirms source header message) = Unit {0}
 IsAlarming other = ⊥
 
 no_request : (source : Mac) (read : Result Asked DcpFault) → IsAlarming (heard_request source read) → ⊥
@@ -121,7 +123,7 @@ owned false false alarm cyclic request data_of_alarms cyclic_frame none is = abs
 alarms_owned : (identity : Identity) (destination source : Mac) (content : Content) → IsAlarming (heard_content identity destination source content) → is_own identity destination ≡ true
 alarms_owned identity destination source (RealTime frame_id body) is =
     owned (is_taken identity destination frame_id) (is_own identity destination) (is_alarm frame_id) (is_cyclic frame_id) (heard_request source (request_of frame_id body))
-    (heard_alarm source (message_of body)) (Cyclic source frame_id body) (no_request source (request_of frame_id body)) is
+    (heard_alarm source frame_id body (message_of body)) (Cyclic source frame_id body) (no_request source (request_of frame_id body)) is
 alarms_owned identity destination source (ArpPacket packet) is =
     absurd (holds_if (λ (h : Heard). IsAlarming h → ⊥) (is_own identity destination || pointwise nat_eq destination.octets broadcast) (Resolves source packet) Elsewhere (λ i. i) (λ i. i) is)
 alarms_owned identity destination source (UdpDatagram from to body) is =
@@ -133,8 +135,8 @@ alarms_read identity mine (Ok meaning) apart is =
     to_another identity mine meaning.destination (controller.heard_content mine.address meaning.source meaning.content) apart (alarms_owned identity meaning.destination meaning.source meaning.content is)
 alarms_read identity mine (Err fault) apart is = refl
 
-pub alarms_unheard : (identity : Identity) (setup : Setup) (octets : List ℕ) (source : Mac) (header : Header) (message : ToDevice) → heard_of identity (comes octets) ≡ Alarms source header message
+pub alarms_unheard : (identity : Identity) (setup : Setup) (octets : List ℕ) (heard : Heard) → IsAlarming heard → heard_of identity (comes octets) ≡ heard
     → pointwise nat_eq identity.mac.octets setup.plan.controller.mac.octets ≡ false → controller.heard_of setup.plan.controller octets ≡ controller.Nothing
 unfolding heard_of controller.heard_of
-alarms_unheard identity setup octets source header message e apart =
-    alarms_read identity setup.plan.controller (frame_of octets) apart (subst (λ (h : Heard). IsAlarming h) (sym e) tt)
+alarms_unheard identity setup octets heard alarming e apart =
+    alarms_read identity setup.plan.controller (frame_of octets) apart (subst (λ (h : Heard). IsAlarming h) (sym e) alarming)

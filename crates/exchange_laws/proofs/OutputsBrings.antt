@@ -48,13 +48,14 @@ use Rattle.controller_frames.specs.declared.request.Request.{Request}
 use Rattle.controller_frames.specs.declared.request.Request.TheVariants as asks
 use Rattle.controller_frames.specs.RecordRequests.{record_call}
 use Rattle.controller_frames.specs.Requests.{address_asked, call_for, identify_asked}
-use Rattle.pn_alarms.specs.declared.priority.Priority.{Priority}
-use Rattle.pn_alarms.specs.declared.priority.Priority.TheVariants.{High, Low}
-use Rattle.pn_alarms.specs.Priority.{frame_id_at}
+use Rattle.alarm_reports.specs.declared.priority.Priority.{Priority}
+use Rattle.alarm_reports.specs.declared.priority.Priority.TheVariants.{High, Low}
+use Rattle.alarm_reports.specs.Priority.{frame_id_at}
 use Rattle.controller_frames.specs.Sent.{Sent as Message, Requests, Accesses, Agrees, Cycles, Confirms, Replies, Ends as Leaves, ack_pdu, alarm_frame, bytes_of as bytes_said, call_frame, calls_at, end_frame, end_pdu, identify_multicast, reply_pdu, request_frame, tag_of as tag_at}
 use Rattle.device_frames.specs.Heard.{Heard, Cyclic, Elsewhere, Resolves, Reported, Unreadable, broadcast, heard_alarm, heard_content, heard_frame, heard_of, heard_request, is_own, is_taken, said_by}
 use Rattle.controller_frames.specs.declared.setup.Setup.{Setup}
 use Rattle.end_laws.specs.both.Outputs.{BringsNone, Outputs}
+use Rattle.exchange_laws.proofs.HeardAlarm.{alarm_holds}
 use Rattle.exchange_laws.specs.Shown.{brought_in, octets_in, outputs_of, route_for, zeros_for}
 use Rattle.exchange_laws.proofs.OutputsRead.{IsReadAs, arp_other, datagram_other, real_time_is, reads_as, rest_of}
 
@@ -146,9 +147,8 @@ module _ (setup : Setup) (identity : Identity) where
   request_none source (Ok request) = refl
   request_none source (Err fault) = refl
 
-  alarm_none : (source : Mac) (read : Result (Header × ToDevice) AlarmFault) → IsNone (heard_alarm source read)
-  alarm_none source (Ok x) = refl
-  alarm_none source (Err fault) = refl
+  alarm_none : (source : Mac) (frame_id : ℕ) (body : List ℕ) (read : Result (Header × ToDevice) AlarmFault) → IsNone (heard_alarm source frame_id body read)
+  alarm_none = alarm_holds IsNone (λ source header message. refl) (λ source header message. refl) (λ source header message. refl) refl
 
   -- what a cyclic frame of real-time data would bring, or nothing
   abbrev IsAtMost : Mac → ℕ → List ℕ → Heard → Type 0
@@ -159,14 +159,14 @@ module _ (setup : Setup) (identity : Identity) where
 
   abbrev alarm_of_own : Mac → Mac → ℕ → List ℕ → Heard
   alarm_of_own destination source frame_id body =
-      cond (is_own identity destination && is_alarm frame_id) (heard_alarm source (message_of body)) (cyclic_of_own destination source frame_id body)
+      cond (is_own identity destination && is_alarm frame_id) (heard_alarm source frame_id body (message_of body)) (cyclic_of_own destination source frame_id body)
 
   real_time_at_most : (destination source : Mac) (frame_id : ℕ) (body : List ℕ) → IsAtMost source frame_id body (heard_content identity destination source (RealTime frame_id body))
   real_time_at_most destination source frame_id body =
       holds_if (IsAtMost source frame_id body) (is_taken identity destination frame_id) (heard_request source (request_of frame_id body)) (alarm_of_own destination source frame_id body)
       (inl (request_none source (request_of frame_id body)))
-      (holds_if (IsAtMost source frame_id body) (is_own identity destination && is_alarm frame_id) (heard_alarm source (message_of body)) (cyclic_of_own destination source frame_id body)
-      (inl (alarm_none source (message_of body)))
+      (holds_if (IsAtMost source frame_id body) (is_own identity destination && is_alarm frame_id) (heard_alarm source frame_id body (message_of body)) (cyclic_of_own destination source frame_id body)
+      (inl (alarm_none source frame_id body (message_of body)))
       (holds_if (IsAtMost source frame_id body) (is_own identity destination && is_cyclic frame_id) (Cyclic source frame_id body) Elsewhere (inr refl) (inl refl)))
 
   other_none : (destination source : Mac) (content : Content) → IsOther content → IsNone (heard_content identity destination source content)
@@ -287,7 +287,7 @@ module _ (setup : Setup) (identity : Identity) where
     -- no message brings outputs
     pub message_silent : (message : Sent) → IsSendable identity message → IsKnown rules message → BringsNone rules (bytes_of identity message)
     message_silent (IdentifyAnswer asker running xid) can known = own_silent asker None (RealTime 65279 (identify_bytes identity running xid)) can
-    message_silent (GetAnswer asker running request) can known = own_silent asker None (RealTime 65277 (get_bytes identity running request)) can
+    message_silent (GetAnswer asker running alias request) can known = own_silent asker None (RealTime 65277 (get_bytes identity running alias request)) can
     message_silent (SetAnswer asker request answers) can known = own_silent asker None (RealTime 65277 (set_bytes request answers)) can
     message_silent (ArpReply asker address target) can known = own_silent asker None (reply_content identity address target) can
     message_silent (CallAnswer caller address answer) can known = own_silent caller.mac None (response_content caller address answer) can

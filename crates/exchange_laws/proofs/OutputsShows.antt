@@ -22,6 +22,8 @@ use Rattle.cyclic_exchange.specs.Cyclic.{Cyclic}
 use Rattle.cyclic_exchange.specs.Received.{behind_read, is_new, is_of_partner, received_in}
 use Rattle.relations.specs.exchange.Flow.{Flow}
 use Rattle.relations.specs.exchange.Notices.{may_raise, raised_by}
+use Rattle.diagnosis.specs.declared.diagnosis.Diagnosis.{Diagnosis}
+use Rattle.relations.specs.Diagnosed.{diagnosing}
 use Rattle.relations.specs.RelationState.{RelationState}
 use Rattle.relations.specs.Exchanged.{hearing}
 use Rattle.startup_law.specs.request.Request.{request_for}
@@ -48,7 +50,7 @@ use Rattle.records.specs.declared.status.call_fault.CallFault.{CallFault}
 use Rattle.records.specs.declared.status.operation.Operation.{Operation}
 use Rattle.records.specs.declared.status.operation.Operation.TheVariants as operation
 use Rattle.relations.specs.Connect.{connect_of}
-use Rattle.relations.specs.Phases.{made_of, with_flow}
+use Rattle.relations.specs.Phases.{made_of, with_flow, updated}
 use Rattle.relations.specs.Timers.{unit_later}
 use Rattle.end_laws.specs.device.Small.{IsPlannedAs, IsPlannedCall}
 use Rattle.std.proofs.Common.{zero, suc, take}
@@ -314,22 +316,31 @@ module _ (setup : Setup) (station : Station) where
           (subst (λ (l : Option RelationState). Shows_by takes.source takes.frame_id takes.body link l) (sym takes.becomes)
           (partner_as takes.source takes.frame_id takes.body link here (is_of_partner link.flow.cyclic.route takes.source takes.frame_id) refl takes.taken)))
 
-      link_shows : (after : Option RelationState) (sent : List Sent) → IsTurn station.real.modules.items live.rest.calls live.rest.link heard after sent → ShowsSo after
-      link_shows after sent (inl stays) = stays_so after (stays_by live.rest.link after stays.link)
-      link_shows after sent (inr (inl makes)) = makes_so after sent makes
-      link_shows after sent (inr (inr (inl raises))) =
+      link_shows : (later : List Diagnosis) (after : Option RelationState) (sent : List Sent) → IsTurn station.real.modules.items live.rest.calls live.rest.diagnoses later live.rest.link heard after sent → ShowsSo after
+      link_shows later after sent (inl stays) = stays_so after (stays_by live.rest.link after stays.link)
+      link_shows later after sent (inr (inl makes)) = makes_so after sent makes
+      link_shows later after sent (inr (inr (inl raises))) =
           let link = raises.link in
           let ident = module_ident station.real.modules.items raises.slot in
           let part = submodule_ident station.real.modules.items raises.slot raises.subslot in
           stays_so after (becomes_so live.rest.link after link (with_flow raises.flow link) raises.was raises.becomes
           (subst (λ (flow : Option Flow). IsSameFlow link flow) raises.raised (raised_same link raises.slot raises.subslot raises.octets ident part)))
-      link_shows after sent (inr (inr (inr (inl acked)))) = stays_so after (becomes_so live.rest.link after acked.link _ acked.was acked.becomes (same acked.link.flow.cyclic))
-      link_shows after sent (inr (inr (inr (inr (inl came))))) = stays_so after (becomes_so live.rest.link after came.link _ came.was came.becomes (same came.link.flow.cyclic))
-      link_shows after sent (inr (inr (inr (inr (inr (inl passes)))))) =
+      link_shows later after sent (inr (inr (inr (inl acked)))) = stays_so after (becomes_so live.rest.link after acked.link _ acked.was acked.becomes (same acked.link.flow.cyclic))
+      link_shows later after sent (inr (inr (inr (inr (inl came))))) = stays_so after (becomes_so live.rest.link after came.link _ came.was came.becomes (same came.link.flow.cyclic))
+      link_shows later after sent (inr (inr (inr (inr (inr (inl passes)))))) =
           let cyclic = passes.link.flow.cyclic in
           stays_so after (becomes_so live.rest.link after passes.link (unit_later passes.link) passes.was passes.becomes
           (record { route = refl; last = held_last cyclic.begun cyclic.hearing; taken = refl }))
-      link_shows after sent (inr (inr (inr (inr (inr (inr takes)))))) = takes_so after sent takes
+      link_shows later after sent (inr (inr (inr (inr (inr (inr (inl takes))))))) = takes_so after sent takes
+      link_shows later after sent (inr (inr (inr (inr (inr (inr (inr (inl acked)))))))) = stays_so after (becomes_so live.rest.link after acked.link _ acked.was acked.becomes (same acked.link.flow.cyclic))
+      link_shows later after sent (inr (inr (inr (inr (inr (inr (inr (inr (inl came))))))))) = stays_so after (becomes_so live.rest.link after came.link _ came.was came.becomes (same came.link.flow.cyclic))
+      link_shows later after sent (inr (inr (inr (inr (inr (inr (inr (inr (inr (inl begins)))))))))) =
+          stays_so after (becomes_so live.rest.link after begins.link _ begins.was begins.becomes (record { route = refl; last = refl; taken = refl }))
+      link_shows later after sent (inr (inr (inr (inr (inr (inr (inr (inr (inr (inr changes)))))))))) = stays_so after (by_link live.rest.link changes.becomes)
+        where
+          by_link : (link : Option RelationState) → after ≡ updated (diagnosing station.real.modules.items changes.change later link) link → Stays link after
+          by_link None becomes = subst (λ (l : Option RelationState). Stays None l) (sym becomes) tt
+          by_link (Some link) becomes = becomes_so (Some link) after link _ refl becomes (same link.flow.cyclic)
 
       calls_silent : (after : List Answer) (sent : List Sent) → (after ≡ live.rest.calls) ⊎ Answers station.identity live.rest.calls after sent → AreSendable station.identity sent → AreKeptSilent after
       calls_silent after sent (inl same) can = subst (λ (c : List Answer). AreKeptSilent c) (sym same) silent
@@ -350,7 +361,7 @@ module _ (setup : Setup) (station : Station) where
 
       pub turn_shows : (after : Rest) (sent : List Sent) → Turn station live heard after sent → Goes (brought_in setup heard) live.rest after sent
       turn_shows after sent turn =
-          let shows = link_shows after.link sent turn.is in
+          let shows = link_shows after.diagnoses after.link sent turn.is in
           record { shows = shows.0; ours = shows.1; calls = calls_silent after.calls sent turn.answers; known = all_known sent turn.owed }
 
     pub frames_silent : (outcomes : List Outcome) (live : Live) (heard : Heard) → AreSendable station.identity (heard_step outcomes station live heard).sent

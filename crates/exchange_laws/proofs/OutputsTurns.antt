@@ -17,10 +17,10 @@ use Rattle.pn_alarms.specs.declared.receiver.Taken.{Taken}
 use Rattle.pn_alarms.specs.declared.receiver.Taken.TheVariants.{New, Again, Refused}
 use Rattle.pn_alarms.specs.Receiver.{taken_as}
 use Rattle.pn_alarms.specs.Ends.{ControllerEnd}
-use Rattle.pn_alarms.specs.declared.priority.Priority.{Priority}
-use Rattle.pn_alarms.specs.declared.priority.Priority.TheVariants.{High, Low}
+use Rattle.alarm_reports.specs.declared.priority.Priority.{Priority}
+use Rattle.alarm_reports.specs.declared.priority.Priority.TheVariants.{High, Low}
 use Rattle.pn_alarms.specs.declared.repeats.Due.{Due}
-use Rattle.pn_alarms.specs.declared.report.Report.{Report}
+use Rattle.alarm_reports.specs.declared.report.Report.{Report}
 use Rattle.pn_alarms.specs.Sending.{due}
 use Rattle.pn_alarms.specs.Sending.{is_again as is_repeated}
 use Rattle.cyclic_data.specs.declared.tail.CyclicTail.{CyclicTail}
@@ -41,10 +41,10 @@ use Rattle.controller_core.specs.declared.outputs.OutputMark.{OutputMark}
 use Rattle.controller_core.specs.declared.state.Cause.{Cause}
 use Rattle.controller_core.specs.declared.state.State.{State}
 use Rattle.controller_core.specs.declared.state.State.TheVariants.{Addressing, Connecting, Ended}
-use Rattle.controller_core.specs.Alarms.{ack_of}
-use Rattle.controller_core.specs.Connect.{Chosen}
+use Rattle.controller_core.specs.Alarms.{ack_of, kept_alarm}
+use Rattle.connect_answers.specs.Connect.{Chosen}
 use Rattle.controller_frames.specs.Requests.{writing_from}
-use Rattle.controller_core.specs.Machine.{Turn, accesses_by, acking, acks_in, acks_of, asking, behind_ack, behind_data, brought, confirming, end_of, keeping, pending_by, pending_of, with_end, flow_later, flowed, given, is_again, next_sequence, noted, over, phase_for, rated, readied, standing, writing, released, requests_of, stays, taken, turn_of, where_due}
+use Rattle.controller_core.specs.Machine.{Turn, accesses_by, acking, acks_in, acks_of, asking, behind_ack, behind_data, brought, confirming, diagnosing, end_of, keeping, pending_by, pending_of, with_end, flow_later, flowed, given, is_again, next_sequence, noted, over, phase_for, rated, readied, standing, writing, released, requests_of, stays, taken, turn_of, where_due}
 use Rattle.controller_core.specs.State.{Live}
 use Rattle.end_laws.specs.turns.Turns.{Came, Hears, Passes, Gets, GetsStatus, AsksRead, AsksWrite, Halts, IsKind, IsReadied, IsSought, IsTurn, Kind, Rests, Connects, Addresses, Releases, Relates, Writes, Skips, Waits, Forgets, Begins, Repeats, Follows, Takes, IsAcked, Asks, IsReplied, Gives, GivesStatus, Flows, Breaks, Idles, came_by, turn_by}
 use Rattle.end_laws.specs.turns.Turns as sort
@@ -137,10 +137,15 @@ module _ (size : ℕ) where
   alike_on : (a b c : Live) → Alike a b → Alike b c → Alike a c
   alike_on a b c one other = record { device = other.device ∙ one.device; cyclic = other.cyclic ∙ one.cyclic; outputs = other.outputs ∙ one.outputs }
 
+  diagnosing_alike : (live after : Live) (report : Report) → Alike live after → Alike live (diagnosing report after)
+  diagnosing_alike live after report is = record { device = is.device; cyclic = is.cyclic; outputs = is.outputs }
+
   confirming_alike : (live : Live) (report : Report) → Alike live (confirming live report)
   confirming_alike live report =
-      alike_on live (acking live report.priority (ack_of report.notification)) (confirming live report) (with_end_alike live report.priority _)
-      (keeping_alike (acking live report.priority (ack_of report.notification)) report.priority _ report.user_structure)
+      let acked = acking live report.priority (ack_of report.notification) in
+      let kept = keeping acked report.priority (kept_alarm report.notification) report.user_structure in
+      diagnosing_alike live kept report (alike_on live acked kept (with_end_alike live report.priority _)
+      (keeping_alike acked report.priority (kept_alarm report.notification) report.user_structure))
 
   sets_alike : (before after : Live) → Alike before after → sets_of after ≡ sets_of before
   sets_alike before after alike =
@@ -263,9 +268,9 @@ module _ (size : ℕ) where
     kind_tells (Releases why) holds = released_tells setup why live k
     kind_tells (Relates chosen) holds = related_tells setup live chosen k
     kind_tells (Writes number) holds = let next = writing_from setup.plan (number + 1) in asking_tells (phase_for next) next live k
-    kind_tells (Skips number status) holds =
+    kind_tells (Skips number refused status) holds =
         let next = writing_from setup.plan (number + 1) in
-        asking_tells (phase_for next) next (noted status number live) (record { device = k.device; way = k.way; size = k.size })
+        asking_tells (phase_for next) next (noted status refused live) (record { device = k.device; way = k.way; size = k.size })
     kind_tells (Begins caller call block) holds = record { reported = ((tt, readied_tells caller call block holds.1), tt); kept = k; same = refl }
     kind_tells (Repeats caller call block) holds = record { reported = ((tt, readied_tells caller call block holds.1), tt); kept = k; same = refl }
     kind_tells (Follows source frame_id body) holds =

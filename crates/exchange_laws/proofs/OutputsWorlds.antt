@@ -1,8 +1,9 @@
 -- Each move of a world shows and sets outputs as the small machines do.
-use Rattle.std.proofs.Common.{◌≡◌, ◌⊎◌, inl, inr, ℕ, Bool, true, false, List, [], ◌∷◌, ◌++◌, map, Option, Some, None, refl, sym, ap, subst, ◌∙◌, append_assoc, arith}
+use Rattle.std.proofs.Common.{◌≡◌, ◌⊎◌, inl, inr, ℕ, Bool, true, false, List, [], ◌∷◌, ◌++◌, map, Option, Some, None, option_map, refl, sym, ap, subst, ◌∙◌, append_assoc, arith}
 use Rattle.std.specs.Prelude.{slice_get, nat_eq}
 use Rattle.std.specs.Cmp.Lexicographic.{pointwise}
 use Rattle.std.specs.List.{AllByRecursion}
+use Rattle.lldp.specs.Views.{peer_as}
 use Rattle.flash_model.specs.declared.flash.Flash.{Ghosts as Flash}
 use Rattle.wire.specs.Codec.{IsSound, IsSoundWhole}
 use Rattle.pn_values.specs.declared.identity.Identity.{Identity}
@@ -12,7 +13,7 @@ use Rattle.rpc_core.specs.Cache.{Kept as Answer}
 use Rattle.cyclic_data.specs.Image.{Shown as Image}
 use Rattle.relations.specs.RelationState.{RelationState}
 use Rattle.device_frames.specs.declared.event.Event.TheVariants.{Frame}
-use Rattle.device_frames.specs.Heard.{Heard, Ticks, Given, Raised, Rated, Readied, heard_of}
+use Rattle.device_frames.specs.Heard.{Heard, Ticks, Given, Raised, Rated, Met, Readied, diagnosed, heard_of}
 use Rattle.device_core.specs.State.{Live, Station}
 use Rattle.device_core.specs.Machine.{heard_step}
 use Rattle.controller_frames.specs.declared.setup.Setup.{Setup}
@@ -228,6 +229,8 @@ module _ (turns : TurnsSo) (kinds : KindsSo) (sound : IsSound ethernet) (whole :
       happens_shows (move.Input slot subslot value) meant happens = does before after _ _ _ _ (λ steps. steps) (at_device_shows before after (Given slot subslot value.items) holds meant happens)
       happens_shows (move.Alarm slot subslot octets) meant happens = does before after _ _ _ _ (λ steps. steps) (at_device_shows before after (Raised slot subslot octets.items) holds meant happens)
       happens_shows (move.Status slot subslot is_good) meant happens = does before after _ _ _ _ (λ steps. steps) (at_device_shows before after (Rated slot subslot is_good) holds meant happens)
+      happens_shows (move.Neighbour neighbour) meant happens = does before after _ _ _ _ (λ steps. steps) (at_device_shows before after (Met (option_map peer_as neighbour)) holds meant happens)
+      happens_shows (move.Diagnosis slot subslot channel error appears) meant happens = does before after _ _ _ _ (λ steps. steps) (at_device_shows before after (diagnosed slot subslot channel error appears) holds meant happens)
       happens_shows move.Ready meant happens = does before after _ _ _ _ (λ steps. steps) (at_device_shows before after Readied holds meant happens)
       happens_shows (move.Give slot subslot value) meant happens =
           does before after _ _ _ _ (λ steps. steps) (at_controller_gives before after (controller.Give slot subslot value) holds happens)

@@ -22,13 +22,13 @@ use Rattle.pn_alarms.specs.declared.message.Notice.TheVariants as notice
 use Rattle.pn_alarms.specs.declared.pdu.Header.{Header}
 use Rattle.pn_alarms.specs.declared.receiver.Taken.{Taken}
 use Rattle.pn_alarms.specs.declared.receiver.Taken.TheVariants.{New, Again, Refused}
-use Rattle.pn_alarms.specs.Message.{ToController}
+use Rattle.alarm_reports.specs.Message.{ToController}
 use Rattle.pn_alarms.specs.Receiver.{taken_as}
 use Rattle.pn_alarms.specs.Ends.{ControllerEnd}
-use Rattle.pn_alarms.specs.declared.priority.Priority.{Priority}
-use Rattle.pn_alarms.specs.declared.priority.Priority.TheVariants.{High, Low}
+use Rattle.alarm_reports.specs.declared.priority.Priority.{Priority}
+use Rattle.alarm_reports.specs.declared.priority.Priority.TheVariants.{High, Low}
 use Rattle.pn_alarms.specs.declared.repeats.Due.{Due}
-use Rattle.pn_alarms.specs.declared.report.Report.{Report}
+use Rattle.alarm_reports.specs.declared.report.Report.{Report}
 use Rattle.pn_alarms.specs.Sending.{due}
 use Rattle.pn_alarms.specs.Sending.{is_again as is_repeated}
 use Rattle.plans.specs.declared.parts.Parts.{Parts}
@@ -39,6 +39,7 @@ use Rattle.controller_frames.specs.declared.record_request.RecordRequest.{Record
 use Rattle.controller_frames.specs.declared.record_request.RecordService.{RecordService}
 use Rattle.controller_frames.specs.declared.record_request.RecordService.TheVariants as service
 use Rattle.controller_frames.specs.RecordRequests.{most_record_octets}
+use Rattle.controller_frames.specs.Requests.{first_of, write_count}
 use Rattle.controller_frames.specs.declared.request.Request.{Request}
 use Rattle.controller_frames.specs.declared.request.Request.TheVariants as asks
 use Rattle.controller_frames.specs.Heard.{Heard, Nothing, Answers, Responds, Refuses, Calls, Alarms, heard_of}
@@ -49,11 +50,15 @@ use Rattle.controller_core.specs.declared.event.Event.TheVariants as event
 use Rattle.controller_core.specs.declared.state.Cause.{Cause}
 use Rattle.controller_core.specs.declared.state.State.{State}
 use Rattle.controller_core.specs.declared.state.State.TheVariants.{Looking, Addressing, Ending, Waiting, Exchanging, Ended}
-use Rattle.controller_core.specs.Access.{Accessing, is_rejected, is_reply, record_in}
-use Rattle.controller_core.specs.Alarms.{ack_of, is_alarm as is_of_relation}
+use Rattle.record_access.specs.Access.{Accessing, is_rejected, is_reply, record_in}
+use Rattle.controller_core.specs.Alarms.{ack_of, is_alarm as is_of_relation, kept_alarm}
 use Rattle.controller_core.specs.Answers.{is_addressed, is_answer, is_found, is_ready, is_refused, is_right, is_set_answer}
-use Rattle.controller_core.specs.Connect.{Chosen, chosen_of, found_in, is_whole, nothing}
-use Rattle.controller_core.specs.Machine.{Turn, accesses_by, accessing, acked_under, acking, acks_in, acks_of, addressed, answered, behind_ack, behind_data, brings, brought, can_request, confirming, end_of, failed, granted, keeping, pending_by, pending_of, rejected, replied, replied_by, requested, with_end, called, come, connected, decided, denied, done, first, flow_later, flowed, found, given, is_again, handled, later, noted, noticed, outputs_of, over, rated, readied, ready_in, refused, refused_by, related_by, released, requests_of, responded, standing, stays, stopped, taken, turn_of, turned, undone, where_due, writing}
+use Rattle.connect_answers.specs.Connect.{Chosen, chosen_of, found_in, is_whole, nothing}
+use Rattle.controller_core.specs.declared.outcomes.Outcomes.{Outcomes}
+use Rattle.controller_core.specs.declared.outcomes.Outcomes.TheVariants.{AllWritten, Unreadable}
+use Rattle.controller_core.specs.declared.outcomes.Outcomes.TheVariants.{Refused as Denied}
+use Rattle.controller_core.specs.Outcomes.{outcomes_of}
+use Rattle.controller_core.specs.Machine.{Turn, accesses_by, accessing, acked_under, after_write, past_record, acking, acks_in, acks_of, addressed, answered, behind_ack, behind_data, brings, brought, can_request, confirming, diagnosing, end_of, failed, granted, keeping, pending_by, pending_of, rejected, replied, replied_by, requested, with_end, called, come, connected, decided, denied, done, first, flow_later, flowed, found, given, is_again, handled, later, noted, noticed, outputs_of, over, rated, readied, ready_in, refused, refused_by, related_by, released, requests_of, responded, standing, stays, stopped, taken, turn_of, turned, undone, where_due, writing}
 use Rattle.controller_core.specs.State.{Live}
 use Rattle.end_laws.specs.sending.Sized.{Found}
 use Rattle.exchange_laws.specs.Sized.{IsChosenWell}
@@ -134,7 +139,7 @@ module _ (setup : Setup) (mac : Mac) (apart : mac ≡ setup.plan.controller.mac 
 
   related_placed : (live : Live) (found_so : Option Chosen) → live.device ≡ mac → ((chosen : Chosen) → found_so ≡ Some chosen → is_alarm chosen.frame_id ≡ false) → IsPlaced mac live → PlacedTurn (related_by setup live found_so)
   related_placed live (Some chosen) is plain p =
-      writes_placed (standing setup live chosen) 0 (nat_lt 0 (length setup.plan.records.items))
+      writes_placed (standing setup live chosen) 0 (nat_lt 0 (write_count setup.plan))
       (record { plain = plain chosen refl; partner = λ e. is; asking = λ e. is; giving = λ e. is; addressing = λ e. is })
   related_placed live None is plain p = stays_placed live p
 
@@ -151,25 +156,34 @@ module _ (setup : Setup) (mac : Mac) (apart : mac ≡ setup.plan.controller.mac 
       (λ lacks. stays_placed live p)
   connected_placed live blocks None e is well p = stays_placed live p
 
+  noted_placed : (status : Status) (number : ℕ) (live : Live) → IsPlaced mac live → IsPlaced mac (noted status number live)
+  noted_placed status number live p = record { plain = p.plain; partner = p.partner; asking = p.asking; giving = p.giving; addressing = p.addressing }
+
+  -- a record is refused: the next Write, or the end
+  passed_placed : (live : Live) (number refused : ℕ) (status : Status) → IsPlaced mac live → PlacedTurn (past_record setup number (noted status refused live))
+  passed_placed live number refused status p =
+      either setup.plan.continue_on_refused_record _ _
+      (writes_placed (noted status refused live) (number + 1) (nat_lt (number + 1) (write_count setup.plan)) (noted_placed status refused live p))
+      (ends_placed _ (noted status refused live) (noted_placed status refused live p))
+
+  wrote_placed : (live : Live) (number : ℕ) (outcomes : Outcomes) → IsPlaced mac live → PlacedTurn (after_write setup live number outcomes)
+  wrote_placed live number AllWritten p = writes_placed live (number + 1) (nat_lt (number + 1) (write_count setup.plan)) p
+  wrote_placed live number (Denied place status) p = passed_placed live number (first_of setup.plan number + place) status p
+  wrote_placed live number Unreadable p = stays_placed live p
+
   done_placed : (live : Live) (blocks : List ℕ) (request : Request) → live.asked ≡ Some request → (request ≡ asks.Connect → IsChosenWell blocks) → IsPlaced mac live
       → PlacedTurn (done setup live blocks request)
   done_placed live blocks asks.Identify now well p = stays_placed live p
   done_placed live blocks asks.Address now well p = stays_placed live p
   done_placed live blocks asks.Connect now well p = connected_placed live blocks (found_in 400 blocks nothing) refl (p.asking now) (well refl) p
-  done_placed live blocks (asks.Write number) now well p = writes_placed live (number + 1) (nat_lt (number + 1) (length setup.plan.records.items)) p
+  done_placed live blocks (asks.Write number) now well p = wrote_placed live number (outcomes_of setup.plan number blocks) p
   done_placed live blocks asks.PrmEnd now well p =
       stays_placed (record live { phase = Waiting; asked = None }) (record { plain = p.plain; partner = p.partner; asking = λ e. absurd cc; giving = λ e. absurd cc; addressing = λ e. absurd cc })
   done_placed live blocks (asks.Release sequence) now well p =
       stays_placed (record live { asked = None }) (record { plain = p.plain; partner = p.partner; asking = λ e. absurd cc; giving = p.giving; addressing = λ e. absurd cc })
 
-  noted_placed : (status : Status) (number : ℕ) (live : Live) → IsPlaced mac live → IsPlaced mac (noted status number live)
-  noted_placed status number live p = record { plain = p.plain; partner = p.partner; asking = p.asking; giving = p.giving; addressing = p.addressing }
-
   undone_placed : (live : Live) (status : Status) (request : Request) → IsPlaced mac live → PlacedTurn (undone setup live status request)
-  undone_placed live status (asks.Write number) p =
-      either setup.plan.continue_on_refused_record _ _
-      (writes_placed (noted status number live) (number + 1) (nat_lt (number + 1) (length setup.plan.records.items)) (noted_placed status number live p))
-      (ends_placed _ (noted status number live) (noted_placed status number live p))
+  undone_placed live status (asks.Write number) p = passed_placed live number (first_of setup.plan number) status p
   undone_placed live status request p = denied_placed status live p
 
   handled_placed : (live : Live) (response : Response) (request : Request) → live.asked ≡ Some request → (request ≡ asks.Connect → is_done response.status ≡ true → IsChosenWell response.blocks) → IsPlaced mac live
@@ -270,9 +284,14 @@ module _ (setup : Setup) (mac : Mac) (apart : mac ≡ setup.plan.controller.mac 
   keeping_up live High alarm structure up = up
   keeping_up live Low alarm structure up = up
 
+  diagnosing_placed : (live : Live) (report : Report) → IsPlaced mac live → IsPlaced mac (diagnosing report live)
+  diagnosing_placed live report p = record { plain = p.plain; partner = p.partner; asking = p.asking; giving = p.giving; addressing = p.addressing }
+
   confirming_placed : (live : Live) (report : Report) → IsPlaced mac live → IsPlaced mac (confirming live report)
   confirming_placed live report p =
-      keeping_placed (acking live report.priority (ack_of report.notification)) report.priority _ report.user_structure (with_end_placed live report.priority _ p)
+      let acked = acking live report.priority (ack_of report.notification) in
+      diagnosing_placed (keeping acked report.priority (kept_alarm report.notification) report.user_structure) report
+      (keeping_placed acked report.priority (kept_alarm report.notification) report.user_structure (with_end_placed live report.priority _ p))
 
   confirming_up : (live : Live) (report : Report) → live.stands ≡ true → (confirming live report).stands ≡ true
   confirming_up live report up =
@@ -290,7 +309,7 @@ module _ (setup : Setup) (mac : Mac) (apart : mac ≡ setup.plan.controller.mac 
       taken_placed (behind_data live report.priority number) report (taken_as (end_of live report.priority).seen number) (with_end_up live report.priority _ up) (with_end_placed live report.priority _ p)
   noticed_placed live under (notice.Ack number) up p = stays_placed (behind_ack live (acked_under live under) number) (with_end_placed live (acked_under live under) _ p)
   noticed_placed live under notice.Nack up p = stays_placed live p
-  noticed_placed live under notice.Abort up p = ends_placed _ live p
+  noticed_placed live under (notice.Abort status) up p = ends_placed _ live p
 
   and_first : (a b : Bool) → (a && b) ≡ true → a ≡ true
   and_first true b e = refl

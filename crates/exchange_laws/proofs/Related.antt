@@ -1,5 +1,5 @@
 -- The effect of a response on a controller; its FrameID counts if it is the response to a Connect.
-use Rattle.std.proofs.Common.{◌≡◌, ◌<◌, ◌+◌, ℕ, Bool, true, false, cond, List, length, Option, Some, None, refl, sym, ap, subst, ◌∙◌, arith}
+use Rattle.std.proofs.Common.{◌≡◌, ◌<◌, ◌≤◌, ◌+◌, ◌/◌, ℕ, Bool, true, false, cond, List, length, Option, Some, None, refl, sym, ap, subst, ◌∙◌, arith}
 use Rattle.std.proofs.Math.Nat.{mod-lt}
 use Rattle.std.specs.Prelude.{nat_lt}
 use Rattle.std.specs.List.{AllByRecursion}
@@ -16,15 +16,19 @@ use Rattle.controller_frames.specs.declared.request.Request.{Request}
 use Rattle.controller_frames.specs.declared.request.Request.TheVariants as asks
 use Rattle.controller_frames.specs.declared.setup.Setup.{Setup}
 use Rattle.controller_frames.specs.Heard.{Responds}
-use Rattle.controller_frames.specs.Requests.{writing_from}
+use Rattle.controller_frames.specs.Requests.{first_of, write_count, writing_from}
 use Rattle.controller_core.specs.declared.state.Cause.{Cause}
 use Rattle.controller_core.specs.declared.state.Cause.TheVariants as cause
 use Rattle.controller_core.specs.declared.state.State.{State}
 use Rattle.controller_core.specs.declared.state.State.TheVariants.{Ended, Waiting}
-use Rattle.controller_core.specs.Access.{Accessing, is_reply, record_in}
+use Rattle.record_access.specs.Access.{Accessing, is_reply, record_in}
 use Rattle.controller_core.specs.Answers.{is_answer}
-use Rattle.controller_core.specs.Connect.{Chosen, chosen_of, found_in, is_whole, nothing}
-use Rattle.controller_core.specs.Machine.{Turn, asking, brings, connected, decided, denied, done, failed, granted, handled, next_sequence, noted, over, phase_for, related_by, released, replied, replied_by, responded, standing, stays, undone, writing}
+use Rattle.connect_answers.specs.Connect.{Chosen, chosen_of, found_in, is_whole, nothing}
+use Rattle.controller_core.specs.declared.outcomes.Outcomes.{Outcomes}
+use Rattle.controller_core.specs.declared.outcomes.Outcomes.TheVariants.{AllWritten, Unreadable}
+use Rattle.controller_core.specs.declared.outcomes.Outcomes.TheVariants.{Refused as Denied}
+use Rattle.controller_core.specs.Outcomes.{outcomes_of}
+use Rattle.controller_core.specs.Machine.{Turn, after_write, asking, past_record, brings, connected, decided, denied, done, failed, granted, handled, next_sequence, noted, over, phase_for, related_by, released, replied, replied_by, responded, standing, stays, undone, writing}
 use Rattle.controller_core.specs.State.{Live}
 use Rattle.end_laws.specs.hearing.Stations.{IsNumbered, IsSetup}
 use Rattle.end_laws.specs.sending.Messages.{CanBeSent}
@@ -64,7 +68,7 @@ module _ (setup : Setup) (good : IsSetup setup) where
   sequence_few : (plan : Parts) (calls : ℕ) (asked : Option Request) → AreFew asked → next_sequence plan calls asked < 4294967296
   sequence_few plan calls (Some asks.Connect) few = omega arith
   sequence_few plan calls (Some (asks.Write number)) few = omega (arith, few)
-  sequence_few plan calls other few = mod-lt (length plan.records.items + 2 + calls) (omega arith)
+  sequence_few plan calls other few = mod-lt (write_count plan + 2 + calls) (omega arith)
 
   released_right : (why : Cause) (live : Live) → IsLive live → IsRight setup (released setup why live)
   released_right why live is =
@@ -75,9 +79,14 @@ module _ (setup : Setup) (good : IsSetup setup) where
   picked_few number true few = few refl
   picked_few number false few = tt
 
+  few_by : (is_list : Bool) (count : ℕ) → count ≤ 32 → cond is_list ((count + 9) / 10) count ≤ 32
+  few_by true count few = omega (arith, few)
+  few_by false count few = few
+
   writing_few : (plan : Parts) (number : ℕ) → IsPlan plan → IsFew (writing_from plan number)
   writing_few plan number is =
-      picked_few number (nat_lt number (length plan.records.items)) (λ e. let below = ltb-true number (length plan.records.items) e in omega (arith, below, is.few_records))
+      picked_few number (nat_lt number (write_count plan))
+      (λ e. let below = ltb-true number (write_count plan) e in omega (arith, below, few_by plan.multiple_write (length plan.records.items) is.few_records))
 
   writing_right : (number : ℕ) (live : Live) → IsLive live → IsRight setup (writing (writing_from setup.plan number) live)
   writing_right number live is = asking_right (phase_for (writing_from setup.plan number)) (writing_from setup.plan number) live is (writing_few setup.plan number good.plan)
@@ -106,23 +115,32 @@ module _ (setup : Setup) (good : IsSetup setup) where
       (λ lacks. stays_right live is)
   connected_right live blocks None e is well = stays_right live is
 
-  done_right : (live : Live) (blocks : List ℕ) (request : Request) → IsLive live → (request ≡ asks.Connect → IsChosenWell blocks) → IsRight setup (done setup live blocks request)
-  done_right live blocks asks.Identify is well = stays_right live is
-  done_right live blocks asks.Address is well = stays_right live is
-  done_right live blocks asks.Connect is well = connected_right live blocks (found_in 400 blocks nothing) refl is (well refl)
-  done_right live blocks (asks.Write number) is well = writing_right (number + 1) live is
-  done_right live blocks asks.PrmEnd is well = stays_right _ (unasked live Waiting is)
-  done_right live blocks (asks.Release sequence) is well = stays_right _ (unasked live live.phase is)
-
   noted_live : (status : Status) (number : ℕ) (live : Live) → IsLive live → IsLive (noted status number live)
   noted_live status number live is =
       record { device = is.device; asked = is.asked; way = is.way; few = is.few; high = is.high; low = is.low; access = is.access }
 
-  undone_right : (live : Live) (status : Status) (request : Request) → IsLive live → IsRight setup (undone setup live status request)
-  undone_right live status (asks.Write number) is =
+  -- a record is refused: the next Write, or the end
+  passed_right : (live : Live) (number refused : ℕ) (status : Status) → IsLive live → IsRight setup (past_record setup number (noted status refused live))
+  passed_right live number refused status is =
       either setup.plan.continue_on_refused_record _ _
-      (λ goes. writing_right (number + 1) (noted status number live) (noted_live status number live is))
-      (λ ends. stays_right (over cause.Refused (noted status number live)) (over_live cause.Refused (noted status number live) (noted_live status number live is)))
+      (λ goes. writing_right (number + 1) (noted status refused live) (noted_live status refused live is))
+      (λ ends. stays_right (over cause.Refused (noted status refused live)) (over_live cause.Refused (noted status refused live) (noted_live status refused live is)))
+
+  wrote_right : (live : Live) (number : ℕ) (outcomes : Outcomes) → IsLive live → IsRight setup (after_write setup live number outcomes)
+  wrote_right live number AllWritten is = writing_right (number + 1) live is
+  wrote_right live number (Denied place status) is = passed_right live number (first_of setup.plan number + place) status is
+  wrote_right live number Unreadable is = stays_right live is
+
+  done_right : (live : Live) (blocks : List ℕ) (request : Request) → IsLive live → (request ≡ asks.Connect → IsChosenWell blocks) → IsRight setup (done setup live blocks request)
+  done_right live blocks asks.Identify is well = stays_right live is
+  done_right live blocks asks.Address is well = stays_right live is
+  done_right live blocks asks.Connect is well = connected_right live blocks (found_in 400 blocks nothing) refl is (well refl)
+  done_right live blocks (asks.Write number) is well = wrote_right live number (outcomes_of setup.plan number blocks) is
+  done_right live blocks asks.PrmEnd is well = stays_right _ (unasked live Waiting is)
+  done_right live blocks (asks.Release sequence) is well = stays_right _ (unasked live live.phase is)
+
+  undone_right : (live : Live) (status : Status) (request : Request) → IsLive live → IsRight setup (undone setup live status request)
+  undone_right live status (asks.Write number) is = passed_right live number (first_of setup.plan number) status is
   undone_right live status request is =
       stays_right (denied status live) (record { device = is.device; asked = tt; way = is.way; few = is.few; high = is.high; low = is.low; access = tt })
 

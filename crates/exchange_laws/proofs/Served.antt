@@ -18,13 +18,13 @@ use Rattle.relations.specs.declared.ready.Ready.{Ready}
 use Rattle.relations.specs.RelationState.{RelationState}
 use Rattle.relations.specs.Connect.{connect_blocks, connect_of, differing_of}
 use Rattle.device_frames.specs.Heard.{Heard, Reported, Calls}
-use Rattle.device_frames.specs.Sent.{Sent, CallAnswer, Again}
+use Rattle.device_frames.specs.Sent.{Sent, Exchanges, CallAnswer, Again}
 use Rattle.device_core.specs.State.{Station, Live, Rest}
 use Rattle.device_core.specs.Handled.{answer_from, outcome_of}
 use Rattle.controller_frames.specs.declared.setup.Setup.{Setup}
-use Rattle.controller_core.specs.Connect.{found_in, is_whole, nothing}
+use Rattle.connect_answers.specs.Connect.{found_in, is_whole, nothing}
 use Rattle.end_laws.specs.sending.Sized.{Found}
-use Rattle.end_laws.specs.device.Does.{Does, IsEffect, IsOther, Serves, readied_from}
+use Rattle.end_laws.specs.device.Does.{Does, IsEffect, IsExchange, IsOther, Serves, readied_from}
 use Rattle.end_laws.specs.both.Small as small
 use Rattle.end_laws.specs.device.Small.{IsPlanned, IsPlannedAs, IsPlannedCall, asked_by, heard_as, written_by}
 use Rattle.startup_law.specs.View.{is_planned, rules_of}
@@ -72,6 +72,11 @@ module _ (setup : Setup) (station : Station) (live : Live) where
   others_served after (CallAnswer caller address answer ∷ messages) others = absurd others.0
   others_served after (Again frame ∷ messages) others = absurd others.0
   others_served after (message ∷ messages) others = (tt, others_served after messages others.1)
+
+  exchanges_served : (messages : List Sent) → AllByRecursion IsExchange messages → AreServed messages
+  exchanges_served [] others = tt
+  exchanges_served (Exchanges route frame ∷ messages) others = (tt, exchanges_served messages others.1)
+  exchanges_served (message ∷ messages) others = absurd others.0
 
   -- the blocks of a response, by the outcome and the operation of its call
   -- a Write of number 0 is one of the application
@@ -123,6 +128,6 @@ module _ (setup : Setup) (station : Station) (live : Live) where
     pub all_served : Does station live heard after sent → AreServed sent
     all_served (inl it) = silent_served [] it.silent tt
     all_served (inr (inl it)) = others_served after.link sent it.others
-    all_served (inr (inr (inl it))) = silent_served [] it.silent tt
+    all_served (inr (inr (inl it))) = exchanges_served sent it.others
     all_served (inr (inr (inr (inl it)))) = silent_served _ it.sends (tt, tt)
     all_served (inr (inr (inr (inr it)))) = call_served it

@@ -36,7 +36,7 @@ use Rattle.end_laws.specs.hearing.Hearing.{comes}
 use Rattle.end_laws.specs.hearing.Stations.{IsCalled, IsCaller, IsNumbered, IsSetup}
 use Rattle.end_laws.specs.both.Small as small
 use Rattle.end_laws.specs.both.Small.{ToController, ToDevice}
-use Rattle.end_laws.specs.controller.Small.{said_to}
+use Rattle.end_laws.specs.controller.Small.{is_positive, said_to, says_written}
 use Rattle.end_laws.specs.device.Owed.{IsOwed}
 use Rattle.end_laws.specs.device.Small.{IsHeardAs, IsPlanned, IsPlannedAs, IsPlannedCall, asked_by, heard_as, written_by}
 use Rattle.startup_law.specs.View.{IsSaidAs, is_planned, rules_of}
@@ -64,9 +64,10 @@ module _ (setup : Setup) where
   said_positive : (response : Response) → is_answer setup asks.Connect response.header ≡ true → is_done response.status ≡ true
       → said_to setup (controller.Responds response) ≡ small.Answers 0 true
   said_positive response is done =
-      ap (λ (b : Bool). cond b (small.Answers response.header.sequence (is_done response.status)) small.Nothing)
+      ap (λ (b : Bool). cond b (small.Answers response.header.sequence (is_positive setup.plan response)) small.Nothing)
       (and_first (pointwise nat_eq response.header.activity setup.activity) (response.header.sequence == 0) is)
-      ∙ (ap (λ (n : ℕ). small.Answers n (is_done response.status)) (zero_is response is) ∙ ap (λ (b : Bool). small.Answers 0 b) done)
+      ∙ (ap (λ (n : ℕ). small.Answers n (is_done response.status && says_written setup.plan n response.blocks)) (zero_is response is)
+      ∙ ap (λ (b : Bool). small.Answers 0 (b && says_written setup.plan 0 response.blocks)) done)
 
   -- what says nothing, or is not a positive response of this number, is not a positive response to the Connect
   unanswered_well : (heard : controller.Heard) (says : ToController) → (says ≡ small.Answers 0 true → ⊥)

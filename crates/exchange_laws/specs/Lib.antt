@@ -3,3 +3,4 @@ pub mod Given
 pub mod Sized
 pub mod Over
 pub mod Together
+pub mod Told

@@ -5,7 +5,7 @@ use Rattle.std.specs.List.{AllByRecursion}
 use Rattle.pn_values.specs.declared.real.RealModule.{RealModule}
 use Rattle.pn_values.specs.declared.real.RealSubmodule.{RealSubmodule}
 use Rattle.frame_codec.specs.FrameId.{is_alarm}
-use Rattle.controller_core.specs.Connect.{Chosen, chosen_of, found_in, is_whole, nothing}
+use Rattle.connect_answers.specs.Connect.{Chosen, chosen_of, found_in, is_whole, nothing}
 use Rattle.end_laws.specs.sending.Sized.{Found}
 
 -- ---- what is plugged

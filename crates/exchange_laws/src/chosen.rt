@@ -8,7 +8,7 @@ ghost use Rattle.relations.specs.Connect.{connect_blocks, differing_of};
 ghost use Rattle.exchange_laws.specs.Sized.{IsChosenWell};
 
 use codec_laws::blocks_are_read;
-use controller_core::blocks_are_found;
+use connect_answers::blocks_are_found;
 
 /// The blocks of a device's response to the Connect of a plan meet the premise of the law of alarms. This is a law of
 /// the definitions.

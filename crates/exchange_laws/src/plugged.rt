@@ -1,8 +1,10 @@
-//! The numbers of the modules in a device have their sizes.
+//! The numbers of the modules in a device and of moves have their sizes.
 ghost use Rattle.std.specs.Prelude.{◌<◌};
 ghost use Rattle.std.specs.List.{AllByRecursion};
 ghost use Rattle.exchange_laws.specs.Sized.{AreSizedModules, IsSizedPart};
+ghost use Rattle.exchange_laws.specs.Told.{IsSizedMove};
 
+use network_world::Move;
 use pn_values::{Real, RealModule, RealSubmodule};
 
 /// A `u16` has 16 bits.
@@ -47,4 +49,23 @@ pub fn modules_are_sized(real: &Real)
     ensures { AreSizedModules real.now.modules.items }
 {
     entries_are_sized(real.modules.as_slice());
+}
+
+/// The numbers of a move have their sizes.
+fn move_is_sized(one: &Move)
+    ensures { IsSizedMove one.now }
+{
+    if let Move::Diagnosis(_, _, _, error, _) = one {
+        has_16_bits(*error);
+    }
+}
+
+/// Any moves meet the premise of the law of reported diagnosis about them. This is a law of the definitions.
+pub fn moves_are_sized(moves: &[Move])
+    // A ChannelErrorType has 16 bits.
+    ensures { AllByRecursion IsSizedMove moves.now }
+{
+    for one in moves {
+        move_is_sized(one);
+    }
 }

@@ -1,11 +1,11 @@
-//! Both ends of a network, begun and played, with the laws of start-up, outputs and alarms.
+//! Both ends of a network, begun and played, with the laws of start-up, outputs, alarms and reported diagnosis.
 ghost use Rattle.std.specs.Prelude.{◌≡◌, ◌<◌, [], ℕ, None, OnErr, OnOk, length, take};
 ghost use Rattle.startup_law.specs.Played.{CanMeet};
 ghost use Rattle.exchange_laws.specs.Together.{IsBegunAndCut, IsBegunAndPlayed};
 
 use crate::alarms::worlds_take_alarms;
 use crate::outputs::worlds_show_what_is_given;
-use crate::plugged::modules_are_sized;
+use crate::plugged::{modules_are_sized, moves_are_sized};
 use controller_frames::Setup;
 use device_core::Device;
 use flash_model::Flash;
@@ -28,7 +28,7 @@ pub fn play_both_ends<F: Flash<S>, const S: usize>(
     requires unrelated { device.live.rest.link ≡ None }
     requires known { device.station.identity ≡ identity.now }
     requires meets { CanMeet setup identity.now }
-    // If all moves were made, the laws of start-up, outputs and alarms hold, whatever the flash of the device does.
+    // If all moves were made, the laws of start-up, outputs, alarms and diagnosis hold, whatever the flash of the device does.
     ensures played { OnOk result.1 (IsBegunAndPlayed F.Flash setup device moves.now result.0) }
     // If memory ran out, the same holds of the moves before the one for which it did.
     ensures cut { OnErr result.1 (IsBegunAndCut F.Flash setup device moves.now result.0) }
@@ -37,6 +37,7 @@ pub fn play_both_ends<F: Flash<S>, const S: usize>(
     worlds_show_what_is_given::<F, S>(&setup, identity);
     worlds_take_alarms::<F, S>(&setup, identity);
     modules_are_sized(device.real());
+    moves_are_sized(moves);
     let mut world = begin_world(alloc, device, setup);
     let played = world.play(moves);
     (world, played)

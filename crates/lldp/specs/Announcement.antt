@@ -25,6 +25,10 @@ port_name = 112 ∷ 111 ∷ 114 ∷ 116 ∷ 45 ∷ 48 ∷ 48 ∷ 49 ∷ []
 abbrev pub chassis_of : Station → Id
 chassis_of station = if length station.name == 0 then record { subtype = 4; octets = station.mac.octets } else record { subtype = 7; octets = station.name }
 
+-- The text of the ChassisID of a station with this MAC address and running name, as its neighbours read it.
+abbrev pub own_chassis : Mac → List ℕ → List ℕ
+own_chassis mac name = chassis_text (chassis_of (record { mac = mac; name = name; address = []; link = None }))
+
 -- the status of the port (00-0E-CF, subtype 2): no real-time class 2 or 3
 abbrev pub port_status : Tlv
 port_status = tlv_of 127 (0 ∷ 14 ∷ 207 ∷ 2 ∷ 0 ∷ 0 ∷ 0 ∷ 0 ∷ [])

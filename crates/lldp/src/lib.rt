@@ -24,4 +24,4 @@ pub use law::{
 pub use machine::{Heard, Neighbours};
 pub use neighbour::Neighbour;
 pub use station::Link;
-pub use writing::announcement;
+pub use writing::{PORT_NAME, announcement, own_chassis};

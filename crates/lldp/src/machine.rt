@@ -67,6 +67,13 @@ impl Neighbours {
         }
     }
 
+    /// The MAC address of this station.
+    pub fn mac(&self) -> Mac
+        ensures { result ≡ self.now.mac }
+    {
+        self.mac
+    }
+
     /// The neighbour that is known.
     pub fn neighbour(&self) -> Option<&Neighbour>
         ensures { option_map (λ n. peer_as n.now) result ≡ option_map (λ (k : KnownPeer). k.peer) self.now.known }

@@ -47,7 +47,7 @@ fn digit(number: u8) -> u8
 }
 
 /// A hyphen and two hexadecimal digits for each octet.
-fn hyphenated(octets: &[u8]) -> ArrayVec<u8, 18>
+pub(crate) fn hyphenated(octets: &[u8]) -> ArrayVec<u8, 18>
     requires { length octets.now ≤ 6 }
     ensures items { result.items ≡ flat_map dashed_octet octets.now }
     ensures len { length result.items ≡ 3 * length octets.now }
@@ -94,6 +94,21 @@ impl Notice {
 }
 
 impl Neighbour {
+    /// A copy of the neighbour. It is not `Clone`: a clone may run out of memory, and this cannot.
+    pub fn copy(&self) -> Neighbour
+        ensures { peer_as result ≡ peer_as self.now }
+    {
+        let mut chassis = ArrayVec::new();
+        append(&mut chassis, self.chassis.as_slice());
+        let mut port = ArrayVec::new();
+        append(&mut port, self.port.as_slice());
+        Neighbour {
+            chassis,
+            port,
+            mac: self.mac,
+        }
+    }
+
     /// Whether two messages are of the same chassis and port.
     pub(crate) fn is_same(&self, other: &Neighbour) -> bool
         ensures { result ≡ is_same_peer (peer_as self.now) (peer_as other.now) }

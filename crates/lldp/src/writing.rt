@@ -6,10 +6,11 @@ ghost use Rattle.arrayvec.specs.ArrayVec.{array_vec_len};
 ghost use Rattle.lldp.specs.Tlv.{tlv, tlv_of, id, lifetime};
 ghost use Rattle.lldp.specs.Message.{message, write_tlvs};
 ghost use Rattle.lldp.specs.Frame.{link as link_format, told_in};
-ghost use Rattle.lldp.specs.Announcement.{address_tlvs, announced, announcement as announcement_of, chassis_of, header_of, link_tlvs, padded, told_of};
+ghost use Rattle.lldp.specs.Announcement.{address_tlvs, announced, announcement as announcement_of, chassis_of, header_of, link_tlvs, own_chassis as own_chassis_of, padded, told_of};
 
 use crate::Link;
 use crate::frame::{LLDP, NEAREST};
+use crate::neighbour::hyphenated;
 use crate::tlv::{CHASSIS, LIFETIME, PORT, TYPE};
 use arrayvec::ArrayVec;
 use frame_codec::Frame;
@@ -17,7 +18,7 @@ use pn_values::{Mac, StationName};
 use wire::{append, append_u8, append_u16, join};
 
 /// The name of the only port.
-const PORT_NAME: [u8; 8] = *b"port-001";
+pub const PORT_NAME: [u8; 8] = *b"port-001";
 
 /// As many zeros as the shortest frame has octets.
 static ZEROS: [u8; 60] = [0; 60];
@@ -84,6 +85,21 @@ fn put_chassis(out: &mut Octets, mac: Mac, name: &[u8])
     } else {
         put_id(out, CHASSIS, 7, name);
     }
+}
+
+/// The text of a station's ChassisID, as its neighbours read it: the running name, or the MAC address if there is none.
+pub fn own_chassis(mac: Mac, name: &StationName) -> ArrayVec<u8, 240>
+    ensures text { result.items ≡ own_chassis_of mac name.now }
+    // The text has at most 240 octets.
+    ensures len { length result.items ≤ 240 }
+{
+    let mut text = ArrayVec::new();
+    if name.as_bytes().is_empty() {
+        append(&mut text, &hyphenated(&mac.octets).as_slice()[1..]);
+    } else {
+        append(&mut text, name.as_bytes());
+    }
+    text
 }
 
 /// Appends what the host says of the link.

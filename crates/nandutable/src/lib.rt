@@ -9,15 +9,16 @@ ghost use Rattle.std.specs.Borrow.{full_share};
 ghost use base.Logic.{ex};
 ghost use types.Logic.{sem};
 ghost use denote.RawPtr.{lies_at, room_at};
-ghost use Rattle.device_abi.specs.contracts.port.device.Port.{the_row as Row};
-ghost use Rattle.device_abi.specs.operations.Made.{IsMade, why_not_made};
-ghost use Rattle.device_abi.specs.port.State.{State, closed};
-ghost use Rattle.device_abi.specs.operations.Serves.{HandsOut, Serves, operation_of};
-ghost use Rattle.device_abi.specs.operations.Stations.{is_station};
+ghost use Rattle.station_abi.specs.contracts.served.ServedPort.{the_row as Row};
+ghost use Rattle.station_abi.specs.Made.{IsMade, why_not_made};
+ghost use Rattle.device_abi.specs.port.State.{closed};
+ghost use Rattle.station_abi.specs.State.{Served};
+ghost use Rattle.station_abi.specs.Serves.{HandsOut, Serves, operation_of};
+ghost use Rattle.station_abi.specs.Stations.{is_station};
 ghost use Rattle.nandutable.specs.Handed.{Lends};
 
 use c_layout::Op;
-use device_abi::{Port, Station, hand_out, judge, port_of, serve};
+use station_abi::{ServedPort, Station, hand_out, judge, port_of, serve};
 
 /// Returns why no device can be made from this station in a memory of `size` octets, or 0.
 #[unsafe(no_mangle)]
@@ -31,19 +32,19 @@ pub extern "C" fn pn_judge(size: usize, abi: u32, op_size: usize, station: &Stat
 #[unsafe(no_mangle)]
 pub unsafe extern "C" fn pn_put(room: *mut u8, station: &Station)
     requires* { sem 𝓛 (room_at Row room) ∗ ⌜ is_station station.now ≡ true ⌝ }
-    ensures* { ex 𝓤 (λ (port : State). sem 𝓛 (lies_at Row full_share room port) ∗ ⌜ IsMade station.now port ⌝) }
+    ensures* { ex 𝓤 (λ (port : Served). sem 𝓛 (lies_at Row full_share room port) ∗ ⌜ IsMade station.now port ⌝) }
 {
-    unsafe { std::ptr::write(room as *mut Port, port_of(station)) };
+    unsafe { std::ptr::write(room as *mut ServedPort, port_of(station)) };
 }
 
 /// Carries out one operation on the device in the memory at `room`. Returns 0, or why nothing changed.
 #[unsafe(no_mangle)]
 pub unsafe extern "C" fn pn_step(room: *mut u8, op: &mut Op, given: &[u8]) -> u32
-    ghost port: { State }
+    ghost port: { Served }
     requires* { sem 𝓛 (lies_at Row full_share room port) }
-    ensures* { ex 𝓤 (λ (new : State). sem 𝓛 (lies_at Row full_share room new) ∗ ⌜ Serves (operation_of op.old.what) port op.old given.now result new op.new ⌝) }
+    ensures* { ex 𝓤 (λ (new : Served). sem 𝓛 (lies_at Row full_share room new) ∗ ⌜ Serves (operation_of op.old.what) port op.old given.now result new op.new ⌝) }
 {
-    serve(unsafe { &mut *(room as *mut Port) }, op, given)
+    serve(unsafe { &mut *(room as *mut ServedPort) }, op, given)
 }
 
 /// Hands out the next piece of work of the device in the memory at `room`: `octets` becomes the place in that memory where
@@ -58,10 +59,10 @@ pub unsafe extern "C" fn pn_fetch(
     answer: &mut u32,
     octets: &mut *const u8,
 )
-    ghost port: { State }
+    ghost port: { Served }
     requires* { sem 𝓛 (lies_at Row full_share room port) }
-    ensures* { ex 𝓤 (λ (new : State). ex 𝓤 (λ (handed : List ℕ). Lends 𝓛 Row room new octets.new handed ∗ ⌜ HandsOut (closed port.stage) port op.old answer.new handed new op.new ⌝)) }
+    ensures* { ex 𝓤 (λ (new : Served). ex 𝓤 (λ (handed : List ℕ). Lends 𝓛 Row room new octets.new handed ∗ ⌜ HandsOut (closed port.port.stage) port op.old answer.new handed new op.new ⌝)) }
 {
-    let handed = hand_out(unsafe { &mut *(room as *mut Port) }, op, answer);
+    let handed = hand_out(unsafe { &mut *(room as *mut ServedPort) }, op, answer);
     *octets = handed.as_ptr();
 }

@@ -1,20 +1,28 @@
-//! The controller of a station with five calls. `include/nandutable_controller.h` says how they are used.
+//! The controller of a station with five calls, and six calls of a tool that works before a controller starts.
+//! `include/nandutable_controller.h` says how they are used.
 //!
 //! Each call is proved down to its raw pointer: the content of the memory before the call, and its content after it.
 #![tactic(auto)]
 
-ghost use Rattle.std.specs.Prelude.{◌≡◌, true};
+ghost use Rattle.std.specs.Prelude.{◌≡◌, take, true};
 ghost use Rattle.std.specs.Borrow.{full_share};
 ghost use base.Logic.{ex};
 ghost use types.Logic.{sem};
 ghost use denote.RawPtr.{lies_at, room_at};
-ghost use Rattle.station.specs.Served.{begun};
+ghost use Rattle.controller_station.specs.Served.{begun};
 ghost use Rattle.controller_abi.specs.State.{State, opened};
 ghost use Rattle.controller_abi.specs.contracts.port.Port.{the_row as Row};
 ghost use Rattle.controller_abi.specs.Plans.{fault_of, is_plan, parts_of, why_not_made};
 ghost use Rattle.controller_abi.specs.Serves.{Serves, operation_of};
+ghost use Rattle.c_layout.specs.Places.{place_in};
+ghost use Rattle.commissioning.specs.Named.{named_by};
+ghost use Rattle.commissioning.specs.Place.{after_frame, place_of};
+ghost use Rattle.commissioning.specs.Record.{record_heard};
+ghost use Rattle.commissioning_abi.specs.Tool.{IsFind, IsName, IsOutcome, IsRead, IsRecord, index_in, tool_in};
 
 use c_layout::Op;
+use commissioning::Search;
+use commissioning_abi::{WrittenTarget, WrittenTool, find, hear, name, outcome, read, record};
 use controller_abi::{Port, WrittenPlan, fault_in, judge, serve, start, unstarted};
 
 /// Returns the first fault of a plan, with the number that a catalogue with this fault has, or 0.
@@ -72,4 +80,67 @@ pub unsafe extern "C" fn pn_controller_step(room: *mut u8, op: &mut Op, given: &
     ensures* { ex 𝓤 (λ (new : State). sem 𝓛 (lies_at Row full_share room new) ∗ ⌜ Serves (operation_of op.old.what) port op.old given.now result new op.new ⌝) }
 {
     serve(unsafe { &mut *(room as *mut Port) }, op, given)
+}
+
+/// Writes the frame by which a tool asks all stations which one has this name by its place. Returns 0, or why not.
+#[unsafe(no_mangle)]
+pub extern "C" fn pn_tool_find(tool: &WrittenTool, op: &mut Op, alias: &[u8]) -> u32
+    ensures { IsFind tool.now alias.now op.old result op.new }
+{
+    find(tool, alias, op)
+}
+
+/// Hears a received frame: only an answer to that question counts.
+#[unsafe(no_mangle)]
+pub extern "C" fn pn_tool_hear(tool: &WrittenTool, search: &mut Search, given: &[u8])
+    ensures { place_of search.new ≡ after_frame (tool_in tool.now) (place_of search.old) (take 1519 given.now) }
+{
+    hear(tool, search, given);
+}
+
+/// Writes the frame by which the station at the place gets this name. Returns 0, or why not.
+#[unsafe(no_mangle)]
+pub extern "C" fn pn_tool_name(tool: &WrittenTool, search: &Search, op: &mut Op, text: &[u8]) -> u32
+    ensures { IsName tool.now (place_of search.now) text.now op.old result op.new }
+{
+    name(tool, search, text, op)
+}
+
+/// Reads what a received frame answers to that Set. Returns 0, or that it answers nothing.
+#[unsafe(no_mangle)]
+pub extern "C" fn pn_tool_outcome(
+    tool: &WrittenTool,
+    search: &Search,
+    op: &mut Op,
+    given: &[u8],
+) -> u32
+    ensures { IsOutcome (named_by (tool_in tool.now) (place_of search.now) (take 1519 given.now)) op.old result op.new }
+{
+    outcome(tool, search, given, op)
+}
+
+/// Writes the frame by which a tool reads a record of a station. Returns 0, or why not.
+#[unsafe(no_mangle)]
+pub extern "C" fn pn_tool_read(
+    tool: &WrittenTool,
+    target: &WrittenTarget,
+    activity: &[u8; 16],
+    op: &mut Op,
+) -> u32
+    ensures { IsRead (place_in op.old.slot op.old.subslot) (index_in op.old.place) tool.now target.now activity.now op.old result op.new }
+{
+    read(tool, target, activity, op)
+}
+
+/// Reads what a received frame answers to that read. Returns 0, or that it answers nothing.
+#[unsafe(no_mangle)]
+pub extern "C" fn pn_tool_record(
+    tool: &WrittenTool,
+    activity: &[u8; 16],
+    op: &mut Op,
+    given: &[u8],
+) -> u32
+    ensures { IsRecord (record_heard (tool_in tool.now) activity.now (take 1519 given.now)) op.old result op.new }
+{
+    record(tool, activity, given, op)
 }

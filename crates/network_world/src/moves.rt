@@ -1,4 +1,5 @@
 use frame_codec::Bytes;
+use lldp::Neighbour;
 
 /// An end of the network.
 #[derive(Clone, Copy, Debug, PartialEq, Eq)]
@@ -25,6 +26,11 @@ pub enum Move {
     Status(u16, u16, bool),
     /// The device's application says that it is ready.
     Ready,
+    /// The services beside the device tell it its neighbour, or that it has none.
+    Neighbour(Option<Neighbour>),
+    /// A diagnosis of the submodule in this slot and subslot, of this channel and with this ChannelErrorType, appears or
+    /// disappears at the device.
+    Diagnosis(u16, u16, u16, u16, bool),
     /// The controller's application sets the output of the submodule in this slot and subslot.
     Give(u16, u16, Bytes),
     /// The controller's application says whether the output of the submodule in this slot and subslot is good.

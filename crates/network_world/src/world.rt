@@ -1,5 +1,6 @@
 //! Both ends, and all frames that either ever sent.
 ghost use Rattle.std.specs.Prelude.{◌≡◌, ◌≤◌, ◌<◌, ◌++◌, ◌∷◌, [], ℕ, length, option_map, slice_get, take, OnErr, OnOk};
+ghost use Rattle.lldp.specs.Views.{peer_as};
 ghost use Rattle.controller_core.specs.Machine.{opening_of, step_of};
 ghost use Rattle.device_frames.specs.Heard.{heard_of};
 ghost use Rattle.network_world.specs.World.{Comes, Delivers, Happens, IsHeard, Passes, Played, is_cyclic_frame, is_ended, is_skipped};
@@ -11,6 +12,7 @@ use controller_core::{Controller, Event as ControllerEvent, State};
 use device_core::{Device, Event as DeviceEvent};
 use flash_model::Flash;
 use frame_codec::{Bytes, Frame, Outbox, is_cyclic, read_real_time};
+use lldp::Neighbour;
 use records::is_relation;
 use std::alloc::{AllocError, Global};
 use std::marker::Model;
@@ -19,9 +21,10 @@ use std::marker::Model;
 /// may fail and may lose power.
 #[derive(Drop)]
 pub struct World<F: Flash<S>, const S: usize> {
-    device: Device<F, S>,
     controller: Controller,
     sent: SentFrames,
+    // Last: what is proved of the size of a struct doubles with each field behind one of any type.
+    device: Device<F, S>,
 }
 
 impl<F: Flash<S>, const S: usize> Model for World<F, S> {
@@ -162,6 +165,16 @@ fn deliver<F: Flash<S>, const S: usize>(
     come(device, controller, sent, end, bytes);
 }
 
+/// A copy of a neighbour, if there is one.
+fn copied(neighbour: &Option<Neighbour>) -> Option<Neighbour>
+    ensures { option_map peer_as result ≡ option_map peer_as neighbour.now }
+{
+    match neighbour {
+        Some(neighbour) => Some(neighbour.copy()),
+        None => None,
+    }
+}
+
 /// Makes a move. There must be room for what it sends.
 fn happen<F: Flash<S>, const S: usize>(
     device: &mut Device<F, S>,
@@ -189,6 +202,14 @@ fn happen<F: Flash<S>, const S: usize>(
             happen_at_device(device, sent, &status);
         }
         Move::Ready => happen_at_device(device, sent, &DeviceEvent::Ready),
+        Move::Neighbour(neighbour) => {
+            let met = DeviceEvent::Neighbour(copied(neighbour));
+            happen_at_device(device, sent, &met);
+        }
+        Move::Diagnosis(slot, subslot, channel, error, appears) => {
+            let change = DeviceEvent::Diagnosis(*slot, *subslot, *channel, *error, *appears);
+            happen_at_device(device, sent, &change);
+        }
         Move::Give(slot, subslot, value) => {
             let output = ControllerEvent::Give(*slot, *subslot, bytes_of(value.as_slice()));
             happen_at_controller(controller, sent, &output);

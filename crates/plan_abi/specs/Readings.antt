@@ -101,6 +101,7 @@ pub record IsBlank (written : WrittenPlan) : Type 0 where
   pub modules : written.modules ≡ replicate 16 no_module
   pub records : written.records ≡ replicate 32 no_record
   pub continue_on_refused_record : written.continue_on_refused_record ≡ 0
+  pub multiple_write : written.multiple_write ≡ 0
 
 -- the octets of a type of station: none if it has more than 28
 abbrev pub type_of : List ℕ → List ℕ
@@ -120,6 +121,7 @@ pub record IsFilled (parts : Parts) (station_type : List ℕ) (written : Written
   pub modules : written.modules ≡ over (replicate 16 no_module) (map written_module parts.real.modules.items)
   pub records : written.records ≡ over (replicate 32 no_record) (map written_record parts.records.items)
   pub continue_on_refused_record : written.continue_on_refused_record ≡ (if parts.continue_on_refused_record then 1 else 0)
+  pub multiple_write : written.multiple_write ≡ (if parts.multiple_write then 1 else 0)
 
 -- what was written is the plan of the text's catalogue, with its type of station
 pub record IsWritten (text : List ℕ) (written : WrittenPlan) : Type 0 where

@@ -36,6 +36,7 @@ pub fn clear(written: &mut WrittenPlan)
     clear_modules(&mut written.modules);
     clear_records(&mut written.records);
     written.continue_on_refused_record = 0;
+    written.multiple_write = 0;
 }
 
 fn clear_modules(places: &mut [Module])
@@ -89,6 +90,7 @@ pub fn put(written: &mut WrittenPlan, plan: &Plan, station_type: &[u8])
     written.station_type_length = length_of(station_type);
     put_octets(&mut written.station_type, type_of(station_type));
     written.continue_on_refused_record = u32::from(plan.continues_on_refused_record());
+    written.multiple_write = u32::from(plan.has_multiple_write());
 }
 
 // The octets of a type of station: none if it has more than 28.

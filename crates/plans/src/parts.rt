@@ -60,4 +60,6 @@ pub struct Parts {
     pub records: ArrayVec<PlanRecord, 32>,
     /// Whether the start-up goes on after a record that the device refused.
     pub continue_on_refused_record: bool,
+    /// Whether a Write carries several records (MultipleWrite).
+    pub multiple_write: bool,
 }

@@ -163,6 +163,13 @@ impl Plan {
         self.parts.continue_on_refused_record
     }
 
+    /// Whether the records are written in lists: several in each Write (MultipleWrite). If not, each has a Write of its own.
+    pub fn has_multiple_write(&self) -> bool
+        ensures { result ≡ self.now.multiple_write }
+    {
+        self.parts.multiple_write
+    }
+
     /// The places of the submodules in the frames of a direction.
     pub fn layout(&self, direction: IocrType) -> Layout
         ensures { result ≡ layout_in direction (data_of self.now.real.modules.items) }

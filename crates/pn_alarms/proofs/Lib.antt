@@ -3,4 +3,3 @@ pub mod Carried
 pub mod Fitting
 pub mod Short
 pub mod Leaps
-pub mod Reports

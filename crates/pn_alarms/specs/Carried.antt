@@ -1,5 +1,5 @@
 -- The blocks that data of high priority carries: an AlarmNotification to a controller, an AlarmAck to a device.
-use Rattle.std.specs.Prelude.{ℕ, List, Option, Result, Ok, Err}
+use Rattle.std.specs.Prelude.{◌++◌, ℕ, List, Option, Result, Ok, Err}
 use Rattle.wire.specs.Checks.{or_fault}
 use Rattle.block_fields.specs.declared.fault.BlockFault.{BlockFault}
 use Rattle.record_blocks.specs.declared.alarm_ack.AlarmAck.{AlarmAck}
@@ -31,3 +31,7 @@ notification_of body = wanted in_alarm_notification (block_of body)
 -- Data that carries an alarm.
 abbrev pub alarm_pdu : Header → AlarmNotification → Said
 alarm_pdu header alarm = record { header = header; body = block_bytes (is.AlarmNotification alarm) }
+
+-- Data whose block has these octets up to an alarm's own data, and then these.
+abbrev pub block_pdu : Header → List ℕ → List ℕ → Said
+block_pdu header front octets = record { header = header; body = front ++ octets }

@@ -28,7 +28,7 @@ abbrev pub heard_as : DeviceEnd → ToDevice → PduFate
 heard_as e (message.Data number ack) = Data (taken_as e.seen number)
 heard_as e (message.Ack number) = if is_last e.sender.sending.last number then Done else Ignored
 heard_as e message.Nack = Ignored
-heard_as e message.Abort = Aborted
+heard_as e (message.Abort status) = Aborted status
 
 -- An AlarmAck that is accepted may end the active alarm.
 abbrev pub sender_after : Alarming → AlarmAck → Taken → Alarming
@@ -41,7 +41,7 @@ abbrev pub end_behind : DeviceEnd → ToDevice → DeviceEnd
 end_behind e (message.Data number ack) = record { sender = sender_after e.sender ack (taken_as e.seen number); seen = last_behind e.seen number }
 end_behind e (message.Ack number) = record { sender = answered e.sender (reply.Ack number); seen = e.seen }
 end_behind e message.Nack = e
-end_behind e message.Abort = e
+end_behind e (message.Abort status) = e
 
 -- The header of a PDU that is sent now.
 abbrev pub header_now : DeviceEnd → PduType → ℕ → ℕ → Header

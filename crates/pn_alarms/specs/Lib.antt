@@ -1,7 +1,5 @@
 pub mod Format
-pub mod Priority
 pub mod Carried
-pub mod Report
 pub mod Abort
 pub mod Numbers
 pub mod Receiver

@@ -1,4 +1,4 @@
--- The sender of process alarms: one alarm at a time, until it is acknowledged (IEC 61158-6-10, 4.8 and 5.2.5).
+-- The sender of alarms: one alarm at a time, until it is acknowledged (IEC 61158-6-10, 4.8 and 5.2.5).
 use Rattle.std.specs.Prelude.{◌+◌, ◌%◌, ◌==◌, ◌&&◌, ℕ, Bool, true, false, List, Option, Some, None, if◌then◌else◌}
 use Rattle.record_blocks.specs.declared.alarm_ack.AlarmAck.{AlarmAck}
 use Rattle.record_blocks.specs.declared.alarm_notification.AlarmNotification.{AlarmNotification}

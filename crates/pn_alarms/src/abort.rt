@@ -1,9 +1,10 @@
 //! The PDU that ends a relation.
 ghost use Rattle.std.specs.Prelude.{◌≡◌, ◌<◌, length, true};
 ghost use Rattle.pn_alarms.specs.Format.{said, is_long};
-ghost use Rattle.pn_alarms.specs.Abort.{code_of, abort_of};
+ghost use Rattle.pn_alarms.specs.Abort.{code_of, abort_of, status_of};
 
 use crate::{Header, Pdu, PduType};
+use rpc_core::Status;
 
 /// Why a station ends its relation (IEC 61158-6-10, 5.2.6: ErrorCode2 under CF 81 FD).
 #[derive(Clone, Copy, Debug, PartialEq, Eq)]
@@ -25,6 +26,18 @@ impl Abort {
             Abort::DataHold => 5,
             Abort::Activity => 6,
             Abort::Other => 13,
+        }
+    }
+
+    /// PNIOStatus of the ERR with this reason: CF 81 FD and the ErrorCode2.
+    pub fn status(self) -> Status
+        ensures { result ≡ status_of self }
+    {
+        Status {
+            code: 0xCF,
+            decode: 0x81,
+            code1: 0xFD,
+            code2: self.code(),
         }
     }
 

@@ -1,5 +1,5 @@
 //! A device's end of the alarms of a relation.
-ghost use Rattle.std.specs.Prelude.{◌≡◌, ◌<◌, ◌≤◌, length, is_ok, is_none, IfSome, OnOk, OnErr};
+ghost use Rattle.std.specs.Prelude.{◌≡◌, ◌<◌, ◌≤◌, length, is_ok, is_none, is_some, IfSome, OnOk, OnErr};
 ghost use Rattle.std.specs.Prelude.{if◌then◌else◌};
 ghost use Rattle.pn_alarms.specs.declared.device.PduFate.TheVariants.{Done, Ignored};
 ghost use Rattle.pn_alarms.specs.declared.sender.Reply.TheVariants.{Ack};
@@ -8,10 +8,11 @@ ghost use Rattle.pn_alarms.specs.Receiver.{taken_as, last_behind};
 ghost use Rattle.pn_alarms.specs.Sender.{answered};
 ghost use Rattle.pn_alarms.specs.Sending.{due};
 ghost use Rattle.pn_alarms.specs.Leaps.{NothingDue, after, data_due_in, device_due};
-ghost use Rattle.pn_alarms.specs.Device.{idle, heard_as, sender_after, end_behind, header_now, end_raised, end_later};
+ghost use Rattle.pn_alarms.specs.Device.{idle, heard_as, sender_after, end_behind, header_now, end_raised, end_with, end_later};
 
 use crate::{Alarm, Due, Header, Message, PduType, RaiseFault, Receiver, Reply, Sender, Taken};
 use block_codec::{AlarmAck, AlarmNotification};
+use rpc_core::Status;
 use std::marker::Model;
 
 /// What happens to a PDU.
@@ -23,8 +24,8 @@ pub enum PduFate {
     Done,
     /// It was another ACK, or a NACK.
     Ignored,
-    /// It was an ERR: the relation ends.
-    Aborted,
+    /// It was an ERR with this PNIOStatus: the relation ends.
+    Aborted(Status),
 }
 
 /// A device's end of the alarms of a relation: it sends alarms, one at a time, and accepts AlarmAcks, each once.
@@ -56,7 +57,7 @@ impl DeviceAlarms {
         }
     }
 
-    /// Raises an alarm, which the caller then sends as data.
+    /// Raises a process alarm, which the caller then sends as data.
     pub fn raise(&mut self, alarm: &Alarm) -> Result<(), RaiseFault>
         requires { length alarm.now.alarm_data.now ≤ 32 }
         ensures ok { OnOk result (self.new ≡ end_raised self.old alarm.now) }
@@ -65,6 +66,34 @@ impl DeviceAlarms {
         ensures busy { is_ok result ≡ is_none self.old.sender.standing }
     {
         self.sender.raise(alarm)
+    }
+
+    /// Raises the alarm of this block, of any type in API 0, which the caller then sends as data. Its AlarmSpecifier may have
+    /// flags beside the next sequence.
+    pub fn raise_block(&mut self, alarm: &AlarmNotification) -> Result<(), RaiseFault>
+        requires api { alarm.now.api ≡ 0 }
+        requires few { length alarm.now.alarm_data ≤ 32 }
+        ensures ok { OnOk result (self.new ≡ end_with self.old alarm.now) }
+        ensures err { OnErr result (self.new ≡ self.old) }
+        // It succeeds exactly if no alarm is active.
+        ensures busy { is_ok result ≡ is_none self.old.sender.standing }
+    {
+        self.sender.raise_block(alarm)
+    }
+
+    /// AlarmSpecifier of the next alarm: its sequence, without flags.
+    pub fn specifier(&self) -> u16
+        ensures value { result ≡ self.now.sender.specifier }
+        ensures few { result < 2048 }
+    {
+        self.sender.specifier()
+    }
+
+    /// Whether an alarm was sent.
+    pub fn has_sent(&self) -> bool
+        ensures { result ≡ is_some self.now.sender.sending.last }
+    {
+        self.sender.has_sent()
     }
 
     /// The block of the active alarm, if there is one.
@@ -126,7 +155,7 @@ impl DeviceAlarms {
             // The alarm is sent again after its interval anyway. A NACK says that a number was not expected, and the
             // repeat corrects that.
             Message::Nack => PduFate::Ignored,
-            Message::Abort => PduFate::Aborted,
+            Message::Abort(status) => PduFate::Aborted(*status),
         }
     }
 

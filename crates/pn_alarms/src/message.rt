@@ -1,10 +1,11 @@
 //! What a PDU says to the station that receives it.
-ghost use Rattle.std.specs.Prelude.{◌≡◌};
-ghost use Rattle.pn_alarms.specs.Format.{said};
-ghost use Rattle.pn_alarms.specs.Message.{alarm_in, alarm_of, message_in, message_of};
+ghost use Rattle.std.specs.Prelude.{◌≡◌, ◌≤◌, length, true};
+ghost use Rattle.pn_alarms.specs.Format.{is_long, said};
+ghost use Rattle.pn_alarms.specs.Message.{message_in, message_of, status_in};
 
-use crate::{AlarmFault, Header, Pdu, PduType, Report, read_ack, read_pdu, read_report};
+use crate::{AlarmFault, Header, Pdu, PduType, read_ack, read_pdu};
 use block_codec::AlarmAck;
+use rpc_core::Status;
 
 /// What a PDU says to the station that receives it. `B` is the type of block that this station reads from data.
 #[derive(Clone, Copy)]
@@ -15,15 +16,29 @@ pub enum Notice<B> {
     Nack,
     /// The partner received the data of this number.
     Ack(u16),
-    /// The partner ends the relation.
-    Abort,
+    /// The partner ends the relation, with this PNIOStatus.
+    Abort(Status),
 }
 
 /// What a PDU says to a device: data carries the AlarmAck of an alarm that the controller accepted.
 pub type Message = Notice<AlarmAck>;
 
+/// The PNIOStatus of an ERR: the first four octets of its body.
+pub fn status_in(body: &[u8]) -> Status
+    requires { 4 ≤ length body.now }
+    ensures { result ≡ status_in body.now }
+{
+    Status {
+        code: body[0],
+        decode: body[1],
+        code1: body[2],
+        code2: body[3],
+    }
+}
+
 /// What this PDU says.
 fn message_in_pdu(pdu: &Pdu) -> Result<Message, AlarmFault>
+    requires { is_long pdu.now.header.kind (length pdu.now.body.now) ≡ true }
     ensures { result ≡ message_in pdu.now.header.kind (said pdu.now) }
 {
     match pdu.header.kind {
@@ -33,41 +48,16 @@ fn message_in_pdu(pdu: &Pdu) -> Result<Message, AlarmFault>
         }
         PduType::Nack => Ok(Message::Nack),
         PduType::Ack => Ok(Message::Ack(pdu.header.ack_number)),
-        PduType::Error => Ok(Message::Abort),
+        PduType::Error => Ok(Message::Abort(status_in(pdu.body))),
     }
 }
 
 /// Reads the octets that follow the FrameID of a frame to a device. Returns the header and what the PDU says. Data
-/// without a complete AlarmAck is a fault. The body of an ERR is ignored.
+/// without a complete AlarmAck is a fault. The octets after the PNIOStatus of an ERR are ignored.
 pub fn read_message(bytes: &[u8]) -> Result<(Header, Message), AlarmFault>
     ensures { result ≡ message_of bytes.now }
 {
     let pdu = read_pdu(bytes)?;
     let message = message_in_pdu(&pdu)?;
     Ok((pdu.header, message))
-}
-
-/// What this PDU says to a controller.
-fn alarm_in_pdu<'a>(pdu: &Pdu<'a>) -> Result<Notice<Report<'a>>, AlarmFault>
-    ensures { result ≡ alarm_in pdu.now.header.kind (said pdu.now) }
-{
-    match pdu.header.kind {
-        PduType::Data => {
-            let alarm = read_report(pdu.body)?;
-            Ok(Notice::Data(pdu.header.send_number, alarm))
-        }
-        PduType::Nack => Ok(Notice::Nack),
-        PduType::Ack => Ok(Notice::Ack(pdu.header.ack_number)),
-        PduType::Error => Ok(Notice::Abort),
-    }
-}
-
-/// Reads the octets that follow the FrameID of a frame to a controller. Returns the header and what the PDU says. Data
-/// without a complete AlarmNotification, of either priority, is a fault. The body of an ERR is ignored.
-pub fn read_alarm(bytes: &[u8]) -> Result<(Header, Notice<Report<'_>>), AlarmFault>
-    ensures { result ≡ alarm_of bytes.now }
-{
-    let pdu = read_pdu(bytes)?;
-    let notice = alarm_in_pdu(&pdu)?;
-    Ok((pdu.header, notice))
 }

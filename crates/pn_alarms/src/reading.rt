@@ -1,9 +1,9 @@
 //! From octets to PDUs, and to the blocks that PDUs carry.
-ghost use Rattle.std.specs.Prelude.{◌≡◌, ◌<◌, ◌++◌, List, ℕ, IfOk, Ok, Err, length};
+ghost use Rattle.std.specs.Prelude.{◌≡◌, ◌<◌, ◌++◌, List, ℕ, IfOk, Ok, Err, length, true};
 ghost use Rattle.wire.specs.Codec.{Gives};
 ghost use Rattle.block_codec.specs.Block.{in_alarm_ack};
 ghost use Rattle.record_blocks.specs.declared.alarm_ack.AlarmAck.{AlarmAck as Ack};
-ghost use Rattle.pn_alarms.specs.Format.{Said, said, kind, header, pdu, IsPdu, pdu_of};
+ghost use Rattle.pn_alarms.specs.Format.{Said, said, is_long, kind, header, pdu, IsPdu, pdu_of};
 ghost use Rattle.pn_alarms.specs.Carried.{IsAck, ack_of, wanted};
 
 use crate::{AlarmFault, Header, Pdu, PduType};
@@ -64,7 +64,8 @@ fn short_fault(bytes: &[u8]) -> AlarmFault
 
 #[tactic(auto, unfolding(crate::specs::Format::pdu_of, crate::specs::Format::pdu))]
 fn pdu_in(bytes: &[u8]) -> Result<Pdu<'_>, AlarmFault>
-    ensures { Gives said result (pdu_of bytes.now) }
+    ensures exact { Gives said result (pdu_of bytes.now) }
+    ensures long { IfOk result (λ pdu. is_long pdu.header.kind (length pdu.body.now) ≡ true) }
 {
     // The length is checked once: after this no field before the body can be missing.
     if bytes.len() < FRONT {
@@ -91,6 +92,8 @@ pub fn read_pdu(bytes: &[u8]) -> Result<Pdu<'_>, AlarmFault>
         Gives said result (Ok meaning) }
     // The result is the PDU or the fault that the format defines for these octets.
     ensures exact { Gives said result (pdu_of bytes.now) }
+    // The body is long enough for the type.
+    ensures long { IfOk result (λ pdu. is_long pdu.header.kind (length pdu.body.now) ≡ true) }
 {
     pdu_in(bytes)
 }

@@ -1,9 +1,9 @@
 //! The sender of alarms.
-ghost use Rattle.std.specs.Prelude.{◌≡◌, ◌<◌, ◌≤◌, [], length, is_ok, is_none, IfSome, OnOk, OnErr};
+ghost use Rattle.std.specs.Prelude.{◌≡◌, ◌<◌, ◌≤◌, [], length, is_ok, is_none, is_some, IfSome, OnOk, OnErr};
 ghost use Rattle.pn_alarms.specs.Numbers.{send_number};
 ghost use Rattle.pn_alarms.specs.Sending.{due};
-ghost use Rattle.pn_alarms.specs.Sender.{notice_of, inactive, raised, is_of, ended_by, counts, answered, later};
-ghost use Rattle.pn_alarms.specs.Standing.{kept_as};
+ghost use Rattle.pn_alarms.specs.Sender.{inactive, standing_with, raised, is_of, ended_by, counts, answered, later};
+ghost use Rattle.pn_alarms.specs.Standing.{emptied, kept_as};
 ghost use Rattle.pn_alarms.specs.Leaps.{NothingDue, after, alarm_due, data_due_in};
 
 use crate::repeats::{Due, Repeats};
@@ -57,6 +57,7 @@ const PROCESS: u16 = 2;
 /// The active alarm.
 #[derive(Drop)]
 struct Standing {
+    alarm_type: u16,
     slot_number: u16,
     subslot_number: u16,
     module_ident_number: u32,
@@ -66,17 +67,18 @@ struct Standing {
 }
 
 impl Standing {
-    /// An alarm with this AlarmSpecifier, still without its data.
-    fn new(alarm: &Alarm, alarm_specifier: u16) -> Standing
-        ensures { kept_as result ≡ notice_of alarm_specifier alarm.now.slot_number alarm.now.subslot_number alarm.now.module_ident_number
-            alarm.now.submodule_ident_number [] }
+    /// The alarm of this block, still without its data.
+    fn new(alarm: &AlarmNotification) -> Standing
+        requires { alarm.now.api ≡ 0 }
+        ensures { kept_as result ≡ emptied alarm.now }
     {
         Standing {
+            alarm_type: alarm.alarm_type,
             slot_number: alarm.slot_number,
             subslot_number: alarm.subslot_number,
             module_ident_number: alarm.module_ident_number,
             submodule_ident_number: alarm.submodule_ident_number,
-            alarm_specifier,
+            alarm_specifier: alarm.alarm_specifier,
             alarm_data: ArrayVec::new(),
         }
     }
@@ -87,7 +89,7 @@ impl Standing {
         ensures few { length result.alarm_data ≤ 32 }
     {
         AlarmNotification {
-            alarm_type: PROCESS,
+            alarm_type: self.alarm_type,
             api: 0,
             slot_number: self.slot_number,
             subslot_number: self.subslot_number,
@@ -103,7 +105,7 @@ impl Standing {
         ensures { result ≡ is_of ack.now (kept_as self.now) }
     {
         // PNIOStatus is ignored: an AlarmAck that reports an error still says that the alarm was accepted.
-        ack.alarm_type == PROCESS
+        ack.alarm_type == self.alarm_type
             && ack.api == 0
             && ack.slot_number == self.slot_number
             && ack.subslot_number == self.subslot_number
@@ -111,7 +113,7 @@ impl Standing {
     }
 }
 
-/// A sender of process alarms. One alarm at a time is active, until it is acknowledged.
+/// A sender of alarms. One alarm at a time is active, until it is acknowledged.
 #[derive(Drop)]
 pub struct Sender {
     repeats: Repeats,
@@ -159,6 +161,21 @@ impl Sender {
         self.repeats.number()
     }
 
+    /// AlarmSpecifier of the next alarm: its sequence, without flags.
+    pub fn specifier(&self) -> u16
+        ensures value { result ≡ self.now.specifier }
+        ensures few { result < 2048 }
+    {
+        self.specifier
+    }
+
+    /// Whether an alarm was sent.
+    pub fn has_sent(&self) -> bool
+        ensures { result ≡ is_some self.now.sending.last }
+    {
+        self.repeats.has_sent()
+    }
+
     /// The block of the active alarm, if there is one.
     pub fn standing(&self) -> Option<AlarmNotification<'_>>
         ensures value { result ≡ self.now.standing }
@@ -170,10 +187,32 @@ impl Sender {
         }
     }
 
-    /// Raises an alarm, which the caller then sends.
+    /// Raises a process alarm, which the caller then sends.
     pub fn raise(&mut self, alarm: &Alarm) -> Result<(), RaiseFault>
         requires { length alarm.now.alarm_data.now ≤ 32 }
         ensures ok { OnOk result (self.new ≡ raised alarm.now self.old) }
+        ensures err { OnErr result (self.new ≡ self.old) }
+        // It succeeds exactly if no alarm is active.
+        ensures busy { is_ok result ≡ is_none self.old.standing }
+    {
+        self.raise_block(&AlarmNotification {
+            alarm_type: PROCESS,
+            api: 0,
+            slot_number: alarm.slot_number,
+            subslot_number: alarm.subslot_number,
+            module_ident_number: alarm.module_ident_number,
+            submodule_ident_number: alarm.submodule_ident_number,
+            alarm_specifier: self.specifier,
+            alarm_data: AlarmData::new(alarm.alarm_data),
+        })
+    }
+
+    /// Raises the alarm of this block, of any type in API 0, which the caller then sends. Its AlarmSpecifier may have flags
+    /// beside the next sequence.
+    pub fn raise_block(&mut self, alarm: &AlarmNotification) -> Result<(), RaiseFault>
+        requires api { alarm.now.api ≡ 0 }
+        requires few { length alarm.now.alarm_data ≤ 32 }
+        ensures ok { OnOk result (self.new ≡ standing_with alarm.now self.old) }
         ensures err { OnErr result (self.new ≡ self.old) }
         // It succeeds exactly if no alarm is active.
         ensures busy { is_ok result ≡ is_none self.old.standing }
@@ -184,8 +223,10 @@ impl Sender {
             return Err(RaiseFault::Busy);
         }
         // The data is written directly to its final place.
-        let standing = self.standing.insert(Standing::new(alarm, self.specifier));
-        let _ = standing.alarm_data.try_extend_from_slice(alarm.alarm_data);
+        let standing = self.standing.insert(Standing::new(alarm));
+        let _ = standing
+            .alarm_data
+            .try_extend_from_slice(alarm.alarm_data.octets());
         self.specifier = (self.specifier + 1) % 2048;
         self.repeats.send();
         Ok(())

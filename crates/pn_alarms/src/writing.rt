@@ -4,7 +4,7 @@ ghost use Rattle.wire.specs.Formats.{big_bytes};
 ghost use Rattle.block_codec.specs.declared.block.Block.TheVariants.{AlarmNotification as notification};
 ghost use Rattle.block_codec.specs.Block.{block_bytes};
 ghost use Rattle.pn_alarms.specs.declared.pdu.PduType.TheVariants.{Data};
-ghost use Rattle.pn_alarms.specs.Carried.{notification_of, alarm_pdu};
+ghost use Rattle.pn_alarms.specs.Carried.{notification_of, alarm_pdu, block_pdu};
 ghost use Rattle.pn_alarms.specs.Format.{said, is_long, header, IsPdu, pdu_of, pdu_bytes};
 
 use crate::{Header, Pdu};
@@ -60,6 +60,22 @@ pub fn pdu_front(pdu: &Pdu) -> [u8; 12]
     header_octets(&pdu.header, pdu.body.len() as u16)
 }
 
+/// Encodes data whose block has 28 octets and after them an alarm's own data, up to these. The caller appends them.
+#[inline(always)]
+pub fn data_front(header: &Header, front: &[u8; 28], octets: &[u8]) -> [u8; 40]
+    requires kind { header.now.kind ≡ Data }
+    requires few { length octets.now ≤ 32 }
+    // These octets followed by the alarm's data are the encoding of the PDU.
+    ensures exact { result ++ octets.now ≡ pdu_bytes (block_pdu header.now front.now octets.now) }
+    ensures len { length result ≡ 40 }
+    // Followed by any octets, they are read as this PDU.
+    ensures behind { (more : List ℕ) → pdu_of (pdu_bytes (block_pdu header.now front.now octets.now) ++ more)
+        ≡ Ok (block_pdu header.now front.now octets.now) }
+{
+    let size = 28 + octets.len() as u16;
+    join(&header_octets(header, size), front)
+}
+
 /// Encodes data that carries an alarm, which follows the FrameID of a frame, up to the alarm's own data. The caller
 /// appends the alarm's data.
 #[inline(always)]
@@ -73,6 +89,6 @@ pub fn alarm_front(header: &Header, alarm: &AlarmNotification) -> [u8; 40]
     ensures behind { (more : List ℕ) → pdu_of (pdu_bytes (alarm_pdu header.now alarm.now) ++ more) ≡ Ok (alarm_pdu header.now alarm.now) }
     ensures carried { notification_of (alarm_pdu header.now alarm.now).body ≡ Ok alarm.now }
 {
-    let size = 28 + alarm.alarm_data.octets().len() as u16;
-    join(&header_octets(header, size), &notification_front(alarm))
+    let front = notification_front(alarm);
+    data_front(header, &front, alarm.alarm_data.octets())
 }

@@ -1,1 +1,2 @@
 pub mod StatusStatuses
+pub mod Several

@@ -1,5 +1,5 @@
 -- No status of a fault is that of a call that succeeded, because its ErrorCode is not 0.
-use Rattle.std.proofs.Common.{◌≡◌, ℕ, false, refl}
+use Rattle.std.proofs.Common.{◌≡◌, false, refl}
 use Rattle.rpc_core.specs.declared.response.Status.{Status}
 use Rattle.rpc_core.specs.Response.{is_done}
 use Rattle.records.specs.declared.status.call_fault.CallFault.{CallFault}

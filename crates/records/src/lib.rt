@@ -12,8 +12,11 @@ mod writes;
 pub use calls::{check_relation, is_relation, single_block};
 pub use reads::{
     Blocks, Level, Listing, check_place, listing_of, names_relation, parameter_length,
-    put_identification, put_read_answer, read_implicit, read_request, request_within,
-    serve_listing, serve_within,
+    put_identification, put_read_answer, read_request, request_within, serve, serve_listing,
+    serve_within,
 };
 pub use status::{CallFault, Operation, Status, done, refusals_are_not_done};
-pub use writes::{Effect, TakenRecord, TakenRecords, Write, judge_write, put_write_answer};
+pub use writes::{
+    Effect, Entries, Entry, TakenRecord, TakenRecords, Write, Writing, judge_record, judge_write,
+    put_write_answer, put_write_outcome,
+};

@@ -4,6 +4,7 @@ ghost use Rattle.arrayvec.specs.ArrayVec.{array_vec_len};
 ghost use Rattle.module_diff.specs.Diff.{wanted_in};
 ghost use Rattle.relation_records.specs.Expected.{expected_bytes, is_listed, modules_at, parts_at, submodules_at};
 
+use crate::own::Own;
 use arrayvec::ArrayVec;
 use block_codec::{
     ExpectedModule, ExpectedSubmodule, FilterModule, FilterModules, FilterSubmodule, ImFilterData,
@@ -120,7 +121,7 @@ fn push_all(
 /// it is a function of its own.
 #[inline(never)]
 pub(crate) fn put_expected(
-    out: &mut ArrayVec<u8, 1308>,
+    out: &mut Own,
     expected: &Expected,
     level: Level,
     slot: u16,

@@ -6,6 +6,7 @@ ghost use Rattle.relation_records.specs.Found.{expects, found_bytes, module_foun
 ghost use Rattle.relation_records.specs.Found.{submodules_found};
 
 use crate::expected::split_own;
+use crate::own::Own;
 use arrayvec::ArrayVec;
 use block_codec::{ExpectedSubmodule, FilterModule, FilterModules, FilterSubmodule, ImFilterData};
 use module_diff::Expected;
@@ -107,7 +108,7 @@ fn push_all(
 /// Puts RealIdentificationData of what is expected into an empty list. Its lists take four thousand octets of stack, so it
 /// is a function of its own.
 #[inline(never)]
-pub(crate) fn put_found(out: &mut ArrayVec<u8, 1308>, expected: &Expected, real: &Real)
+pub(crate) fn put_found(out: &mut Own, expected: &Expected, real: &Real)
     requires { out.old.items ≡ [] }
     ensures { out.new.items ≡ found_bytes expected.now real.now }
 {

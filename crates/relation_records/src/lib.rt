@@ -1,12 +1,20 @@
-//! The records that only a relation has (IEC 61158-6-10, 5.2.3): what its Connect expects, and what is plugged of that; and
-//! the Read of its controller, which reads these, those of the device, and the ModuleDiffBlock of the relation.
+//! The records that are made of the relation and the log of a device (IEC 61158-6-10, 5.2.3): what the Connect of the
+//! relation expects, what is plugged of that, the data that it exchanges, ARData and LogData; and both services that read:
+//! the Read of its controller, which reads these, those of the device, and the ModuleDiffBlock of the relation, and Read
+//! Implicit, by which anybody reads.
 //!
 //! A new one is a kind of `records::Listing`, and its octets are named by `Own.antt` and `own.rt`.
 #![tactic(auto)]
 
+mod ar_data;
+mod elements;
 mod expected;
 mod found;
 mod own;
+mod place;
 mod reading;
+mod sources;
+mod standing;
 
-pub use reading::read_within;
+pub use reading::{read_implicit, read_within};
+pub use sources::Sources;

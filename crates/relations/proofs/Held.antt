@@ -1,13 +1,14 @@
 -- Units of time while data is exchanged, one by one.
-use Rattle.std.proofs.Common.{◌≡◌, inl, inr, ◌+◌, ◌%◌, ◌<◌, ◌==◌, ℕ, zero, suc, true, false, refl, sym, ap, ◌∙◌, arith, Option, Some, None}
+use Rattle.std.proofs.Common.{◌≡◌, ◌⊎◌, inl, inr, ◌+◌, ◌%◌, ◌<◌, ◌==◌, ℕ, zero, suc, true, false, refl, sym, ap, ◌∙◌, arith, Option, Some, None}
 use Rattle.std.specs.Prelude.{min, option_map}
 use Rattle.std.proofs.lemmas.Bool.{cases_Bool, ne_eqb, eq-eqb}
 use Rattle.std.proofs.lemmas.Bool.Decides.{nat_tests}
 use Rattle.pn_alarms.specs.declared.abort.Abort.{Abort}
 use Rattle.pn_alarms.specs.declared.abort.Abort.TheVariants.{DataHold, Other}
-use Rattle.pn_alarms.specs.Sending.{Sending, due_behind, waiting_behind}
+use Rattle.pn_alarms.specs.Sending.{Sending, due_behind, either_due, waiting_behind}
 use Rattle.relations.specs.exchange.Flow.{Flow}
 use Rattle.pn_alarms.specs.declared.repeats.Due.{Due}
+use Rattle.pn_alarms.specs.declared.repeats.Due.TheVariants.{Nothing, Again, Spent}
 use Rattle.cyclic_exchange.specs.Cyclic.{Cyclic}
 use Rattle.cyclic_exchange.specs.Units.{ending_by, tick_by}
 use Rattle.relations.specs.exchange.Units.{alarm_due}
@@ -17,7 +18,7 @@ use Rattle.relations.specs.declared.farewell.Farewell.{Farewell}
 use Rattle.relations.specs.declared.phase.Phase.{Phase}
 use Rattle.relations.specs.RelationState.{RelationState, phase_of}
 use Rattle.relations.specs.Timers.{ending_of, unit_later, due_of}
-use Rattle.relations.specs.Runs.{unit_over, units_over, EndsBehind, IsPatientFor, IsHeldFor, IsGivenUp}
+use Rattle.relations.specs.Runs.{unit_over, units_over, ArePatientFor, EndsBehind, GivesUpBehind, IsPatientFor, IsHeldFor, IsGivenUp}
 use Rattle.relations.proofs.Kept.{updated_on, updated_off, due_off, same_farewell}
 
 -- A relation that exchanges data and heard nothing for this many units: it is the same except for its timers.
@@ -29,6 +30,8 @@ record IsOn (link : RelationState) (units : ℕ) (later : RelationState) : Type 
   limit : later.flow.cyclic.hearing.limit ≡ link.flow.cyclic.hearing.limit
   patience : later.flow.alarms.sender.sending.limit ≡ link.flow.alarms.sender.sending.limit
   waiting : later.flow.alarms.sender.sending.waiting ≡ option_map (λ waited. waited + units) link.flow.alarms.sender.sending.waiting
+  low_patience : later.flow.low.alarms.sender.sending.limit ≡ link.flow.low.alarms.sender.sending.limit
+  low_waiting : later.flow.low.alarms.sender.sending.waiting ≡ option_map (λ waited. waited + units) link.flow.low.alarms.sender.sending.waiting
   last : later.flow.alarms.sender.sending.last ≡ link.flow.alarms.sender.sending.last
   seen : later.flow.alarms.seen ≡ link.flow.alarms.seen
 
@@ -81,9 +84,6 @@ spent sending waiting waited is at = rw is (rw (eq-eqb (waited + 1) sending.limi
 
 -- ---- many
 
-same_number : (one other : ℕ) → Some one ≡ Some other → one ≡ other
-same_number one other e = cc
-
 none_more : (waiting : Option ℕ) → waiting ≡ option_map (λ waited. waited + 0) waiting
 none_more None = refl
 none_more (Some waited) = ap (λ (n : ℕ). let o : Option ℕ = Some n in o) (omega arith)
@@ -96,13 +96,19 @@ since : (waiting : Option ℕ) (units later : ℕ) → option_map (λ waited. wa
 since (Some waited) units later e = (waited, (refl, cc))
 since None units later e = absurd cc
 
-patient_there : (link later : RelationState) (units : ℕ) → IsPatientFor (suc units) link.flow.alarms.sender.sending → IsOn link units later
-    → IsPatient later.flow.alarms.sender.sending later.flow.alarms.sender.sending.waiting
-patient_there link later units patient same waited is =
-    let before = since link.flow.alarms.sender.sending.waiting units waited (sym same.waiting ∙ is) in
-    omega (arith, same.patience, before.1.1, patient before.0 before.1.0)
+patient_there : (sending later : Sending) (units : ℕ) → IsPatientFor (suc units) sending → later.limit ≡ sending.limit
+    → later.waiting ≡ option_map (λ waited. waited + units) sending.waiting → IsPatient later later.waiting
+patient_there sending later units patient patience waiting waited is =
+    let before = since sending.waiting units waited (sym waiting ∙ is) in
+    omega (arith, patience, before.1.1, patient before.0 before.1.0)
 
-on_next : (link later : RelationState) (units : ℕ) → link.flow.cyclic.hearing.held + suc units < link.flow.cyclic.hearing.limit → IsPatientFor (suc units) link.flow.alarms.sender.sending
+waiting_next : (sending later : Sending) (units : ℕ) → IsPatientFor (suc units) sending → later.limit ≡ sending.limit
+    → later.waiting ≡ option_map (λ waited. waited + units) sending.waiting → waiting_behind later later.waiting ≡ option_map (λ waited. waited + suc units) sending.waiting
+waiting_next sending later units patient patience waiting =
+    waits_on later later.waiting (patient_there sending later units patient patience waiting)
+    ∙ (ap (λ (o : Option ℕ). option_map (λ (n : ℕ). n + 1) o) waiting ∙ one_more sending.waiting units)
+
+on_next : (link later : RelationState) (units : ℕ) → link.flow.cyclic.hearing.held + suc units < link.flow.cyclic.hearing.limit → ArePatientFor (suc units) link.flow
     → IsOn link units later → IsOn link (suc units) (unit_later later)
 on_next link later units below patient same = rw same.begun (record {
   phase = same.phase;
@@ -111,21 +117,62 @@ on_next link later units below patient same = rw same.begun (record {
   held = omega (arith, same.held, same.limit, below);
   limit = same.limit;
   patience = same.patience;
-  waiting = waits_on later.flow.alarms.sender.sending later.flow.alarms.sender.sending.waiting (patient_there link later units patient same)
-      ∙ (ap (λ (o : Option ℕ). option_map (λ (n : ℕ). n + 1) o) same.waiting ∙ one_more link.flow.alarms.sender.sending.waiting units);
+  waiting = waiting_next link.flow.alarms.sender.sending later.flow.alarms.sender.sending units patient.0 same.patience same.waiting;
+  low_patience = same.low_patience;
+  low_waiting = waiting_next link.flow.low.alarms.sender.sending later.flow.low.alarms.sender.sending units patient.1 same.low_patience same.low_waiting;
   last = same.last;
   seen = same.seen;
 })
 
-no_ending : (link later : RelationState) (units : ℕ) → link.flow.cyclic.hearing.held + suc units < link.flow.cyclic.hearing.limit → IsPatientFor (suc units) link.flow.alarms.sender.sending
+-- What is due of either priority.
+either_ends_not : (one other : Due) → ending_by one ≡ None → ending_by other ≡ None → ending_by (either_due one other) ≡ None
+either_ends_not Nothing Nothing a b = refl
+either_ends_not Again Nothing a b = refl
+either_ends_not Spent Nothing a b = a
+either_ends_not Nothing Again a b = refl
+either_ends_not Again Again a b = refl
+either_ends_not Spent Again a b = a
+either_ends_not Nothing Spent a b = b
+either_ends_not Again Spent a b = b
+either_ends_not Spent Spent a b = a
+
+first_ends : (one other : Due) → ending_by one ≡ Some Other → ending_by (either_due one other) ≡ Some Other
+first_ends Nothing other a = absurd (cc a)
+first_ends Again other a = absurd (cc a)
+first_ends Spent Nothing a = a
+first_ends Spent Again a = a
+first_ends Spent Spent a = a
+
+second_ends : (one other : Due) → ending_by other ≡ Some Other → ending_by (either_due one other) ≡ Some Other
+second_ends one Nothing a = absurd (cc a)
+second_ends one Again a = absurd (cc a)
+second_ends Nothing Spent a = a
+second_ends Again Spent a = a
+second_ends Spent Spent a = a
+
+-- What is due of the alarm of high priority, and of that of low priority.
+abbrev high_of : Flow → Due
+high_of flow = due_behind flow.alarms.sender.sending flow.alarms.sender.sending.waiting
+
+abbrev low_of : Flow → Due
+low_of flow = due_behind flow.low.alarms.sender.sending flow.low.alarms.sender.sending.waiting
+
+no_ending : (link later : RelationState) (units : ℕ) → link.flow.cyclic.hearing.held + suc units < link.flow.cyclic.hearing.limit → ArePatientFor (suc units) link.flow
     → IsOn link units later → ending_of later ≡ None
 no_ending link later units below patient same =
+    let high = later.flow.alarms.sender.sending in
+    let low = later.flow.low.alarms.sender.sending in
     ending_there later same.phase
     ∙ (heard_still later.flow same.begun (omega (arith, same.held, same.limit, below))
-    ∙ unspent later.flow.alarms.sender.sending later.flow.alarms.sender.sending.waiting (patient_there link later units patient same))
+    ∙ either_ends_not (high_of later.flow) (low_of later.flow)
+    (unspent high high.waiting (patient_there link.flow.alarms.sender.sending high units patient.0 same.patience same.waiting))
+    (unspent low low.waiting (patient_there link.flow.low.alarms.sender.sending low units patient.1 same.low_patience same.low_waiting)))
+
+fewer : (sending : Sending) (units : ℕ) → IsPatientFor (suc units) sending → IsPatientFor units sending
+fewer sending units patient waited is = omega (arith, patient waited is)
 
 stands_on : (link : RelationState) (units : ℕ) → link.phase ≡ Exchanging → link.flow.cyclic.begun ≡ true → link.flow.cyclic.hearing.held + units < link.flow.cyclic.hearing.limit
-    → IsPatientFor units link.flow.alarms.sender.sending → StandsOn link units
+    → ArePatientFor units link.flow → StandsOn link units
 stands_on link zero at begun below patient = record {
   later = link;
   is = refl;
@@ -137,12 +184,15 @@ stands_on link zero at begun below patient = record {
     limit = refl;
     patience = refl;
     waiting = none_more link.flow.alarms.sender.sending.waiting;
+    low_patience = refl;
+    low_waiting = none_more link.flow.low.alarms.sender.sending.waiting;
     last = refl;
     seen = refl;
   };
 }
 stands_on link (suc units) at begun below patient =
-    let before = stands_on link units at begun (omega (arith, below)) (λ waited is. omega (arith, patient waited is)) in
+    let before = stands_on link units at begun (omega (arith, below))
+    (fewer link.flow.alarms.sender.sending units patient.0, fewer link.flow.low.alarms.sender.sending units patient.1) in
     record {
       later = unit_later before.later;
       is = ap unit_over before.is ∙ updated_on (ending_of before.later) before.later (no_ending link before.later units below patient before.same);
@@ -167,11 +217,23 @@ is_held_for link units at begun last patient =
     ends_behind link units DataHold at so
     (ending_there so.later so.same.phase ∙ heard_no_more so.later.flow so.same.begun (omega (arith, so.same.held, so.same.limit, last)))
 
+spent_there : (sending later : Sending) (units : ℕ) → GivesUpBehind units sending → later.limit ≡ sending.limit
+    → later.waiting ≡ option_map (λ waited. waited + units) sending.waiting → ending_by (due_behind later later.waiting) ≡ Some Other
+spent_there sending later units gives patience waiting =
+    spent later later.waiting (gives.0 + units) (waiting ∙ ap (λ (o : Option ℕ). option_map (λ (n : ℕ). n + units) o) gives.1.0) (omega (arith, patience, gives.1.1))
+
+given_up_there : (link later : RelationState) (units : ℕ) → IsOn link units later
+    → GivesUpBehind units link.flow.alarms.sender.sending ⊎ GivesUpBehind units link.flow.low.alarms.sender.sending → ending_by (alarm_due later.flow) ≡ Some Other
+given_up_there link later units same (inl high) =
+    first_ends (high_of later.flow) (low_of later.flow) (spent_there link.flow.alarms.sender.sending later.flow.alarms.sender.sending units high same.patience same.waiting)
+given_up_there link later units same (inr low) =
+    second_ends (high_of later.flow) (low_of later.flow)
+    (spent_there link.flow.low.alarms.sender.sending later.flow.low.alarms.sender.sending units low same.low_patience same.low_waiting)
+
 pub is_given_up : IsGivenUp
-is_given_up link units waited at begun below waits last =
-    let so = stands_on link units at begun (omega (arith, below)) (λ other is. omega (arith, last, same_number other waited (sym is ∙ waits))) in
+is_given_up link units at begun below patient gives =
+    let so = stands_on link units at begun (omega (arith, below)) patient in
     ends_behind link units Other at so
     (ending_there so.later so.same.phase
     ∙ (heard_still so.later.flow so.same.begun (omega (arith, so.same.held, so.same.limit, below))
-    ∙ spent so.later.flow.alarms.sender.sending so.later.flow.alarms.sender.sending.waiting (waited + units)
-    (so.same.waiting ∙ ap (λ (o : Option ℕ). option_map (λ (n : ℕ). n + units) o) waits) (omega (arith, so.same.patience, last))))
+    ∙ given_up_there link so.later units so.same gives))

@@ -65,6 +65,7 @@ due_off ending reason link h = ap (λ (e : Option Abort). (due_by link e).farewe
 -- The ERR depends on the request, and on the last data that was sent and the last that was accepted.
 abbrev farewell_at : Abort → Request → Option ℕ → Option ℕ → Farewell
 farewell_at reason request last seen = record {
+  uuid = request.ar.uuid;
   initiator = request.ar.initiator;
   tag = request.alarm.tag_low;
   reference = request.alarm.reference;

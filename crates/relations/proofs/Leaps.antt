@@ -8,7 +8,9 @@ use Rattle.pn_alarms.specs.declared.abort.Abort.TheVariants.{Activity, DataHold}
 use Rattle.pn_alarms.specs.declared.repeats.Due.{Due as AlarmDue}
 use Rattle.pn_alarms.specs.declared.repeats.Due.TheVariants.{Nothing}
 use Rattle.pn_alarms.specs.Device.{end_later}
+use Rattle.pn_alarms.specs.Ends.{DeviceEnd}
 use Rattle.pn_alarms.specs.Leaps.{NothingDue, after, device_due}
+use Rattle.pn_alarms.specs.Sending.{either_due}
 use Rattle.cyclic_data.specs.Timing.{is_due}
 use Rattle.cyclic_exchange.specs.Cyclic.{Cyclic}
 use Rattle.cyclic_exchange.specs.Leaps.{IsQuietFor}
@@ -16,7 +18,7 @@ use Rattle.cyclic_exchange.specs.Units.{Brought, cyclic_later, ending_by, is_sil
 use Rattle.cyclic_exchange.specs.Units.{tick_of as cyclic_tick}
 use Rattle.relations.specs.exchange.Flow.{Flow}
 use Rattle.relations.specs.exchange.Leaps.{BringNothing, nothing_brought}
-use Rattle.relations.specs.exchange.Units.{flow_later, tick_of}
+use Rattle.relations.specs.exchange.Units.{flow_later, repeated_of, tick_of}
 use Rattle.relations.specs.declared.phase.Phase.{Phase}
 use Rattle.relations.specs.declared.phase.Phase.TheVariants.{Started, Preparing, Awaiting, Exchanging}
 use Rattle.relations.specs.RelationState.{HasBegunIn, RelationState, is_awaiting}
@@ -27,7 +29,12 @@ use Rattle.relations.proofs.Kept.{updated_on}
 
 -- ---- the exchange
 
-pub flow_after : (flow : Flow) (units : ℕ) → after flow_later units flow ≡ record { cyclic = after cyclic_later units flow.cyclic; alarms = after end_later units flow.alarms; marks = flow.marks }
+-- The exchange with these ends.
+abbrev with_ends : Flow → Cyclic → DeviceEnd → DeviceEnd → Flow
+with_ends flow cyclic alarms low = record flow { cyclic = cyclic; alarms = alarms; low = record flow.low { alarms = low } }
+
+pub flow_after : (flow : Flow) (units : ℕ)
+    → after flow_later units flow ≡ with_ends flow (after cyclic_later units flow.cyclic) (after end_later units flow.alarms) (after end_later units flow.low.alarms)
 flow_after flow zero = refl
 flow_after flow (suc units) = ap flow_later (flow_after flow units)
 
@@ -39,11 +46,18 @@ tick_nothing cyclic alarm heard frame none =
     ap (cyclic_tick cyclic) none
     ∙ (ap (λ (b : Bool). tick_by cyclic Nothing (if b then Some DataHold else ending_by Nothing)) heard ∙ ap only_cyclic frame)
 
-pub brings_nothing : (flow : Flow) (units : ℕ) → IsQuietFor units flow.cyclic → NothingDue device_due end_later units flow.alarms → BringNothing units flow
-brings_nothing flow units quiet none before earlier =
+both_nothing : (one other : AlarmDue) → one ≡ Nothing → other ≡ Nothing → either_due one other ≡ Nothing
+both_nothing one other a b = rw (a, b) refl
+
+pub brings_nothing : (flow : Flow) (units : ℕ) → IsQuietFor units flow.cyclic → NothingDue device_due end_later units flow.alarms
+    → NothingDue device_due end_later units flow.low.alarms → BringNothing units flow
+brings_nothing flow units quiet none low before earlier =
     let heard = quiet before earlier in
+    let high_due = device_due (after end_later before flow.alarms) in
+    let low_due = device_due (after end_later before flow.low.alarms) in
     ap tick_of (flow_after flow before)
-    ∙ tick_nothing (after cyclic_later before flow.cyclic) (device_due (after end_later before flow.alarms)) heard.0 heard.1 (none before earlier)
+    ∙ tick_nothing (after cyclic_later before flow.cyclic) (either_due high_due low_due) heard.0 heard.1
+    (both_nothing high_due low_due (none before earlier) (low before earlier))
 
 begun_still : (flow : Flow) (units : ℕ) → (after flow_later units flow).cyclic.begun ≡ flow.cyclic.begun
 begun_still flow zero = refl
@@ -138,13 +152,23 @@ later_next link units before =
     (waited_next link.phase link.waited units (below_right (suc units) _ _ timers))
     ∙ ap (λ (i : ℕ). with_timers link i (waited_by link.phase (suc units) link.waited) flow) (inactive_next link.phase link.inactive units)
 
+-- What is due of a relation that does not end, if the exchange brings this.
+abbrev with_brought : RelationState → Brought → Due
+with_brought link b = record {
+  farewell = None;
+  is_alarm = b.is_alarm && (repeated_of link.flow).high;
+  is_low = b.is_alarm && (repeated_of link.flow).low;
+  is_ready = is_again link;
+  is_cyclic = b.is_cyclic;
+}
+
 due_nothing : (link : RelationState) (units : ℕ) → suc units < link_due_in link → tick_of (after flow_later units link.flow) ≡ nothing_brought → due_in (later_by units link) ≡ nothing
 due_nothing link units before none =
     let timers = below_right (suc units) _ _ before in
     let later = later_by units link in
     ap (due_by later) (ends_not link units before none)
-    ∙ (ap (λ (b : Brought). let d : Due = record { farewell = None; is_alarm = b.is_alarm; is_ready = is_again later; is_cyclic = b.is_cyclic } in d) none
-    ∙ ap (λ (b : Bool). let d : Due = record { farewell = None; is_alarm = false; is_ready = b; is_cyclic = false } in d)
+    ∙ (ap (λ (b : Brought). with_brought later b) none
+    ∙ ap (λ (b : Bool). let d : Due = record { farewell = None; is_alarm = false; is_low = false; is_ready = b; is_cyclic = false } in d)
     (not_again link.phase link.waited units (below_right (suc units) _ _ timers)))
 
 none_later : (link : RelationState) → link ≡ later_by 0 link

@@ -71,7 +71,7 @@ abbrev pub hearing_as : PduFate → Flow → Handled
 hearing_as (Data taken) flow = Exchanged flow
 hearing_as Done flow = Exchanged flow
 hearing_as Ignored flow = Unmoved
-hearing_as Aborted flow = Ended
+hearing_as (Aborted status) flow = Ended
 
 abbrev pub hearing : ToDevice → Option RelationState → Handled
 hearing message None = Unmoved

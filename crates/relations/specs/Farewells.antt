@@ -9,10 +9,11 @@ use Rattle.relations.specs.exchange.Notices.{header_of}
 use Rattle.relations.specs.declared.farewell.Farewell.{Farewell}
 use Rattle.relations.specs.RelationState.{RelationState}
 
--- It goes to CMInitiatorMacAdd, to the LocalAlarmReference there, with the tag of low priority, and with the numbers of
+-- It ends the relation of its request. It goes to CMInitiatorMacAdd, to the LocalAlarmReference there, with the tag of low priority, and with the numbers of
 -- the last data that was sent and of the last data that was accepted.
 abbrev pub farewell_by : Abort → Request → Header → Farewell
 farewell_by reason request header = record {
+  uuid = request.ar.uuid;
   initiator = request.ar.initiator;
   tag = request.alarm.tag_low;
   reference = request.alarm.reference;

@@ -10,5 +10,6 @@ pub mod Ready
 pub mod Runs
 pub mod Leaps
 pub mod Exchanged
+pub mod Diagnosed
 pub mod Outputs
 pub mod exchange

@@ -47,6 +47,7 @@ made_of request partner rows starting = record {
   phase = Started;
   request = request;
   partner = partner;
+  began = starting.units;
   inactive = 0;
   waited = 0;
   taken = [];

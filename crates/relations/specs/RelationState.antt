@@ -5,18 +5,20 @@ use Rattle.pn_values.specs.declared.mac.Mac.{Mac}
 use Rattle.records.specs.calls.Naming.{is_relation}
 use Rattle.connect_requests.specs.Request.{Request}
 use Rattle.records.specs.declared.writes.taken.TakenRecord.{TakenRecord}
+use Rattle.cyclic_exchange.specs.Cyclic.{Cyclic}
 use Rattle.relations.specs.exchange.Flow.{Flow}
 use Rattle.relations.specs.declared.phase.Phase.{Phase}
 use Rattle.relations.specs.declared.phase.Phase.TheVariants.{Started, Preparing, Awaiting, Exchanging}
 use Rattle.relations.specs.declared.phase.Partner.{Partner}
 
--- A relation: its phase, what its Connect asked for and who sent that, how many units the activity timer has run, how
--- many units have passed since ApplicationReady was sent, the parameter records that were accepted, the octets of its
--- ModuleDiffBlock, none if no module differs, and its exchange.
+-- A relation: its phase, what its Connect asked for and who sent that, the units from the start of the device to the answer to
+-- the Connect, how many units the activity timer has run, how many units have passed since ApplicationReady was sent, the
+-- parameter records that were accepted, the octets of its ModuleDiffBlock, none if no module differs, and its exchange.
 pub record RelationState : Type 0 where
   pub phase : Phase
   pub request : Request
   pub partner : Partner
+  pub began : ℕ
   pub inactive : ℕ
   pub waited : ℕ
   pub taken : List TakenRecord
@@ -31,12 +33,14 @@ link_in (Some phase) link = Some (link phase)
 abbrev pub phase_of : Option RelationState → Option Phase
 phase_of link = option_map (λ l. l.phase) link
 
--- What its Connect asked for, and its ARUUID.
-abbrev pub request_of : Option RelationState → Option Request
-request_of link = option_map (λ l. l.request) link
-
+-- Its ARUUID.
 abbrev pub uuid_of : Option RelationState → Option (List ℕ)
 uuid_of link = option_map (λ l. l.request.ar.uuid) link
+
+-- The content that is read of it: what its Connect asked for, its end of cyclic data, when it began, and whether one of its
+-- submodules has a diagnosis.
+abbrev pub parts_of : Option RelationState → Option (Request × Cyclic × ℕ × Bool)
+parts_of link = option_map (λ l. (l.request, l.flow.cyclic, l.began, l.flow.low.has_problem)) link
 
 -- The records that it accepted, and its ModuleDiffBlock.
 abbrev pub taken_of : Option RelationState → List TakenRecord

@@ -3,6 +3,7 @@ use Rattle.std.specs.Prelude.{◌≡◌, ◌+◌, ◌%◌, ◌==◌, ◌<◌, �
 use Rattle.pn_alarms.specs.declared.abort.Abort.{Abort}
 use Rattle.pn_alarms.specs.declared.abort.Abort.TheVariants.{Activity, DataHold, Other}
 use Rattle.pn_alarms.specs.Sending.{Sending}
+use Rattle.relations.specs.exchange.Flow.{Flow}
 use Rattle.relations.specs.declared.phase.Phase.TheVariants.{Started, Preparing, Awaiting, Exchanging}
 use Rattle.relations.specs.RelationState.{RelationState, phase_of, is_awaiting}
 use Rattle.relations.specs.Farewells.{farewell_of}
@@ -85,16 +86,26 @@ EndsBehind units reason link =
 abbrev pub IsPatientFor : ℕ → Sending → Type 0
 IsPatientFor units sending = (waited : ℕ) → sending.waiting ≡ Some waited → waited + units < sending.limit
 
+-- The same of an alarm of each priority.
+abbrev pub ArePatientFor : ℕ → Flow → Type 0
+ArePatientFor units flow = IsPatientFor units flow.alarms.sender.sending × IsPatientFor units flow.low.alarms.sender.sending
+
+-- An alarm waits for its ACK, and is given up with the unit after this many units.
+abbrev pub GivesUpBehind : ℕ → Sending → Type 0
+GivesUpBehind units sending = (waited : ℕ) × ((sending.waiting ≡ Some waited) × (waited + (units + 1) ≡ sending.limit))
+
 -- If data is exchanged and nothing is received, a relation ends with the last unit of its data hold time, unless an
 -- alarm is given up before. It also does if an alarm would be given up with that same unit.
 abbrev pub IsHeldFor : Type 0
 IsHeldFor = (link : RelationState) (units : ℕ) → link.phase ≡ Exchanging → link.flow.cyclic.begun ≡ true → link.flow.cyclic.hearing.held + (units + 1) ≡ link.flow.cyclic.hearing.limit
-    → IsPatientFor units link.flow.alarms.sender.sending → EndsBehind units DataHold link
+    → ArePatientFor units link.flow → EndsBehind units DataHold link
 
--- It ends with the unit with which a waiting alarm is given up, unless the data hold time is over by then.
+-- It ends with the unit with which a waiting alarm of either priority is given up, if none is given up before, and unless the
+-- data hold time is over by then.
 abbrev pub IsGivenUp : Type 0
-IsGivenUp = (link : RelationState) (units waited : ℕ) → link.phase ≡ Exchanging → link.flow.cyclic.begun ≡ true → link.flow.cyclic.hearing.held + (units + 1) < link.flow.cyclic.hearing.limit
-    → link.flow.alarms.sender.sending.waiting ≡ Some waited → waited + (units + 1) ≡ link.flow.alarms.sender.sending.limit → EndsBehind units Other link
+IsGivenUp = (link : RelationState) (units : ℕ) → link.phase ≡ Exchanging → link.flow.cyclic.begun ≡ true → link.flow.cyclic.hearing.held + (units + 1) < link.flow.cyclic.hearing.limit
+    → ArePatientFor units link.flow → GivesUpBehind units link.flow.alarms.sender.sending ⊎ GivesUpBehind units link.flow.low.alarms.sender.sending
+    → EndsBehind units Other link
 
 -- ---- from phase to phase
 

@@ -2,7 +2,7 @@
 use Rattle.std.specs.Prelude.{◌≡◌, ◌⊎◌, ◌==◌, ◌+◌, ◌*◌, ◌&&◌, ℕ, Bool, true, false, nat_le, not, Option, Some, None, is_none, option_map, if◌then◌else◌}
 use Rattle.relations.specs.declared.phase.Phase.{Phase}
 use Rattle.relations.specs.declared.phase.Phase.TheVariants.{Started, Preparing, Awaiting, Exchanging}
-use Rattle.relations.specs.exchange.Units.{flow_later, tick_of}
+use Rattle.relations.specs.exchange.Units.{flow_later, repeated_of, tick_of}
 use Rattle.pn_alarms.specs.declared.abort.Abort.{Abort}
 use Rattle.pn_alarms.specs.declared.abort.Abort.TheVariants.{Activity, DataHold, Other}
 use Rattle.cyclic_data.specs.Timing.{held_on}
@@ -60,21 +60,28 @@ unit_later link = record link { inactive = inactive_later link; waited = waited_
 pub record Due : Type 0 where
   pub farewell : Option Farewell
   pub is_alarm : Bool
+  pub is_low : Bool
   pub is_ready : Bool
   pub is_cyclic : Bool
 
 -- What a unit brings: if a timeout ends the relation, nothing more is done. Otherwise the active alarm may be due
--- again, then ApplicationReady, and then a frame of inputs.
+-- again, then that of low priority, then ApplicationReady, and then a frame of inputs.
 abbrev pub due_by : RelationState → Option Abort → Due
-due_by link (Some reason) = record { farewell = Some (farewell_of reason link); is_alarm = false; is_ready = false; is_cyclic = false }
+due_by link (Some reason) = record { farewell = Some (farewell_of reason link); is_alarm = false; is_low = false; is_ready = false; is_cyclic = false }
 due_by link None =
-    record { farewell = None; is_alarm = (tick_of link.flow).is_alarm; is_ready = is_again link; is_cyclic = (tick_of link.flow).is_cyclic }
+    record {
+      farewell = None;
+      is_alarm = (tick_of link.flow).is_alarm && (repeated_of link.flow).high;
+      is_low = (tick_of link.flow).is_alarm && (repeated_of link.flow).low;
+      is_ready = is_again link;
+      is_cyclic = (tick_of link.flow).is_cyclic;
+    }
 
 abbrev pub due_in : RelationState → Due
 due_in link = due_by link (ending_of link)
 
 abbrev pub nothing : Due
-nothing = record { farewell = None; is_alarm = false; is_ready = false; is_cyclic = false }
+nothing = record { farewell = None; is_alarm = false; is_low = false; is_ready = false; is_cyclic = false }
 
 abbrev pub due_of : Option RelationState → Due
 due_of None = nothing
@@ -89,7 +96,8 @@ farewell_for None link = None
 abbrev pub due_behind : Elapsed → Option RelationState → Due
 due_behind elapsed link = record {
   farewell = farewell_for elapsed.tick.ending link;
-  is_alarm = elapsed.tick.is_alarm;
+  is_alarm = elapsed.tick.is_alarm && elapsed.repeated.high;
+  is_low = elapsed.tick.is_alarm && elapsed.repeated.low;
   is_ready = elapsed.is_ready;
   is_cyclic = elapsed.tick.is_cyclic;
 }

@@ -6,5 +6,6 @@ pub mod Leaps
 pub mod Received
 pub mod Process
 pub mod Notices
+pub mod Diagnosis
 pub mod Frames
 pub mod Runs

@@ -117,7 +117,7 @@ impl Relation {
             (connect_answer identity.now real.now application.entry.options.now.smallest_interval self.old blocks.now ≡ Err fault)
             × (answer.new.items ≡ [])) }
         ensures state { self.new ≡ updated (making real.now partner
-            (record { begin_bad = application.entry.options.now.inputs_begin_bad; statuses = application.entry.statuses.now })
+            (record { begin_bad = application.entry.options.now.inputs_begin_bad; statuses = application.entry.statuses.now; units = application.entry.units; diagnoses = application.entry.diagnoses.now })
             (connect_within application.entry.options.now.smallest_interval self.old blocks.now)) self.old }
     {
         // Only one relation, and the controller that has it keeps it: a second controller must not take a running
@@ -132,11 +132,14 @@ impl Relation {
         let starting = Starting {
             begin_bad: application.options.inputs_begin_bad,
             statuses: application.statuses,
+            units: application.units,
+            diagnoses: application.diagnoses,
         };
         self.exchange.open(&self.request, &rows, starting);
         // Parameters of an earlier relation do not belong to this one.
         self.taken.clear();
         self.partner = partner;
+        self.began = application.units;
         self.inactive = 0;
         self.waited = 0;
         self.phase = Some(Phase::Started);

@@ -9,10 +9,12 @@ mod alarms;
 mod cyclic;
 mod data_exchange;
 mod laws;
+mod low;
 mod marks;
 mod opening;
 
 pub use alarms::OWN_REFERENCE;
+pub use cyclic::Repeated;
 pub use cyclic_exchange::{Received, Route, Tick};
 pub use data_exchange::DataExchange;
 pub use laws::exchange_is_kept;

@@ -4,10 +4,12 @@ ghost use Rattle.relations.specs.declared.phase.Phase.TheVariants.{Exchanging};
 ghost use Rattle.relations.specs.Exchanged.{becoming, given_to, heard_by, hearing, output_in, provider_in, raised_to, rating, received_by, receiving};
 ghost use Rattle.relations.specs.RelationState.{flow_of, phase_of};
 ghost use Rattle.relations.specs.Phases.{updated};
+ghost use Rattle.relations.specs.Diagnosed.{begin_one, beginning, diagnose_one, diagnosing, has_sent_low, heard_low, hearing_low, is_full_in, owns_in, report_one, reporting};
 
 use crate::Relation;
 use crate::exchange::{DataExchange, Received};
 use cyclic_exchange::ProviderStatus;
+use diagnosis::{Change, Diagnoses};
 use pn_alarms::{Message, PduFate};
 use pn_values::{Mac, Real};
 
@@ -91,6 +93,72 @@ impl Relation {
         }
     }
 
+    /// Data exchange begins: the diagnoses that exist are reported. Returns whether an alarm of low priority must be sent.
+    pub fn begin_diagnosis(&mut self, real: &Real, diagnoses: &Diagnoses) -> bool
+        ensures sent { result ≡ begin_one real.now.modules.items diagnoses.now self.old }
+        ensures state { self.new ≡ updated (beginning real.now.modules.items diagnoses.now self.old) self.old }
+    {
+        match self.phase {
+            Some(_) => self.exchange.begin_diagnosis(real, diagnoses),
+            None => false,
+        }
+    }
+
+    /// Whether no further change of diagnosis can wait for its alarm.
+    pub fn is_full(&self) -> bool
+        ensures { result ≡ is_full_in self.now }
+    {
+        self.phase.is_some() && self.exchange.is_full()
+    }
+
+    /// A diagnosis changed, and these exist now. Returns whether an alarm of low priority must be sent.
+    pub fn diagnose(&mut self, real: &Real, change: &Change, diagnoses: &Diagnoses) -> bool
+        ensures sent { result ≡ diagnose_one real.now.modules.items change.now diagnoses.now self.old }
+        ensures state { self.new ≡ updated (diagnosing real.now.modules.items change.now diagnoses.now self.old) self.old }
+    {
+        match self.phase {
+            Some(_) => self.exchange.diagnose(real, change, diagnoses),
+            None => false,
+        }
+    }
+
+    /// The first change of diagnosis that waits is reported, if no alarm of low priority is active. Returns whether an alarm
+    /// must be sent.
+    pub fn report_next(&mut self, real: &Real) -> bool
+        ensures sent { result ≡ report_one real.now.modules.items self.old }
+        ensures state { self.new ≡ updated (reporting real.now.modules.items self.old) self.old }
+    {
+        match self.phase {
+            Some(_) => self.exchange.report_next(real),
+            None => false,
+        }
+    }
+
+    /// Whether a submodule belongs to the relation: its Connect expects it, and it does not differ.
+    pub fn owns(&self, slot: u16, subslot: u16) -> bool
+        ensures { result ≡ owns_in self.now slot subslot }
+    {
+        self.phase.is_some() && self.exchange.owns(slot, subslot)
+    }
+
+    /// Whether an alarm of low priority was sent in the relation.
+    pub fn has_sent_low(&self) -> bool
+        ensures { result ≡ has_sent_low self.now }
+    {
+        self.phase.is_some() && self.exchange.has_sent_low()
+    }
+
+    /// Receives a PDU of low priority of the partner. Returns what happens to it.
+    pub fn hear_low(&mut self, message: &Message) -> PduFate
+        ensures heard { result ≡ heard_low message.now self.old }
+        ensures state { self.new ≡ updated (hearing_low message.now self.old) self.old }
+    {
+        match self.phase {
+            Some(_) => self.exchange.hear_low(message),
+            None => PduFate::Ignored,
+        }
+    }
+
     /// Receives a PDU of the partner. Returns what happens to it: data must be answered; an ERR has ended the relation.
     pub fn hear(&mut self, message: &Message) -> PduFate
         ensures heard { result ≡ heard_by message.now self.old }
@@ -100,7 +168,7 @@ impl Relation {
             return PduFate::Ignored;
         };
         let heard = self.exchange.hear(message);
-        if let PduFate::Aborted = heard {
+        if let PduFate::Aborted(_) = heard {
             self.phase = None;
         }
         heard

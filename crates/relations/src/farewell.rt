@@ -7,10 +7,13 @@ use crate::exchange::OWN_REFERENCE;
 use connect_requests::ConnectRequest;
 use pn_alarms::{Abort, Header, Pdu};
 use pn_values::Mac;
+use uuid::Uuid;
 
 /// The ERR with which a device ends a relation: a frame of low priority.
 #[derive(Clone, Copy, Debug, PartialEq, Eq)]
 pub struct Farewell {
+    /// The ARUUID of the relation that ends.
+    pub uuid: Uuid,
     /// The destination: CMInitiatorMacAdd.
     pub initiator: Mac,
     /// The tag of the frame: AlarmCRTagHeaderLow.
@@ -32,6 +35,7 @@ impl Farewell {
     {
         let alarm = request.alarm();
         Farewell {
+            uuid: request.ar().uuid,
             initiator: request.ar().initiator,
             tag: alarm.tag_low,
             reference: alarm.reference,

@@ -21,7 +21,9 @@ mod statuses;
 mod time;
 
 pub use cyclic_exchange::ProviderStatus;
-pub use exchange::{DataExchange, OWN_REFERENCE, Received, Route, Tick, exchange_is_kept};
+pub use exchange::{
+    DataExchange, OWN_REFERENCE, Received, Repeated, Route, Tick, exchange_is_kept,
+};
 pub use farewell::Farewell;
 pub use hearing::ReadyAnswer;
 pub use laws::{phases_are_kept, time_is_kept};
@@ -29,6 +31,6 @@ pub use options::{Application, DeviceOptions};
 pub use phase::{Partner, Phase};
 pub use pn_alarms::Abort;
 pub use ready::Ready;
-pub use relation::Relation;
-pub use statuses::{InputStatus, is_bad, put_status};
+pub use relation::{Relation, RelationParts};
+pub use statuses::{InputStatus, is_bad, is_plugged, put_status};
 pub use time::Elapsed;

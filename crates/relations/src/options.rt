@@ -1,13 +1,19 @@
 //! What the application of a device decides where the device is made.
 use crate::statuses::InputStatus;
+use diagnosis::Diagnoses;
 
-/// What the application of a device says: its options, and the statuses that it gave to its inputs.
+/// What a relation of a device begins with: what its application says, which are its options and the statuses that it gave to
+/// its inputs, and the time.
 #[derive(Clone, Copy)]
 pub struct Application<'a> {
     /// The options.
     pub options: &'a DeviceOptions,
     /// The statuses.
     pub statuses: &'a [InputStatus],
+    /// The units since the start of the device.
+    pub units: u64,
+    /// The diagnoses that exist.
+    pub diagnoses: &'a Diagnoses,
 }
 
 /// The options of a device. The default is a device that decides everything by itself.

@@ -2,12 +2,13 @@
 ghost use Rattle.std.specs.Prelude.{◌≡◌, ◌≤◌, Err, IfErr, IsOk, None, OnOk, if◌then◌else◌, length, option_map};
 ghost use Rattle.relations.specs.Phases.{Ended, Named, Unmoved, answered, keeping, updated, taking};
 ghost use Rattle.relations.specs.Farewells.{farewell_of};
-ghost use Rattle.relations.specs.RelationState.{IsInStep, differing_in, is_alarm_of, is_named, is_parameterized, phase_of, request_of, taken_of, uuid_of};
+ghost use Rattle.relations.specs.RelationState.{IsInStep, differing_in, is_alarm_of, is_named, is_parameterized, parts_of, phase_of, taken_of, uuid_of};
 
 use crate::exchange::{DataExchange, OWN_REFERENCE};
 use crate::{Farewell, Partner, Phase};
 use arrayvec::ArrayVec;
 use connect_requests::ConnectRequest;
+use cyclic_exchange::CyclicExchange;
 use pn_alarms::{Abort, PduType};
 use pn_values::Mac;
 use records::{CallFault, TakenRecord, TakenRecords, is_relation};
@@ -21,6 +22,8 @@ pub struct Relation {
     pub(crate) phase: Option<Phase>,
     pub(crate) request: ConnectRequest,
     pub(crate) partner: Partner,
+    /// The units from the start of the device to the answer to the Connect.
+    pub(crate) began: u64,
     /// Units since the activity timer was started.
     pub(crate) inactive: u32,
     /// Units since ApplicationReady was sent.
@@ -46,6 +49,7 @@ impl Model for Relation {
       phase = phase;
       request = relation.request;
       partner = relation.partner;
+      began = relation.began;
       inactive = relation.inactive;
       waited = relation.waited;
       taken = relation.taken;
@@ -55,6 +59,19 @@ impl Model for Relation {
 
     ghost invariant = { λ relation. (relation.inactive ≤ 209712000) × (relation.waited < 32000)
         × HasBegunIn relation.phase relation.exchange };
+}
+
+/// The content of a relation that exists.
+#[derive(Clone, Copy)]
+pub struct RelationParts<'a> {
+    /// What its Connect asked for.
+    pub request: &'a ConnectRequest,
+    /// The cyclic data that it exchanges.
+    pub cyclic: &'a CyclicExchange,
+    /// The units from the start of the device to the answer to its Connect.
+    pub began: u64,
+    /// Whether one of its submodules has a diagnosis.
+    pub has_problem: bool,
 }
 
 impl Relation {
@@ -69,6 +86,7 @@ impl Relation {
                 mac: Mac { octets: [0; 6] },
                 address: [0; 4],
             },
+            began: 0,
             inactive: 0,
             waited: 0,
             taken: TakenRecords::new(),
@@ -96,12 +114,17 @@ impl Relation {
         )
     }
 
-    /// What the Connect of the relation asked for, if there is a relation.
-    pub fn request(&self) -> Option<&ConnectRequest>
-        ensures { option_map (λ request. request.now) result ≡ request_of self.now }
+    /// The content of the relation, if there is one.
+    pub fn parts(&self) -> Option<RelationParts<'_>>
+        ensures { option_map (λ parts. (parts.request.now, parts.cyclic.now, parts.began, parts.has_problem)) result ≡ parts_of self.now }
     {
         match self.phase {
-            Some(_) => Some(&self.request),
+            Some(_) => Some(RelationParts {
+                request: &self.request,
+                cyclic: self.exchange.cyclic(),
+                began: self.began,
+                has_problem: self.exchange.has_problem(),
+            }),
             None => None,
         }
     }

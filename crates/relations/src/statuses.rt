@@ -59,7 +59,7 @@ pub fn put_status(
 }
 
 /// Whether a submodule is plugged there.
-fn is_plugged(real: &Real, slot: u16, subslot: u16) -> bool
+pub fn is_plugged(real: &Real, slot: u16, subslot: u16) -> bool
     ensures { result ≡ is_some (submodule_ident real.now.modules.items slot subslot) }
 {
     match module_in(real, slot) {

@@ -14,7 +14,7 @@ ghost use Rattle.relations.specs.Ready.{ready_of};
 ghost use Rattle.relations.specs.Runs.{units_over};
 ghost use Rattle.relations.specs.Leaps.{NothingDueFor, due_within, inactive_by, inactive_in, ready_in, waited_by};
 
-use crate::exchange::Tick;
+use crate::exchange::{Repeated, Tick};
 use crate::{Phase, Relation};
 use connect_requests::ConnectRequest;
 use pn_alarms::{Abort, NEVER};
@@ -33,6 +33,8 @@ pub struct Elapsed {
     pub tick: Tick,
     /// Whether ApplicationReady is due again.
     pub is_ready: bool,
+    /// Which alarms are due again.
+    pub repeated: Repeated,
 }
 
 impl Elapsed {
@@ -59,12 +61,13 @@ impl Elapsed {
 
     /// What is due of the exchange, and nothing else.
     #[inline(always)]
-    fn of(tick: Tick) -> Elapsed
-        ensures { result ≡ record { tick = tick; is_ready = false } }
+    fn of(tick: Tick, repeated: Repeated) -> Elapsed
+        ensures { result ≡ record { tick = tick; is_ready = false; repeated = repeated } }
     {
         Elapsed {
             tick,
             is_ready: false,
+            repeated,
         }
     }
 }
@@ -113,20 +116,21 @@ impl Relation {
         ensures same { (old new : RelationState) → self.old ≡ Some old → self.new ≡ Some new → ready_of new ≡ ready_of old }
     {
         let Some(phase) = self.phase else {
-            return Elapsed::of(Tick::nothing());
+            return Elapsed::of(Tick::nothing(), Repeated::none());
         };
         // This is done in each phase: inputs are sent from the answer to the Connect on.
-        let tick = self.exchange.tick();
+        let (tick, repeated) = self.exchange.tick();
         if !is_timed(phase) {
-            return Elapsed::of(tick);
+            return Elapsed::of(tick, repeated);
         }
         let limit = u32::from(self.request.ar().timeout_factor) * TENTH_OF_A_SECOND;
         if let Some(reason) = unit_inactive(&mut self.inactive, limit) {
-            return Elapsed::of(Tick::ends(reason));
+            return Elapsed::of(Tick::ends(reason), Repeated::none());
         }
         Elapsed {
             tick: tick.without_end(),
             is_ready: is_awaiting(phase) && unit_waited(&mut self.waited),
+            repeated,
         }
     }
 

@@ -12,14 +12,15 @@ use Rattle.hex.specs.declared.error.FromHexError.{FromHexError}
 use Rattle.script_lines.specs.declared.command.Choice.{Choice}
 use Rattle.script_lines.specs.declared.command.Choice.TheVariants.{InputsBad, ReadyLater, Interval}
 use Rattle.script_lines.specs.declared.command.Words.{Words}
-use Rattle.script_lines.specs.declared.command.Words.TheVariants.{One, Two, Three, Four, More}
+use Rattle.script_lines.specs.declared.command.Words.TheVariants.{One, Two, Three, Four, Five, Six, More}
 
 -- The commands of a script: hand in these bytes, switch the power off and on again, let time pass unit by unit or by
 -- leaps, show the settings or when something is due, set an option for the next restart, say that the application is ready,
 -- order the flash to fail, set the input of the submodule in a slot and subslot, raise an alarm of it with these octets, say
--- whether its inputs are good, or show what the controller says of its output; make a plan, start a controller with this
--- ARUUID and activity UUID at the other end, set an output of the controller or say whether it is good, end the relation,
--- hand over the frames that wait, start the services beside the device.
+-- whether its inputs are good, let a diagnosis of it appear or disappear, or show what the controller says of its output; make
+-- a plan, start a controller with this ARUUID and activity UUID at the other end, set an output of the controller or say
+-- whether it is good, end the relation, show the diagnoses that the controller knows of, hand over the frames that wait, start
+-- the services beside the device.
 pub data Command : Type 0 where
   Frame : (bytes : List ℕ) → Command
   Restart : Command
@@ -33,12 +34,14 @@ pub data Command : Type 0 where
   Input : (slot : ℕ) → (subslot : ℕ) → (bytes : List ℕ) → Command
   Alarm : (slot : ℕ) → (subslot : ℕ) → (bytes : List ℕ) → Command
   Status : (slot : ℕ) → (subslot : ℕ) → (is_good : Bool) → Command
+  Diagnosis : (slot : ℕ) → (subslot : ℕ) → (channel : ℕ) → (error : ℕ) → (appears : Bool) → Command
   Provider : (slot : ℕ) → (subslot : ℕ) → Command
   Config : (catalogue : List ℕ) → Command
   Start : (ar : List ℕ) → (activity : List ℕ) → Command
   Give : (slot : ℕ) → (subslot : ℕ) → (bytes : List ℕ) → Command
   OutputStatus : (slot : ℕ) → (subslot : ℕ) → (is_good : Bool) → Command
   Stop : Command
+  Stands : Command
   Deliver : Command
   Serve : Command
 
@@ -64,7 +67,11 @@ AreWords line (One first) = words_of line ≡ first.now ∷ []
 AreWords line (Two first second) = words_of line ≡ first.now ∷ second.now ∷ []
 AreWords line (Three first second third) = words_of line ≡ first.now ∷ second.now ∷ third.now ∷ []
 AreWords line (Four first second third fourth) = words_of line ≡ first.now ∷ second.now ∷ third.now ∷ fourth.now ∷ []
-AreWords line More = (first second third fourth fifth : List ℕ) × (more : List (List ℕ)) × (words_of line ≡ first ∷ second ∷ third ∷ fourth ∷ fifth ∷ more)
+AreWords line Five = (first second third fourth fifth : List ℕ) × (words_of line ≡ first ∷ second ∷ third ∷ fourth ∷ fifth ∷ [])
+AreWords line (Six first second third fourth fifth sixth) =
+    words_of line ≡ first.now ∷ second.now ∷ third.now ∷ fourth.now ∷ fifth.now ∷ sixth.now ∷ []
+AreWords line More = (first second third fourth fifth sixth seventh : List ℕ) × (more : List (List ℕ))
+    × (words_of line ≡ first ∷ second ∷ third ∷ fourth ∷ fifth ∷ sixth ∷ seventh ∷ more)
 
 -- A word is this text.
 abbrev pub is_text : List ℕ → List ℕ → Bool
@@ -80,7 +87,9 @@ abbrev pub bytes_of : List ℕ → Option (List ℕ)
 bytes_of digits = if length digits == 0 then None else if_decoded (decode_of digits)
 
 abbrev pub bare_of_both : List ℕ → Option Command
-bare_of_both word = if is_text word (codes "deliver") then Some Deliver else (if is_text word (codes "stop") then Some Stop else None)
+bare_of_both word =
+    if is_text word (codes "deliver") then Some Deliver
+    else (if is_text word (codes "stop") then Some Stop else (if is_text word (codes "stands") then Some Stands else None))
 
 abbrev pub bare : List ℕ → Option Command
 bare word =
@@ -174,6 +183,22 @@ placed word (Some slot) (Some subslot) third =
 abbrev pub with_three : List ℕ → List ℕ → List ℕ → List ℕ → Option Command
 with_three word first second third = placed word (number_of 65535 first) (number_of 65535 second) third
 
+-- The command of a word with a slot, a subslot, a channel, an error, and whether the diagnosis appears.
+abbrev pub diagnosis_of : Option ℕ → Option ℕ → Option ℕ → Option ℕ → Option Bool → Option Command
+diagnosis_of (Some slot) (Some subslot) (Some channel) (Some error) (Some appears) = Some (Diagnosis slot subslot channel error appears)
+diagnosis_of (Some slot) (Some subslot) (Some channel) (Some error) None = None
+diagnosis_of (Some slot) (Some subslot) (Some channel) None appears = None
+diagnosis_of (Some slot) (Some subslot) None error appears = None
+diagnosis_of (Some slot) None channel error appears = None
+diagnosis_of None subslot channel error appears = None
+
+abbrev pub with_five : List ℕ → List ℕ → List ℕ → List ℕ → List ℕ → List ℕ → Option Command
+with_five word first second third fourth fifth =
+    if is_text word (codes "diagnosis")
+    then diagnosis_of (number_of 65535 first) (number_of 65535 second) (number_of 65535 third) (number_of 65535 fourth)
+    (one_of (codes "appears") (codes "disappears") fifth)
+    else None
+
 -- The command that some words spell.
 abbrev pub command_of : List (List ℕ) → Option Command
 command_of [] = None
@@ -181,7 +206,9 @@ command_of (word ∷ []) = bare word
 command_of (word ∷ first ∷ []) = with_one word first
 command_of (word ∷ first ∷ second ∷ []) = with_two word first second
 command_of (word ∷ first ∷ second ∷ third ∷ []) = with_three word first second third
-command_of (word ∷ first ∷ second ∷ third ∷ fourth ∷ more) = None
+command_of (word ∷ first ∷ second ∷ third ∷ fourth ∷ []) = None
+command_of (word ∷ first ∷ second ∷ third ∷ fourth ∷ fifth ∷ []) = with_five word first second third fourth fifth
+command_of (word ∷ first ∷ second ∷ third ∷ fourth ∷ fifth ∷ sixth ∷ more) = None
 
 -- Longer than 65,536 bytes, or not ASCII.
 abbrev pub is_unfit : List ℕ → Bool

@@ -3,7 +3,7 @@ use Rattle.script_lines.specs.declared.command.Command.{Command as Code}
 use Rattle.script_lines.specs.declared.command.Command.TheVariants as code
 use Rattle.script_lines.specs.declared.command.Line.{Line as CodeLine}
 use Rattle.script_lines.specs.declared.command.Line.TheVariants as line
-use Rattle.script_lines.specs.Line.{Command, Frame, Restart, Tick, Elapse, Show, Due, Choose, Ready, Arm, Input, Alarm, Status, Provider, Config, Start, Give, OutputStatus, Stop, Deliver, Serve, Line, Unfit, Skipped, Asks, Unknown}
+use Rattle.script_lines.specs.Line.{Command, Frame, Restart, Tick, Elapse, Show, Due, Choose, Ready, Arm, Input, Alarm, Status, Diagnosis, Provider, Config, Start, Give, OutputStatus, Stop, Stands, Deliver, Serve, Line, Unfit, Skipped, Asks, Unknown}
 
 abbrev pub command_read : Code → Command
 command_read (code.Frame bytes) = Frame bytes.now
@@ -18,12 +18,14 @@ command_read (code.Arm order) = Arm order
 command_read (code.Input slot subslot bytes) = Input slot subslot bytes.now
 command_read (code.Alarm slot subslot bytes) = Alarm slot subslot bytes.now
 command_read (code.Status slot subslot is_good) = Status slot subslot is_good
+command_read (code.Diagnosis slot subslot channel error appears) = Diagnosis slot subslot channel error appears
 command_read (code.Provider slot subslot) = Provider slot subslot
 command_read (code.Config catalogue) = Config catalogue.now
 command_read (code.Start ar activity) = Start ar activity
 command_read (code.Give slot subslot bytes) = Give slot subslot bytes.now
 command_read (code.OutputStatus slot subslot is_good) = OutputStatus slot subslot is_good
 command_read code.Stop = Stop
+command_read code.Stands = Stands
 command_read code.Deliver = Deliver
 command_read code.Serve = Serve
 

@@ -18,6 +18,7 @@ use Rattle.controller_core.specs.declared.state.State.TheVariants.{Looking, Addr
 use Rattle.controller_core.specs.declared.state.State.TheVariants as controller
 use Rattle.controller_core.specs.State.{Controlling}
 use Rattle.controller_core.specs.Cause.{number_of}
+use Rattle.diagnosis.specs.declared.diagnosis.Diagnosis.{Diagnosis}
 use Rattle.script_lines.specs.Text.{printed}
 
 -- A name, or '-' if there is no name.
@@ -114,6 +115,20 @@ state_word (Ended cause) = codes "ended " ++ decimal (number_of cause)
 
 unfoldable pub state_line : State → List ℕ
 state_line state = printed (codes "state " ++ state_word state)
+
+-- A diagnosis that the controller knows of: slot, subslot, channel and error.
+unfoldable pub stands_line : Diagnosis → List ℕ
+stands_line diagnosis =
+    printed (codes "stands " ++ decimal diagnosis.slot ++ codes " " ++ decimal diagnosis.subslot ++ codes " " ++ decimal diagnosis.channel ++ codes " " ++ decimal diagnosis.error)
+
+-- All of them; '-' for none.
+abbrev pub diagnoses_shown : List Diagnosis → List ℕ
+diagnoses_shown diagnoses = if length diagnoses == 0 then printed (codes "stands -") else flat_map stands_line diagnoses
+
+-- The diagnoses that the controller knows of, if there is one.
+abbrev pub known_shown : Option Controlling → List ℕ
+known_shown None = []
+known_shown (Some controller) = diagnoses_shown controller.live.diagnosis.existing
 
 -- The state of the controller, if there is one.
 abbrev pub controller_shown : Option Controlling → List ℕ

@@ -6,7 +6,7 @@ ghost use Rattle.std.specs.Str.Lines.{lines, strip_carriage_return};
 ghost use Rattle.hex.specs.Hex.{decode_of};
 ghost use Rattle.uuid.specs.Text.{parsed};
 ghost use Rattle.script_lines.specs.Line.{behind, AreWords, bytes_of, catalogue_in, command_in, command_of, meaning_of, words_of, bare};
-ghost use Rattle.script_lines.specs.Line.{bare_of_both, with_one, with_two, with_three, ordered, start_of, units_of, mask_of, strike_of};
+ghost use Rattle.script_lines.specs.Line.{bare_of_both, with_one, with_two, with_five, with_three, ordered, start_of, units_of, mask_of, strike_of};
 ghost use Rattle.script_lines.specs.Line.{Choose, Elapse, OutputStatus, Status, Tick, choice_of, one_of, provider_of, services_of, targeted};
 ghost use Rattle.script_lines.specs.Numbers.{number_of};
 ghost use Rattle.script_lines.specs.Read.{command_read, line_read};
@@ -47,6 +47,8 @@ pub enum Command<'a> {
     Ready,
     /// Orders the flash to fail at a later call.
     Arm(Order),
+    /// A diagnosis of the submodule in this slot and subslot, of this channel and error, appears or disappears.
+    Diagnosis(u16, u16, u16, u16, bool),
     /// Sets the input of the submodule in this slot and subslot.
     Input(u16, u16, &'a [u8]),
     /// Raises an alarm of the submodule in this slot and subslot, with these octets.
@@ -65,6 +67,8 @@ pub enum Command<'a> {
     OutputStatus(u16, u16, bool),
     /// Makes the controller end the relation.
     Stop,
+    /// Show the diagnoses that the controller knows of.
+    Stands,
     /// Hands over the frames that wait: those for the device, then those for the controller.
     Deliver,
     /// Starts the services beside the device.
@@ -101,6 +105,10 @@ enum Words<'a> {
     Two(&'a [u8], &'a [u8]),
     Three(&'a [u8], &'a [u8], &'a [u8]),
     Four(&'a [u8], &'a [u8], &'a [u8], &'a [u8]),
+    /// Five words, which no line has.
+    Five,
+    Six(&'a [u8], &'a [u8], &'a [u8], &'a [u8], &'a [u8], &'a [u8]),
+    /// More words than any line has.
     More,
 }
 
@@ -166,8 +174,16 @@ fn words_in(line: &[u8]) -> Words<'_>
         return Words::Three(first, second, third);
     };
     let (fourth, rest) = cut_at(rest, b' ');
+    let Some(rest) = rest else {
+        return Words::Four(first, second, third, fourth);
+    };
+    let (fifth, rest) = cut_at(rest, b' ');
+    let Some(rest) = rest else {
+        return Words::Five;
+    };
+    let (sixth, rest) = cut_at(rest, b' ');
     match rest {
-        None => Words::Four(first, second, third, fourth),
+        None => Words::Six(first, second, third, fourth, fifth, sixth),
         Some(_) => Words::More,
     }
 }
@@ -242,7 +258,10 @@ fn asked_by<'a>(
         Words::Two(word, first) => with_one(word, first, buffer),
         Words::Three(word, first, second) => with_two(word, first, second, buffer),
         Words::Four(word, first, second, third) => with_three(word, first, second, third, buffer),
-        Words::More => Ok(None),
+        Words::Six(word, first, second, third, fourth, fifth) => {
+            Ok(with_five(word, first, second, third, fourth, fifth))
+        }
+        Words::Five | Words::More => Ok(None),
     }
 }
 
@@ -270,6 +289,8 @@ fn bare_of_both(word: &[u8]) -> Option<Command<'static>>
         Some(Command::Deliver)
     } else if word == b"stop".as_slice() {
         Some(Command::Stop)
+    } else if word == b"stands".as_slice() {
+        Some(Command::Stands)
     } else {
         None
     }
@@ -472,6 +493,41 @@ fn with_three<'a>(
         Ok(output_status(slot, subslot, third))
     } else {
         targeted(word, slot, subslot, third, buffer)
+    }
+}
+
+/// The command of a word and five others: a diagnosis that appears or disappears.
+fn with_five(
+    word: &[u8],
+    first: &[u8],
+    second: &[u8],
+    third: &[u8],
+    fourth: &[u8],
+    fifth: &[u8],
+) -> Option<Command<'static>>
+    ensures { option_map command_read result ≡ with_five word.now first.now second.now third.now fourth.now fifth.now }
+{
+    if word != b"diagnosis".as_slice() {
+        return None;
+    }
+    let slot = place_number(first)?;
+    let subslot = place_number(second)?;
+    let channel = place_number(third)?;
+    let error = place_number(fourth)?;
+    let appears = appearance(fifth)?;
+    Some(Command::Diagnosis(slot, subslot, channel, error, appears))
+}
+
+/// Whether a diagnosis appears or disappears.
+fn appearance(word: &[u8]) -> Option<bool>
+    ensures { result ≡ one_of (codes "appears") (codes "disappears") word.now }
+{
+    if word == b"appears".as_slice() {
+        Some(true)
+    } else if word == b"disappears".as_slice() {
+        Some(false)
+    } else {
+        None
     }
 }
 

@@ -1,12 +1,12 @@
 //! The lines that show the settings, the relation, the lamp, what the controller says of an output, and the state of the
 //! controller. Each function appends one of them to a text.
-ghost use Rattle.std.specs.Prelude.{◌≡◌, ◌++◌, ◌≤◌, length, OnOk, decimal};
+ghost use Rattle.std.specs.Prelude.{◌≡◌, ◌++◌, ◌≤◌, flat_map, length, OnOk, decimal};
 ghost use Rattle.script_lines.specs.Show.{name_line, suite_line, dotted, text_line, phase_line, phase_word, lamp_line, output_line, shown, due_line};
-ghost use Rattle.script_lines.specs.Show.{provider_line, provider_word, state_line, state_word};
+ghost use Rattle.script_lines.specs.Show.{diagnoses_shown, provider_line, provider_word, stands_line, state_line, state_word};
 
 use crate::render::hex_digits;
 use bitflags::Flags;
-use controller_core::{Cause, State};
+use controller_core::{Cause, Diagnosis, State};
 use cyclic_data::DataStatus;
 use itoa::Buffer;
 use pn_values::{IpSuite, Settings, StationName};
@@ -182,6 +182,42 @@ fn provider_word(status: Option<ProviderStatus>, text: &mut Vec<u8>) -> Result<(
     } else {
         text.extend_from_slice(b" stop")
     }
+}
+
+/// The diagnoses that the controller knows of, or that it knows of none.
+pub fn diagnoses(diagnoses: &[Diagnosis], text: &mut Vec<u8>) -> Result<(), AllocError>
+    ensures { OnOk result (text.new.items ≡ text.old.items ++ diagnoses_shown diagnoses.now) }
+{
+    if diagnoses.is_empty() {
+        return text.extend_from_slice(b"stands -\n");
+    }
+    each_diagnosis(diagnoses, text)
+}
+
+/// A line for each diagnosis.
+fn each_diagnosis(diagnoses: &[Diagnosis], text: &mut Vec<u8>) -> Result<(), AllocError>
+    ensures { OnOk result (text.new.items ≡ text.old.items ++ flat_map stands_line diagnoses.now) }
+{
+    for diagnosis in diagnoses {
+        stands(diagnosis, text)?;
+    }
+    Ok(())
+}
+
+/// A diagnosis: slot, subslot, channel and error.
+#[tactic(auto, unfolding(crate::specs::Show::stands_line))]
+fn stands(diagnosis: &Diagnosis, text: &mut Vec<u8>) -> Result<(), AllocError>
+    ensures { OnOk result (text.new.items ≡ text.old.items ++ stands_line diagnosis.now) }
+{
+    text.extend_from_slice(b"stands ")?;
+    number(u32::from(diagnosis.slot), text)?;
+    text.extend_from_slice(b" ")?;
+    number(u32::from(diagnosis.subslot), text)?;
+    text.extend_from_slice(b" ")?;
+    number(u32::from(diagnosis.channel), text)?;
+    text.extend_from_slice(b" ")?;
+    number(u32::from(diagnosis.error), text)?;
+    text.extend_from_slice(b"\n")
 }
 
 /// The state of the controller.

@@ -8,3 +8,4 @@ pub mod SessionObeying
 pub mod SessionTicking
 pub mod SessionBegins
 pub mod SessionLeaping
+pub mod SessionStepping

@@ -7,14 +7,14 @@ use Rattle.settings_journal.specs.Image.{LeftByDevice}
 use Rattle.relations.specs.declared.options.DeviceOptions.{DeviceOptions}
 use Rattle.device_core.specs.Cycle.{started}
 use Rattle.device_core.specs.State.{Station as Device, State}
-use Rattle.services.specs.State as services
+use Rattle.station.specs.Serving.{Serving}
 use Rattle.script_runner.specs.session.Demo.{demo_device}
 use Rattle.script_runner.specs.session.Ends.{Running, begun, services_at}
 use Rattle.script_runner.specs.session.Said.{demo_started}
 use Rattle.script_runner.specs.session.Power.{Runs}
 
 -- the device of a station, with services or without
-abbrev pub running_of : State (MemoryFlash 4096) → Option services.State → Running
+abbrev pub running_of : State (MemoryFlash 4096) → Option Serving → Running
 running_of device beside_it = record { flash = device.flash; station = device.station; live = device.live; services = beside_it }
 
 pub begun_runs : (options : DeviceOptions) (serves : Bool) (settings : Settings) (room : ℕ) (device : State (MemoryFlash 4096)) → device.station ≡ demo_device options → device.live ≡ started settings room

@@ -1,14 +1,14 @@
 -- Units of time at once, at either end, as that many events.
-use Rattle.std.proofs.Common.{◌≡◌, ℕ, zero, suc, List, [], ◌++◌, replicate, append_assoc, append-nil, refl, ap, subst, sym, ◌∙◌, Option, Some, None}
+use Rattle.std.proofs.Common.{◌≡◌, ℕ, zero, suc, Bool, true, false, List, [], ◌++◌, replicate, append_assoc, append-nil, refl, ap, subst, sym, ◌∙◌, Option, Some, None}
 use Rattle.flash_model.specs.declared.memory.MemoryFlash.{MemoryFlash}
 use Rattle.device_frames.specs.declared.event.Event.TheVariants as event
 use Rattle.device_frames.specs.Heard.{heard_of}
 use Rattle.device_core.specs.State.{Live, State, Station as Device}
 use Rattle.device_core.specs.Machine.{handled_step, heard_step, step_of}
 use Rattle.device_core.specs.Leaps.{Leapt, and_then, then_leap, ticks_of}
-use Rattle.services.specs.State as services
+use Rattle.station.specs.Serving.{Serving}
 use Rattle.station.specs.State.{Frames, in_order}
-use Rattle.station.specs.Leaps.{Leapt as BothLeapt, then_leap as both_then, tick_of as both_tick, ticks_of as both_ticks_of}
+use Rattle.station.specs.Leaps.{Leapt as BothLeapt, then_leap as both_then, tick_of as both_tick, ticks_of as both_ticks_of, told_at, told_if}
 use Rattle.controller_core.specs.declared.event.Event.TheVariants as heard
 use Rattle.controller_core.specs.State.{Controlling}
 use Rattle.controller_core.specs.Machine.{Stepped as ControllerRun, step_of as controller_step}
@@ -39,7 +39,7 @@ ticks_first device live (suc units) =
     let last = step_of [] device later.live event.Tick in
     ap (and_tick device) (ticks_first device live units) ∙ ap (leapt_to last.live) (append_assoc step.frames later.frames last.frames)
 
-abbrev place_of : Device → Live → Option services.State → Station
+abbrev place_of : Device → Live → Option Serving → Station
 place_of device live had = record { device = device; live = live; services = had }
 
 abbrev ran : Device → Leapt → DeviceRun
@@ -65,13 +65,13 @@ ticks_keep device live (suc units) = tick_keeps device (ticks_of units device li
 
 -- ---- the device, and the services beside it
 
-abbrev both_to : Live → services.State → List (List ℕ) → BothLeapt
+abbrev both_to : Live → Serving → List (List ℕ) → BothLeapt
 both_to live state frames = record { live = live; services = state; frames = frames }
 
 abbrev and_both : Device → BothLeapt → BothLeapt
 and_both device before = both_then before (both_tick device before.live before.services)
 
-both_first : (device : Device) (live : Live) (state : services.State) (units : ℕ)
+both_first : (device : Device) (live : Live) (state : Serving) (units : ℕ)
     → both_ticks_of (suc units) device live state
     ≡ both_then (both_tick device live state) (both_ticks_of units device (both_tick device live state).live (both_tick device live state).services)
 both_first device live state zero =
@@ -86,17 +86,24 @@ both_first device live state (suc units) =
 abbrev both_ran : Device → BothLeapt → DeviceRun
 both_ran device leapt = record { station = place_of device leapt.live (Some leapt.services); frames = leapt.frames }
 
-both_ticks : (device : Device) (live : Live) (state : services.State) (units : ℕ)
+both_ticks : (device : Device) (live : Live) (state : Serving) (units : ℕ)
     → device_run (place_of device live (Some state)) (replicate units event.Tick) ≡ both_ran device (both_ticks_of units device live state)
 both_ticks device live state zero = refl
 both_ticks device live state (suc units) =
     let step = both_tick device live state in
     ap (and_run step.frames) (both_ticks device step.live step.services units) ∙ ap (both_ran device) (sym (both_first device live state units))
 
-both_keeps : (device : Device) (live : Live) (state : services.State) (units : ℕ) → (both_ticks_of units device live state).live.values.has_failed ≡ live.values.has_failed
+told_keeps : (b : Bool) (device : Device) (live : Live) (state : Serving) → (told_if b device live state).live.values.has_failed ≡ live.values.has_failed
+unfolding heard_of heard_step handled_step
+told_keeps true device live state = refl
+told_keeps false device live state = refl
+
+both_keeps : (device : Device) (live : Live) (state : Serving) (units : ℕ) → (both_ticks_of units device live state).live.values.has_failed ≡ live.values.has_failed
 both_keeps device live state zero = refl
 both_keeps device live state (suc units) =
-    tick_keeps device (both_ticks_of units device live state).live ∙ both_keeps device live state units
+    let before = both_ticks_of units device live state in
+    tick_keeps device (told_at device before.live before.services).live
+    ∙ (told_keeps before.services.has_news device before.live before.services ∙ both_keeps device live state units)
 
 -- ---- several units at once
 
@@ -104,7 +111,7 @@ abbrev with_live : State (MemoryFlash 4096) → Live → State (MemoryFlash 4096
 with_live device live = record device { live = live }
 
 -- The place of a running device.
-its_place : (station : Station) (old : State (MemoryFlash 4096)) (had : Option services.State) → Runs station (running_of old had) → place_of old.station old.live had ≡ station
+its_place : (station : Station) (old : State (MemoryFlash 4096)) (had : Option Serving) → Runs station (running_of old had) → place_of old.station old.live had ≡ station
 its_place station old had runs =
     ap (λ (d : Device). place_of d old.live had) runs.station_is
     ∙ (ap (λ (l : Live). place_of station.device l had) runs.live_is ∙ ap (place_of station.device station.live) runs.services_are)
@@ -130,7 +137,7 @@ leapt_alone station old new units outbox runs is frames silent =
     subst (λ (r : DeviceRun). IsLeapt r (running_of new None) outbox) run
     (subst (λ (d : State (MemoryFlash 4096)). IsLeapt (ran old.station leapt) (running_of d None) outbox) (sym is) there)
 
-pub leapt_beside : (station : Station) (old new : State (MemoryFlash 4096)) (had after : services.State) (units : ℕ) (outbox : Frames) → Runs station (running_of old (Some had))
+pub leapt_beside : (station : Station) (old new : State (MemoryFlash 4096)) (had after : Serving) (units : ℕ) (outbox : Frames) → Runs station (running_of old (Some had))
     → new ≡ with_live old (both_ticks_of units old.station old.live had).live → after ≡ (both_ticks_of units old.station old.live had).services
     → in_order outbox ≡ (both_ticks_of units old.station old.live had).frames
     → IsLeapt (device_run station (replicate units event.Tick)) (running_of new (Some after)) outbox
@@ -150,7 +157,7 @@ leapt_beside station old new had after units outbox runs is so frames =
       frames = frames;
     } in
     subst (λ (r : DeviceRun). IsLeapt r (running_of new (Some after)) outbox) run
-    (subst (λ (s : services.State). IsLeapt (both_ran old.station leapt) (running_of new (Some s)) outbox) (sym so)
+    (subst (λ (s : Serving). IsLeapt (both_ran old.station leapt) (running_of new (Some s)) outbox) (sym so)
     (subst (λ (d : State (MemoryFlash 4096)). IsLeapt (both_ran old.station leapt) (running_of d (Some leapt.services)) outbox) (sym is) there))
 
 -- The frames of a leap were sent.

@@ -4,7 +4,7 @@ use Rattle.flash_model.specs.declared.flash.Order.{Order}
 use Rattle.plans.specs.declared.parts.Parts.{Parts}
 use Rattle.configurator.specs.declared.fault.PlanFault.{PlanFault}
 use Rattle.configurator.specs.declared.fault.PlanFault.TheVariants.{OutOfMemory}
-use Rattle.script_lines.specs.Line.{Command, Frame, Restart, Tick, Elapse, Show, Due, Choose, Ready, Arm, Input, Alarm, Status, Provider, Config, Start, Give, OutputStatus, Stop, Deliver, Serve, Line, Skipped, Asks, meaning_of}
+use Rattle.script_lines.specs.Line.{Command, Frame, Restart, Tick, Elapse, Show, Due, Choose, Ready, Arm, Input, Alarm, Status, Diagnosis, Provider, Config, Start, Give, OutputStatus, Stop, Stands, Deliver, Serve, Line, Skipped, Asks, meaning_of}
 use Rattle.script_lines.specs.declared.command.Choice.{Choice}
 use Rattle.script_runner.specs.declared.session.power.Power.{Power}
 use Rattle.script_runner.specs.declared.session.power.Power.TheVariants.{On, Off, Away}
@@ -106,11 +106,13 @@ order_taken Ready old new before now result orders = tt
 order_taken (Input slot subslot bytes) old new before now result orders = tt
 order_taken (Alarm slot subslot bytes) old new before now result orders = tt
 order_taken (Status slot subslot is_good) old new before now result orders = tt
+order_taken (Diagnosis slot subslot channel error appears) old new before now result orders = tt
 order_taken (Provider slot subslot) old new before now result orders = tt
 order_taken (Config catalogue) old new before now result orders = tt
 order_taken (Start ar activity) old new before now result orders = tt
 order_taken (Give slot subslot bytes) old new before now result orders = tt
 order_taken (OutputStatus slot subslot is_good) old new before now result orders = tt
 order_taken Stop old new before now result orders = tt
+order_taken Stands old new before now result orders = tt
 order_taken Deliver old new before now result orders = tt
 order_taken Serve old new before now result orders = tt

@@ -25,6 +25,7 @@ use Rattle.relations.specs.Phases.{differing_octets, updated}
 use Rattle.relations.specs.Connect.{connect_answer, connect_blocks, connect_within, differing_of, making}
 use Rattle.startup_law.specs.request.Request.{no_rows, request_for}
 use Rattle.device_core.specs.Handled.{Moves, answer_from, kept_behind, partner_of}
+use Rattle.device_core.specs.Log.{connect_log, with_log}
 use Rattle.device_frames.specs.Sent.{bytes_of, response_frame}
 use Rattle.controller_frames.specs.declared.setup.Setup.{Setup}
 use Rattle.controller_frames.specs.declared.request.Request.{Request as Asking}
@@ -46,8 +47,9 @@ answers_so setup identity device none =
     let blocks = blocks_of setup asks.Connect in
     let address = device.values.running.suite.address in
     let link = device.rest.link in
-    let rest = kept_behind identity device.rest call (answer_from address caller call Connect (connect_answer identity setup.plan.real 1 link blocks))
-    (updated (making setup.plan.real (partner_of caller) (record { begin_bad = false; statuses = device.rest.statuses }) (connect_within 1 link blocks)) link) in
+    let logged = with_log (connect_log blocks (connect_answer identity setup.plan.real 1 link blocks)) device.rest in
+    let rest = kept_behind identity logged call (answer_from address caller call Connect (connect_answer identity setup.plan.real 1 link blocks))
+    (updated (making setup.plan.real (partner_of caller) (record { begin_bad = false; statuses = device.rest.statuses; units = device.rest.units; diagnoses = device.rest.diagnoses }) (connect_within 1 link blocks)) link) in
     (rest, ap (λ (l : Option RelationState). Moves rest (answer_from address caller call Connect (connect_answer identity setup.plan.real 1 l blocks) ∷ [])) none)
 
 -- if the device reads the plan's request and no module differs, it responds with these blocks

@@ -7,7 +7,7 @@ use Rattle.block_codec.specs.declared.block.Block.{Block}
 use Rattle.block_codec.specs.declared.block.Block.TheVariants as is
 use Rattle.block_codec.specs.Block.{block_bytes, block_of, front, kind_of}
 use Rattle.block_codec.specs.Kinds.{number_of}
-use Rattle.controller_core.specs.Connect.{found_in, is_looked_for, next_found, nothing, with_alarm, with_block, with_iocr}
+use Rattle.connect_answers.specs.Connect.{found_in, is_looked_for, next_found, nothing, with_alarm, with_block, with_iocr}
 use Rattle.startup_law.specs.answer.Answer.{IsAllThere}
 
 -- the type of what a controller finds

@@ -14,7 +14,7 @@ use Rattle.rpc_core.specs.Interface.{interface_uuid}
 use Rattle.rpc_core.specs.Response.{Answered as Response}
 use Rattle.rpc_core.specs.Sendable.{CanBeAnswered, CanBeCalled, IsHeader, IsUuid}
 use Rattle.block_codec.specs.declared.block.Block.{Block}
-use Rattle.block_codec.specs.Block.{block_bytes, block_of, front}
+use Rattle.block_codec.specs.Block.{block_bytes, block_of, block_size, front}
 use Rattle.codec_laws.specs.blocks.Writable.{CanBeWritten}
 use Rattle.connect_requests.specs.Request.{Request}
 use Rattle.records.specs.declared.writes.taken.TakenRecord.{TakenRecord}
@@ -42,7 +42,7 @@ use Rattle.end_laws.specs.hearing.Hearing.{IsUncalled, IsUnreported, all_hears, 
 use Rattle.end_laws.specs.hearing.Stations.{IsAddress, IsCalled, IsCaller, IsDevice, IsNumbered, IsRecordCall, IsSetup, ready_call}
 use Rattle.end_laws.specs.sending.Addressed.{IsAimed, IsAimedAt, IsEventFrom}
 use Rattle.end_laws.specs.both.Small as small
-use Rattle.end_laws.specs.both.Small.{Exchanges, Exchanging, RelationState, Move, Rules, World}
+use Rattle.end_laws.specs.both.Small.{RelationState, Move, Rules, World}
 use Rattle.end_laws.specs.both.StartUp.{Begins, IsRun, last_of}
 use Rattle.end_laws.specs.both.Steps.{DeviceSteps}
 use Rattle.end_laws.specs.controller.Small.{GoesOn, IsSteady, said_in, small_of as small_controller}
@@ -98,6 +98,7 @@ pub record HeardSo : Type 0 where
   pub agreed_at_controller : (mine : Controller) (setup : Setup) (caller : Caller) (answer : Response) → IsSetup setup → IsCaller caller → CanBeAnswered answer
       → controller_hears mine (answer_frame setup caller answer) ≡ mine_reported mine caller.mac caller.endpoint (Responded answer)
   pub block_read : (block : Block) (rest : List ℕ) → CanBeWritten block → block_of (block_bytes block ++ rest) ≡ front block rest
+  pub block_long : (block : Block) → length (block_bytes block) ≡ block_size block
 
 -- the laws of the machines of both ends
 pub record GoesSo : Type 0 where

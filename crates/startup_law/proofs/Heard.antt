@@ -1,6 +1,6 @@
 -- What either end hears of each message of the other.
 use Rattle.std.proofs.Common.{◌≡◌, ◌⊎◌, inl, inr, ◌<◌, ◌+◌, ◌-◌, ◌==◌, ◌&&◌, ◌||◌, ℕ, Bool, true, false, cond, List, [], ◌∷◌, length, Option, Some, None, Result, Ok, Err, refl, sym, ap, subst, ◌∙◌, add-one, arith}
-use Rattle.std.specs.Prelude.{nat_eq, nat_le, nat_lt, slice_get}
+use Rattle.std.specs.Prelude.{nat_eq, nat_le, nat_lt}
 use Rattle.std.specs.List.{AllByRecursion}
 use Rattle.std.specs.Cmp.Lexicographic.{pointwise, same_text}
 use Rattle.std.proofs.lemmas.Bool.{eq-eqb, leb-true, leb-false, lt-ltb}
@@ -24,17 +24,17 @@ use Rattle.rpc_core.specs.declared.fault.RpcFault.{RpcFault}
 use Rattle.rpc_core.specs.declared.interface.Interface.TheVariants.{Controller as controllers, Device as devices}
 use Rattle.rpc_core.specs.declared.header.CallHeader.{CallHeader}
 use Rattle.rpc_core.specs.Call.{Asked as Call, call_of}
-use Rattle.rpc_core.specs.Response.{Answered as Response, is_done, response_of}
+use Rattle.rpc_core.specs.Response.{Answered as Response, response_of}
 use Rattle.rpc_core.specs.Sendable.{CanBeAnswered, CanBeCalled, IsHeader, IsStatus, IsUuid}
 use Rattle.connect_blocks.specs.declared.control.ControlBlock.{ControlBlock}
 use Rattle.connect_requests.specs.Request.{Request as Asked_for}
 use Rattle.records.specs.status.Operation.{operation_of}
 use Rattle.pn_alarms.specs.declared.fault.AlarmFault.{AlarmFault}
 use Rattle.pn_alarms.specs.declared.pdu.Header.{Header}
-use Rattle.pn_alarms.specs.declared.priority.Priority.{Priority}
-use Rattle.pn_alarms.specs.declared.priority.Priority.TheVariants.{High, Low}
+use Rattle.alarm_reports.specs.declared.priority.Priority.{Priority}
+use Rattle.alarm_reports.specs.declared.priority.Priority.TheVariants.{High, Low}
 use Rattle.cyclic_exchange.specs.declared.route.Route.{Route}
-use Rattle.pn_alarms.specs.Message.{ToController as AlarmReported, alarm_of}
+use Rattle.alarm_reports.specs.Message.{ToController as AlarmReported, alarm_of}
 use Rattle.plans.specs.declared.parts.Controller.{Controller}
 use Rattle.plans.specs.declared.parts.Parts.{Parts}
 use Rattle.plans.specs.Connect.{alarm_block}
@@ -52,11 +52,11 @@ use Rattle.controller_frames.specs.declared.request.Request.{Request}
 use Rattle.controller_frames.specs.declared.request.Request.TheVariants as asks
 use Rattle.controller_frames.specs.declared.setup.Setup.{Setup}
 use Rattle.controller_frames.specs.Heard as controller
-use Rattle.controller_frames.specs.Heard.{heard_alarm, heard_answer, heard_body, heard_call, heard_content, heard_first, heard_frame, heard_read, heard_real_time, heard_refusal, heard_response, is_to}
+use Rattle.controller_frames.specs.Heard.{heard_alarm, heard_answer, heard_body, heard_call, heard_content, heard_first, heard_read, heard_real_time, heard_refusal, heard_response, is_to}
 use Rattle.controller_frames.specs.declared.refusal.Refusal.{Refusal}
 use Rattle.controller_frames.specs.Refusal.{refusal_of}
 use Rattle.controller_frames.specs.RecordRequests.{record_call}
-use Rattle.controller_frames.specs.Requests.{blocks_of, call_for, sequence_of, write_blocks}
+use Rattle.controller_frames.specs.Requests.{blocks_of, call_for, sequence_of, write_count, writing_blocks}
 use Rattle.controller_frames.specs.Sent as said
 use Rattle.controller_frames.specs.Sent.{answer_frame, call_frame, calls_at, identify_multicast, tag_of}
 use Rattle.controller_core.specs.Answers.{is_ready}
@@ -68,10 +68,10 @@ use Rattle.end_laws.specs.sending.Addressed.{IsAimedAt, IsDirection, IsHeardFrom
 use Rattle.end_laws.specs.both.Small as small
 use Rattle.end_laws.specs.both.Small.{ToController, ToDevice}
 use Rattle.end_laws.specs.both.Steps.{CallsWhile, SaysToDevice}
-use Rattle.end_laws.specs.controller.Small.{asked_by, readied_by, said_by, said_to}
+use Rattle.end_laws.specs.controller.Small.{asked_by, is_positive, readied_by, said_by, said_to}
 use Rattle.end_laws.specs.device.Owed.{IsAnswering, IsOwed}
 use Rattle.end_laws.specs.device.Small as ends
-use Rattle.end_laws.specs.device.Small.{IsHeardAs, IsHeardBy, Planned, confirms, heard_as}
+use Rattle.end_laws.specs.device.Small.{IsHeardAs, Planned, confirms, heard_as}
 use Rattle.startup_law.specs.View.{IsSaidAs, is_planned, rules_of, says_to_device}
 use Rattle.wire.proofs.Fields.{bind_ok}
 use Rattle.startup_law.proofs.Given.{HeardSo}
@@ -179,7 +179,7 @@ six_heard sound mine octets = six_read sound mine octets (frame_of octets) refl
 
 -- a call that a device hears is one that the controller makes
 abbrev pub IsListed : Parts → Request → Type 0
-IsListed plan (asks.Write number) = number < length plan.records.items
+IsListed plan (asks.Write number) = number < write_count plan
 IsListed plan request = Unit {0}
 
 pub record IsOwnCall (setup : Setup) (caller : Caller) (call : Call) : Type 0 where
@@ -338,11 +338,11 @@ module _ (so : HeardSo) (setup : Setup) (station : Station) (good : IsSetup setu
       let none : is_own identity destination ≡ false = other_mac destination identity.mac (λ same. apart (sym same ∙ is)) in
       ap (λ (b : Bool). cond (b && to.port == 34964) (device.Reported (record { mac = source; endpoint = from }) to.address reported) device.Elsewhere) none
 
-  answer_says : (answer : Response) → (said_to setup (controller.Responds answer) ≡ small.Nothing) ⊎ (said_to setup (controller.Responds answer) ≡ small.Answers answer.header.sequence (is_done answer.status))
+  answer_says : (answer : Response) → (said_to setup (controller.Responds answer) ≡ small.Nothing) ⊎ (said_to setup (controller.Responds answer) ≡ small.Answers answer.header.sequence (is_positive setup.plan answer))
   answer_says answer = by_activity (pointwise nat_eq answer.header.activity setup.activity)
     where
-      by_activity : (b : Bool) → (cond b (small.Answers answer.header.sequence (is_done answer.status)) small.Nothing ≡ small.Nothing)
-          ⊎ (cond b (small.Answers answer.header.sequence (is_done answer.status)) small.Nothing ≡ small.Answers answer.header.sequence (is_done answer.status))
+      by_activity : (b : Bool) → (cond b (small.Answers answer.header.sequence (is_positive setup.plan answer)) small.Nothing ≡ small.Nothing)
+          ⊎ (cond b (small.Answers answer.header.sequence (is_positive setup.plan answer)) small.Nothing ≡ small.Answers answer.header.sequence (is_positive setup.plan answer))
       by_activity true = inr refl
       by_activity false = inl refl
 
@@ -350,25 +350,25 @@ module _ (so : HeardSo) (setup : Setup) (station : Station) (good : IsSetup setu
   AtMost says heard = (said_to setup heard ≡ small.Nothing) ⊎ (said_to setup heard ≡ says)
 
   answer_met : (caller : Caller) (address : List ℕ) (answer : Response) → caller ≡ record { mac = mine.mac; endpoint = calls_at mine.address } → IsAddress address → IsHeader answer.header → IsStatus answer.status
-      → answer.maximum_count < 4294967296 → IsMet (bytes_of identity (CallAnswer caller address answer)) (small.Answers answer.header.sequence (is_done answer.status))
+      → answer.maximum_count < 4294967296 → IsMet (bytes_of identity (CallAnswer caller address answer)) (small.Answers answer.header.sequence (is_positive setup.plan answer))
   answer_met caller address answer caller_is four header status maximum = by_length (nat_le (length answer.blocks) 1372) refl
     where
       calls : IsCaller caller
       calls = subst (λ (c : Caller). IsCaller c) (sym caller_is) (record { mac = good.mac; endpoint = (good.address, omega arith) })
 
-      by_length : (b : Bool) → nat_le (length answer.blocks) 1372 ≡ b → IsMet (bytes_of identity (CallAnswer caller address answer)) (small.Answers answer.header.sequence (is_done answer.status))
+      by_length : (b : Bool) → nat_le (length answer.blocks) 1372 ≡ b → IsMet (bytes_of identity (CallAnswer caller address answer)) (small.Answers answer.header.sequence (is_positive setup.plan answer))
       by_length true e =
           let can : CanBeAnswered answer = record { header = header; status = status; maximum = maximum; few = leb-true (length answer.blocks) 1372 e } in
-          met_by (bytes_of identity (CallAnswer caller address answer)) (small.Answers answer.header.sequence (is_done answer.status)) device.Elsewhere
+          met_by (bytes_of identity (CallAnswer caller address answer)) (small.Answers answer.header.sequence (is_positive setup.plan answer)) device.Elsewhere
           (mine_reported mine caller.mac caller.endpoint (controller.Responds answer))
           (so.response_at_device identity identity caller address answer real calls four can
           ∙ elsewhere identity.mac caller.mac (calls_at address) caller.endpoint (device.Responds answer) (ap (λ (c : Caller). c.mac) caller_is))
           (so.response_at_controller mine identity caller address answer real calls four can) tt refl
           (mine_holds (λ (h : controller.Heard). IsHeardFrom identity.mac h) caller.mac caller.endpoint (controller.Responds answer) tt tt)
-          (mine_holds (AtMost (small.Answers answer.header.sequence (is_done answer.status))) caller.mac caller.endpoint (controller.Responds answer) (answer_says answer) (inl refl))
+          (mine_holds (AtMost (small.Answers answer.header.sequence (is_positive setup.plan answer))) caller.mac caller.endpoint (controller.Responds answer) (answer_says answer) (inl refl))
       by_length false e =
           let long : 1372 < length answer.blocks = leb-false (length answer.blocks) 1372 e in
-          met_by (bytes_of identity (CallAnswer caller address answer)) (small.Answers answer.header.sequence (is_done answer.status)) device.Unreadable controller.Nothing
+          met_by (bytes_of identity (CallAnswer caller address answer)) (small.Answers answer.header.sequence (is_positive setup.plan answer)) device.Unreadable controller.Nothing
           (so.long_at_device identity identity caller address answer real calls four header long) (so.long_at_controller mine identity caller address answer real calls four header long)
           tt refl tt (inl refl)
 
@@ -425,7 +425,7 @@ module _ (so : HeardSo) (setup : Setup) (station : Station) (good : IsSetup setu
   known_can caller call (inr access) = subst (λ (c : Call). CanBeCalled devices c) (sym access.is) (so.record_can setup access.request access.octets good access.sized)
 
   answering_met : (heard : Heard) (caller : Caller) (address : List ℕ) (answer : Response) → IsKnownHeard setup heard → IsAnswering heard caller answer → IsAddress address
-      → IsMet (bytes_of identity (CallAnswer caller address answer)) (small.Answers answer.header.sequence (is_done answer.status))
+      → IsMet (bytes_of identity (CallAnswer caller address answer)) (small.Answers answer.header.sequence (is_positive setup.plan answer))
   answering_met heard caller address answer known owed four =
       let call = own_call heard caller owed.address owed.call owed.is known in
       let can = known_can caller owed.call call in
@@ -438,7 +438,7 @@ module _ (so : HeardSo) (setup : Setup) (station : Station) (good : IsSetup setu
 
   -- what the controller may hear of a message
   abbrev pub says_of : Sent → ToController
-  says_of (CallAnswer caller address answer) = small.Answers answer.header.sequence (is_done answer.status)
+  says_of (CallAnswer caller address answer) = small.Answers answer.header.sequence (is_positive setup.plan answer)
   says_of (ReadyCall address ready) = small.Readies
   says_of message = small.Nothing
 
@@ -450,7 +450,7 @@ module _ (so : HeardSo) (setup : Setup) (station : Station) (good : IsSetup setu
   message_met : (heard : Heard) (live : Live) (message : Sent) → IsKnownHeard setup heard → IsPlans live.rest.link → IsOwed heard live message → IsSendable identity message → IsMetAs message
   message_met heard live (Again frame) known plans owed can = tt
   message_met heard live (IdentifyAnswer asker running xid) known plans owed can = data_met asker None _ _ can.destination tt
-  message_met heard live (GetAnswer asker running request) known plans owed can = data_met asker None _ _ can.destination tt
+  message_met heard live (GetAnswer asker running alias request) known plans owed can = data_met asker None _ _ can.destination tt
   message_met heard live (SetAnswer asker request answers) known plans owed can = data_met asker None _ _ can.destination tt
   message_met heard live (ArpReply asker address target) known plans owed can = packet_met asker address target can.destination can.content.0.1 can.content.1
   message_met heard live (CallAnswer caller address answer) known plans owed can = answering_met heard caller address answer known owed can.content.0.0
@@ -504,11 +504,11 @@ module _ (so : HeardSo) (setup : Setup) (station : Station) (good : IsSetup setu
   same_list [] = refl
   same_list (x ∷ xs) = rw (eq-eqb x x refl) (same_list xs)
 
-  write_is_planned : (number : ℕ) → number < length setup.plan.records.items
-      → is_planned setup (number + 1) (write_blocks setup number (slice_get setup.plan.records.items number)) ≡ true
+  write_is_planned : (number : ℕ) → number < write_count setup.plan
+      → is_planned setup (number + 1) (writing_blocks setup number) ≡ true
   write_is_planned number listed =
-      let blocks = write_blocks setup number (slice_get setup.plan.records.items number) in
-      ap (λ (s : ℕ). is_planned setup s blocks) (add-one number) ∙ both (nat_lt number (length setup.plan.records.items)) (pointwise nat_eq blocks blocks) (lt-ltb _ _ listed) (same_list blocks)
+      let blocks = writing_blocks setup number in
+      ap (λ (s : ℕ). is_planned setup s blocks) (add-one number) ∙ both (nat_lt number (write_count setup.plan)) (pointwise nat_eq blocks blocks) (lt-ltb _ _ listed) (same_list blocks)
     where
       both : (a b : Bool) → a ≡ true → b ≡ true → (a && b) ≡ true
       both true b e f = f
@@ -572,7 +572,7 @@ module _ (so : HeardSo) (setup : Setup) (station : Station) (good : IsSetup setu
   multicast_six = refl
 
   -- a record that is written now is one of the plan
-  is_listed : (now : small.Controller) (number : ℕ) → CallsWhile (length setup.plan.records.items) now (number + 1) (small.Writes number) → number < length setup.plan.records.items
+  is_listed : (now : small.Controller) (number : ℕ) → CallsWhile (write_count setup.plan) now (number + 1) (small.Writes number) → number < write_count setup.plan
   is_listed now number (inl releases) = absurd cc
   is_listed now number (inr (inl asked)) = asked.1.0
   is_listed now number (inr (inr accesses)) = absurd (not_access number accesses.0)
@@ -584,7 +584,7 @@ module _ (so : HeardSo) (setup : Setup) (station : Station) (good : IsSetup setu
   tag_sized route High aimed = aimed.alarm_tag
   tag_sized route Low aimed = omega arith
 
-  message_reported : (now : small.Controller) (message : said.Sent) → IsAimedAt identity.mac message → SaysToDevice (length setup.plan.records.items) now (said_by setup.plan message)
+  message_reported : (now : small.Controller) (message : said.Sent) → IsAimedAt identity.mac message → SaysToDevice (write_count setup.plan) now (said_by setup.plan message)
       → IsReported (said.bytes_of setup message) (says_to_device setup message)
   message_reported now (said.Requests to asks.Identify) aimed says = data_reported identify_multicast None _ _ small.Idle multicast_six tt
   message_reported now (said.Requests to asks.Address) aimed says = data_reported to None _ _ small.Idle aimed.0 tt
@@ -600,7 +600,7 @@ module _ (so : HeardSo) (setup : Setup) (station : Station) (good : IsSetup setu
   message_reported now (said.Ends route header reason) aimed says = data_reported route.partner (Some alarm_block.tag_header_low) _ _ small.Idle aimed.partner (omega arith)
 
   pub all_reported : (now : small.Controller) (messages : List said.Sent) → AllByRecursion (IsAimedAt identity.mac) messages
-      → AllByRecursion (λ message. SaysToDevice (length setup.plan.records.items) now (said_by setup.plan message)) messages
+      → AllByRecursion (λ message. SaysToDevice (write_count setup.plan) now (said_by setup.plan message)) messages
       → AllByRecursion (λ message. IsReported (said.bytes_of setup message) (says_to_device setup message)) messages
   all_reported now [] aimed says = tt
   all_reported now (message ∷ messages) aimed says = (message_reported now message aimed.0 says.0, all_reported now messages aimed.1 says.1)

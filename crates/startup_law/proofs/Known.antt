@@ -3,6 +3,7 @@
 use Rattle.std.proofs.Common.{◌≡◌, ◌⊎◌, inl, inr, ℕ, List, [], ◌∷◌, ◌++◌, map, Option, Some, None, option_map, Ok, refl, sym, ap, subst, ◌∙◌, append-nil, append_assoc}
 use Rattle.std.specs.Prelude.{slice_get}
 use Rattle.std.specs.List.{AllByRecursion}
+use Rattle.lldp.specs.Views.{peer_as}
 use Rattle.flash_model.specs.declared.flash.Flash.{Ghosts as Flash}
 use Rattle.settings_store.specs.Machine.{Outcome}
 use Rattle.pn_values.specs.declared.identity.Identity.{Identity}
@@ -14,7 +15,7 @@ use Rattle.records.specs.declared.writes.taken.TakenRecord.{TakenRecord}
 use Rattle.relations.specs.RelationState.{RelationState}
 use Rattle.startup_law.specs.request.Request.{request_for}
 use Rattle.device_frames.specs.declared.event.Event.TheVariants.{Frame}
-use Rattle.device_frames.specs.Heard.{Heard, Ticks, Given, Raised, Rated, Readied, heard_of}
+use Rattle.device_frames.specs.Heard.{Heard, Ticks, Given, Raised, Rated, Met, Readied, diagnosed, heard_of}
 use Rattle.device_frames.specs.Sent.{Sent, Again, bytes_of}
 use Rattle.device_core.specs.State.{Station, Live}
 use Rattle.device_core.specs.Machine.{heard_step, handled_step}
@@ -44,7 +45,7 @@ use Rattle.startup_law.specs.Played.{AreMade, AreMeant, ArePlaced, Begins, CanMe
 use Rattle.startup_law.proofs.Each.{each_at, each_behind, some_is}
 use Rattle.startup_law.proofs.Given.{GoesSo, HeardSo}
 use Rattle.startup_law.proofs.Heard.{IsKnown, IsKnownCall, IsKnownHeard, IsMetAs, IsPlans, IsReported, all_heard, all_met, all_said, all_reported, known_activity, opening_reported}
-use Rattle.startup_law.proofs.Planned.{IsGood, heard_planned}
+use Rattle.startup_law.proofs.Planned.{IsGood, count_few, heard_planned}
 use Rattle.startup_law.proofs.Runs.{InStep, controller_is, delivered, happens_steps, last_viewed, rules_at}
 
 -- the premises about both ends
@@ -101,11 +102,11 @@ module _ (so : HeardSo) (goes : GoesSo) where
 
     module _ (plans : IsPlans so setup station can.setup_is can.device_is can.apart before.device.live.rest.link) (heard : Heard) (known : IsKnownHeard setup heard) where
       all_owed : (outcomes : List Outcome) → AllByRecursion (IsOwed heard before.device.live) (heard_step outcomes station before.device.live heard).sent
-      all_owed outcomes = goes.owed rules setup.activity outcomes station before.device.live heard (heard_planned so.block_read setup station can.good heard known)
+      all_owed outcomes = goes.owed rules setup.activity outcomes station before.device.live heard (heard_planned so.block_read so.block_long setup station can.good heard known)
 
       pub meant_at_device : IsMeantAtDevice before heard
       meant_at_device = record {
-        planned = heard_planned so.block_read setup station can.good heard known;
+        planned = heard_planned so.block_read so.block_long setup station can.good heard known;
         sent = λ outcomes sendable. all_heard so setup station can.setup_is can.device_is can.apart (heard_step outcomes station before.device.live heard).sent
             (all_met so setup station can.setup_is can.device_is can.apart heard before.device.live (heard_step outcomes station before.device.live heard).sent known plans (all_owed outcomes) sendable);
       }
@@ -202,6 +203,8 @@ module _ (so : HeardSo) (goes : GoesSo) where
       all_meant (move.Input slot subslot value) = meant_at_device plans (Given slot subslot value.items) tt
       all_meant (move.Alarm slot subslot octets) = meant_at_device plans (Raised slot subslot octets.items) tt
       all_meant (move.Status slot subslot is_good) = meant_at_device plans (Rated slot subslot is_good) tt
+      all_meant (move.Neighbour neighbour) = meant_at_device plans (Met (option_map peer_as neighbour)) tt
+      all_meant (move.Diagnosis slot subslot channel error appears) = meant_at_device plans (diagnosed slot subslot channel error appears) tt
       all_meant move.Ready = meant_at_device plans Readied tt
       all_meant (move.Give slot subslot value) = meant_at_controller (controller.Give slot subslot value) tt
       all_meant (move.OutputStatus slot subslot is_good) = meant_at_controller (controller.Status slot subslot is_good) tt
@@ -225,6 +228,8 @@ module _ (so : HeardSo) (goes : GoesSo) where
         holds_behind (move.Input slot subslot value) happens = holds_behind_device plans (Given slot subslot value.items) tt as_flash after happens
         holds_behind (move.Alarm slot subslot octets) happens = holds_behind_device plans (Raised slot subslot octets.items) tt as_flash after happens
         holds_behind (move.Status slot subslot is_good) happens = holds_behind_device plans (Rated slot subslot is_good) tt as_flash after happens
+        holds_behind (move.Neighbour neighbour) happens = holds_behind_device plans (Met (option_map peer_as neighbour)) tt as_flash after happens
+        holds_behind (move.Diagnosis slot subslot channel error appears) happens = holds_behind_device plans (diagnosed slot subslot channel error appears) tt as_flash after happens
         holds_behind move.Ready happens = holds_behind_device plans Readied tt as_flash after happens
         holds_behind (move.Give slot subslot value) happens = holds_behind_controller (controller.Give slot subslot value) tt after happens
         holds_behind (move.OutputStatus slot subslot is_good) happens = holds_behind_controller (controller.Status slot subslot is_good) tt after happens
@@ -326,7 +331,7 @@ module _ (so : HeardSo) (goes : GoesSo) where
     can_start : CanStart first.controller.setup first.device.station
     can_start = subst (λ (s : Setup). CanStart s first.device.station) (sym begins.of_setup) (record {
       setup_is = good;
-      good = record { connect = connect; few = good.plan.few_records; short = good.plan.short_records; records = can.records; placed = placed; named = good.ar };
+      good = record { connect = connect; few = count_few setup.plan good.plan.few_records; short = good.plan.short_records; records = can.records; placed = placed; named = good.ar };
       device_is = subst (λ (i : Identity). IsDevice i) (sym begins.of_device) real;
       apart = subst (λ (i : Identity). i.mac ≡ setup.plan.controller.mac → ⊥) (sym begins.of_device) can.apart;
     })

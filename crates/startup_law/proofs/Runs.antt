@@ -1,16 +1,17 @@
 -- Each move of the world is a step of the small machines.
-use Rattle.std.proofs.Common.{◌≡◌, ◌⊎◌, inl, inr, ℕ, Bool, true, false, List, [], ◌∷◌, ◌++◌, map, length, Option, Some, None, option_map, refl, sym, ap, subst, ◌∙◌}
+use Rattle.std.proofs.Common.{◌≡◌, ◌⊎◌, inl, inr, ℕ, Bool, true, false, List, [], ◌∷◌, ◌++◌, map, Option, Some, None, option_map, refl, sym, ap, subst, ◌∙◌}
 use Rattle.std.specs.Prelude.{slice_get}
 use Rattle.std.specs.List.{AllByRecursion}
-use Rattle.std.proofs.lemmas.List.{length-map}
+use Rattle.lldp.specs.Views.{peer_as}
 use Rattle.flash_model.specs.declared.flash.Flash.{Ghosts as Flash}
 use Rattle.settings_store.specs.Machine.{Outcome}
 use Rattle.connect_requests.specs.Request.{Request}
 use Rattle.records.specs.declared.writes.taken.TakenRecord.{TakenRecord}
 use Rattle.relations.specs.RelationState.{RelationState}
-use Rattle.device_frames.specs.Heard.{Heard, Ticks, Given, Raised, Rated, Readied}
+use Rattle.device_frames.specs.Heard.{Heard, Ticks, Given, Raised, Rated, Met, Readied, diagnosed}
 use Rattle.device_core.specs.State.{Station, Live}
 use Rattle.device_core.specs.Machine.{heard_step}
+use Rattle.controller_frames.specs.Requests.{write_count}
 use Rattle.controller_frames.specs.declared.setup.Setup.{Setup}
 use Rattle.controller_frames.specs.Heard.{heard_of as heard_by}
 use Rattle.controller_frames.specs.Sent.{Sent, Requests, Accesses, Agrees, Cycles, Confirms, Replies, Ends, bytes_of}
@@ -26,13 +27,13 @@ use Rattle.network_world.specs.declared.moves.Move.{Move}
 use Rattle.network_world.specs.declared.moves.Move.TheVariants as move
 use Rattle.network_world.specs.World.{World, AtDevice, Comes, Delivers, Happens, Played, at_controller, is_skipped}
 use Rattle.end_laws.specs.both.Small as small
-use Rattle.end_laws.specs.both.Small.{Rules, ToController, ToDevice}
-use Rattle.end_laws.specs.both.Steps.{CallsWhile, DeviceSteps, ControllerSteps, IsSaid, Moves, SaysToDevice, Steps, StepsAtController, StepsAtDevice}
+use Rattle.end_laws.specs.both.Small.{Rules, ToDevice}
+use Rattle.end_laws.specs.both.Steps.{CallsWhile, DeviceSteps, ControllerSteps, IsSaid, SaysToDevice, Steps, StepsAtController, StepsAtDevice}
 use Rattle.end_laws.specs.both.StartUp.{last_of}
 use Rattle.end_laws.specs.controller.Small.{GoesOn, IsSteady, said_by, said_in, small_of, state_of}
-use Rattle.end_laws.specs.device.Small.{IsHeardAs, IsPlanned, heard_as, kept_in, link_of, phase_in}
+use Rattle.end_laws.specs.device.Small.{IsHeardAs, IsPlanned, heard_as, link_of}
 use Rattle.end_laws.specs.device.Small as device
-use Rattle.startup_law.specs.View.{IsMeant, IsMeantAtController, IsMeantAtDevice, IsSaidAs, move_of, rules_of, taken_for, view_of}
+use Rattle.startup_law.specs.View.{IsMeant, IsMeantAtController, IsMeantAtDevice, IsSaidAs, move_of, rules_of, view_of}
 use Rattle.startup_law.specs.Played.{IsRunOf, last_world, viewed}
 
 -- ---- the laws of the crates below
@@ -106,22 +107,18 @@ module _ {F : Type 0} where
   abbrev pub InStep : World F → Type 0
   InStep w = IsSteady w.controller.setup.plan w.controller.live
 
-  count_is : (w : World F) → length (rules_at w).records ≡ length w.controller.setup.plan.records.items
-  count_is w = length-map w.controller.setup.plan.records.items taken_for
-
   -- a message of the start-up says what it says, or nothing
   as_said : (w : World F) (now : small.Controller) (frame : List ℕ) (says : ToDevice)
       → ((rules_at w).to_device frame ≡ says) ⊎ ((rules_at w).to_device frame ≡ small.Idle)
-      → SaysToDevice (length w.controller.setup.plan.records.items) now says
-      → SaysToDevice (length (rules_at w).records) now ((rules_at w).to_device frame)
-  as_said w now frame says (inl same) may = subst (λ (said : ToDevice). SaysToDevice (length (rules_at w).records) now said) (sym same)
-      (subst (λ (count : ℕ). SaysToDevice count now says) (sym (count_is w)) may)
-  as_said w now frame says (inr idle) may = subst (λ (said : ToDevice). SaysToDevice (length (rules_at w).records) now said) (sym idle) tt
+      → SaysToDevice (write_count w.controller.setup.plan) now says
+      → SaysToDevice (write_count w.controller.setup.plan) now ((rules_at w).to_device frame)
+  as_said w now frame says (inl same) may = subst (λ (said : ToDevice). SaysToDevice (write_count w.controller.setup.plan) now said) (sym same) may
+  as_said w now frame says (inr idle) may = subst (λ (said : ToDevice). SaysToDevice (write_count w.controller.setup.plan) now said) (sym idle) tt
 
   said_is : (w : World F) (now : small.Controller) (message : Sent) → IsSaidAs w.controller.setup w.device.station message
-      → SaysToDevice (length w.controller.setup.plan.records.items) now (said_by w.controller.setup.plan message)
+      → SaysToDevice (write_count w.controller.setup.plan) now (said_by w.controller.setup.plan message)
       → IsSaid (rules_at w) now (bytes_of w.controller.setup message)
-  said_is w now (Accesses to request octets) heard says = (heard.0, inr (access_exchanges (length w.controller.setup.plan.records.items) request.sequence now says))
+  said_is w now (Accesses to request octets) heard says = (heard.0, inr (access_exchanges (write_count w.controller.setup.plan) request.sequence now says))
   said_is w now (Requests to request) heard says =
       (heard.0, inl (as_said w now (bytes_of w.controller.setup (Requests to request)) (said_by w.controller.setup.plan (Requests to request)) heard.1 says))
   said_is w now (Agrees caller answer) heard says = (heard.0, inl (as_said w now (bytes_of w.controller.setup (Agrees caller answer)) small.Confirms heard.1 says))
@@ -132,7 +129,7 @@ module _ {F : Type 0} where
   said_is w now (Ends route header reason) heard says = (heard.0, inl (as_said w now (bytes_of w.controller.setup (Ends route header reason)) small.Idle heard.1 says))
 
   all_said : (w : World F) (now : small.Controller) (sent : List Sent) → AllByRecursion (IsSaidAs w.controller.setup w.device.station) sent
-      → AllByRecursion (λ message. SaysToDevice (length w.controller.setup.plan.records.items) now (said_by w.controller.setup.plan message)) sent
+      → AllByRecursion (λ message. SaysToDevice (write_count w.controller.setup.plan) now (said_by w.controller.setup.plan message)) sent
       → AllByRecursion (IsSaid (rules_at w) now) (map (bytes_of w.controller.setup) sent)
   all_said w now [] heard says = tt
   all_said w now (message ∷ sent) heard says = (said_is w now message heard.0 says.0, all_said w now sent heard.1 says.1)
@@ -145,8 +142,7 @@ module _ {F : Type 0} where
         let turn = turn_of w.controller.setup w.controller.live event in
         let on = goes w.controller.setup w.controller.live event in_step in
         record {
-          moves = subst (λ (count : ℕ). Moves w.controller.setup.plan.continue_on_refused_record count (said_in w.controller.setup (heard_by w.controller.setup.plan.controller) event) (small_of w.controller.setup.plan w.controller.live) (small_of w.controller.setup.plan turn.live))
-              (sym (count_is w)) on.moves;
+          moves = on.moves;
           sent = all_said w (small_of w.controller.setup.plan turn.live) turn.sent meant on.says;
         }
 
@@ -228,6 +224,8 @@ module _ {F : Type 0} where
       happens_steps (move.Input slot subslot value) meant happens = does before after _ _ _ (λ steps. steps) (at_device_steps before after (Given slot subslot value.items) in_step meant happens)
       happens_steps (move.Alarm slot subslot octets) meant happens = does before after _ _ _ (λ steps. steps) (at_device_steps before after (Raised slot subslot octets.items) in_step meant happens)
       happens_steps (move.Status slot subslot is_good) meant happens = does before after _ _ _ (λ steps. steps) (at_device_steps before after (Rated slot subslot is_good) in_step meant happens)
+      happens_steps (move.Neighbour neighbour) meant happens = does before after _ _ _ (λ steps. steps) (at_device_steps before after (Met (option_map peer_as neighbour)) in_step meant happens)
+      happens_steps (move.Diagnosis slot subslot channel error appears) meant happens = does before after _ _ _ (λ steps. steps) (at_device_steps before after (diagnosed slot subslot channel error appears) in_step meant happens)
       happens_steps move.Ready meant happens = does before after _ _ _ (λ steps. steps) (at_device_steps before after Readied in_step meant happens)
       happens_steps (move.Give slot subslot value) meant happens =
           does before after _ _ _ (λ steps. steps) (at_controller_steps on frames_are before after (controller.Give slot subslot value) in_step meant happens)

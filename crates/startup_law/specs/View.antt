@@ -1,6 +1,8 @@
 -- Both ends of a network, as far as a start-up is concerned.
-use Rattle.std.specs.Prelude.{◌≡◌, ◌⊎◌, ◌&&◌, ℕ, zero, suc, Bool, false, nat_eq, nat_lt, List, length, map, slice_get, Some}
+use Rattle.std.specs.Prelude.{◌≡◌, ◌⊎◌, ◌&&◌, ℕ, zero, suc, Bool, false, nat_eq, nat_lt, List, map, slice_get, Some}
 use Rattle.std.specs.List.{AllByRecursion}
+use Rattle.std.specs.Option.{option_map}
+use Rattle.lldp.specs.Views.{peer_as}
 use Rattle.std.specs.Cmp.Lexicographic.{pointwise}
 use Rattle.settings_store.specs.Machine.{Outcome}
 use Rattle.connect_requests.specs.Request.{Request}
@@ -8,14 +10,14 @@ use Rattle.records.specs.declared.writes.taken.TakenRecord.{TakenRecord}
 use Rattle.plans.specs.declared.parts.PlanRecord.{PlanRecord}
 use Rattle.startup_law.specs.request.Request.{request_for}
 use Rattle.device_frames.specs.declared.event.Event.TheVariants.{Frame}
-use Rattle.device_frames.specs.Heard.{Calls, Heard, Ticks, Given, Raised, Rated, Readied, heard_of}
+use Rattle.device_frames.specs.Heard.{Calls, Heard, Ticks, Given, Raised, Rated, Met, Readied, diagnosed, heard_of}
 use Rattle.device_frames.specs.Sendable.{AreSendable}
 use Rattle.device_core.specs.State.{Station}
 use Rattle.device_core.specs.Machine.{heard_step}
 use Rattle.controller_frames.specs.declared.setup.Setup.{Setup}
 use Rattle.controller_frames.specs.Heard.{heard_of as heard_by}
 use Rattle.controller_frames.specs.RecordRequests.{record_call}
-use Rattle.controller_frames.specs.Requests.{write_blocks}
+use Rattle.controller_frames.specs.Requests.{group_of, write_count, writing_blocks}
 use Rattle.controller_frames.specs.Sent.{Sent, Accesses, bytes_of}
 use Rattle.controller_core.specs.declared.event.Event.{Event}
 use Rattle.controller_core.specs.declared.event.Event.TheVariants as controller
@@ -26,7 +28,8 @@ use Rattle.network_world.specs.declared.moves.Move.TheVariants as move
 use Rattle.network_world.specs.World.{World}
 use Rattle.end_laws.specs.both.Small as small
 use Rattle.end_laws.specs.both.Small.{Rules, ToDevice}
-use Rattle.end_laws.specs.controller.Small.{said_by, said_to, small_of}
+use Rattle.end_laws.specs.both.Steps.{records_of}
+use Rattle.end_laws.specs.controller.Small.{said_by, said_to, says_written, small_of}
 use Rattle.end_laws.specs.device.Small.{IsHeardAs, IsPlanned, heard_as, said_to as device_said}
 use Rattle.end_laws.specs.device.Small as device
 
@@ -36,24 +39,29 @@ use Rattle.end_laws.specs.device.Small as device
 abbrev pub taken_for : PlanRecord → TakenRecord
 taken_for entry = record { slot = entry.slot; subslot = entry.subslot; index = entry.index; value = record { items = entry.data.items } }
 
--- whether a Write with a sequence number and blocks is that of a record of the plan, whose number is one less
+-- whether a Write with a sequence number and blocks is that of the plan whose number is one less
 abbrev pub is_planned : Setup → ℕ → List ℕ → Bool
 is_planned setup zero blocks = false
 is_planned setup (suc number) blocks =
-    nat_lt number (length setup.plan.records.items)
-    && pointwise nat_eq blocks (write_blocks setup number (slice_get setup.plan.records.items number))
+    nat_lt number (write_count setup.plan) && pointwise nat_eq blocks (writing_blocks setup number)
 
--- the request of the plan's Connect, the plan's records and their Writes, whether the plan goes on after a record that was
--- refused, and what each end hears in octets
+-- the request of the plan's Connect, its Writes and the records of each, whether the blocks of a response say that these were
+-- written, whether the plan goes on after a record that was refused, and what each end hears in octets
 abbrev pub rules_of : Setup → Station → Rules TakenRecord Request
 rules_of setup station = record {
   request = request_for setup.plan setup.ar;
-  records = map taken_for setup.plan.records.items;
+  count = write_count setup.plan;
+  group = λ number. map taken_for (group_of setup.plan number);
   is_planned = is_planned setup;
+  grants = says_written setup.plan;
   skips = setup.plan.continue_on_refused_record;
   to_device = λ octets. heard_as (is_planned setup) (heard_of station.identity (Frame (record { items = octets })));
   to_controller = λ octets. said_to setup (heard_by setup.plan.controller octets);
 }
+
+-- the records of these rules are those of the plan, in their order
+abbrev pub AreThePlans : Setup → Station → Type 0
+AreThePlans setup station = records_of (rules_of setup station) ≡ map taken_for setup.plan.records.items
 
 -- a world, as a start-up sees it
 abbrev pub view_of : {F : Type 0} → World F → small.World TakenRecord Request
@@ -72,6 +80,8 @@ move_of (move.Tick Controller) = small.AtController
 move_of (move.Input slot subslot value) = small.AtDevice
 move_of (move.Alarm slot subslot octets) = small.AtDevice
 move_of (move.Status slot subslot is_good) = small.AtDevice
+move_of (move.Neighbour neighbour) = small.AtDevice
+move_of (move.Diagnosis slot subslot channel error appears) = small.AtDevice
 move_of move.Ready = small.AtDevice
 move_of (move.Give slot subslot value) = small.AtController
 move_of (move.OutputStatus slot subslot is_good) = small.AtController
@@ -118,6 +128,8 @@ IsMeant world (move.Tick Controller) = IsMeantAtController world controller.Tick
 IsMeant world (move.Input slot subslot value) = IsMeantAtDevice world (Given slot subslot value.items)
 IsMeant world (move.Alarm slot subslot octets) = IsMeantAtDevice world (Raised slot subslot octets.items)
 IsMeant world (move.Status slot subslot is_good) = IsMeantAtDevice world (Rated slot subslot is_good)
+IsMeant world (move.Neighbour neighbour) = IsMeantAtDevice world (Met (option_map peer_as neighbour))
+IsMeant world (move.Diagnosis slot subslot channel error appears) = IsMeantAtDevice world (diagnosed slot subslot channel error appears)
 IsMeant world move.Ready = IsMeantAtDevice world Readied
 IsMeant world (move.Give slot subslot value) = IsMeantAtController world (controller.Give slot subslot value)
 IsMeant world (move.OutputStatus slot subslot is_good) = IsMeantAtController world (controller.Status slot subslot is_good)

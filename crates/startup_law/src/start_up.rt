@@ -7,7 +7,8 @@ ghost use Rattle.controller_core.specs.declared.state.State.TheVariants.{Exchang
 ghost use Rattle.network_world.specs.declared.moves.Move.{Move};
 ghost use Rattle.network_world.specs.World.{World, Played};
 ghost use Rattle.end_laws.specs.both.StartUp.{WasExchanging, WasHanded};
-ghost use Rattle.startup_law.specs.View.{rules_of, view_of};
+ghost use Rattle.device_core.specs.State.{Station};
+ghost use Rattle.startup_law.specs.View.{AreThePlans, rules_of, view_of};
 ghost use Rattle.startup_law.specs.Played.{AreMade, AreMeant, ArePlaced, Begins, CanMeet, IsRunOf, last_world, viewed};
 
 use crate::connect_is_taken;
@@ -56,6 +57,9 @@ pub fn worlds_start_up<F: Flash<S>, const S: usize>(setup: &Setup, identity: &Id
     // Moves that were played are a run: each one happens in the world after the one before it.
     ensures run { (before after : World F) (moves : List Move) → Played F.Flash before moves after
         → IsRunOf F.Flash before moves after }
+    // The records of a start-up are those of the plan, in their order, whether each has a Write of its own or a Write
+    // carries several.
+    ensures records { (station : Station) → AreThePlans setup.now station }
     // Everything that is delivered and sent with each move is heard as it is meant: the device hears no calls but those
     // of the plan, in octets that spell them, and those with which the controller's application reads and writes records,
     // and either end hears what the other says, or nothing.
@@ -64,7 +68,7 @@ pub fn worlds_start_up<F: Flash<S>, const S: usize>(setup: &Setup, identity: &Id
         → AreMade F.Flash first run → AreMeant first run }
     // If the controller exchanges data, it received an ApplicationReady that the device had sent at an earlier point.
     // At that point the device had accepted the plan's Connect; and had accepted the plan's records in order, each
-    // once, if the plan does not say that the start-up goes on after a refused record.
+    // once, if the plan does not say that the start-up goes on after a refused record; those that one call carried too.
     ensures controller { CanMeet setup.now identity.now →
         (first : World F) (run : List (Move × World F)) → Begins setup.now identity.now first
         → AreMade F.Flash first run → (last_world first run).controller.live.phase ≡ Exchanging

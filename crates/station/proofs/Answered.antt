@@ -10,7 +10,7 @@ use Rattle.frame_codec.specs.Meaning.{Meaning, Content, RealTime, ArpPacket, Udp
 use Rattle.frame_codec.specs.Frame.{frame_of}
 use Rattle.settings_store.specs.Machine.{Outcome}
 use Rattle.device_frames.specs.declared.event.Event.{Event}
-use Rattle.device_frames.specs.declared.event.Event.TheVariants.{Frame, Tick, Input, Alarm, Status, Ready}
+use Rattle.device_frames.specs.declared.event.Event.TheVariants.{Frame, Call, Tick, Input, Alarm, Status, Neighbour, Diagnosis, Ready}
 use Rattle.flash_model.specs.declared.flash.Flash.{Ghosts as Flash}
 use Rattle.device_frames.specs.declared.note.Note.{Note}
 use Rattle.device_frames.specs.declared.note.Note.TheVariants.{NotMine}
@@ -23,7 +23,8 @@ use Rattle.device_core.specs.Handled.{Moves, Refuses, is_request, is_running}
 use Rattle.device_core.specs.Machine.{Stepped, handled_step, heard_step}
 use Rattle.services.specs.State.{State}
 use Rattle.services.specs.Answer.{content_disputes, disputes, layers_dispute}
-use Rattle.station.specs.Beside.{IsUndisputed, has_any, is_dropped}
+use Rattle.station.specs.Serving.{Serving}
+use Rattle.station.specs.Beside.{ConflictsAreNoticed, IsUndisputed, has_any, is_dropped}
 
 -- a step that drops the frame or sends one
 abbrev is_noticed : Stepped → Bool
@@ -74,15 +75,22 @@ neither true true sent noticed d s = d
 neither true false sent noticed d s = sym (noticed refl) ∙ s
 neither false dropped sent noticed d s = refl
 
-pub undisputed : {F : Type 0} {S : ℕ} (as_flash : Flash F S) (old new : device.State F) (event : Event) (sent : List (List ℕ)) (said : Note) (state : State)
+pub conflicts_are_noticed : ConflictsAreNoticed
+conflicts_are_noticed outcomes station live state (Frame bytes) dropped silent =
+    let step = heard_step outcomes station live (heard_of station.identity (Frame bytes)) in
+    neither (disputes state.ip bytes.items) (is_dropped step.note) (has_any step.frames)
+    (λ conflict. conflict_noticed outcomes station live state.ip bytes conflict) dropped silent
+conflicts_are_noticed outcomes station live state (Call caller address octets) dropped silent = tt
+conflicts_are_noticed outcomes station live state Tick dropped silent = tt
+conflicts_are_noticed outcomes station live state (Input slot subslot value) dropped silent = tt
+conflicts_are_noticed outcomes station live state (Alarm slot subslot octets) dropped silent = tt
+conflicts_are_noticed outcomes station live state (Status slot subslot is_good) dropped silent = tt
+conflicts_are_noticed outcomes station live state (Neighbour neighbour) dropped silent = tt
+conflicts_are_noticed outcomes station live state (Diagnosis slot subslot channel error appears) dropped silent = tt
+conflicts_are_noticed outcomes station live state Ready dropped silent = tt
+
+pub undisputed : {F : Type 0} {S : ℕ} (as_flash : Flash F S) (old new : device.State F) (event : Event) (sent : List (List ℕ)) (said : Note) (state : Serving)
     → Steps as_flash old (heard_of old.station.identity event) sent said new → is_dropped said ≡ false → has_any sent ≡ false → IsUndisputed state event
-undisputed as_flash old new (Frame bytes) sent said state steps dropped silent =
-    let step = heard_step steps.outcomes old.station old.live (heard_of old.station.identity (Frame bytes)) in
-    neither (disputes state bytes.items) (is_dropped said) (has_any sent)
-    (λ conflict. ap (λ n. is_dropped n || has_any sent) steps.note ∙ ap (λ f. is_dropped step.note || has_any f) steps.frames
-    ∙ conflict_noticed steps.outcomes old.station old.live state bytes conflict) dropped silent
-undisputed as_flash old new Tick sent said state steps dropped silent = tt
-undisputed as_flash old new (Input slot subslot value) sent said state steps dropped silent = tt
-undisputed as_flash old new (Alarm slot subslot octets) sent said state steps dropped silent = tt
-undisputed as_flash old new (Status slot subslot is_good) sent said state steps dropped silent = tt
-undisputed as_flash old new Ready sent said state steps dropped silent = tt
+undisputed as_flash old new event sent said state steps dropped silent =
+    conflicts_are_noticed steps.outcomes old.station old.live state event
+    (sym (ap is_dropped steps.note) ∙ dropped) (sym (ap has_any steps.frames) ∙ silent)

@@ -17,9 +17,9 @@ use Rattle.station.specs.Runs.{ServesFrom, StationCycled, StationRefusesAfter, S
 
 -- the run of the device in a run of a station that was made of it
 pub device_runs : {F : Type 0} {S : ℕ} (as_flash : Flash F S) (booted : device.State F) (begun ended : State F) (events : List Event) (before now : List (List ℕ))
-    → begun.device ≡ booted → (ran : StationRuns as_flash begun events before now ended) → Runs as_flash booted events [] (flat_map of_device ran.turns) ended.device
+    → begun.device ≡ booted → (ran : StationRuns as_flash begun events before now ended) → Runs as_flash booted ran.heard [] (flat_map of_device ran.turns) ended.device
 device_runs {F} as_flash booted begun ended events before now same ran =
-    subst (λ (d : device.State F). Runs as_flash d events [] (flat_map of_device ran.turns) ended.device) same ran.alone.runs
+    subst (λ (d : device.State F). Runs as_flash d ran.heard [] (flat_map of_device ran.turns) ended.device) same ran.alone.runs
 
 -- a cycle of the station of a device that was started
 cycled_from : {F : Type 0} {S : ℕ} (as_flash : Flash F S) (station : Station) (flash : F) (booted : device.State F) (begun ended : State F) (events : List Event) (before now : List (List ℕ))
@@ -36,7 +36,7 @@ cycled_from {F} as_flash station flash booted begun ended events before now same
 -- what a restart finds after it
 pub restarts_cycled : {F : Type 0} {S : ℕ} (as_flash : Flash F S) (power_up : F → F → Type 0) (station : Station) (flash : F) (first : Settings) (room : ℕ) (booted : device.State F) (begun ended : State F) (events : List Event) (before now : List (List ℕ))
     → begun.device ≡ booted → ServesFrom booted begun.services → IsStartedFrom as_flash station flash booted → (ran : StationRuns as_flash begun events before now ended)
-    → (again : State F) → Restarts as_flash power_up station flash first room events [] (flat_map of_device ran.turns) again.device → StationRestarts as_flash power_up station flash first room events before now again
+    → (again : State F) → Restarts as_flash power_up station flash first room ran.heard [] (flat_map of_device ran.turns) again.device → StationRestarts as_flash power_up station flash first room events before now again
 unfolding cycled_from
 restarts_cycled as_flash power_up station flash first room booted begun ended events before now same serves begins ran again alone =
     record { cycled = cycled_from as_flash station flash booted begun ended events before now same serves begins ran; alone = alone }
@@ -44,7 +44,7 @@ restarts_cycled as_flash power_up station flash first room booted begun ended ev
 -- a start after it that is refused
 pub refused_cycled : {F : Type 0} {S : ℕ} (as_flash : Flash F S) (power_up : F → F → Type 0) (station : Station) (flash : F) (booted : device.State F) (begun ended : State F) (events : List Event) (before now : List (List ℕ))
     → begun.device ≡ booted → ServesFrom booted begun.services → IsStartedFrom as_flash station flash booted → (ran : StationRuns as_flash begun events before now ended)
-    → (fault : BootFault) (left : F) → RefusesAfter as_flash power_up station flash events [] (flat_map of_device ran.turns) fault left → StationRefusesAfter as_flash power_up station flash events before now fault left
+    → (fault : BootFault) (left : F) → RefusesAfter as_flash power_up station flash ran.heard [] (flat_map of_device ran.turns) fault left → StationRefusesAfter as_flash power_up station flash events before now fault left
 unfolding cycled_from
 refused_cycled as_flash power_up station flash booted begun ended events before now same serves begins ran fault left alone =
     record { cycled = cycled_from as_flash station flash booted begun ended events before now same serves begins ran; alone = alone }

@@ -1,10 +1,8 @@
 pub mod Answered
 pub mod Leaping
-pub mod ServedBeside
-pub mod ServedRuns
+pub mod ServingTicks
 pub mod Sparing
 pub mod Cycles
 pub mod Running
 pub mod Stepping
-pub mod ServedLeaping
-pub mod ServedOrder
+pub mod Telling

@@ -1,56 +1,62 @@
 -- A run of a station, step by step.
-use Rattle.std.proofs.Common.{◌≡◌, ◌<◌, ℕ, Bool, true, false, List, [], ◌∷◌, ◌++◌, refl, sym, ap, subst, ◌∙◌}
+use Rattle.std.proofs.Common.{◌≡◌, ◌<◌, ℕ, Bool, true, false, Option, Some, None, List, [], ◌∷◌, ◌++◌, refl, sym, ap, subst, ◌∙◌}
 use Rattle.std.specs.Prelude.{flat_map, if◌then◌else◌}
-use Rattle.std.proofs.lemmas.List.{append-nil, flat_map_more}
+use Rattle.std.proofs.lemmas.List.{append-nil, append_assoc, flat_map_more}
 use Rattle.flash_model.specs.declared.flash.Flash.{Ghosts as Flash}
 use Rattle.device_frames.specs.declared.event.Event.{Event}
+use Rattle.device_frames.specs.declared.note.Note.{Note}
+use Rattle.device_frames.specs.declared.note.Note.TheVariants.{Done}
 use Rattle.device_frames.specs.Heard.{heard_of}
 use Rattle.device_core.specs.State as device
 use Rattle.device_core.specs.Faults.{RunGoesOn}
 use Rattle.device_core.specs.Steps.{HandsOn, IsBehindCalls, IsExactRun, Runs, TakesRoom}
 use Rattle.station.specs.State.{State, Frames, handed_on, in_order, of_device}
-use Rattle.station.specs.Steps.{StationSteps}
-use Rattle.station.specs.Runs.{DeviceRuns, StationHandsOn, StepByStep, StationRuns}
+use Rattle.station.specs.Serving.{news_in}
+use Rattle.station.specs.Beside.{joined_beside}
+use Rattle.station.specs.Steps.{Gives, StationSteps, Tells, TellsIf}
+use Rattle.station.specs.Runs.{DeviceRuns, StationHandsOn, StepByStep, StationRuns, call_in, call_of, news_of}
 
 module _ {F : Type 0} {S : ℕ} (as_flash : Flash F S) where
   -- the steps so far, and one more
-  steps_more : (old mid new : State F) (events : List Event) (event : Event) (turns : List Frames) (before now : List (List ℕ))
-      → StepByStep as_flash old events turns mid → (on : StationHandsOn as_flash mid event before now new)
-      → StepByStep as_flash old (events ++ event ∷ []) (turns ++ handed_on new.device.live.values.is_lost on.sent ∷ []) new
-  steps_more old mid new [] event turns before now run on = (
-    new,
+  steps_more : (old mid new : State F) (events heard : List Event) (event : Event) (turns : List Frames) (before now : List (List ℕ))
+      → StepByStep as_flash old events heard turns mid → (on : StationHandsOn as_flash mid event before now new)
+      → StepByStep as_flash old (events ++ event ∷ []) (heard ++ (news_of mid.services ++ event ∷ (call_in on.steps ++ []))) (turns ++ handed_on new.device.live.values.is_lost on.sent ∷ []) new
+  steps_more old mid new [] heard event turns before now run on = (
+    on.between,
     on.sent,
     on.said,
+    new,
     [],
-    subst (λ (s : State F). StationSteps as_flash s event on.sent on.said new) run.1 on.steps,
-    ap (λ (t : List Frames). t ++ handed_on new.device.live.values.is_lost on.sent ∷ []) run.0,
-    (refl, refl),
+    [],
+    subst (λ (s : State F). Tells as_flash s on.between) run.2 on.tells,
+    on.steps,
+    ap (λ (h : List Event). h ++ (news_of mid.services ++ event ∷ (call_in on.steps ++ []))) run.0
+        ∙ ap (λ (s : State F). news_of s.services ++ event ∷ (call_in on.steps ++ [])) run.2,
+    ap (λ (t : List Frames). t ++ handed_on new.device.live.values.is_lost on.sent ∷ []) run.1,
+    (refl, refl, refl),
   )
-  steps_more old mid new (one ∷ events) event turns before now run on =
-      let turn = handed_on new.device.live.values.is_lost on.sent in (
+  steps_more old mid new (one ∷ events) heard event turns before now run on =
+      let turn = handed_on new.device.live.values.is_lost on.sent in
+      let tail = news_of mid.services ++ event ∷ (call_in on.steps ++ []) in (
         run.0,
         run.1,
         run.2,
-        run.3 ++ turn ∷ [],
-        run.4,
-        ap (λ (t : List Frames). t ++ turn ∷ []) run.5,
-        steps_more run.0 mid new events event run.3 before now run.6 on,
+        run.3,
+        run.4 ++ tail,
+        run.5 ++ turn ∷ [],
+        run.6,
+        run.7,
+        ap (λ (h : List Event). h ++ tail) run.8
+            ∙ (append_assoc (news_of old.services) (one ∷ (call_in run.7 ++ run.4)) tail
+            ∙ ap (λ (h : List Event). news_of old.services ++ one ∷ h) (append_assoc (call_in run.7) run.4 tail)),
+        ap (λ (t : List Frames). t ++ turn ∷ []) run.9,
+        steps_more run.3 mid new events run.4 event run.5 before now run.10 on,
       )
 
   -- the device's frames of a turn
   turn_of_device : (is_lost : Bool) (frames : Frames) → (if is_lost then [] else frames.device) ≡ of_device (handed_on is_lost frames)
   turn_of_device true frames = refl
   turn_of_device false frames = refl
-
-  -- the device's part of a step
-  alone_on : (old new : State F) (event : Event) (before now : List (List ℕ)) → (on : StationHandsOn as_flash old event before now new) → (taken : List (List ℕ))
-      → HandsOn as_flash old.device (heard_of old.device.station.identity event) taken (taken ++ of_device (handed_on new.device.live.values.is_lost on.sent)) new.device
-  alone_on old new event before now on taken = record {
-    sent = on.sent.device;
-    said = on.steps.note;
-    steps = on.steps.alone.steps;
-    handed_on = ap (λ (f : List (List ℕ)). taken ++ f) (sym (turn_of_device new.device.live.values.is_lost on.sent));
-  }
 
   -- what the laws of the device's runs say
   pub record Laws : Type 0 where
@@ -84,10 +90,69 @@ module _ {F : Type 0} {S : ℕ} (as_flash : Flash F S) where
     room = laws.room old new events [] now runs;
   }
 
+  -- one more event of the device alone
+  alone_more : Laws → (old between new : device.State F) (events : List Event) (event : Event) (taken now : List (List ℕ)) → DeviceRuns as_flash old events [] taken between
+      → HandsOn as_flash between (heard_of between.station.identity event) taken now new → StaysFine between new → DeviceRuns as_flash old (events ++ event ∷ []) [] now new
+  alone_more laws old between new events event taken now run on fine =
+      all_of laws old new (events ++ event ∷ []) now
+      (laws.goes_on old between new events event [] taken now run.runs on)
+      (laws.all_go_on old between new events event [] taken now run.runs.same run.goes_on on)
+      (λ reliable unfailed. let was = run.reliable reliable unfailed in fine was.0 was.1)
+
+  -- nothing is handed on of a step that sends nothing
+  nothing_on : (is_lost : Bool) (taken : List (List ℕ)) → taken ≡ taken ++ (if is_lost then [] else [])
+  nothing_on true taken = sym (append-nil taken)
+  nothing_on false taken = sym (append-nil taken)
+
+  -- the device alone is told of its neighbour, or not
+  told_more : Laws → (b : Bool) (old : device.State F) (mid new : State F) (events : List Event) (taken : List (List ℕ)) → DeviceRuns as_flash old events [] taken mid.device
+      → TellsIf as_flash b mid new → DeviceRuns as_flash old (events ++ (if b then news_in mid.services ∷ [] else [])) [] taken new.device
+  told_more laws true old mid new events taken run tells =
+      alone_more laws old mid.device new.device events (news_in mid.services) taken taken run
+      (record { sent = []; said = Done; steps = tells.0.steps; handed_on = nothing_on new.device.live.values.is_lost taken })
+      (λ reliable unfailed. let now = tells.0.reliable reliable unfailed in (now.0, now.1))
+  told_more laws false old mid new events taken run tells =
+      subst (λ (s : State F). DeviceRuns as_flash old (events ++ []) [] taken s.device) (sym tells)
+      (subst (λ (es : List Event). DeviceRuns as_flash old es [] taken mid.device) (sym (append-nil events)) run)
+
+  -- the frames of a device's step that are handed on
+  abbrev sent_on : device.State F → List (List ℕ) → List (List ℕ)
+  sent_on new sent = if new.live.values.is_lost then [] else sent
+
+  -- the device alone makes the step of the event
+  first_more : Laws → (old : device.State F) (on new : State F) (events : List Event) (event : Event) (frames : Frames) (said : Note) (taken : List (List ℕ))
+      → (steps : StationSteps as_flash on event frames said new) → DeviceRuns as_flash old events [] taken on.device
+      → DeviceRuns as_flash old (events ++ event ∷ []) [] (taken ++ sent_on steps.middle steps.first) steps.middle
+  first_more laws old on new events event frames said taken steps run =
+      alone_more laws old on.device steps.middle events event taken (taken ++ sent_on steps.middle steps.first) run
+      (record { sent = steps.first; said = steps.note; steps = steps.alone.steps; handed_on = refl })
+      (λ reliable unfailed. let now = steps.alone.reliable reliable unfailed in (now.0, now.1))
+
+  -- the device alone is given the call, or not
+  given_more : Laws → (joined : Option Event) (old middle new : device.State F) (events : List Event) (taken first sent : List (List ℕ)) → Gives as_flash joined middle first sent new
+      → DeviceRuns as_flash old events [] (taken ++ sent_on middle first) middle → DeviceRuns as_flash old (events ++ call_of joined) [] (taken ++ sent_on new sent) new
+  given_more laws None old middle new events taken first sent gives run =
+      subst (λ (d : device.State F). DeviceRuns as_flash old (events ++ []) [] (taken ++ sent_on d sent) d) (sym gives.0)
+      (subst (λ (f : List (List ℕ)). DeviceRuns as_flash old (events ++ []) [] (taken ++ sent_on middle f) middle) (sym gives.1)
+      (subst (λ (es : List Event). DeviceRuns as_flash old es [] (taken ++ sent_on middle first) middle) (sym (append-nil events)) run))
+  given_more laws (Some call) old middle new events taken first sent gives run =
+      let none = ap (λ (f : List (List ℕ)). taken ++ sent_on middle f) gives.0 ∙ sym (nothing_on middle.live.values.is_lost taken) in
+      alone_more laws old middle new events call taken (taken ++ sent_on new sent)
+      (subst (λ (f : List (List ℕ)). DeviceRuns as_flash old events [] f middle) none run)
+      (record { sent = sent; said = gives.1; steps = gives.2.steps; handed_on = refl })
+      (λ reliable unfailed. let now = gives.2.reliable reliable unfailed in (now.0, now.1))
+
+  -- what the device heard in a step
+  heard_is : (heard news : List Event) (event : Event) (calls : List Event) → ((heard ++ news) ++ event ∷ []) ++ calls ≡ heard ++ (news ++ event ∷ (calls ++ []))
+  heard_is heard news event calls =
+      append_assoc (heard ++ news) (event ∷ []) calls
+      ∙ (append_assoc heard news (event ∷ calls) ∙ ap (λ (c : List Event). heard ++ (news ++ event ∷ c)) (sym (append-nil calls)))
+
   pub run_none : Laws → (old : State F) (taken : List (List ℕ)) → Runs as_flash old.device [] [] [] old.device → RunGoesOn old.device [] [] [] old.device → StationRuns as_flash old [] taken taken old
   run_none laws old taken runs goes_on = record {
+    heard = [];
     turns = [];
-    steps = (refl, refl);
+    steps = (refl, refl, refl);
     alone = all_of laws old.device old.device [] [] runs (λ _. goes_on) (λ reliable unfailed. (reliable, unfailed));
     handed = sym (append-nil taken);
   }
@@ -97,16 +162,19 @@ module _ {F : Type 0} {S : ℕ} (as_flash : Flash F S) where
   run_more laws old mid new events event before between now run on =
       let turn = handed_on new.device.live.values.is_lost on.sent in
       let taken = flat_map of_device run.turns in
-      let alone = alone_on mid new event between now on taken in
+      let news = news_of mid.services in
+      let calls = call_in on.steps in
+      let joined = joined_beside on.between.services on.steps.middle.live.values on.steps.note event in
+      let told = told_more laws mid.services.has_news old.device mid on.between run.heard taken run.alone on.tells in
+      let first = first_more laws old.device on.between new (run.heard ++ news) event on.sent on.said taken on.steps told in
+      let whole = given_more laws joined old.device on.steps.middle new.device ((run.heard ++ news) ++ event ∷ []) taken on.steps.first on.sent.device on.steps.gives first in
+      let heard = run.heard ++ (news ++ event ∷ (calls ++ [])) in
       record {
+        heard = heard;
         turns = run.turns ++ turn ∷ [];
-        steps = steps_more old mid new events event run.turns between now run.steps on;
-        alone = subst (λ (f : List (List ℕ)). DeviceRuns as_flash old.device (events ++ event ∷ []) [] f new.device) (flat_map_more of_device [] run.turns turn)
-            (all_of laws old.device new.device (events ++ event ∷ []) (taken ++ of_device turn)
-            (laws.goes_on old.device mid.device new.device events event [] taken (taken ++ of_device turn) run.alone.runs alone)
-            (laws.all_go_on old.device mid.device new.device events event [] taken (taken ++ of_device turn) run.alone.runs.same run.alone.goes_on alone)
-            (λ reliable unfailed.
-            let was = run.alone.reliable reliable unfailed in
-            let now = on.steps.alone.reliable was.0 was.1 in (now.0, now.1)));
+        steps = steps_more old mid new events run.heard event run.turns between now run.steps on;
+        alone = subst (λ (f : List (List ℕ)). DeviceRuns as_flash old.device heard [] f new.device)
+            (ap (λ (f : List (List ℕ)). taken ++ f) (turn_of_device new.device.live.values.is_lost on.sent) ∙ flat_map_more of_device [] run.turns turn)
+            (subst (λ (es : List Event). DeviceRuns as_flash old.device es [] (taken ++ sent_on new.device on.sent.device) new.device) (heard_is run.heard news event calls) whole);
         handed = on.handed ∙ ap (λ (t : List (List ℕ)). t ++ in_order turn) run.handed ∙ flat_map_more in_order before run.turns turn;
       }

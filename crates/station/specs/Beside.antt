@@ -1,23 +1,26 @@
 -- The services beside one step of the device.
-use Rattle.std.specs.Prelude.{◌≡◌, ◌||◌, ⊤, ℕ, Bool, true, false, List, [], ◌∷◌, Option, Some, None, is_some, if◌then◌else◌}
+use Rattle.std.specs.Prelude.{◌≡◌, ◌||◌, ◌&&◌, ⊤, ℕ, Bool, true, false, List, [], ◌∷◌, Option, None, is_some, if◌then◌else◌}
 use Rattle.pn_values.specs.declared.identity.Identity.{Identity}
 use Rattle.settings_store.specs.State.{Values}
+use Rattle.settings_store.specs.Machine.{Outcome}
+use Rattle.device_core.specs.Machine.{step_of}
+use Rattle.device_core.specs.State.{Live, Station}
 use Rattle.device_frames.specs.declared.event.Event.{Event}
-use Rattle.device_frames.specs.declared.event.Event.TheVariants.{Frame, Tick, Input, Alarm, Status, Ready}
+use Rattle.device_frames.specs.declared.event.Event.TheVariants.{Frame, Call, Tick, Input, Alarm, Status, Neighbour, Diagnosis, Ready}
 use Rattle.device_frames.specs.declared.note.Note.{Note}
 use Rattle.device_frames.specs.declared.note.Note.TheVariants.{Done, NotMine, Fault, Filter, OldCall, NoRelation, StaleCycle, Refused}
-use Rattle.services.specs.State.{State, frames_in, observed, sent_by_tick, ticked}
-use Rattle.services.specs.Answer.{answer_to, disputes, heard}
-use Rattle.endpoint_mapper.specs.Mapper.{mapped_frame}
+use Rattle.pn_values.specs.declared.settings.Settings.{Settings}
+use Rattle.services.specs.State.{frames_in}
+use Rattle.station.specs.Serving.{Serving, answered, completed, disputes, heard, observed, overheard, piece_in, sent_by_tick, takes, ticked}
 
 -- What the services are after a step of the device, the frames that they send, and the note of the station.
 pub record Beside : Type 0 where
-  pub services : State
+  pub services : Serving
   pub sent : List (List ℕ)
   pub note : Note
 
 -- The services do nothing.
-abbrev pub idle : State → Note → Beside
+abbrev pub idle : Serving → Note → Beside
 idle state note = record { services = state; sent = []; note = note }
 
 -- Whether the device dropped a frame: it is for another station, of a kind that it does not accept, or not readable.
@@ -31,48 +34,71 @@ is_dropped NoRelation = false
 is_dropped StaleCycle = false
 is_dropped Refused = false
 
--- The one or else the other.
-abbrev pub or_else : {A : Type 0} → Option A → Option A → Option A
-or_else (Some one) other = Some one
-or_else None other = other
-
--- The answer to a frame: that of the services, or else that of the endpoint mapper.
-abbrev pub answered : Identity → State → List ℕ → Option (List ℕ)
-answered identity state bytes = or_else (answer_to state bytes) (mapped_frame state identity bytes)
-
 -- The answer beside the device: only to a frame that the device dropped.
-abbrev pub answer_beside : Identity → State → Note → List ℕ → Option (List ℕ)
+abbrev pub answer_beside : Identity → Serving → Note → List ℕ → Option (List ℕ)
 answer_beside identity state note bytes = if is_dropped note then answered identity state bytes else None
 
--- Whether the services accept a frame: they answer it, or count it as a conflict, whatever the device did with it.
-abbrev pub is_accepted : Identity → State → Note → List ℕ → Bool
-is_accepted identity state note bytes = is_some (answer_beside identity state note bytes) || disputes state bytes
+-- Whether the services accept a frame: they answer it, or count it as a conflict, whatever the device did with it; or it
+-- carries a message of a neighbour or a fragment of a call, and the device dropped it.
+abbrev pub is_accepted : Identity → Serving → Note → List ℕ → Bool
+is_accepted identity state note bytes =
+    is_some (answer_beside identity state note bytes) || (disputes state bytes || (is_dropped note && takes state bytes))
 
--- A frame. Only a conflict changes the services.
-abbrev pub heard_beside : Identity → State → Note → List ℕ → Beside
+-- A frame. Only a conflict, a message of a neighbour and a fragment of a call change the services.
+abbrev pub heard_beside : Identity → Serving → Note → List ℕ → Beside
 heard_beside identity state note bytes = record {
-  services = heard state bytes;
+  services = if is_dropped note then heard state bytes else overheard state bytes;
   sent = frames_in (answer_beside identity state note bytes);
   note = if is_accepted identity state note bytes then Done else note;
 }
 
 -- An event, with the note that the device gave it. Events of the application do not concern the services.
-abbrev pub event_beside : Identity → State → Note → Event → Beside
+abbrev pub event_beside : Identity → Serving → Note → Event → Beside
 event_beside identity state note (Frame bytes) = heard_beside identity state note bytes.items
-event_beside identity state note Tick = record { services = ticked state; sent = frames_in (sent_by_tick state); note = note }
+event_beside identity state note Tick = record { services = ticked state; sent = sent_by_tick state; note = note }
+event_beside identity state note (Call caller address octets) = idle state note
 event_beside identity state note (Input slot subslot value) = idle state note
 event_beside identity state note (Alarm slot subslot octets) = idle state note
 event_beside identity state note (Status slot subslot is_good) = idle state note
+event_beside identity state note (Neighbour neighbour) = idle state note
+event_beside identity state note (Diagnosis slot subslot channel error appears) = idle state note
 event_beside identity state note Ready = idle state note
 
--- At the end of a step the services see the running address.
-abbrev pub observing : List ℕ → Beside → Beside
-observing address beside = record beside { services = observed beside.services address }
+-- At the end of a step the services see the running settings.
+abbrev pub observing : Settings → Beside → Beside
+observing running beside = record beside { services = observed beside.services running }
 
 -- The services beside a step that left the device with these settings. If power was lost in it, they do nothing.
-abbrev pub beside : Identity → State → Values → Note → Event → Beside
+abbrev pub beside : Identity → Serving → Values → Note → Event → Beside
 beside identity state values note event =
-    if values.is_lost then idle state note else observing values.running.suite.address (event_beside identity state note event)
+    if values.is_lost then idle state note else observing values.running (event_beside identity state note event)
+
+-- ---- calls in fragments
+
+-- The event of the call that a frame completes: only a frame that the device dropped does so.
+abbrev pub joined_from : Serving → Note → List ℕ → Option Event
+joined_from state note bytes = if is_dropped note then completed (piece_in state bytes) else None
+
+-- The event of the call that an event completes, unless power was lost.
+abbrev pub joined_by : Bool → Serving → Note → Event → Option Event
+joined_by is_lost state note (Frame bytes) = if is_lost then None else joined_from state note bytes.items
+joined_by is_lost state note (Call caller address octets) = None
+joined_by is_lost state note Tick = None
+joined_by is_lost state note (Input slot subslot value) = None
+joined_by is_lost state note (Alarm slot subslot octets) = None
+joined_by is_lost state note (Status slot subslot is_good) = None
+joined_by is_lost state note (Neighbour neighbour) = None
+joined_by is_lost state note (Diagnosis slot subslot channel error appears) = None
+joined_by is_lost state note Ready = None
+
+abbrev pub joined_of : Serving → Note → Event → Option Event
+joined_of state note event = joined_by false state note event
+
+-- The event of the call that an event completes beside a step that left the device with these settings.
+abbrev pub joined_beside : Serving → Values → Note → Event → Option Event
+joined_beside state values note event = joined_by values.is_lost state note event
+
+-- ---- conflicts
 
 -- Whether a step of the device sends a frame.
 abbrev pub has_any : List (List ℕ) → Bool
@@ -80,10 +106,18 @@ has_any [] = false
 has_any (frame ∷ frames) = true
 
 -- An event that is not a conflict.
-abbrev pub IsUndisputed : State → Event → Type 0
+abbrev pub IsUndisputed : Serving → Event → Type 0
 IsUndisputed state (Frame bytes) = disputes state bytes.items ≡ false
+IsUndisputed state (Call caller address octets) = ⊤
 IsUndisputed state Tick = ⊤
 IsUndisputed state (Input slot subslot value) = ⊤
 IsUndisputed state (Alarm slot subslot octets) = ⊤
 IsUndisputed state (Status slot subslot is_good) = ⊤
+IsUndisputed state (Neighbour neighbour) = ⊤
+IsUndisputed state (Diagnosis slot subslot channel error appears) = ⊤
 IsUndisputed state Ready = ⊤
+
+-- A step that neither drops its event nor sends a frame was no conflict.
+abbrev pub ConflictsAreNoticed : Type 0
+ConflictsAreNoticed = (outcomes : List Outcome) (station : Station) (live : Live) (state : Serving) (event : Event)
+    → is_dropped (step_of outcomes station live event).note ≡ false → has_any (step_of outcomes station live event).frames ≡ false → IsUndisputed state event

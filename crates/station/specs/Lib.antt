@@ -1,8 +1,7 @@
+pub mod Serving
 pub mod State
 pub mod Beside
 pub mod Steps
-pub mod Served
-pub mod ServedLeaps
-pub mod ServedRun
 pub mod Runs
 pub mod Leaps
+pub mod Views

@@ -1,12 +1,12 @@
 -- What a contract sees of a station.
 use Rattle.std.specs.Prelude.{ℕ, List, [], ◌++◌, if◌then◌else◌, Bool}
 use Rattle.device_core.specs.State as device
-use Rattle.services.specs.State as services
+use Rattle.station.specs.Serving.{Serving}
 
 -- A device, and the services beside it.
 pub record State (F : Type 0) : Type 0 where
   pub device : device.State F
-  pub services : services.State
+  pub services : Serving
 
 -- The frames that one event sends: those of the device, and those of the services.
 pub record Frames : Type 0 where

@@ -2,14 +2,13 @@
 ghost use Rattle.std.specs.Prelude.{◌≡◌, ℕ, List, IsOk, IfOk, IfErr};
 ghost use Rattle.pn_values.specs.declared.settings.Settings.{Settings};
 ghost use Rattle.settings_journal.specs.Image.{StartsWith, LeftByDevice};
-ghost use Rattle.services.specs.State.{started};
-ghost use Rattle.services.specs.declared.announcement.Role.TheVariants as role;
 ghost use Rattle.device_core.specs.Cycle.{IsStarted, IsStartedFrom, RefusesAfter, Restarts};
 ghost use Rattle.device_core.specs.State.{State, plain};
 ghost use Rattle.device_core.specs.Steps.{Runs};
 ghost use Rattle.station.specs.Runs.{IsStationRefused, StationRestarts, ServesFrom};
 
 use crate::IoStation;
+use crate::station::services_of;
 use device_core::{Device, Event, Sink, restart};
 use flash_model::Flash;
 use pn_values::{Identity, Real};
@@ -46,7 +45,8 @@ pub fn cycle<F: Flash<S>, const S: usize, K: Sink, P: FnOnce(F) -> F>(
     ensures services { IfOk result (λ station. ServesFrom station.device station.services) }
 {
     let device = Device::boot(identity, real, flash)?;
-    let mut station = IoStation::new(device);
+    let services = services_of(&device);
+    let mut station = IoStation { device, services };
     station.run(events, sink);
     station.restart(power_up)
 }
@@ -78,8 +78,15 @@ impl<F: Flash<S>, const S: usize> IoStation<F, S> {
         // The services begin again.
         ensures services { IfOk result (λ again. ServesFrom again.device again.services) }
     {
-        match restart(self.into_device(), power_up) {
-            Ok(device) => Ok(IoStation::new(device)),
+        let IoStation {
+            device,
+            services: _,
+        } = self;
+        match restart(device, power_up) {
+            Ok(device) => {
+                let services = services_of(&device);
+                Ok(IoStation { device, services })
+            }
             Err(refused) => Err(refused),
         }
     }

@@ -1,14 +1,8 @@
-//! The law over whole runs. No code is involved.
-ghost use Rattle.std.specs.Prelude.{◌≡◌, List, map};
-ghost use Rattle.controller_core.specs.declared.event.Event.{Event};
-ghost use Rattle.station.specs.ServedRun.{after, alone, sent, sent_alone};
-ghost use Rattle.station.specs.Served.{Frames, Served};
+//! Laws of stations. No code is involved.
+ghost use Rattle.station.specs.Beside.{ConflictsAreNoticed};
 
-/// What the services change of a controller: nothing.
-pub fn a_station_has_its_controller_alone()
-    // After any events the controller beside the services is the controller alone after the same events.
-    ensures controller { (served : Served) (events : List Event) → (after served events).controller ≡ alone served.controller events }
-    // It sends what the controller alone sends: the same frames in the same order at the same events.
-    ensures frames { (served : Served) (events : List Event) →
-        map (λ (frames : Frames). frames.controller) (sent served events) ≡ sent_alone served.controller events }
+/// A device never accepts a conflict of its IP address in silence: it drops the packet of ARP, or it answers it. So what
+/// it neither dropped nor answered need not be read again for conflicts.
+pub fn conflicts_are_noticed()
+    ensures { ConflictsAreNoticed }
 {}

@@ -1,18 +1,18 @@
 //! Several units of time at once at a station.
-ghost use Rattle.std.specs.Prelude.{◌≡◌, ◌<◌, ◌≤◌, ◌-◌, [], nat_eq};
-ghost use Rattle.std.specs.Cmp.Lexicographic.{pointwise};
+ghost use Rattle.std.specs.Prelude.{◌≡◌, ◌<◌, ◌≤◌, ◌-◌, []};
 ghost use Rattle.device_core.specs.Leaps.{live_due_in, ticks_of as ticks_alone};
 ghost use Rattle.frame_codec.specs.Outbox.{boxed};
-ghost use Rattle.services.specs.Leaps.{NoneSends, due_in, ticks_of as ticks_of_services};
-ghost use Rattle.services.specs.State.{frames_in, observed, sent_by_tick, ticked};
-ghost use Rattle.station.specs.Leaps.{LeapsAreTicks, OnlyTheLastSends, due_at, due_beside, ticks_of};
+ghost use Rattle.station.specs.Leaps.{FollowsAt, LeapsAreTicks, NoNewsBeside, NoneSendsBeside, OnlyTheLastMeets, OnlyTheLastOfPlain, OnlyTheLastSends, QuietUnitsAreTicks, QuietUnitsBringNoNews, QuietUnitsCount};
+ghost use Rattle.station.specs.Leaps.{beside_ticks, due_at, due_beside, plain_ticks, services_due, tick_beside, ticks_of};
 ghost use Rattle.station.specs.State.{in_order};
 
-use crate::{IoStation, StationOutbox};
+use crate::step::tell_beside;
+use crate::{DeviceServices, IoStation, StationOutbox};
 use device_core::{Device, Note};
 use flash_model::Flash;
 use frame_codec::Outbox;
-use services::{NEVER, Services};
+use pn_values::Settings;
+use services::NEVER;
 
 impl<F: Flash<S>, const S: usize> IoStation<F, S> {
     /// The number of units up to and with the next one that brings something to the station: the smaller of the device's and
@@ -42,42 +42,39 @@ impl<F: Flash<S>, const S: usize> IoStation<F, S> {
 }
 
 /// The number of units up to and with the next one that brings something to a device or to the services beside it.
-pub fn due_beside<F: Flash<S>, const S: usize>(device: &Device<F, S>, services: &Services) -> u32
+pub fn due_beside<F: Flash<S>, const S: usize>(
+    device: &Device<F, S>,
+    services: &DeviceServices,
+) -> u32
     ensures value { result ≡ due_beside device.now.live services.now }
     ensures some { 0 < result }
 {
-    let address = device.running().suite.address();
     device
         .due()
-        .min(services_due(device.is_lost(), address, services))
+        .min(services_due(device.is_lost(), device.running(), services))
 }
 
-/// The same of the services, beside a device with this running address.
-fn services_due(is_lost: bool, address: [u8; 4], services: &Services) -> u32
-    ensures value { result ≡ due_at is_lost address services.now }
+/// The same of the services, beside a device with these running settings: the number of units up to and with the next one
+/// in which they send a frame or learn other settings. `NEVER` if power is lost, or if no unit brings anything.
+pub fn services_due(is_lost: bool, running: &Settings, services: &DeviceServices) -> u32
+    ensures value { result ≡ due_at is_lost running.now services.now }
     ensures some { 0 < result }
 {
     if is_lost {
         NEVER
-    } else if is_seen(address, services) {
+    } else if services.knows(running) {
         services.due_in()
     } else {
         1
     }
 }
 
-/// Whether the services know the running address.
-fn is_seen(address: [u8; 4], services: &Services) -> bool
-    ensures { result ≡ pointwise nat_eq address services.now.address }
-{
-    address == services.address()
-}
-
 /// Lets units of time pass at a device and at the services beside it, at most as many as `due_beside` returns, and
-/// replaces the content of the outbox by the frames to be sent. It does what as many Tick events do, one by one.
+/// replaces the content of the outbox by the frames to be sent. It does what as many Tick events do, one by one. The device is
+/// told of its neighbour before them, if that changed.
 pub fn elapse_beside<F: Flash<S>, const S: usize>(
     device: &mut Device<F, S>,
-    services: &mut Services,
+    services: &mut DeviceServices,
     units: u32,
     outbox: &mut StationOutbox,
 ) -> Note
@@ -89,31 +86,84 @@ pub fn elapse_beside<F: Flash<S>, const S: usize>(
     ensures last { OnlyTheLastSends units device.old.station device.old.live services.old }
     ensures note { result ≡ Note.Done }
 {
-    let note = device.elapse(units, &mut outbox.device);
-    outbox.services.clear(); // of what the event before sent
     if units == 0 {
+        return elapse_told(device, services, units, outbox);
+    }
+    tell_beside(device, services, outbox);
+    elapse_told(device, services, units, outbox)
+}
+
+/// The same at a device that was told of its neighbour.
+fn elapse_told<F: Flash<S>, const S: usize>(
+    device: &mut Device<F, S>,
+    services: &mut DeviceServices,
+    units: u32,
+    outbox: &mut StationOutbox,
+) -> Note
+    requires { units ≤ due_beside device.old.live services.old }
+    ensures device { device.new ≡ record device.old { live = (plain_ticks units device.old.station device.old.live services.old).live } }
+    ensures services { services.new ≡ (plain_ticks units device.old.station device.old.live services.old).services }
+    ensures frames { in_order outbox.new ≡ (plain_ticks units device.old.station device.old.live services.old).frames }
+    ensures last { OnlyTheLastOfPlain units device.old.station device.old.live services.old }
+    // Only the last of them may change the neighbour.
+    ensures quiet { OnlyTheLastMeets units device.old.station device.old.live services.old }
+    ensures note { result ≡ Note.Done }
+{
+    let note = device.elapse(units, &mut outbox.device);
+    if units == 0 {
+        outbox.services.clear(); // of what the event before sent
         return note;
     }
-    if device.is_lost() {
-        return note;
-    }
-    let address = device.running().suite.address();
-    elapse_services(services, units, address, &mut outbox.services);
+    pass_units(
+        device.is_lost(),
+        device.running(),
+        services,
+        units,
+        &mut outbox.services,
+    );
     note
 }
 
-/// Lets units of time pass at services, at least one: only the last may send. They then see this running address.
-fn elapse_services(services: &mut Services, units: u32, address: [u8; 4], outbox: &mut Outbox)
+/// What the services beside a device do with units of time that have passed at the device: at least one, and at most as many
+/// as `services_due` returned. Replaces the content of the outbox by the frames that they send.
+pub fn follow_units<F: Flash<S>, const S: usize>(
+    device: &Device<F, S>,
+    services: &mut DeviceServices,
+    units: u32,
+    outbox: &mut Outbox,
+)
     requires some { 0 < units }
-    requires due { units - 1 < due_in services.old }
-    requires empty { outbox.old.items ≡ [] }
-    ensures state { services.new ≡ observed (ticked (ticks_of_services (units - 1) services.old)) address }
-    ensures none { NoneSends (units - 1) services.old }
-    ensures frames { boxed outbox.new ≡ frames_in (sent_by_tick (ticks_of_services (units - 1) services.old)) }
+    requires due { units ≤ services_due device.now.live.values services.old }
+    // They do what they do beside as many Tick events, one by one. Only the last of them may send.
+    ensures state { services.new ≡ beside_ticks device.now.station.identity device.now.live.values units services.old }
+    ensures none { NoneSendsBeside (units - 1) device.now.station.identity device.now.live.values services.old }
+    // Only the last of them may change the neighbour.
+    ensures quiet { NoNewsBeside units device.now.station.identity device.now.live.values services.old }
+    ensures frames { boxed outbox.new ≡ (tick_beside device.now.station.identity device.now.live.values
+        (beside_ticks device.now.station.identity device.now.live.values (units - 1) services.old)).sent }
 {
+    pass_units(device.is_lost(), device.running(), services, units, outbox);
+}
+
+/// The same beside a device that has lost its power or not, and has these running settings.
+fn pass_units(
+    is_lost: bool,
+    running: &Settings,
+    services: &mut DeviceServices,
+    units: u32,
+    outbox: &mut Outbox,
+)
+    requires some { 0 < units }
+    requires due { units ≤ due_at is_lost running.now services.old }
+    ensures { FollowsAt is_lost running.now units services.old services.new (boxed outbox.new) }
+{
+    outbox.clear(); // of what the event before sent
+    if is_lost {
+        return;
+    }
     services.pass(units - 1);
     services.tick(outbox);
-    services.observe(address);
+    services.observe(running);
 }
 
 /// Lets units of time pass at a device without services, at most as many as `Device::due` returns, and replaces the content
@@ -134,6 +184,15 @@ pub fn elapse_alone<F: Flash<S>, const S: usize>(
     outbox.services.clear();
     device.elapse(units, &mut outbox.device)
 }
+
+/// As long as nothing is due of the services beside a device that has power, units of time are ticks of theirs and send
+/// nothing, bring what is due no nearer than by their number, and do not change the neighbour. So such units may be counted, and
+/// the services told of them later, all at once. These are laws of the definitions that specify `follow_units`.
+pub fn quiet_units_are_ticks()
+    ensures ticks { QuietUnitsAreTicks }
+    ensures count { QuietUnitsCount }
+    ensures news { QuietUnitsBringNoNews }
+{}
 
 /// However a number of units is divided into leaps, the station and the frames, in order, are those of that many Tick
 /// events. This is a law of the definitions that specify `IoStation::elapse`; the function has no code.

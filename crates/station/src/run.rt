@@ -10,9 +10,9 @@ use frame_codec::Frame;
 impl<F: Flash<S>, const S: usize> IoStation<F, S> {
     /// Handles the events in order, and hands on the frames, up to the event in which power is lost.
     pub fn run<K: Sink>(&mut self, events: &[Event], sink: &mut K)
-        // The device of the run is that of a run of the device alone over the same events, with all that the contract of
-        // `Device::run` says, and its frames are that run's, in order. The frames of the services follow those of the device
-        // in each step.
+        // The device of the run is that of a run of the device alone over the same events, with the Neighbour events and the
+        // joined calls put in where the services gave them, and with all that the contract of `Device::run` says; its frames
+        // are that run's, in order. The frames of the services follow those of the device in each step.
         ensures { StationRuns F.Flash self.old events.now (K.taken sink.old) (K.taken sink.new) self.new }
     {
         steps_make_runs::<F, S>();

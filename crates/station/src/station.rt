@@ -1,22 +1,27 @@
 //! A station: a device, and the services beside it.
-ghost use Rattle.std.specs.Prelude.{◌≡◌, ◌≢◌, [], true};
-ghost use Rattle.services.specs.State.{started};
-ghost use Rattle.services.specs.declared.announcement.Role.TheVariants as role;
-ghost use Rattle.station.specs.State.{no_frames};
-ghost use Rattle.station.specs.Steps.{IsSparing, StationSteps};
+ghost use Rattle.std.specs.Prelude.{◌≡◌};
+ghost use Rattle.station.specs.Serving.{serving_at};
+ghost use Rattle.station.specs.Steps.{StationTakes};
 
-use crate::StationOutbox;
 use crate::step::step_beside;
+use crate::{DeviceServices, StationOutbox};
 use device_core::{Device, Event, Note};
 use flash_model::Flash;
-use services::{Role, Services};
+use lldp::Link;
 use std::marker::Model;
+
+/// The services at the start of a device.
+pub(crate) fn services_of<F: Flash<S>, const S: usize>(device: &Device<F, S>) -> DeviceServices
+    ensures { result ≡ serving_at device.now.station.identity device.now.live.values.running }
+{
+    DeviceServices::new(device.identity(), device.running())
+}
 
 /// A station: a PROFINET IO device, and the services beside it. Clauses see it as these two.
 #[derive(Drop)]
 pub struct IoStation<F: Flash<S>, const S: usize> {
+    pub(crate) services: DeviceServices,
     pub(crate) device: Device<F, S>,
-    pub(crate) services: Services,
 }
 
 impl<F: Flash<S>, const S: usize> Model for IoStation<F, S> {
@@ -28,35 +33,35 @@ impl<F: Flash<S>, const S: usize> Model for IoStation<F, S> {
 }
 
 impl<F: Flash<S>, const S: usize> IoStation<F, S> {
-    /// The station of a device. Its services begin here, with the device's running address.
+    /// The station of a device. Its services begin here, with the device's running settings.
     pub fn new(device: Device<F, S>) -> IoStation<F, S>
         // The device is the given one.
         ensures device { result.device ≡ device }
         // The services are those of a device at its start: they announce its address.
-        ensures services { result.services ≡ started role.Device device.station.identity.mac device.live.values.running.suite.address }
+        ensures services { result.services ≡ serving_at device.station.identity device.live.values.running }
     {
-        let mac = device.identity().mac;
-        let address = device.running().suite.address();
-        IoStation {
-            device,
-            services: Services::new(Role::Device, mac, address),
-        }
+        let services = services_of(&device);
+        IoStation { device, services }
     }
 
-    /// Handles an event, and replaces the content of the outbox by the frames to be sent.
+    /// Handles an event, and replaces the content of the outbox by the frames to be sent. The device is told of its neighbour
+    /// first, if that changed.
     pub fn step(&mut self, event: &Event, outbox: &mut StationOutbox) -> Note
         // The step of the device is a step of the device alone: the same device, the same frames in the same order, and all
-        // that the contract of `Device::step` says. The services know, send and note what is said of them beside it.
-        ensures steps { StationSteps F.Flash self.old event.now outbox.new result self.new }
-        // In the step of a frame the services send at most one frame, and none if the device sends one. In a tick they send
-        // at most one, and otherwise none.
-        ensures sparing { IsSparing event.now outbox.new }
-        // If power was lost in the step, the services send nothing and change nothing.
-        ensures lost { self.new.device.live.values.is_lost ≡ true → (outbox.new.services ≡ []) × (self.new.services ≡ self.old.services) }
-        // If the note is not `Done`, nothing is sent and the device is unchanged.
-        ensures refused { result ≢ Note.Done → (outbox.new ≡ no_frames) × (self.new.device ≡ self.old.device) }
+        // that the contract of `Device::step` says. The services know, send and note what is said of them beside it. In the
+        // step of a frame the services send at most one frame, and none if the device sends one; in a tick they send at most
+        // two, and otherwise none.
+        ensures { StationTakes F.Flash self.old event.now outbox.new result self.new }
     {
         step_beside(&mut self.device, &mut self.services, event, outbox)
+    }
+
+    /// What the host says of the link: whether it is up, and which link it is, if that is known. Without this the link is up.
+    pub fn set_link(&mut self, is_up: bool, link: Option<Link>)
+        ensures device { self.new.device ≡ self.old.device }
+        ensures services { self.new.services ≡ record self.old.services { is_up = is_up; link = link } }
+    {
+        self.services.set_link(is_up, link);
     }
 
     /// The device.
@@ -67,7 +72,7 @@ impl<F: Flash<S>, const S: usize> IoStation<F, S> {
     }
 
     /// The services.
-    pub fn services(&self) -> &Services
+    pub fn services(&self) -> &DeviceServices
         ensures { result.now ≡ self.now.services }
     {
         &self.services

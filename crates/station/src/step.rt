@@ -1,61 +1,133 @@
 //! One step of a station.
-ghost use Rattle.std.specs.Prelude.{◌≡◌, [], false, true, if◌then◌else◌};
+ghost use Rattle.std.specs.Prelude.{◌≡◌, [], false};
 ghost use Rattle.frame_codec.specs.Outbox.{boxed};
-ghost use Rattle.services.specs.Answer.{disputes, frame_in, heard};
-ghost use Rattle.station.specs.Beside.{IsUndisputed, answered, beside, event_beside, has_any, heard_beside, is_dropped as is_dropped_by};
-ghost use Rattle.station.specs.Steps.{DeviceSteps, StationSteps, station_of};
+ghost use Rattle.device_frames.specs.declared.event.Event.TheVariants.{Frame as Framed};
+ghost use Rattle.station.specs.Beside.{beside, has_any, is_dropped, joined_beside};
+ghost use Rattle.station.specs.Leaps.{due_beside};
+ghost use Rattle.station.specs.Serving.{disputes, news_in};
+ghost use Rattle.station.specs.Views.{joined_in, note_in};
+ghost use Rattle.device_core.specs.Machine.{step_of};
+ghost use Rattle.device_frames.specs.declared.note.Note.TheVariants.{Done};
+ghost use Rattle.station.specs.Steps.{DeviceSteps, StationSteps, StationTakes, Tells, station_of};
 
-use crate::StationOutbox;
+use crate::{Attended, DeviceServices, JoinedCall, StationOutbox};
 use device_core::{Device, Event, Note};
-use endpoint_mapper::mapped_frame;
 use flash_model::Flash;
-use frame_codec::{Bytes, Frame, Outbox};
-use pn_values::Identity;
-use services::{Services, only_conflicts_are_counted};
+use frame_codec::Outbox;
 
 /// Handles an event at a device and at the services beside it, and replaces the content of the outbox by the frames to be
-/// sent. The event goes to the device. The services answer a frame only if the device dropped it, and hear each packet
-/// of ARP. They do nothing in a step in which power was lost.
+/// sent. The device is told of its neighbour first, if that changed. Then the event goes to the device. The services answer a
+/// frame only if the device dropped it, and hear each packet of ARP. They do nothing in a step in which power was lost. A call
+/// that the event completed, as its last fragment, is then given to the device.
 pub fn step_beside<F: Flash<S>, const S: usize>(
     device: &mut Device<F, S>,
-    services: &mut Services,
+    services: &mut DeviceServices,
     event: &Event,
     outbox: &mut StationOutbox,
 ) -> Note
     // The step of the device is a step of the device alone, and the services do what is said of them beside it.
-    ensures { StationSteps F.Flash (station_of device.old services.old) event.now outbox.new result (station_of device.new services.new) }
+    ensures { StationTakes F.Flash (station_of device.old services.old) event.now outbox.new result (station_of device.new services.new) }
 {
-    step_both(device, services, event, outbox).1
+    tell_beside(device, services, outbox);
+    step_told(device, services, event, outbox)
 }
 
-/// The same. Returns the note of the device, and that of the station.
-fn step_both<F: Flash<S>, const S: usize>(
+/// The same at a device that was told of its neighbour.
+fn step_told<F: Flash<S>, const S: usize>(
     device: &mut Device<F, S>,
-    services: &mut Services,
+    services: &mut DeviceServices,
     event: &Event,
     outbox: &mut StationOutbox,
-) -> (Note, Note)
-    // The device makes its step alone, and its frames stay in the outbox.
-    ensures alone { DeviceSteps F.Flash device.old event.now outbox.new.device result.0 device.new }
-    // The services do what is said of them beside it.
-    ensures beside { record { services = services.new; sent = outbox.new.services; note = result.1 }
-        ≡ beside device.old.station.identity services.old device.new.live.values result.0 event.now }
+) -> Note
+    ensures { StationSteps F.Flash (station_of device.old services.old) event.now outbox.new result (station_of device.new services.new) }
 {
-    let note = step_alone(device, event, outbox);
-    if device.is_lost() {
-        return (note, note);
-    }
-    let has_sent = has_frames(&outbox.device);
-    let said = attend(
-        device.identity(),
+    let (_, attended) = step_both(
+        device,
         services,
         event,
-        note,
-        has_sent,
+        &mut outbox.device,
         &mut outbox.services,
+        &mut outbox.call,
     );
-    services.observe(device.running().suite.address());
-    (note, said)
+    match attended {
+        Attended::Noted(note) => note,
+        Attended::Joined => {
+            let _ = give(device, &outbox.call, &mut outbox.device);
+            Note::Done
+        }
+    }
+}
+
+/// The device's step, and what the services do beside it. Returns the note of the device, and what the services made of the
+/// event.
+fn step_both<F: Flash<S>, const S: usize>(
+    device: &mut Device<F, S>,
+    services: &mut DeviceServices,
+    event: &Event,
+    sent: &mut Outbox,
+    outbox: &mut Outbox,
+    call: &mut JoinedCall,
+) -> (Note, Attended)
+    // The device makes its step alone.
+    ensures alone { DeviceSteps F.Flash device.old event.now (boxed sent.new) result.0 device.new }
+    // The services do what is said of them beside it.
+    ensures beside { record { services = services.new; sent = boxed outbox.new; note = note_in result.1 }
+        ≡ beside device.old.station.identity services.old device.new.live.values result.0 event.now }
+    ensures call { joined_in result.1 call.new ≡ joined_beside services.old device.new.live.values result.0 event.now }
+{
+    outbox.clear(); // of what the event before sent
+    let note = step_device(device, event, sent);
+    if device.is_lost() {
+        return (note, Attended::Noted(note));
+    }
+    let has_sent = has_frames(sent);
+    let attended = services.attend(device.identity(), event, note, has_sent, outbox, call);
+    services.observe(device.running());
+    (note, attended)
+}
+
+/// Gives a device a call that the services beside it joined from fragments: a step of its own, and the outbox gets its frames.
+/// `step_beside` does it; the owner of a device whose flash calls are carried out elsewhere does it after `follow_frame`.
+pub fn give<F: Flash<S>, const S: usize>(
+    device: &mut Device<F, S>,
+    call: &JoinedCall,
+    outbox: &mut Outbox,
+) -> Note
+    ensures { DeviceSteps F.Flash device.old call.now (boxed outbox.new) result device.new }
+{
+    device.step_call(&call.caller, call.address, call.octets.as_slice(), outbox)
+}
+
+/// Tells a device of its neighbour, if that changed since it was told last: a step of its own, with the event Neighbour, which
+/// sends nothing. `step_beside` and `elapse_beside` do it; the owner of a device whose
+/// flash calls are carried out elsewhere does it before the device's step.
+pub fn tell_beside<F: Flash<S>, const S: usize>(
+    device: &mut Device<F, S>,
+    services: &mut DeviceServices,
+    outbox: &mut StationOutbox,
+)
+    ensures tells { Tells F.Flash (station_of device.old services.old) (station_of device.new services.new) }
+    // The number of units up to the next one that brings something stays as it is.
+    ensures due { due_beside device.new.live services.new ≡ due_beside device.old.live services.old }
+{
+    if services.has_news() {
+        tell(device, services, outbox);
+        services.set_told();
+    }
+}
+
+/// Tells a device of its neighbour, whether that changed or not.
+#[inline(never)]
+fn tell<F: Flash<S>, const S: usize>(
+    device: &mut Device<F, S>,
+    services: &DeviceServices,
+    outbox: &mut StationOutbox,
+)
+    ensures alone { DeviceSteps F.Flash device.old (news_in services.now) [] Done device.new }
+    ensures state { device.new ≡ record device.old { live = (step_of [] device.old.station device.old.live (news_in services.now)).live } }
+{
+    let event = services.neighbour_event();
+    let _ = step_alone(device, &event, outbox);
 }
 
 /// Handles an event at a device without services, and replaces the content of the outbox by the frames to be sent.
@@ -70,7 +142,49 @@ pub fn step_alone<F: Flash<S>, const S: usize>(
     ensures services { outbox.new.services ≡ [] }
 {
     outbox.services.clear();
-    device.step(event, &mut outbox.device)
+    step_device(device, event, &mut outbox.device)
+}
+
+/// Handles an event at a device, and replaces the content of the outbox by the frames to be sent.
+fn step_device<F: Flash<S>, const S: usize>(
+    device: &mut Device<F, S>,
+    event: &Event,
+    outbox: &mut Outbox,
+) -> Note
+    ensures { DeviceSteps F.Flash device.old event.now (boxed outbox.new) result device.new }
+{
+    device.step(event, outbox)
+}
+
+/// What the services beside a device do with a received frame that the device has handled: it gave the frame this note, and
+/// sent frames or none. Replaces the content of the outbox by the frames that they send, and returns the note of the station, or
+/// that the frame completed a call, which is written into `call`.
+///
+/// A device whose flash calls are carried out elsewhere makes its step first, and then this; and then, if a call was completed,
+/// that of `give`.
+pub fn follow_frame<F: Flash<S>, const S: usize>(
+    device: &Device<F, S>,
+    services: &mut DeviceServices,
+    octets: &[u8],
+    note: Note,
+    has_sent: bool,
+    outbox: &mut Outbox,
+    call: &mut JoinedCall,
+) -> Attended
+    // A conflict was dropped or answered by the device, as `conflicts_are_noticed` says of each step.
+    requires { is_dropped note ≡ false → has_sent ≡ false → disputes services.old octets.now ≡ false }
+    ensures beside { record { services = services.new; sent = boxed outbox.new; note = note_in result }
+        ≡ beside device.now.station.identity services.old device.now.live.values note (Framed (record { items = octets.now })) }
+    ensures call { joined_in result call.new
+        ≡ joined_beside services.old device.now.live.values note (Framed (record { items = octets.now })) }
+{
+    outbox.clear(); // of what the event before sent
+    if device.is_lost() {
+        return Attended::Noted(note);
+    }
+    let attended = services.attend_frame(device.identity(), octets, note, has_sent, outbox, call);
+    services.observe(device.running());
+    attended
 }
 
 /// Whether there is a frame in the outbox.
@@ -80,130 +194,5 @@ fn has_frames(outbox: &Outbox) -> bool
     match outbox.as_slice() {
         [] => false,
         [_, ..] => true,
-    }
-}
-
-/// What the services do with an event to which the device gave this note.
-fn attend(
-    identity: &Identity,
-    services: &mut Services,
-    event: &Event,
-    note: Note,
-    has_sent: bool,
-    outbox: &mut Outbox,
-) -> Note
-    requires empty { outbox.old.items ≡ [] }
-    // A conflict was dropped or answered by the device.
-    requires known { is_dropped_by note ≡ false → has_sent ≡ false → IsUndisputed services.old event.now }
-    ensures state { services.new ≡ (event_beside identity.now services.old note event.now).services }
-    ensures frames { boxed outbox.new ≡ (event_beside identity.now services.old note event.now).sent }
-    ensures note { result ≡ (event_beside identity.now services.old note event.now).note }
-{
-    match event {
-        Event::Frame(bytes) => { attend_frame(identity, services, bytes, note, has_sent, outbox) },
-        Event::Tick => {
-            services.tick(outbox);
-            note
-        }
-        Event::Input(..) | Event::Alarm(..) | Event::Status(..) | Event::Ready => note,
-    }
-}
-
-/// What the services do with a frame to which the device gave this note. They answer it if the device dropped it.
-fn attend_frame(
-    identity: &Identity,
-    services: &mut Services,
-    bytes: &Bytes,
-    note: Note,
-    has_sent: bool,
-    outbox: &mut Outbox,
-) -> Note
-    requires empty { outbox.old.items ≡ [] }
-    requires known { is_dropped_by note ≡ false → has_sent ≡ false → disputes services.old bytes.now.items ≡ false }
-    ensures state { services.new ≡ (heard_beside identity.now services.old note bytes.now.items).services }
-    ensures frames { boxed outbox.new ≡ (heard_beside identity.now services.old note bytes.now.items).sent }
-    ensures note { result ≡ (heard_beside identity.now services.old note bytes.now.items).note }
-{
-    if is_dropped(note) {
-        return answer(identity, services, bytes.as_slice(), note, outbox);
-    }
-    // Most frames of an exchange are taken without an answer. A packet of ARP is not, so these are not read again.
-    only_conflicts_are_counted();
-    if has_sent {
-        return overhear(services, bytes.as_slice(), note);
-    }
-    note
-}
-
-/// The services hear a frame that the device dropped, and answer it.
-#[inline(never)]
-fn answer(
-    identity: &Identity,
-    services: &mut Services,
-    bytes: &[u8],
-    note: Note,
-    outbox: &mut Outbox,
-) -> Note
-    requires empty { outbox.old.items ≡ [] }
-    requires dropped { is_dropped_by note ≡ true }
-    ensures state { services.new ≡ (heard_beside identity.now services.old note bytes.now).services }
-    ensures frames { boxed outbox.new ≡ (heard_beside identity.now services.old note bytes.now).sent }
-    ensures note { result ≡ (heard_beside identity.now services.old note bytes.now).note }
-{
-    let disputed = services.disputes(bytes);
-    match answered(identity, services, bytes) {
-        Some(frame) => {
-            outbox.put_copy(&frame);
-            Note::Done
-        }
-        None => note_of(disputed, note),
-    }
-}
-
-/// The services hear a frame that the device dropped. Returns their answer, or else that of the endpoint mapper.
-fn answered(identity: &Identity, services: &mut Services, bytes: &[u8]) -> Option<Frame>
-    ensures state { services.new ≡ heard services.old bytes.now }
-    ensures answer { frame_in result ≡ answered identity.now services.old bytes.now }
-{
-    let mapped = mapped_frame(services, identity, bytes);
-    match services.hear(bytes) {
-        Some(frame) => Some(frame),
-        None => mapped,
-    }
-}
-
-/// The services hear a frame that the device answered. Only a conflict concerns them.
-#[inline(never)]
-fn overhear(services: &mut Services, bytes: &[u8], note: Note) -> Note
-    ensures state { services.new ≡ heard services.old bytes.now }
-    ensures note { result ≡ (if disputes services.old bytes.now then Note.Done else note) }
-{
-    only_conflicts_are_counted();
-    if !services.disputes(bytes) {
-        return note;
-    }
-    let _ = services.hear(bytes);
-    Note::Done
-}
-
-/// The note for a frame that the services did not answer.
-fn note_of(disputed: bool, note: Note) -> Note
-    ensures { result ≡ (if disputed then Note.Done else note) }
-{
-    if disputed { Note::Done } else { note }
-}
-
-/// Whether the device dropped a frame.
-fn is_dropped(note: Note) -> bool
-    ensures { result ≡ is_dropped_by note }
-{
-    match note {
-        Note::NotMine | Note::Fault => true,
-        Note::Done
-        | Note::Filter
-        | Note::OldCall
-        | Note::NoRelation
-        | Note::StaleCycle
-        | Note::Refused => false,
     }
 }

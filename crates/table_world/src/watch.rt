@@ -374,10 +374,16 @@ impl Watched {
         }
     }
 
-    /// Whether the records are a prefix of those of the plan, with at most one more than before, by a Write.
+    /// Whether the records are a prefix of those of the plan, with at most one more than before, by a Write. A Write that
+    /// carries a list brings any of its records.
     fn are_in_order(&self, before: &Told, came: Option<Kind>) -> bool {
-        let is_more = before.taken.saturating_add(1) == self.told.taken;
-        self.told.is_front
+        let is_list = self.net.controller().plan().has_multiple_write();
+        let is_more = if is_list {
+            before.taken < self.told.taken
+        } else {
+            before.taken.saturating_add(1) == self.told.taken
+        };
+        (self.told.is_front || is_list)
             && (self.told.taken == before.taken
                 || self.told.phase.is_none()
                 || (is_more && came == Some(Kind::Write)))

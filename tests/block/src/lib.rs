@@ -6,8 +6,10 @@
 mod blocks;
 mod diagnosis;
 mod differences;
-mod lists;
 mod listings;
+mod lists;
+mod low_alarms;
+mod ports;
 mod reads;
 mod records;
 mod statuses;

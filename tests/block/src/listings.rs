@@ -4,10 +4,10 @@
 use super::reads::{Asked, GOOD, plugged, sent};
 use super::records::settings;
 use super::statuses::told;
-use super::within::read_within;
+use super::within::{read_implicit, read_within};
 use arrayvec::ArrayVec;
 use pn_values::{ParameterRecord, Real, demo_identity, demo_modules};
-use records::{Blocks, Operation, read_implicit};
+use records::{Blocks, Operation};
 use uuid::Uuid;
 
 const NO_PLACE: [u8; 4] = [0xDE, 0x80, 0xB2, 0x00];
@@ -18,13 +18,20 @@ const NO_ACCESS: [u8; 4] = [0xDE, 0x80, 0xB6, 0x00];
 
 const NO_API: [u8; 4] = [0xDE, 0x80, 0xB4, 0x00];
 
-/// What a call is answered by a Read Implicit, or its status.
+/// What a call is answered by a Read Implicit, or its status. The device has no diagnoses, and no other records of its own.
 fn answered(real: &Real, call: Asked) -> Result<Blocks, [u8; 4]> {
     let mut answer = Blocks::new();
-    match read_implicit(&demo_identity(), real, &settings(), &call.octets(), &mut answer) {
+    let own = no_diagnosis(call.index);
+    match read_implicit(own, &demo_identity(), real, &settings(), &call.octets(), &mut answer) {
         Ok(()) => Ok(answer),
         Err(fault) => Err(told(Operation::ReadImplicit, fault)),
     }
+}
+
+/// DiagnosisData of a device without diagnoses, if that has this index.
+fn no_diagnosis(index: u16) -> Option<&'static [u8]> {
+    let is_diagnosis = index == 0xF80C || matches!(index & 0x0FFF, 0x00A..=0x00C);
+    is_diagnosis.then_some([].as_slice())
 }
 
 /// The record with this index at this slot and subslot by a Read Implicit, or its status.
@@ -40,7 +47,7 @@ fn read_by(own: Option<&[u8]>, real: &Real, slot: u16, subslot: u16, index: u16)
 }
 
 fn read_by_relation(real: &Real, slot: u16, subslot: u16, index: u16) -> Option<Blocks> {
-    read_by(None, real, slot, subslot, index).ok()
+    read_by(no_diagnosis(index), real, slot, subslot, index).ok()
 }
 
 /// The record of an answer in hex, if RecordDataLength is its length.
@@ -114,7 +121,7 @@ fn a_record_of_the_relation_is_read_by_the_relation_alone() {
 #[test]
 fn a_record_of_its_own_is_read_by_the_relation_alone() {
     let real = plugged();
-    for index in [0x8000, 0xC000, 0xE000, 0xE001] {
+    for index in [0x8000, 0x8028, 0x8029, 0xC000, 0xE000, 0xE001, 0xF020, 0xF820, 0xF830] {
         assert_eq!(read(&real, 2, 1, index).err(), Some(NO_INDEX), "{index:04X}");
         assert_eq!(read_by(None, &real, 2, 1, index).err(), Some(NO_INDEX), "{index:04X}");
         let answer = read_by(Some(&[0xAB; 3]), &real, 2, 1, index).ok().as_ref().and_then(record);
@@ -132,7 +139,7 @@ fn other_indices_are_unknown() {
     let real = plugged();
     for index in [
         0x000A, 0x700A, 0x8002, 0x8009, 0x800D, 0x800F, 0x8014, 0x900A, 0xA010, 0xC002, 0xD00A, 0xE003,
-        0xF001, 0xF80B, 0xF80D, 0xF820,
+        0xF001, 0xF021, 0xF80B, 0xF80D, 0xF822, 0xF831, 0x8027,
     ] {
         assert_eq!(read(&real, 0, 1, index).err(), Some(NO_INDEX), "{index:04X}");
         assert_eq!(read(&real, 9, 1, index).err(), Some(NO_PLACE), "{index:04X}");

@@ -2,9 +2,10 @@
 
 use super::records::{module, settings};
 use super::statuses::told;
+use super::within::read_implicit;
 use arrayvec::ArrayVec;
 use pn_values::{ParameterRecord, Real, RealSubmodule, demo_identity};
-use records::{Blocks, CallFault, Operation, read_implicit};
+use records::{Blocks, CallFault, Operation};
 
 /// I&M0 of the demo station.
 pub(crate) const IM0: [u8; 60] =
@@ -86,7 +87,7 @@ impl Asked {
 /// What these octets are answered.
 fn answered(octets: &[u8]) -> Result<Blocks, CallFault> {
     let mut answer = Blocks::new();
-    read_implicit(&demo_identity(), &plugged(), &settings(), octets, &mut answer)?;
+    read_implicit(None, &demo_identity(), &plugged(), &settings(), octets, &mut answer)?;
     Ok(answer)
 }
 

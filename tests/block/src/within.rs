@@ -3,9 +3,10 @@
 use super::reads::{Asked, GOOD, plugged, sent};
 use super::records::settings;
 use block_fields::Uuid;
-use pn_values::{Real, demo_identity};
+use pn_values::{Identity, Real, Settings, demo_identity};
 use records::{
-    Blocks, CallFault, Operation, listing_of, names_relation, request_within, serve_listing, serve_within,
+    Blocks, CallFault, Operation, listing_of, names_relation, read_request, request_within, serve, serve_listing,
+    serve_within,
 };
 
 /// The ModuleDiffBlock, in any slot.
@@ -15,6 +16,22 @@ const DIFFERENCE: Asked = Asked {
     index: 0xE002,
     ..GOOD
 };
+
+/// A Read Implicit of a device that has this record of its own, or none. Its answer is put into an empty list.
+pub(crate) fn read_implicit(
+    own: Option<&[u8]>,
+    identity: &Identity,
+    real: &Real,
+    settings: &Settings,
+    blocks: &[u8],
+    answer: &mut Blocks,
+) -> Result<(), CallFault> {
+    let request = read_request(blocks)?;
+    match listing_of(real, &request) {
+        Some(listing) => serve_listing(false, real, own, &request, listing, answer),
+        None => serve(identity, real, settings, &request, answer),
+    }
+}
 
 /// The answer to a Read while a relation is active, whose ModuleDiffBlock is this. It has this record of its own, or none.
 pub(crate) fn read_within(

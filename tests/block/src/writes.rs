@@ -7,7 +7,8 @@ use arrayvec::ArrayVec;
 use block_fields::Uuid;
 use pn_values::{Command, Settings};
 use records::{
-    CallFault, Effect, Operation, TakenRecord, TakenRecords, Write, judge_write, put_write_answer,
+    CallFault, Effect, Operation, TakenRecord, TakenRecords, Write, Writing, judge_write,
+    put_write_answer,
 };
 
 /// Parameter record 1 of the submodule in slot 2, subslot 2, which takes four octets.
@@ -36,7 +37,15 @@ fn judged_in(relation: u8, asked: Asked, behind: &[u8]) -> Result<Write, CallFau
     let _ = call.try_extend_from_slice(&asked.octets());
     let _ = call.try_extend_from_slice(behind);
     let uuid = Uuid::from_bytes([relation; 16]);
-    judge_write(call.as_slice(), Some(&uuid), &plugged())
+    one(judge_write(call.as_slice(), Some(&uuid), &plugged()))
+}
+
+/// What a Write of one record asks for.
+fn one(judged: Result<Writing<'_>, CallFault>) -> Result<Write, CallFault> {
+    match judged? {
+        Writing::One(write) => Ok(write),
+        Writing::Each(..) => panic!("a list of records"),
+    }
 }
 
 /// The status by which a Write is refused while this relation is active. `None` if it is accepted.
@@ -107,7 +116,7 @@ fn refuses_what_is_not_written_there() {
 fn refused_alone() -> Option<[u8; 4]> {
     Some(told(
         Operation::Write,
-        judge_write(&GOOD.octets(), None, &plugged()).err()?,
+        one(judge_write(&GOOD.octets(), None, &plugged())).err()?,
     ))
 }
 

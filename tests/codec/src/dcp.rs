@@ -2,7 +2,7 @@
 
 use arrayvec::ArrayVec;
 use dcp_core::{
-    Block, DcpFault, Kind, Outcome, Request, Response, ResponseBlock, ResponseBlocks, Service,
+    AliasName, Block, DcpFault, Kind, Outcome, Request, Response, ResponseBlock, ResponseBlocks, Service,
     get_answer, identify_answer, identify_matches, read_answer, read_request, set_answer, set_plan,
     write_request,
 };
@@ -76,7 +76,7 @@ fn identifies(settings: &Settings, xid: u32, expected: &[u8]) {
 /// This is how a station with these settings answers a Get.
 fn gets(settings: &Settings, asked_for: &[u8], expected: &[u8]) {
     let request = request(GET_SET, asked_for);
-    let answer = get_answer(&demo_identity(), settings, &request);
+    let answer = get_answer(&demo_identity(), settings, None, &request);
     assert!(answer.as_slice() == expected);
 }
 
@@ -90,7 +90,7 @@ fn sets(request: &Request<'_>, errors: &[BlockError], expected: &[u8]) {
 
 /// Whether an Identify request asks for a station as it leaves the factory.
 fn asks_for_all(request: &Request<'_>) -> bool {
-    identify_matches(&demo_identity(), &Settings::factory(), request)
+    identify_matches(&demo_identity(), &Settings::factory(), None, request)
 }
 
 #[test]
@@ -110,6 +110,61 @@ fn gets_each_pair_once() {
         0, 0, 0, 0, 5, 4, 0, 3, 3, 1, 1, 0,
     ];
     gets(&Settings::factory(), &asked_for, &expected);
+}
+
+/// The name by the place behind the port `port-003` of `sw-1`.
+fn alias() -> AliasName {
+    let mut alias = AliasName::new();
+    alias.try_extend_from_slice(b"port-003.sw-1").expect("fits");
+    alias
+}
+
+// The octets are those of a reference model that shares no line with this crate.
+#[test]
+fn gets_the_name_by_the_place() {
+    let asked_for = [3, 0, 0, 0, 0, 3, 0, 0, 0, 2, 2, 6];
+    let expected = [
+        3, 1, 0, 0, 0, 3, 0, 0, 0, 20, 2, 6, 0, 15, 0, 0, b'p', b'o', b'r', b't', b'-', b'0', b'0',
+        b'3', b'.', b's', b'w', b'-', b'1', 0,
+    ];
+    let request = request(GET_SET, &asked_for);
+    let answer = get_answer(
+        &demo_identity(),
+        &Settings::factory(),
+        Some(&alias()),
+        &request,
+    );
+    assert_eq!(answer.as_slice(), expected);
+    // Without one the suboption is unknown, as before.
+    let expected = [3, 1, 0, 0, 0, 3, 0, 0, 0, 8, 5, 4, 0, 3, 2, 6, 2, 0];
+    gets(&Settings::factory(), &asked_for, &expected);
+}
+
+/// An Identify by the name `port-003.sw-1` by the place, padded.
+const BY_ALIAS: [u8; 28] = [
+    5, 0, 0, 0, 0, 9, 0, 1, 0, 18, 2, 6, 0, 13, b'p', b'o', b'r', b't', b'-', b'0', b'0', b'3',
+    b'.', b's', b'w', b'-', b'1', 0,
+];
+
+#[test]
+fn is_found_by_the_name_by_the_place() {
+    let request = request(IDENTIFY, &BY_ALIAS);
+    let matches = |alias: Option<&AliasName>, request: &Request<'_>| {
+        identify_matches(&demo_identity(), &Settings::factory(), alias, request)
+    };
+    assert!(matches(Some(&alias()), &request));
+    let mut other = alias();
+    other.push(b'0');
+    assert!(!matches(Some(&other), &request));
+    assert!(!matches(None, &request));
+}
+
+// An empty name by the place asks for no station.
+#[test]
+fn is_not_found_by_no_name_by_the_place() {
+    let bytes = [5, 0, 0, 0, 0, 9, 0, 1, 0, 4, 2, 6, 0, 0];
+    let request = request(IDENTIFY, &bytes);
+    assert!(!asks_for_all(&request));
 }
 
 /// A device at this address.

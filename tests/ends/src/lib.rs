@@ -14,6 +14,7 @@ mod makers;
 mod operations;
 mod rows;
 mod served;
+mod tool;
 
 /// The Set of the station's name, permanent, and what is printed of one that is done, as long as there is no controller.
 const SET_PUMP_1: &str =

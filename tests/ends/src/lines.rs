@@ -10,6 +10,8 @@ fn lines_that_need_others_before_them() {
         (START, 1),
         ("deliver", 1),
         ("stop", 1),
+        ("stands", 1),
+        ("stands 1", 1),
         ("give 2 1 0011", 1),
         ("output-status 2 1 bad", 1),
         ("config", 1),
@@ -29,6 +31,15 @@ fn a_plan_is_no_controller() {
     let (result, text) = output(Global, script.as_bytes());
     assert_eq!(result, Err(RunFault::Line(2)));
     assert_eq!(text.as_slice(), b"boot ok\nplan ok\n".as_slice());
+}
+
+#[test]
+fn a_controller_knows_of_no_diagnosis() {
+    let script = joined(Global, &["config ", PUMP, "\n", START, "\nstands\nstop\nstands\n"]).unwrap();
+    let (result, text) = output(Global, script.as_bytes());
+    assert_eq!(result, Ok(()));
+    let wanted = b"boot ok\nplan ok\nstate looking\nstands -\nstate ended 7\nstands -\n";
+    assert_eq!(text.as_slice(), wanted.as_slice());
 }
 
 #[test]

@@ -17,7 +17,7 @@ use uuid::Uuid;
 const SCENARIOS: &str = include_str!("makers.txt");
 
 /// How many scenarios there are, so that a file that was cut off is found.
-const COUNT: usize = 39;
+const COUNT: usize = 41;
 
 /// The ARUUID and the activity of the controller, as Scapy's station expects them.
 const AR: &str = "11111111-2222-3333-4444-555555555555";
@@ -47,6 +47,14 @@ fn digits_of(octets: &[u8]) -> std::string::String {
 /// The octets that an operation reports.
 fn told_octets(op: &c_layout::Op) -> &[u8] {
     &op.octets[..op.length as usize]
+}
+
+/// How many diagnoses found no room, and those that are listed; `-` for none.
+fn diagnoses_words(left_out: u32, listed: std::vec::Vec<std::string::String>) -> std::string::String {
+    match listed.as_slice() {
+        [] => format!("{left_out} -"),
+        listed => format!("{left_out} {}", listed.join(", ")),
+    }
 }
 
 /// The words of an alarm that the library for C reports: those of a scenario without the API and both idents.
@@ -119,10 +127,11 @@ impl Scene {
             .iter()
             .map(|frame| frame.as_slice().to_vec())
             .collect();
-        // Only the announcements of the address come after them.
+        // Only the announcements of the address, and LLDP, come after them.
         let played = self.play(event);
         assert!(played.starts_with(&sent), "{}", self.name);
-        assert!(played.iter().skip(sent.len()).all(|frame| frame[12..14] == [0x08, 0x06]), "{}", self.name);
+        let is_announcement = |frame: &std::vec::Vec<u8>| matches!(frame[12..14], [0x08, 0x06] | [0x88, 0xcc]);
+        assert!(played.iter().skip(sent.len()).all(is_announcement), "{}", self.name);
         for frame in sent {
             self.sent.push_back(hex_of(&frame));
         }
@@ -290,6 +299,26 @@ impl Scene {
         }
     }
 
+    /// The diagnoses that it lists, in words.
+    fn diagnoses(&self) -> std::string::String {
+        let listed = self.controller.diagnoses().iter();
+        let words = listed.map(|one| format!("{} {} {} {}", one.slot, one.subslot, one.channel, one.error));
+        diagnoses_words(self.controller.diagnoses_left_out(), words.collect())
+    }
+
+    /// The same as the library for C reports it.
+    fn told_diagnoses(&mut self) -> std::string::String {
+        let all = self.told(35, 0, 0).expect("a number");
+        let mut words = std::vec::Vec::new();
+        for place in 0..all.units {
+            let one = self.told(36, place, 9).expect("a diagnosis");
+            words.push(format!("{} {} {} {}", one.slot, one.subslot, one.more, one.note));
+        }
+        assert!(self.told(36, all.units, 9).is_none(), "{}", self.name);
+        assert!(self.told(36, u32::MAX, 9).is_none(), "{}", self.name);
+        diagnoses_words(all.more, words)
+    }
+
     /// The last alarm of a priority, in words.
     fn report(&self, priority: Priority) -> std::string::String {
         let Some(report) = self.controller.report(priority) else {
@@ -366,6 +395,10 @@ impl Scene {
             "alarm" => {
                 assert_eq!(self.alarm(), rest, "{name}");
                 assert_eq!(self.told_alarm(), rest, "{name}");
+            }
+            "diagnoses" => {
+                assert_eq!(self.diagnoses(), rest, "{name}");
+                assert_eq!(self.told_diagnoses(), rest, "{name}");
             }
             "answer" => {
                 assert_eq!(self.answer(), rest, "{name}");

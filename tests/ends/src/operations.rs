@@ -1,7 +1,9 @@
 //! A controller as a host in C calls it: numbers, answers, and where the reported values are.
 
 use super::PUMP;
-use super::served::{ANNOUNCEMENT, ECHO, ECHO_REPLY, REPLY, REQUEST, RIVAL, padded, spelled};
+use super::served::{
+    ANNOUNCEMENT, ECHO, ECHO_REPLY, NEIGHBOUR, REPLY, REQUEST, RIVAL, SAYS, padded, spelled,
+};
 use configurator::plan_from_json;
 use controller_abi::{Port, serve};
 use c_layout::Op;
@@ -202,7 +204,7 @@ fn a_status_is_given_where_the_plan_has_an_output() {
     }
 }
 
-// With its first unit it announces its address. A request waits a second before it is sent again.
+// With its first unit it announces its address, and itself to its neighbour. A request waits a second before it is sent again.
 #[test]
 fn what_is_due_is_told() {
     let mut port = begun(Global);
@@ -210,7 +212,7 @@ fn what_is_due_is_told() {
     assert_eq!(due(&mut port), 1);
     assert_eq!(pass(&mut port, 12), 11);
     assert_eq!(due(&mut port), SECOND - 1);
-    assert_eq!((next(&mut port), next(&mut port)), (3, 0));
+    assert_eq!((next(&mut port), next(&mut port), next(&mut port)), (3, 3, 0));
     assert_eq!(pass(&mut port, 11), 0);
     let mut op = asked(15);
     op.work = 9;
@@ -234,13 +236,13 @@ fn time_stops_at_what_is_sent() {
     assert_eq!(next(&mut port), 3);
     assert_eq!(pass(&mut port, SECOND + 7), SECOND + 6);
     assert_eq!(answer(&mut port, 4), 7);
-    assert_eq!((next(&mut port), next(&mut port)), (3, 0));
+    assert_eq!((next(&mut port), next(&mut port), next(&mut port)), (3, 3, 0));
     assert_eq!(pass(&mut port, SECOND + 6), 7);
     assert_eq!(answer(&mut port, 4), 7);
     assert_eq!((next(&mut port), next(&mut port)), (3, 0));
 }
 
-// Its services go on: they announce the address, and answer for it.
+// What is beside it goes on: it announces the address and itself, and answers for the address.
 #[test]
 fn it_is_stopped() {
     let mut port = begun(Global);
@@ -249,12 +251,40 @@ fn it_is_stopped() {
     assert_eq!(answer(&mut port, 13), 0);
     assert_eq!(state(&mut port), (8, 7));
     assert_eq!(pass(&mut port, 2 * SECOND + 7), 2 * SECOND + 6);
-    assert_eq!(taken(&mut port), [padded(ANNOUNCEMENT)]);
+    assert_eq!(taken(&mut port), [padded(ANNOUNCEMENT), spelled(SAYS)]);
     assert_eq!(pass(&mut port, 2 * SECOND + 6), 6);
     assert_eq!(taken(&mut port), [padded(ANNOUNCEMENT)]);
-    assert_eq!(due(&mut port), u32::MAX);
-    assert_eq!(pass(&mut port, u32::MAX), 0);
+    assert_eq!(due(&mut port), 3 * SECOND);
+    for _ in 0..3 {
+        assert_eq!(pass(&mut port, 5 * SECOND), 2 * SECOND);
+        assert_eq!(taken(&mut port), [spelled(SAYS)]);
+        assert_eq!(pass(&mut port, 2 * SECOND), 0);
+    }
     assert_eq!(heard(&mut port, REQUEST), [padded(REPLY)]);
+}
+
+// A neighbour is reported as long as it is known: the lengths of its port and its chassis, its MAC address and both texts. The
+// unit that forgets it is due, and sends nothing.
+#[test]
+fn a_neighbour_is_told() {
+    let mut port = begun(Global);
+    let _ = all_of(&mut port, 2 * SECOND + 1);
+    let mut op = asked(37);
+    (op.units, op.more, op.length) = (7, 8, 9);
+    assert_eq!(serve(&mut port, &mut op, &[]), 9);
+    assert_eq!((op.units, op.more, op.length), (7, 8, 9));
+    assert_eq!(heard(&mut port, NEIGHBOUR), Vec::<Vec<u8>>::new());
+    assert_eq!(serve(&mut port, &mut op, &[]), 0);
+    assert_eq!((op.units, op.more, op.length), (8, 8, 22));
+    assert_eq!(op.octets[..6], [2, 0, 0, 0, 0, 0x44]);
+    assert_eq!(&op.octets[6..22], b"port-003switch-a");
+    assert_eq!(answer(&mut port, 13), 0);
+    assert_eq!(due(&mut port), 2 * SECOND);
+    assert_eq!(pass(&mut port, 2 * SECOND - 1), 0);
+    assert_eq!(due(&mut port), 1);
+    assert_eq!(answer(&mut port, 37), 0);
+    assert_eq!(all_of(&mut port, 1), Vec::<Vec<u8>>::new());
+    assert_eq!(answer(&mut port, 37), 9);
 }
 
 #[test]
@@ -311,7 +341,7 @@ fn units_at_once_are_units_one_by_one() {
         assert_eq!(due(&mut at_once), due(&mut one_by_one));
         assert_eq!(heard(&mut at_once, RIVAL), heard(&mut one_by_one, RIVAL));
     }
-    // Two announcements, and a request each second. Of the conflicts one is defended after the first announcement, and one
-    // after another 10 seconds.
-    assert_eq!(sent, 2 + 12 + 2);
+    // Two announcements, a request each second, and LLDP each five seconds. Of the conflicts one is defended after the first
+    // announcement, and one after another 10 seconds.
+    assert_eq!(sent, 2 + 12 + 3 + 2);
 }

@@ -1,12 +1,12 @@
-//! A controller beside the services of its address. The octets of each frame of ARP and ICMP are those that Scapy 2.5 makes
-//! of its fields.
+//! A controller and what is beside it. The octets of each frame of ARP and ICMP are those that Scapy 2.5 makes of its
+//! fields; those of LLDP were composed by hand from IEEE 802.1AB, 8.5, and IEC 61158-6-10, 4.11.
 
 use super::PUMP;
 use configurator::plan_from_json;
 use controller_core::{Event, State};
+use controller_station::{ServedController, ServedOutbox};
 use frame_codec::Frame;
 use rattle_std::alloc::Global;
-use station::{ServedController, ServedOutbox};
 use test_stations::octets;
 use uuid::Uuid;
 
@@ -26,6 +26,19 @@ pub(crate) const ECHO_REPLY: &str = "0200000000010200000000020800450000240000400
 /// The announcement of the controller's address.
 pub(crate) const ANNOUNCEMENT: &str =
     "ffffffffffff02000000000208060001080006040001020000000002c0a80001000000000000c0a80001";
+
+/// What the controller says of itself to its neighbour: its name, port-001, 20 seconds, and its address.
+pub(crate) const SAYS: &str = "0180c200000e02000000000288cc020407706c630409\
+    07706f72742d30303106020014fe08000ecf0200000000\
+    fe0a000ecf05020000000002100c0501c0a800010200000001000000";
+
+/// What a neighbour says of itself: chassis `switch-a`, port `port-003`, for 2 seconds, and its MAC address.
+pub(crate) const NEIGHBOUR: &str = "0180c200000e02000000004488cc0209077377697463682d61040907706f72742d30303306020002\
+    fe0a000ecf050200000000440000000000000000";
+
+/// It says goodbye: the same, for 0 seconds.
+pub(crate) const GOODBYE: &str = "0180c200000e02000000004488cc0209077377697463682d61040907706f72742d303033060200000000\
+    0000000000000000000000000000000000000000";
 
 /// The question of another station that uses the controller's address.
 pub(crate) const RIVAL: &str =
@@ -143,8 +156,65 @@ fn it_announces_its_address_twice_beside_the_controllers_frames() {
         if tick == 1 || tick == 64_001 {
             wanted.push(padded(ANNOUNCEMENT));
         }
+        if tick == 1 {
+            wanted.push(spelled(SAYS));
+        }
         assert_eq!(sent(&mut served, &Event::Tick), wanted, "tick {tick}");
     }
+}
+
+/// Its ChassisID, PortID and MAC address.
+fn known(served: &ServedController) -> Option<(Vec<u8>, Vec<u8>, [u8; 6])> {
+    served.neighbour().map(|neighbour| {
+        (
+            neighbour.chassis.to_vec(),
+            neighbour.port.to_vec(),
+            neighbour.mac.octets,
+        )
+    })
+}
+
+/// Each five seconds, also after the controller was stopped.
+#[test]
+fn it_announces_itself_to_its_neighbour() {
+    let mut served = served();
+    let _ = sent(&mut served, &Event::Stop);
+    let mut at = Vec::new();
+    for tick in 64_002..=480_001 {
+        if sent(&mut served, &Event::Tick).contains(&spelled(SAYS)) {
+            at.push(tick);
+        }
+    }
+    assert_eq!(at, [160_001, 320_001, 480_001]);
+}
+
+#[test]
+fn it_hears_its_neighbour_as_long_as_that_one_says() {
+    let mut served = served();
+    let switch = Some((
+        b"switch-a".to_vec(),
+        b"port-003".to_vec(),
+        [2, 0, 0, 0, 0, 0x44],
+    ));
+    assert_eq!(known(&served), None);
+    // A message of a neighbour is not answered, and nothing of the controller changes.
+    assert_eq!(answers(&mut served, NEIGHBOUR), Vec::<Vec<u8>>::new());
+    assert_eq!(known(&served), switch);
+    assert_eq!(served.controller().state(), State::Looking);
+    assert_eq!(answers(&mut served, REQUEST), [padded(REPLY)]);
+    for _ in 0..63_999 {
+        let _ = sent(&mut served, &Event::Tick);
+        assert_eq!(known(&served), switch);
+    }
+    let _ = sent(&mut served, &Event::Tick);
+    assert_eq!(known(&served), None);
+    let _ = answers(&mut served, NEIGHBOUR);
+    assert_eq!(known(&served), switch);
+    let _ = answers(&mut served, GOODBYE);
+    assert_eq!(known(&served), None);
+    // It does not hear itself.
+    let _ = answers(&mut served, SAYS);
+    assert_eq!(known(&served), None);
 }
 
 #[test]

@@ -4,10 +4,12 @@
 
 use call_pieces::{Heard, Joiner, Kind, WholeCall};
 
+mod device;
 mod joined;
 mod passes;
 mod random;
 mod split;
+mod station;
 mod times;
 mod writer;
 

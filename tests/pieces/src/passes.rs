@@ -44,7 +44,7 @@ fn iocr(kind: u16, frame_id: u16, objects: &[u16], statuses: &[u16]) -> Vec<u8> 
 }
 
 /// The blocks of a Connect that expects a module with one octet of input in each of 64 slots.
-fn connect() -> Vec<u8> {
+pub(crate) fn connect() -> Vec<u8> {
     let ar = block(
         0x0101,
         &[
@@ -79,7 +79,7 @@ fn connect() -> Vec<u8> {
 }
 
 /// The body of a call with these blocks.
-fn body(blocks: &[u8]) -> Vec<u8> {
+pub(crate) fn body(blocks: &[u8]) -> Vec<u8> {
     let length = u32::try_from(blocks.len()).expect("a length").to_be_bytes();
     [
         vec![0, 0, 16, 0],
@@ -93,7 +93,7 @@ fn body(blocks: &[u8]) -> Vec<u8> {
 }
 
 /// The call that comes in fragments of these many octets, as the joiner gives it.
-fn joined(operation: u16, body: &[u8], size: usize) -> Vec<u8> {
+pub(crate) fn joined(operation: u16, body: &[u8], size: usize) -> Vec<u8> {
     let mut joiner = calls();
     let parts: Vec<&[u8]> = body.chunks(size).collect();
     let mut got = Did::Nothing;
@@ -123,8 +123,8 @@ fn a_connect_of_64_modules_passes() {
     }
 }
 
-#[test]
-fn a_record_of_4068_octets_passes() {
+/// The blocks of a Write of a record of 4,068 octets.
+pub(crate) fn write() -> Vec<u8> {
     let record = body_of(4068);
     let header = block(
         0x0008,
@@ -136,7 +136,12 @@ fn a_record_of_4068_octets_passes() {
         ],
     );
     assert_eq!(header.len(), 64);
-    let blocks = [header, record].concat();
+    [header, record].concat()
+}
+
+#[test]
+fn a_record_of_4068_octets_passes() {
+    let blocks = write();
     let whole = joined(3, &body(&blocks), 1392);
     assert_eq!(whole.len(), 4232);
     let call = read_call(Interface::Device, &whole).expect("a call");

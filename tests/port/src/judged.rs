@@ -1,6 +1,6 @@
 //! Stations as a host in C writes them: which are refused, and with which number.
 use c_layout::{Module, Parameter, Submodule};
-use device_abi::{Station, judge};
+use station_abi::{Station, judge};
 
 fn submodule(subslot: u16) -> Submodule {
     Submodule {
@@ -31,6 +31,7 @@ fn station() -> Station {
         smallest_interval: 0,
         inputs_begin_bad: 0,
         ready_by_application: 0,
+        without_services: 0,
         module_count: 3,
         modules: std::array::from_fn(|slot| Module {
             ident: 1,
@@ -49,7 +50,7 @@ fn station() -> Station {
 fn fault(change: fn(&mut Station)) -> u32 {
     let mut station = station();
     change(&mut station);
-    judge(81920, 3, 1568, &station)
+    judge(102400, 3, 1568, &station)
 }
 
 #[test]
@@ -100,7 +101,7 @@ fn each_fault_has_its_number() {
 #[test]
 fn another_header_or_a_small_room() {
     let station = station();
-    for (size, abi, op_size, wanted) in [(81920, 2, 1568, 2), (81920, 4, 1568, 2), (81920, 3, 1564, 2), (81919, 3, 1568, 3)] {
+    for (size, abi, op_size, wanted) in [(102400, 2, 1568, 2), (102400, 4, 1568, 2), (102400, 3, 1564, 2), (102399, 3, 1568, 3)] {
         assert_eq!(judge(size, abi, op_size, &station), wanted);
     }
 }

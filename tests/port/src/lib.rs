@@ -9,6 +9,7 @@ mod host;
 mod judged;
 mod operations;
 mod refusals;
+mod served;
 mod stations;
 mod told;
 mod work;

@@ -1,11 +1,11 @@
 //! Operations as a host in C calls them: numbers, answers, and where the reported values are.
-use crate::stations::{booted, busy, lost, made};
-use device_abi::{Port, hand_out, serve};
+use crate::served::{alone, booted, busy, lost, made};
 use c_layout::Op;
+use station_abi::{ServedPort, hand_out, serve};
 use test_stations::SET;
 
 /// An operation of this number, with nothing else in it.
-fn asked(what: u32) -> Op {
+pub(crate) fn asked(what: u32) -> Op {
     Op {
         what,
         slot: 0,
@@ -24,7 +24,7 @@ fn asked(what: u32) -> Op {
 }
 
 /// What it is answered with.
-fn answer(port: &mut Port, what: u32) -> u32 {
+fn answer(port: &mut ServedPort, what: u32) -> u32 {
     let mut op = asked(what);
     serve(port, &mut op, &[])
 }
@@ -33,7 +33,7 @@ fn answer(port: &mut Port, what: u32) -> u32 {
 fn before_a_start_and_behind_a_loss() {
     let mut early = made();
     let mut late = lost();
-    for what in (3..19).filter(|what| *what != 7) {
+    for what in (3..22).filter(|what| *what != 7) {
         assert_eq!(answer(&mut early, what), 5);
         assert_eq!(answer(&mut late, what), 14);
     }
@@ -49,7 +49,7 @@ fn before_a_start_and_behind_a_loss() {
 #[test]
 fn no_such_operation_sector_or_slot() {
     let mut port = made();
-    for what in [0, 7, 19, u32::MAX] {
+    for what in [0, 7, 22, u32::MAX] {
         assert_eq!(answer(&mut port, what), 10);
     }
     let mut op = asked(1);
@@ -94,13 +94,13 @@ fn a_frame_is_handed_out_where_it_lies() {
     // The answer to the Set goes to its sender, from the device, and is padded to the shortest frame.
     assert_eq!((octets.len(), &octets[..6], &octets[12..18]), (60, &SET[6..12], &[0x88, 0x92, 0xFE, 0xFD, 0x04, 0x01][..]));
     let place = octets.as_ptr().addr();
-    assert!(begin < place && place + 60 <= begin + size_of::<Port>());
+    assert!(begin < place && place + 60 <= begin + size_of::<ServedPort>());
     assert_eq!(op.octets, [0; 1520]);
 }
 
 #[test]
 fn an_event_without_work_tells_none() {
-    let mut port = booted();
+    let mut port = alone();
     for what in [3, 4, 5] {
         let mut op = asked(what);
         op.work = 3;
@@ -116,7 +116,7 @@ fn an_event_without_work_tells_none() {
 #[test]
 fn what_is_due_is_told() {
     let mut op = asked(15);
-    assert_eq!(serve(&mut booted(), &mut op, &[]), 0);
+    assert_eq!(serve(&mut alone(), &mut op, &[]), 0);
     assert_eq!((op.units, op.work), (u32::MAX, 0));
     let mut op = asked(4);
     (op.units, op.due) = (9, 8);
@@ -129,7 +129,7 @@ fn what_is_due_is_told() {
 #[test]
 fn a_tick_tells_what_is_due() {
     let signal: Vec<u8> = [&SET[..6], &SET[6..12], b"\x88\x92\xfe\xfd\x04\x00\0\0\0\x09\0\0\0\x08\x05\x03\0\x04\0\0\x01\0"].concat();
-    let mut port = booted();
+    let mut port = alone();
     let mut op = asked(4);
     for (units, due) in [(0, u32::MAX), (9, u32::MAX), (1, u32::MAX)] {
         op.units = units;
@@ -167,6 +167,32 @@ fn a_status_is_given_to_what_is_plugged() {
     }
 }
 
+// A diagnosis is that of what is plugged, with numbers in their ranges; without a relation too. It exists until it disappears.
+#[test]
+fn a_diagnosis_is_given_to_what_is_plugged() {
+    let mut port = booted();
+    for (slot, subslot, channel, error, appears, answer, note) in [
+        (1, 1, 3, 6, 1, 0, 0),
+        (1, 1, 3, 6, 9, 0, 7),
+        (1, 1, 3, 6, 0, 0, 0),
+        (1, 1, 3, 6, 0, 0, 7),
+        (2, 1, 0x8000, 0xFFFF, 1, 0, 0),
+        (2, 1, 0x8001, 1, 1, 0, 7),
+        (2, 1, 1, 0, 1, 0, 7),
+        (1, 2, 1, 1, 1, 0, 7),
+        (65536 + 1, 1, 1, 1, 1, 9, 5),
+        (1, 65536 + 1, 1, 1, 1, 9, 5),
+        (1, 1, 65536 + 1, 1, 1, 9, 5),
+        (1, 1, 1, 65536 + 1, 1, 9, 5),
+    ] {
+        let mut op = asked_of(19, slot, subslot);
+        (op.units, op.sector, op.place, op.note) = (channel, error, appears, 5);
+        assert_eq!(serve(&mut port, &mut op, &[]), answer, "{slot} {subslot} {channel} {error} {appears}");
+        assert_eq!((op.note, op.work), (note, 0), "{slot} {subslot} {channel} {error} {appears}");
+        assert_eq!((op.units, op.sector, op.place), (channel, error, appears));
+    }
+}
+
 // Without a relation nobody waits for the application, and no frame was accepted.
 #[test]
 fn ready_and_the_provider_need_a_relation() {
@@ -179,7 +205,7 @@ fn ready_and_the_provider_need_a_relation() {
         assert_eq!(serve(&mut booted(), &mut op, &[]), 24);
         assert_eq!(op.length, 5);
     }
-    for what in [16, 17] {
+    for what in [16, 17, 19] {
         assert_eq!(answer(&mut busy(), what), 7);
     }
 }

@@ -17,7 +17,7 @@ fn sized(real: &mut Real, place: usize, input: u16, output: u16) {
 }
 
 /// What the demo station has: two octets of input in slot 1, and two of output in slot 2.
-fn demo() -> Real {
+pub(crate) fn demo() -> Real {
     let mut real = plugged();
     sized(&mut real, 1, 2, 0);
     sized(&mut real, 2, 0, 2);

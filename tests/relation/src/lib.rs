@@ -12,11 +12,13 @@ use test_stations::{Station, frame, is_padded, step};
 mod connects;
 mod exchange;
 mod listings;
+mod log;
 mod options;
 mod readiness;
 mod records;
 mod relation;
 mod requests;
+mod several;
 mod statuses;
 
 /// A station that is tried, and what it sent last.

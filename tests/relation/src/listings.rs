@@ -1,13 +1,13 @@
 //! Records of a relation that list what is expected. Frames and answers are those of a reference model that shares no line with
 //! the sources; tshark read them.
 use crate::Tried;
-use crate::connects::{OTHER, TWO};
+use crate::connects::{OTHER, THREE, TWO};
 use crate::requests::{related, write};
-use device_core::{Device, Note};
+use device_core::{Device, Event, Note};
 use flash_model::MemoryFlash;
 use pn_values::{demo_identity, demo_modules};
 use relations::Phase;
-use test_stations::{READ, call, frame};
+use test_stations::{READ, call, frame, octets as octets_of};
 
 /// The name, the address, a Connect, PrmEnd, and the answer to ApplicationReady, of the demo station.
 const BEFORE: [&str; 5] = [
@@ -80,6 +80,45 @@ fn read(device: &mut Tried, sequence: u8, (slot, subslot): (u16, u16), index: u1
     status.copy_from_slice(&answer[122..126]);
     let record = answer.iter().skip(206).map(|octet| format!("{octet:02X}")).collect();
     (status, record)
+}
+
+/// A frame of outputs: 0x5678 in slot 2, all statuses good.
+const OUTPUTS: &str =
+    "0200000000010200000000028100c0008892c0005678808080808000000000000000000000000000000000000000000000000000000000000000000000053500";
+
+/// A Read, and its answer: 0x8028 in slot 1, and 0x8029 in slot 2.
+const DATA: [(&str, &str); 2] = [
+    (
+        "0200000000010200000000020800450000c0000040004011b8d9c0a80001c0a800028894889400acbfc30400200000000000dea000006c9711d18271000104560123dea000016c9711d1827100a02442df7d66666666777788889999aaaaaaaaaaaa0000000000000001000000320002ffffffff0054000000000000055c000000400000055c00000000000000400009003c010000321111111122223333444455555555555500000000000100010000802800001000000000000000000000000000000000000000000000000000",
+        "0200000000020200000000010800450000ce000040004011b8cbc0a80002c0a800018894889400ba547404020a0000000000dea000006c9711d18271000104560123dea000016c9711d1827100a02442df7d66666666777788889999aaaaaaaaaaaa0000000000000001000000320002ffffffff006200000000000000000000004e0000055c000000000000004e8009003c01000032111111112222333344445555555555550000000000010001000080280000000e0000000000000000000000000000000000000000000000000015000a01000180018000021234",
+    ),
+    (
+        "0200000000010200000000020800450000c0000040004011b8d9c0a80001c0a800028894889400acbfc10400200000000000dea000006c9711d18271000104560123dea000016c9711d1827100a02442df7d66666666777788889999aaaaaaaaaaaa0000000000000001000000320002ffffffff0054000000000000055c000000400000055c00000000000000400009003c010000321111111122223333444455555555555500000000000200010000802900001000000000000000000000000000000000000000000000000000",
+        "0200000000020200000000010800450000dc000040004011b8bdc0a80002c0a800018894889400c8edce04020a0000000000dea000006c9711d18271000104560123dea000016c9711d1827100a02442df7d66666666777788889999aaaaaaaaaaaa0000000000000001000000320002ffffffff007000000000000000000000005c0000055c000000000000005c8009003c01000032111111112222333344445555555555550000000000020001000080290000001c00000000000000000000000000000000000000000000000000160018010000000101000280567880001400080100000080000080",
+    ),
+];
+
+#[test]
+fn the_data_that_is_exchanged_is_read() {
+    for (call, answer) in DATA {
+        let mut device = exchanging();
+        device.notes(&Event::Input(1, 1, octets_of(&[0x12, 0x34])), Note::Done);
+        device.notes(&frame(&octets(OUTPUTS)), Note::Done);
+        device.sends(&frame(&octets(call)), &octets(answer));
+    }
+}
+
+#[test]
+fn data_before_the_first_frame_is_zeros() {
+    let mut device = Tried::new(related(600, THREE));
+    assert_eq!(read(&mut device, 1, (1, 1), 0x8028), ([0; 4], "0015000A01000100018000020000".to_string()));
+    let none = "001600180100000001010002800000000014000801000000800000 80".replace(' ', "");
+    assert_eq!(read(&mut device, 2, (2, 1), 0x8029), ([0; 4], none));
+    // A submodule without data has an input of no octets, and no output.
+    assert_eq!(read(&mut device, 3, (0, 1), 0x8028), ([0; 4], "001500080100010001800000".to_string()));
+    assert_eq!(read(&mut device, 4, (0, 1), 0x8029).0, [0xDE, 0x80, 0xB0, 0]);
+    assert_eq!(read(&mut device, 5, (2, 1), 0x8028).0, [0xDE, 0x80, 0xB0, 0]);
+    assert_eq!(read(&mut device, 6, (3, 1), 0x8028).0, [0xDE, 0x80, 0xB2, 0]);
 }
 
 #[test]

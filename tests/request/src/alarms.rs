@@ -1,11 +1,12 @@
 //! PDUs of alarms: the octets are worked out by hand from the formats, and those of the first alarm are a worked frame's.
 
 use super::blocks::with;
+use alarm_reports::{Priority, read_report};
 use arrayvec::ArrayVec;
 use block_codec::{AlarmAck, AlarmNotification};
 use pn_alarms::{
-    Abort, Alarm, AlarmFault, ControllerAlarms, DeviceAlarms, Due, Message, PduFate, PduType, Priority,
-    RaiseFault, Receiver, Taken, alarm_front, pdu_front, read_message, read_pdu, read_report,
+    Abort, Alarm, AlarmFault, ControllerAlarms, DeviceAlarms, Due, Message, PduFate, PduType, RaiseFault,
+    Receiver, Taken, alarm_front, pdu_front, read_message, read_pdu,
 };
 
 /// The first alarm of a relation, of slot 1 and subslot 1, with two octets of data.
@@ -176,7 +177,9 @@ fn acknowledged() {
     let fate = hear(&mut alarms, Message::Ack(0xFFFF));
     assert_eq!(fate, PduFate::Done);
     assert!(!is_due(&mut alarms));
-    assert_eq!(hear(&mut alarms, Message::Abort), PduFate::Aborted);
+    let status = Abort::DataHold.status();
+    let fate = hear(&mut alarms, Message::Abort(status));
+    assert_eq!(fate, PduFate::Aborted(status));
     let mut idle = DeviceAlarms::new(1, 3);
     let fate = hear(&mut idle, Message::Ack(0xFFFF));
     assert_eq!(fate, PduFate::Ignored);

@@ -151,7 +151,7 @@ fn numbers_of_faults() {
 #[test]
 fn counters_come_round() {
     let mut consumer = Consumer::new(3, 32);
-    let good = DataStatus::running();
+    let good = DataStatus::running(false);
     assert!(consumer.accept(65_520, good, 0));
     assert!(consumer.accept(16, good, 0));
     assert!(!consumer.accept(65_520, good, 0));
@@ -237,7 +237,7 @@ fn an_image_of_outputs() {
 #[test]
 fn octets_of_a_frame() {
     let mut out = ArrayVec::<u8, 20>::new();
-    put_cyclic(&mut out, &[1, 2, 3], CyclicTail::running(0x1234));
+    put_cyclic(&mut out, &[1, 2, 3], CyclicTail::running(0x1234, false));
     let wanted = [1, 2, 3, 0x12, 0x34, 0x35, 0];
     assert_eq!(out.as_slice(), &wanted[..]);
     // padding is not looked at

@@ -25,7 +25,7 @@ use uuid::Uuid;
 /// The ARUUID of the Connects.
 const AR: Uuid = Uuid::from_u128(0x11111111_2222_3333_4444_555555555555);
 
-/// The Connect of a plan, its records, and whether it goes on after a refused one.
+/// The Connect of a plan, its records, whether it goes on after a refused one, and whether it writes them in lists.
 fn plan_lines(plan: &Plan) -> String {
     let connect = format!("connect {}\n", hex(plan.connect(&AR).as_slice()));
     let records = plan.records().iter().map(|record| {
@@ -39,7 +39,11 @@ fn plan_lines(plan: &Plan) -> String {
         true => "continue\n",
         false => "",
     };
-    connect + &records.collect::<String>() + goes_on
+    let lists = match plan.has_multiple_write() {
+        true => "lists\n",
+        false => "",
+    };
+    connect + &records.collect::<String>() + goes_on + lists
 }
 
 /// What a catalogue comes to.

@@ -1,10 +1,11 @@
 //! What serves the calls of a relation.
 
+use device_log::Log;
+use diagnosis::Diagnoses;
 use pn_values::{Command, Identity, Mac, Real, Settings};
-use relation_records::read_within;
+use relation_records::{Sources, read_implicit, read_within};
 use records::{
-    Blocks, CallFault, Effect, Operation, Write, judge_write, names_relation, put_write_answer,
-    read_implicit,
+    Blocks, CallFault, Effect, Operation, Write, Writing, judge_write, names_relation, put_write_answer,
 };
 use relations::{Application, DeviceOptions, Partner, Relation};
 use std::mem;
@@ -54,6 +55,8 @@ impl Device {
                 let application = Application {
                     options: &DeviceOptions::default(),
                     statuses: &[],
+                    units: 0,
+                    diagnoses: &Diagnoses::new(),
                 };
                 self.relation.connect(
                     &self.identity,
@@ -74,8 +77,17 @@ impl Device {
 
     /// A Read within the relation.
     fn read(&mut self, blocks: &[u8], answer: &mut Blocks) -> Result<(), CallFault> {
+        let sources = Sources {
+            relation: &self.relation,
+            units: 0,
+            log: &Log::new(),
+            identity: &self.identity,
+            settings: &self.settings,
+            neighbour: &None,
+            diagnoses: &Diagnoses::new(),
+        };
         read_within(
-            &self.relation,
+            &sources,
             &self.identity,
             &self.real,
             &self.settings,
@@ -88,7 +100,23 @@ impl Device {
 
     /// A Read by anybody.
     fn read_implicit(&mut self, blocks: &[u8], answer: &mut Blocks) -> Result<(), CallFault> {
-        read_implicit(&self.identity, &self.real, &self.settings, blocks, answer)?;
+        let sources = Sources {
+            relation: &self.relation,
+            units: 0,
+            log: &Log::new(),
+            identity: &self.identity,
+            settings: &self.settings,
+            neighbour: &None,
+            diagnoses: &Diagnoses::new(),
+        };
+        read_implicit(
+            &sources,
+            &self.identity,
+            &self.real,
+            &self.settings,
+            blocks,
+            answer,
+        )?;
         if names_relation(self.relation.uuid(), blocks) {
             self.restart_timer();
         }
@@ -97,7 +125,12 @@ impl Device {
 
     /// A Write within the relation.
     fn write(&mut self, blocks: &[u8], answer: &mut Blocks) -> Result<(), CallFault> {
-        let Write { request, effect } = judge_write(blocks, self.relation.uuid(), &self.real)?;
+        let Writing::One(Write { request, effect }) =
+            judge_write(blocks, self.relation.uuid(), &self.real)?
+        else {
+            // The tables have no list of records.
+            return Err(CallFault::Index);
+        };
         match effect {
             Effect::Stores(value) => self.carry(&Command::SetIm(value)),
             Effect::Keeps(taken) => self.relation.keep(taken)?,

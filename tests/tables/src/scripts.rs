@@ -4,11 +4,14 @@
 //! In `scripts` the controller meets the demo device. In `application` the device's application is in charge: it says
 //! whether inputs are good and when it is ready, it sets options, and time passes by leaps; in its last scripts a controller
 //! meets that device. In `services` there are services beside the device: echo, endpoint mapper, pings and calls that nobody
-//! serves, announcements and conflicts of the address; and a controller reads the records for engineering tools.
+//! serves, announcements and conflicts of the address, and neighbours; and a controller reads the records for engineering tools.
+//!
+//! In `diagnosis` diagnoses appear and disappear, before a relation, within it and after it. In `ends` a controller meets that
+//! device, and lists what its alarms told it.
 //!
 //! Each `stdout` comes from a reference model of both ends that was written from the rules alone and shares no line with
-//! this repository. A script that a wrong line ends has the output of the lines before it. Of `services` the frames of LLDP,
-//! which this station does not send, are left out; tshark read each other answer there without a malformed field.
+//! this repository. A script that a wrong line ends has the output of the lines before it. tshark read each answer of
+//! `services` without a malformed field.
 
 use crate::is_same;
 use rattle_std::alloc::Global;
@@ -57,5 +60,22 @@ fn with_services_each_script_prints_what_the_model_prints() {
     let wanted = include_str!("../services/stdout");
     is_same(&all_printed(scripts), wanted);
     // Leaps do what as many single units do, also beside services.
+    is_same(&all_printed(&scripts.replace("\ntick ", "\nelapse ")), wanted);
+}
+
+#[test]
+fn with_diagnosis_each_script_prints_what_the_model_prints() {
+    let scripts = include_str!("../diagnosis/stdin");
+    let wanted = include_str!("../diagnosis/stdout");
+    is_same(&all_printed(scripts), wanted);
+    // Leaps do what as many single units do, with alarms of both priorities.
+    is_same(&all_printed(&scripts.replace("\ntick ", "\nelapse ")), wanted);
+}
+
+#[test]
+fn with_diagnosis_both_ends_print_what_the_model_prints() {
+    let scripts = include_str!("../ends/stdin");
+    let wanted = include_str!("../ends/stdout");
+    is_same(&all_printed(scripts), wanted);
     is_same(&all_printed(&scripts.replace("\ntick ", "\nelapse ")), wanted);
 }

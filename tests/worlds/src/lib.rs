@@ -1,6 +1,8 @@
 //! Rows of moves that were worked out by hand, each frame by its number, and that a world begins as the laws of both ends ask.
 #![cfg(test)]
 
+mod diagnosis;
+mod lists;
 mod otherwise;
 mod played;
 mod requests;

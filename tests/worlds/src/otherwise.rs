@@ -38,7 +38,7 @@ const CONNECTED: [Kind; 6] = [
     Kind::Positive,
 ];
 
-fn module(slot: u16, ident: u32, submodules: &[(u16, u32)]) -> RealModule {
+pub(crate) fn module(slot: u16, ident: u32, submodules: &[(u16, u32)]) -> RealModule {
     let mut module = RealModule {
         slot,
         ident,
@@ -55,7 +55,7 @@ fn module(slot: u16, ident: u32, submodules: &[(u16, u32)]) -> RealModule {
 }
 
 /// What the catalogue says, but for the records of slot 1, which are these: each by its index and its length.
-fn plugged(records: &[(u16, u16)]) -> Real {
+pub(crate) fn plugged(records: &[(u16, u16)]) -> Real {
     let mut modules = ArrayVec::new();
     modules.push(module(0, 1, &[(1, 1), (0x8000, 2), (0x8001, 3)]));
     let mut input = module(1, 16, &[(1, 16)]);
@@ -117,7 +117,7 @@ pub(crate) fn make(watched: &mut Watched, choice: Choice) {
 }
 
 /// Each frame comes to the other end as soon as it was sent, up to the last one: these are sent.
-fn starts_up(watched: &mut Watched, rest: &[Kind]) {
+pub(crate) fn starts_up(watched: &mut Watched, rest: &[Kind]) {
     let mut number = 0;
     while number < watched.count() {
         assert!(number < MOST_FRAMES, "the start-up does not end");
@@ -130,10 +130,10 @@ fn starts_up(watched: &mut Watched, rest: &[Kind]) {
 }
 
 /// In schedules from seeds no law is broken and no data exchanged, and some of them come to this end.
-fn never_exchanges(real: fn() -> Real, cause: Cause) {
+pub(crate) fn never_exchanges(fresh: impl Fn() -> Watched, cause: Cause) {
     let mut ended = 0;
     for seed in 0..SEEDS {
-        let (mut watched, mut schedule) = (world(real()), Schedule::new(seed));
+        let (mut watched, mut schedule) = (fresh(), Schedule::new(seed));
         for _ in 0..MOVES {
             let choice = schedule.choose(watched.count(), watched.raised());
             make(&mut watched, choice);
@@ -164,7 +164,7 @@ fn refuses_the_second(real: fn() -> Real) {
     assert_eq!(watched.told().state, State::Ended(Cause::Refused));
     assert_eq!(watched.told().phase, Some(Phase::Started));
     assert_eq!(watched.told().taken, 1);
-    never_exchanges(real, Cause::Refused);
+    never_exchanges(|| world(real()), Cause::Refused);
 }
 
 /// A module differs: the controller sends a Release at once.
@@ -173,7 +173,7 @@ fn differs(real: fn() -> Real) {
     starts_up(&mut watched, &[Kind::Release, Kind::Positive]);
     assert_eq!(watched.told().state, State::Ended(Cause::ModuleDiff));
     assert_eq!(watched.told().phase, None);
-    never_exchanges(real, Cause::ModuleDiff);
+    never_exchanges(|| world(real()), Cause::ModuleDiff);
 }
 
 // Beside the others: the same station as the plan says starts up, and is given both records.
@@ -213,7 +213,7 @@ fn the_first_record_of_another_length_ends_it() {
     starts_up(&mut watched, &[Kind::Write, Kind::Negative]);
     assert_eq!(watched.told().state, State::Ended(Cause::Refused));
     assert_eq!(watched.told().taken, 0);
-    never_exchanges(real, Cause::Refused);
+    never_exchanges(|| world(real()), Cause::Refused);
 }
 
 #[test]

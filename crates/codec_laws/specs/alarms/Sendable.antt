@@ -5,6 +5,7 @@ use Rattle.block_codec.specs.declared.block.Block.TheVariants as is
 use Rattle.block_codec.specs.Block.{block_bytes}
 use Rattle.pn_alarms.specs.declared.pdu.Header.{Header}
 use Rattle.pn_alarms.specs.Format.{Said, is_long}
+use Rattle.alarm_reports.specs.Report.{low_ack}
 
 -- the numbers of a header have two octets each
 pub record IsHeader (header : Header) : Type 0 where
@@ -23,6 +24,10 @@ pub record CanBeSaid (said : Said) : Type 0 where
 -- a PDU with an AlarmAck as its data
 abbrev pub ack_pdu : Header → AlarmAck → Said
 ack_pdu header ack = record { header = header; body = block_bytes (is.AlarmAck ack) }
+
+-- the same of low priority
+abbrev pub low_ack_pdu : Header → AlarmAck → Said
+low_ack_pdu header ack = record { header = header; body = low_ack.write ack [] }
 
 -- a PDU without a body
 abbrev pub empty_pdu : Header → Said

@@ -1,74 +1,51 @@
 -- Both ends of a relation, and each PDU that either end ever sent: what may happen between them, in any order and
 -- number.
-use Rattle.std.specs.Prelude.{◌≡◌, ℕ, List, [], ◌∷◌, ◌++◌, length, nat_le, nat_lt, slice_get, Option, Some, None, if◌then◌else◌}
+use Rattle.std.specs.Prelude.{◌≡◌, ℕ, List, [], ◌∷◌, ◌++◌, length, nat_lt, slice_get, Option, Some, None, if◌then◌else◌}
 use Rattle.record_blocks.specs.declared.alarm_ack.AlarmAck.{AlarmAck}
 use Rattle.record_blocks.specs.declared.alarm_notification.AlarmNotification.{AlarmNotification}
 use Rattle.pn_alarms.specs.declared.message.Notice.TheVariants as message
 use Rattle.pn_alarms.specs.declared.repeats.Due.{Due}
 use Rattle.pn_alarms.specs.declared.repeats.Due.TheVariants as due_is
-use Rattle.pn_alarms.specs.declared.receiver.Taken.{Taken}
-use Rattle.pn_alarms.specs.declared.receiver.Taken.TheVariants.{New, Again, Refused}
-use Rattle.pn_alarms.specs.declared.sender.Alarm.{Alarm}
 use Rattle.pn_alarms.specs.Numbers.{send_number}
 use Rattle.pn_alarms.specs.Sending.{due}
-use Rattle.pn_alarms.specs.Receiver.{taken_as}
 use Rattle.pn_alarms.specs.Ends.{DeviceEnd, ControllerEnd}
-use Rattle.pn_alarms.specs.Device.{idle, end_raised, end_later, end_behind}
+use Rattle.pn_alarms.specs.Device.{idle, end_with, end_later, end_behind}
 use Rattle.pn_alarms.specs.Controller.{unheard, confirmed, controller_later, with_data, with_ack}
 use Rattle.codec_laws.specs.alarms.Line.{Line, empty, with_sent, with_again, with_come}
 
--- Both ends; the alarms on their way to the controller, and the AlarmAcks on their way to the device; each ACK ever
--- sent to either end; and each NACK, by the number of the data that it refused. ERRs are left out: the sender of one
--- has ended the relation, and its receiver ends it, so nothing is accepted after it.
+-- Both ends; and the alarms on their way to the controller, and the AlarmAcks on their way to the device. ERRs are left
+-- out: the sender of one has ended the relation, and its receiver ends it, so nothing is accepted after it. So are NACKs,
+-- which change nothing at either end.
 pub record World : Type 0 where
   pub device : DeviceEnd
   pub controller : ControllerEnd
   pub alarms : Line AlarmNotification
   pub confirms : Line AlarmAck
-  pub acks_to_device : List ℕ
-  pub acks_to_controller : List ℕ
-  pub nacks_to_device : List ℕ
-  pub nacks_to_controller : List ℕ
 
--- What may happen between both ends. The device raises an alarm, which is refused if it is too long or another one is
--- unconfirmed. The controller sends an AlarmAck, if it accepted more alarms than it sent AlarmAcks. A unit passes at
--- either end. The data, ACK or NACK at an index, among all that one end ever sent, arrives at the other.
+-- What may happen between both ends. The device raises an alarm, which is refused if another one is unconfirmed. The
+-- controller sends an AlarmAck, if it accepted more alarms than it sent AlarmAcks. A unit passes at either end. The data
+-- at an index, among all that one end ever sent, arrives at the other. An ACK arrives at either end: of any number, also
+-- of one that the other never acknowledged.
 pub data Move : Type 0 where
-  Raise : (alarm : Alarm) → Move
+  Raise : (alarm : AlarmNotification) → Move
   Confirm : (ack : AlarmAck) → Move
   DeviceTick : Move
   ControllerTick : Move
   AlarmComes : (place : ℕ) → Move
   ConfirmComes : (place : ℕ) → Move
-  AckComesToDevice : (place : ℕ) → Move
-  AckComesToController : (place : ℕ) → Move
-  NackComesToDevice : (place : ℕ) → Move
-  NackComesToController : (place : ℕ) → Move
+  AckComesToDevice : (number : ℕ) → Move
+  AckComesToController : (number : ℕ) → Move
 
 -- the start of a relation with this RTATimeoutFactor and these RTARetries: nothing has happened yet
 abbrev pub start : ℕ → ℕ → World
-start factor retries = record {
-  device = idle factor retries;
-  controller = unheard factor retries;
-  alarms = empty;
-  confirms = empty;
-  acks_to_device = [];
-  acks_to_controller = [];
-  nacks_to_device = [];
-  nacks_to_controller = [];
+start factor retries = record { device = idle factor retries; controller = unheard factor retries; alarms = empty; confirms = empty }
+
+-- an alarm is raised, and sent, if no other one is unconfirmed
+abbrev pub after_raise : World → AlarmNotification → Option AlarmNotification → World
+after_raise w alarm None = record w {
+  device = end_with w.device alarm;
+  alarms = with_sent w.alarms (send_number (end_with w.device alarm).sender.sending.last) alarm;
 }
-
--- the alarm that was raised is sent
-abbrev pub with_raised : World → Option AlarmNotification → World
-with_raised w None = w
-with_raised w (Some alarm) = record w { alarms = with_sent w.alarms (send_number w.device.sender.sending.last) alarm }
-
--- an alarm of at most 32 octets is raised if no other one is unconfirmed
-abbrev pub after_raise : World → Alarm → Option AlarmNotification → World
-after_raise w alarm None =
-    if nat_le (length alarm.alarm_data.now) 32
-    then with_raised (record w { device = end_raised w.device alarm }) (end_raised w.device alarm).sender.standing
-    else w
 after_raise w alarm (Some standing) = w
 
 -- an AlarmAck is sent, if fewer were sent than alarms were accepted
@@ -92,14 +69,6 @@ line_after line number value due_is.Nothing = line
 line_after line number value due_is.Again = repeated line number value
 line_after line number value due_is.Spent = line
 
--- the alarm sent last is repeated
-abbrev pub repeated_to_controller : World → Option AlarmNotification → World
-repeated_to_controller w alarm = record w { alarms = repeated w.alarms (send_number w.device.sender.sending.last) alarm }
-
--- the AlarmAck sent last is repeated
-abbrev pub repeated_to_device : World → Option AlarmAck → World
-repeated_to_device w ack = record w { confirms = repeated w.confirms (send_number w.controller.sending.last) ack }
-
 -- a unit passes at the device
 abbrev pub after_device_tick : World → World
 after_device_tick w = record w {
@@ -114,52 +83,15 @@ after_controller_tick w = record w {
   confirms = line_after w.confirms (send_number w.controller.sending.last) w.controller.confirming (due w.controller.sending);
 }
 
--- data that is accepted, now or before, is answered by an ACK
-abbrev pub acks_after : List ℕ → ℕ → Taken → List ℕ
-acks_after acks number New = acks ++ number ∷ []
-acks_after acks number Again = acks ++ number ∷ []
-acks_after acks number Refused = acks
-
--- data that is not accepted is answered by a NACK
-abbrev pub nacks_after : List ℕ → ℕ → Taken → List ℕ
-nacks_after nacks number New = nacks
-nacks_after nacks number Again = nacks
-nacks_after nacks number Refused = nacks ++ number ∷ []
-
 -- an alarm arrives at the controller, if there is one
 abbrev pub after_alarm : World → Option (ℕ × AlarmNotification) → World
 after_alarm w None = w
-after_alarm w (Some pdu) = record w {
-  controller = with_data w.controller pdu.0;
-  alarms = with_come w.alarms w.controller.seen pdu;
-  acks_to_device = acks_after w.acks_to_device pdu.0 (taken_as w.controller.seen pdu.0);
-  nacks_to_device = nacks_after w.nacks_to_device pdu.0 (taken_as w.controller.seen pdu.0);
-}
+after_alarm w (Some pdu) = record w { controller = with_data w.controller pdu.0; alarms = with_come w.alarms w.controller.seen pdu }
 
 -- an AlarmAck arrives at the device, if there is one
 abbrev pub after_confirms : World → Option (ℕ × AlarmAck) → World
 after_confirms w None = w
-after_confirms w (Some pdu) = record w {
-  device = end_behind w.device (message.Data pdu.0 pdu.1);
-  confirms = with_come w.confirms w.device.seen pdu;
-  acks_to_controller = acks_after w.acks_to_controller pdu.0 (taken_as w.device.seen pdu.0);
-  nacks_to_controller = nacks_after w.nacks_to_controller pdu.0 (taken_as w.device.seen pdu.0);
-}
-
--- an ACK arrives at the device, if there is one
-abbrev pub after_ack_to_device : World → Option ℕ → World
-after_ack_to_device w None = w
-after_ack_to_device w (Some number) = record w { device = end_behind w.device (message.Ack number) }
-
--- an ACK arrives at the controller, if there is one
-abbrev pub after_ack_to_controller : World → Option ℕ → World
-after_ack_to_controller w None = w
-after_ack_to_controller w (Some number) = record w { controller = with_ack w.controller number }
-
--- a NACK arrives at the device, if there is one; a controller ignores NACKs and goes on repeating
-abbrev pub after_nack_to_device : World → Option ℕ → World
-after_nack_to_device w None = w
-after_nack_to_device w (Some number) = record w { device = end_behind w.device message.Nack }
+after_confirms w (Some pdu) = record w { device = end_behind w.device (message.Data pdu.0 pdu.1); confirms = with_come w.confirms w.device.seen pdu }
 
 -- the world after a move
 abbrev pub happens : World → Move → World
@@ -169,10 +101,8 @@ happens w DeviceTick = after_device_tick w
 happens w ControllerTick = after_controller_tick w
 happens w (AlarmComes k) = after_alarm w (slice_get w.alarms.pdus k)
 happens w (ConfirmComes k) = after_confirms w (slice_get w.confirms.pdus k)
-happens w (AckComesToDevice k) = after_ack_to_device w (slice_get w.acks_to_device k)
-happens w (AckComesToController k) = after_ack_to_controller w (slice_get w.acks_to_controller k)
-happens w (NackComesToDevice k) = after_nack_to_device w (slice_get w.nacks_to_device k)
-happens w (NackComesToController k) = w
+happens w (AckComesToDevice number) = record w { device = end_behind w.device (message.Ack number) }
+happens w (AckComesToController number) = record w { controller = with_ack w.controller number }
 
 -- the world after a list of moves
 abbrev pub behind_all : List Move → World → World

@@ -1,9 +1,9 @@
 //! The alarms that are accepted.
-ghost use Rattle.codec_laws.specs.alarms.Taken.{AreTakenInOrder, LackAtMostTheLast};
+ghost use Rattle.codec_laws.specs.alarms.Taken.{AreAllTaken, AreTakenInOrder, LackAtMostTheLast};
 
-/// The alarms that are accepted over any moves: any list of raises, of units that pass at either end, and of deliveries
-/// of the PDUs that either end ever sent, in any order and each any number of times. Repeats apart, no more AlarmAcks
-/// are sent than alarms were accepted. This is a law of the definitions by which the calls of `DeviceAlarms` and
+/// The alarms of one priority that are accepted over any moves: any list of raises, of units that pass at either end, of
+/// deliveries of the data that either end ever sent, in any order and each any number of times, and of ACKs with any
+/// numbers. Repeats apart, no more AlarmAcks are sent than alarms were accepted. This is a law of the definitions by which the calls of `DeviceAlarms` and
 /// `ControllerAlarms`, and of `Sender` and `Receiver` within them, are specified. No code is involved, so it needs no
 /// memory.
 pub fn alarms_are_taken_in_order()
@@ -11,4 +11,6 @@ pub fn alarms_are_taken_in_order()
     ensures prefix { AreTakenInOrder }
     // If at most 32,768 alarms are raised, at most the last of them is not accepted.
     ensures last { LackAtMostTheLast }
+    // If at most 32,768 alarms are raised and none is unconfirmed, all of them are accepted.
+    ensures all { AreAllTaken }
 {}

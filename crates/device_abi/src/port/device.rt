@@ -7,7 +7,7 @@ ghost use denote.Follow.{follows_so};
 ghost use Rattle.flash_model.specs.Image.{erased};
 ghost use Rattle.device_abi.specs.recorded.Entry.{call_of};
 ghost use Rattle.device_abi.specs.recorded.Record.{image_of, record_of};
-ghost use Rattle.device_frames.specs.declared.event.Event.TheVariants.{Alarm, Frame as Framed, Input, Ready, Status};
+ghost use Rattle.device_frames.specs.declared.event.Event.TheVariants.{Alarm, Call as Joined, Diagnosis, Frame as Framed, Input, Ready, Status};
 ghost use Rattle.relations.specs.Exchanged.{output_in, provider_in};
 ghost use Rattle.relations.specs.RelationState.{phase_of, taken_of};
 ghost use Rattle.relations.specs.Outputs.{output_of};
@@ -18,8 +18,8 @@ ghost use Rattle.device_core.specs.Leaps.{live_due_in};
 ghost use Rattle.frame_codec.specs.Outbox.{boxed};
 
 use crate::port::{Refusal, Stage};
-use crate::{Recorded, RecordedFlash, leap, skip, step, step_frame, unit};
-use device_core::{Device, Event, Note};
+use crate::{Recorded, RecordedFlash, leap, skip, step, step_call, step_frame, unit};
+use device_core::{Caller, Device, Event, Note};
 use flash_model::Sector;
 use frame_codec::{Bytes, Frame, Outbox};
 use pn_values::{Identity, Real, Settings};
@@ -147,6 +147,13 @@ impl Port {
         why_closed(self.stage)
     }
 
+    /// Whether it is known that events are accepted: what is due is known, and no frame remains.
+    pub fn is_counted(&self) -> bool
+        ensures { result ≡ true → barred self.now ≡ None }
+    {
+        self.due.is_some() && !self.has_frames()
+    }
+
     /// Whether work of the last step remains.
     pub fn has_work(&self) -> bool
         ensures { result ≡ is_left self.now.calls self.now.frames }
@@ -226,6 +233,22 @@ impl Port {
         }
     }
 
+    /// Handles a call that came in fragments and was joined, from this caller to this IP address.
+    #[inline(never)]
+    pub fn call(
+        &mut self,
+        caller: &Caller,
+        address: [u8; 4],
+        octets: &[u8],
+    ) -> Result<Note, Refusal>
+        ensures { Answers self.old (Joined caller.now address (record { items = octets.now })) result self.new }
+    {
+        match self.barred() {
+            Some(refusal) => Err(refusal),
+            None => Ok(self.take_call(caller, address, octets)),
+        }
+    }
+
     /// Sets the input of a submodule.
     #[inline(never)]
     pub fn input(&mut self, slot: u16, subslot: u16, octets: &[u8]) -> Result<Note, Refusal>
@@ -248,6 +271,21 @@ impl Port {
         ensures { Answers self.old (Status slot subslot is_good) result self.new }
     {
         self.offer(&Event::Status(slot, subslot, is_good))
+    }
+
+    /// A diagnosis of a submodule appears or disappears: of this channel, and with this ChannelErrorType.
+    #[inline(never)]
+    pub fn diagnosis(
+        &mut self,
+        slot: u16,
+        subslot: u16,
+        channel: u16,
+        error: u16,
+        appears: bool,
+    ) -> Result<Note, Refusal>
+        ensures { Answers self.old (Diagnosis slot subslot channel error appears) result self.new }
+    {
+        self.offer(&Event::Diagnosis(slot, subslot, channel, error, appears))
     }
 
     /// The application is ready.
@@ -364,8 +402,8 @@ impl Port {
         self.waiting_frame()
     }
 
-    // The same if no flash call remains.
-    pub(crate) fn waiting_frame(&self) -> u32
+    /// The same if no flash call remains.
+    pub fn waiting_frame(&self) -> u32
         requires { self.now.calls ≡ [] }
         ensures { result ≡ kind_in self.now.calls self.now.frames }
     {
@@ -373,6 +411,13 @@ impl Port {
     }
 
     // ---- what it reports
+
+    /// The device.
+    pub fn device(&self) -> &Device<RecordedFlash<4096>, 4096>
+        ensures { result.now ≡ self.now.device }
+    {
+        &self.device
+    }
 
     /// The running settings.
     pub fn running(&self) -> Result<&Settings, Refusal>
@@ -495,8 +540,8 @@ impl Port {
         }
     }
 
-    // Handles an event, if none is refused now.
-    pub(crate) fn offer(&mut self, event: &Event) -> Result<Note, Refusal>
+    /// Handles an event, if none is refused now.
+    pub fn offer(&mut self, event: &Event) -> Result<Note, Refusal>
         ensures { Answers self.old event.now result self.new }
     {
         match self.barred() {
@@ -532,10 +577,23 @@ impl Port {
         note
     }
 
+    // The same with a joined call, whose octets are only read.
+    fn take_call(&mut self, caller: &Caller, address: [u8; 4], octets: &[u8]) -> Note
+        requires { barred self.old ≡ None }
+        ensures { Takes self.old (Joined caller.now address (record { items = octets.now })) result self.new }
+    {
+        let before = counted(self.device.flash());
+        let note = step_call(&mut self.device, caller, address, octets, &mut self.outbox);
+        let past = older(before, self.device.flash());
+        self.calls_past = past;
+        self.frames_past = 0;
+        self.due = None; // the call may change it
+        note
+    }
+
     // ---- units of time. None of them makes a flash call, so the flash is not looked at.
 
     // What is due, if the port is open and no flash call remains; else why no event is accepted.
-    #[inline(always)]
     fn counted(&mut self) -> Result<u32, Refusal>
         ensures same { self.new ≡ self.old }
         ensures counted { MatchResult result (λ due. IsCounted (Some due) self.old.device.live self.old.stage self.old.calls)
@@ -548,7 +606,6 @@ impl Port {
     }
 
     // Counts the units until something is due, which then is known, if an event is accepted now.
-    #[inline(never)]
     fn count(&mut self) -> Result<u32, Refusal>
         ensures same { self.new ≡ self.old }
         ensures counted { MatchResult result (λ due. IsCounted (Some due) self.old.device.live self.old.stage self.old.calls)
@@ -562,33 +619,8 @@ impl Port {
         Ok(due)
     }
 
-    // Lets units of time pass, up to the first that sends something, if `due` is what is due. Most units bring nothing. Of
-    // the others most are handed in one at a time, and have their own path.
-    fn pass(&mut self, units: u32, due: u32) -> Passed
-        requires free { barred self.old ≡ None }
-        requires due { due ≡ live_due_in self.old.device.live }
-        requires some { 0 < due }
-        ensures passes { Passes self.old units result.left self.new }
-        ensures due { result.due ≡ live_due_in self.new.device.live }
-        ensures quiet { self.new.calls ≡ [] }
-    {
-        if units < due {
-            return Passed {
-                left: 0,
-                due: self.skip(units),
-            };
-        }
-        if units == 1 {
-            return Passed {
-                left: 0,
-                due: self.pass_unit(),
-            };
-        }
-        self.pass_all(units, due)
-    }
-
-    // Lets one unit pass. All work of the step before is fetched. Returns what is due then.
-    fn pass_unit(&mut self) -> u32
+    /// Lets one unit pass while events are accepted. Returns what is due then.
+    pub fn unit(&mut self) -> u32
         requires { barred self.old ≡ None }
         ensures ticks { Ticks 1 self.old self.new }
         ensures due { result ≡ live_due_in self.new.device.live }
@@ -602,8 +634,7 @@ impl Port {
     }
 
     // Lets units of time pass by leaps, up to the first that sends something, if `first` is what is due.
-    #[inline(never)]
-    fn pass_all(&mut self, units: u32, first: u32) -> Passed
+    fn pass(&mut self, units: u32, first: u32) -> Passed
         requires free { barred self.old ≡ None }
         requires due { first ≡ live_due_in self.old.device.live }
         requires some { 0 < first }
@@ -643,11 +674,15 @@ impl Port {
         due
     }
 
-    // Lets units of time pass with which nothing is sent. Returns what is due then.
-    fn skip(&mut self, units: u32) -> u32
+    /// Lets units of time pass with which nothing is due, while events are accepted: fewer than `due` returns. Returns what
+    /// is due then.
+    #[inline(always)]
+    pub fn skip(&mut self, units: u32) -> u32
         requires free { barred self.old ≡ None }
         requires few { units < live_due_in self.old.device.live }
         ensures ticks { Ticks units self.old self.new }
+        // No work remains: nothing was sent.
+        ensures free { barred self.new ≡ None }
         ensures due { result ≡ live_due_in self.new.device.live }
         ensures quiet { self.new.calls ≡ [] }
     {

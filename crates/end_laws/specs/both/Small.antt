@@ -2,8 +2,8 @@
 -- exchange.
 use Rattle.std.specs.Prelude.{ℕ, Bool, List, Option}
 
--- the request of a call: a relation, that the record with this number is accepted, the end of the parameters, the end of
--- the relation, or another record, which the application reads or writes
+-- the request of a call: a relation, that the records of the Write with this number are accepted, the end of the
+-- parameters, the end of the relation, or another record, which the application reads or writes
 pub data Ask : Type 0 where
   Connects : Ask
   Writes : (number : ℕ) → Ask
@@ -25,12 +25,16 @@ pub data ToController : Type 0 where
   Readies : ToController
   Nothing : ToController
 
--- A start-up: the request of its Connect, the records that it writes, in order, whether a Write with a sequence number and
--- blocks is one of these, whether it goes on after a record that was refused, and what each end hears in octets.
+-- A start-up: the request of its Connect, the number of its Writes, the records that each of them carries, in order,
+-- whether a Write with a sequence number and blocks is one of these, whether the blocks of the response to a call with a
+-- sequence number say that each of its records was written, whether it goes on after a record that was refused, and what
+-- each end hears in octets.
 pub record Rules (T Q : Type 0) : Type 0 where
   pub request : Q
-  pub records : List T
+  pub count : ℕ
+  pub group : ℕ → List T
   pub is_planned : ℕ → List ℕ → Bool
+  pub grants : ℕ → List ℕ → Bool
   pub skips : Bool
   pub to_device : List ℕ → ToDevice
   pub to_controller : List ℕ → ToController
@@ -58,7 +62,7 @@ pub record Device (T Q : Type 0) : Type 0 where
   pub link : Option (RelationState T Q)
 
 -- A controller: it has not asked for the relation yet; it makes the call with this sequence number, which is 0 for
--- Connect, and one more for each record and for PrmEnd; it waits for ApplicationReady; it exchanges data; or its
+-- Connect, and one more for each Write and for PrmEnd; it waits for ApplicationReady; it exchanges data; or its
 -- relation has ended.
 pub data Controller : Type 0 where
   Seeking : Controller

@@ -3,7 +3,7 @@ use Rattle.std.specs.Prelude.{◌≡◌, ℕ, false, List, ◌∷◌, ◌++◌, 
 use Rattle.std.specs.List.{AllByRecursion}
 use Rattle.end_laws.specs.both.Small.{Readies, Rules, Awaiting, RelationState, Seeking, Exchanges, World, Move, ComesToController, ComesToDevice, IsByController, IsByDevice}
 use Rattle.end_laws.specs.both.Runs.{AreSteps, end_of}
-use Rattle.end_laws.specs.both.Steps.{IsDull, Steps}
+use Rattle.end_laws.specs.both.Steps.{IsDull, Steps, records_of}
 
 module _ {T Q : Type 0} where
   -- a run, with the world after each move: each move is a step from the world after the move before it
@@ -43,7 +43,7 @@ module _ {T Q : Type 0} where
     pub has : point.device.link ≡ Some link
     pub awaits : link.phase ≡ Awaiting
     pub accepted : link.request ≡ rules.request
-    pub taken : rules.skips ≡ false → link.taken ≡ rules.records
+    pub taken : rules.skips ≡ false → link.taken ≡ records_of rules
 
   -- The controller received an ApplicationReady, after which it exchanges data. It received it at an earlier point, and
   -- the device had sent it before that.

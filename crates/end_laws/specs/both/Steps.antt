@@ -1,6 +1,6 @@
 -- The steps of each end, as far as a start-up is concerned. A step is a relation: what it leaves open, a real machine
 -- decides.
-use Rattle.std.specs.Prelude.{◌≡◌, ◌⊎◌, ◌+◌, ◌<◌, ◌≤◌, ℕ, Bool, true, false, List, [], ◌∷◌, ◌++◌, length, slice_get, Option, Some, None}
+use Rattle.std.specs.Prelude.{◌≡◌, ◌⊎◌, ◌+◌, ◌<◌, ◌≤◌, ℕ, zero, suc, Bool, true, false, List, [], ◌∷◌, ◌++◌, slice_get, Option, Some, None}
 use Rattle.std.specs.List.{AllByRecursion}
 use Rattle.end_laws.specs.both.Small.{Ask, Connects, Writes, Parameterized, Releases, Accesses, ToDevice, Call, Confirms, Idle, ToController, Answers, Readies, Nothing, Rules, Started, Awaiting, Exchanging, RelationState, Kept, Device, Controller, Asking, Waiting, Exchanges, Ended, World, Move, ComesToDevice, ComesToController, AtDevice, AtController}
 
@@ -13,7 +13,7 @@ IsNew sequence (Some kept) = kept.sequence < sequence
 
 -- ---- the calls of a controller
 
--- the request of a call of the start-up with a sequence number, given the number of records to write
+-- the request of a call of the start-up with a sequence number, given the number of Writes
 abbrev pub IsAsked : ℕ → ℕ → Ask → Type 0
 IsAsked count sequence Connects = sequence ≡ 0
 IsAsked count sequence (Writes number) = (number < count) × (sequence ≡ number + 1)
@@ -49,18 +49,39 @@ abbrev pub Moves : Bool → ℕ → ToController → Controller → Controller �
 Moves skips count heard before after =
     (after ≡ before) ⊎ ((after ≡ Ended) ⊎ ((after ≡ Asking 0) ⊎ (IsNext skips count heard before after ⊎ ((heard ≡ Readies) × (after ≡ Exchanges)))))
 
+-- a list has these items of another one, in the same order
+abbrev pub IsPart : {T : Type 0} → List T → List T → Type 0
+IsPart some [] = some ≡ []
+IsPart [] (value ∷ all) = Unit {0}
+IsPart (one ∷ some) (value ∷ all) = ((one ≡ value) × IsPart some all) ⊎ IsPart (one ∷ some) all
+
 module _ {T Q : Type 0} where
   -- a new relation
   abbrev pub made : Rules T Q → RelationState T Q
   made rules = record { phase = Started; request = rules.request; taken = [] }
 
-  -- a relation accepts one more record
-  pub record TakesRecord (rules : Rules T Q) (number : ℕ) (before after : Option (RelationState T Q)) : Type 0 where
+  -- the records of the first Writes, in order
+  abbrev pub records_before : Rules T Q → ℕ → List T
+  records_before rules zero = []
+  records_before rules (suc number) = records_before rules number ++ rules.group number
+
+  -- all records, in order
+  abbrev pub records_of : Rules T Q → List T
+  records_of rules = records_before rules rules.count
+
+  -- a relation accepts the records of a Write, in order
+  pub record TakesRecords (rules : Rules T Q) (number : ℕ) (before after : Option (RelationState T Q)) : Type 0 where
     pub link : RelationState T Q
-    pub value : T
     pub was : before ≡ Some link
-    pub is : slice_get rules.records number ≡ Some value
-    pub becomes : after ≡ Some (record link { taken = link.taken ++ value ∷ [] })
+    pub becomes : after ≡ Some (record link { taken = link.taken ++ rules.group number })
+
+  -- a relation accepts some of them, in order
+  pub record TakesSome (rules : Rules T Q) (number : ℕ) (before after : Option (RelationState T Q)) : Type 0 where
+    pub link : RelationState T Q
+    pub values : List T
+    pub was : before ≡ Some link
+    pub part : IsPart values (rules.group number)
+    pub becomes : after ≡ Some (record link { taken = link.taken ++ values })
 
   -- the parameters of a relation are complete
   pub record IsParameterized (before after : Option (RelationState T Q)) : Type 0 where
@@ -69,25 +90,31 @@ module _ {T Q : Type 0} where
     pub started : link.phase ≡ Started
     pub becomes : after ≡ Some (record link { phase = Awaiting })
 
-  -- a relation accepts any record
+  -- a relation accepts any records
   pub record TakesAny (before after : Option (RelationState T Q)) : Type 0 where
     pub link : RelationState T Q
-    pub value : T
+    pub values : List T
     pub was : before ≡ Some link
-    pub becomes : after ≡ Some (record link { taken = link.taken ++ value ∷ [] })
+    pub becomes : after ≡ Some (record link { taken = link.taken ++ values })
 
-  -- the effect of a call that is answered positively
+  -- the effect of a call that succeeds
   abbrev pub Carries : Rules T Q → Ask → Option (RelationState T Q) → Option (RelationState T Q) → Type 0
   Carries rules Connects before after = after ≡ Some (made rules)
-  Carries rules (Writes number) before after = TakesRecord rules number before after
+  Carries rules (Writes number) before after = TakesRecords rules number before after
   Carries rules Parameterized before after = IsParameterized before after
   Carries rules Releases before after = after ≡ None
   Carries rules Accesses before after = (after ≡ before) ⊎ TakesAny before after
 
-  -- a call that is not answered positively changes nothing
+  -- the effect of a call that succeeds, or of a Write of which only some records are accepted
+  abbrev pub Partly : Rules T Q → Ask → Option (RelationState T Q) → Option (RelationState T Q) → Type 0
+  Partly rules (Writes number) before after = TakesSome rules number before after
+  Partly rules ask before after = Carries rules ask before after
+
+  -- If the response says that all went well, the call had its whole effect. If not, it changed nothing, or it had some of
+  -- its effect: of several records each is accepted or refused by itself.
   abbrev pub Comes : Rules T Q → Bool → Ask → Option (RelationState T Q) → Option (RelationState T Q) → Type 0
   Comes rules true ask before after = Carries rules ask before after
-  Comes rules false ask before after = after ≡ before
+  Comes rules false ask before after = (after ≡ before) ⊎ Partly rules ask before after
 
   -- The controller hears this in a frame, or nothing: a frame may go to another station or be too long to be read.
   abbrev pub SaysAtMost : Rules T Q → ToController → List ℕ → Type 0
@@ -130,13 +157,13 @@ module _ {T Q : Type 0} where
   abbrev pub Rests : Device T Q → Device T Q → List (List ℕ) → Type 0
   Rests before after frames = (after ≡ before) × (frames ≡ [])
 
-  -- the response that confirms ApplicationReady, while the relation waits for it
-  pub record IsConfirmed (before after : Device T Q) (frames : List (List ℕ)) : Type 0 where
+  -- the response that confirms ApplicationReady, while the relation waits for it: nothing of a start-up is sent
+  pub record IsConfirmed (rules : Rules T Q) (before after : Device T Q) (frames : List (List ℕ)) : Type 0 where
     pub link : RelationState T Q
     pub was : before.link ≡ Some link
     pub awaits : link.phase ≡ Awaiting
     pub becomes : after ≡ record before { link = Some (record link { phase = Exchanging }) }
-    pub silent : frames ≡ []
+    pub dull : AllByRecursion (IsDull rules) frames
 
   -- Anything else: the relation stays as it is or ends, and the frames say nothing of a start-up except
   -- ApplicationReady.
@@ -150,7 +177,7 @@ module _ {T Q : Type 0} where
   abbrev pub DeviceSteps : Rules T Q → ToDevice → Device T Q → Device T Q → List (List ℕ) → Type 0
   DeviceSteps rules (Call sequence ask) before after frames =
       IsAnswered rules sequence ask before after frames ⊎ (IsAgain sequence before after frames ⊎ Rests before after frames)
-  DeviceSteps rules Confirms before after frames = IsConfirmed before after frames ⊎ Rests before after frames
+  DeviceSteps rules Confirms before after frames = IsConfirmed rules before after frames ⊎ Rests before after frames
   DeviceSteps rules Idle before after frames = GoesBy rules before after frames
 
   -- ---- the controller
@@ -158,11 +185,11 @@ module _ {T Q : Type 0} where
   -- A frame of the controller, in which it hears nothing of a start-up itself. While data is exchanged a call of the
   -- application may say anything.
   abbrev pub IsSaid : Rules T Q → Controller → List ℕ → Type 0
-  IsSaid rules now frame = (rules.to_controller frame ≡ Nothing) × (SaysToDevice (length rules.records) now (rules.to_device frame) ⊎ (now ≡ Exchanges))
+  IsSaid rules now frame = (rules.to_controller frame ≡ Nothing) × (SaysToDevice rules.count now (rules.to_device frame) ⊎ (now ≡ Exchanges))
 
   -- a step of the controller that hears this
   pub record ControllerSteps (rules : Rules T Q) (heard : ToController) (before after : Controller) (frames : List (List ℕ)) : Type 0 where
-    pub moves : Moves rules.skips (length rules.records) heard before after
+    pub moves : Moves rules.skips rules.count heard before after
     pub sent : AllByRecursion (IsSaid rules after) frames
 
   -- ---- both

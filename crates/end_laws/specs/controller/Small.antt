@@ -1,16 +1,16 @@
 -- A controller as a small machine, and what it says and hears of a start-up.
-use Rattle.std.specs.Prelude.{◌≡◌, ◌⊎◌, ◌<◌, ℕ, nat_eq, List, length, Option, Some, None, if◌then◌else◌}
+use Rattle.std.specs.Prelude.{◌≡◌, ◌⊎◌, ◌<◌, ◌&&◌, ℕ, zero, suc, Bool, true, nat_eq, nat_lt, List, Option, Some, None, if◌then◌else◌}
 use Rattle.std.specs.List.{AllByRecursion}
 use Rattle.std.specs.Cmp.Lexicographic.{pointwise}
 use Rattle.connect_blocks.specs.declared.control.ControlBlock.{ControlBlock}
-use Rattle.rpc_core.specs.Response.{is_done}
+use Rattle.rpc_core.specs.Response.{Answered as Response, is_done}
 use Rattle.plans.specs.declared.parts.Parts.{Parts}
 use Rattle.controller_frames.specs.declared.record_request.RecordRequest.{RecordRequest}
 use Rattle.controller_frames.specs.declared.setup.Setup.{Setup}
 use Rattle.controller_frames.specs.declared.request.Request.{Request}
 use Rattle.controller_frames.specs.declared.request.Request.TheVariants as asks
 use Rattle.controller_frames.specs.Heard.{Heard, Nothing, Answers, Responds, Refuses, Calls, Cyclic, Alarms}
-use Rattle.controller_frames.specs.Requests.{sequence_of}
+use Rattle.controller_frames.specs.Requests.{sequence_of, write_count}
 use Rattle.controller_frames.specs.Sent.{Sent, Requests, Accesses, Agrees, Cycles, Confirms, Replies, Ends}
 use Rattle.controller_core.specs.declared.state.State.{State}
 use Rattle.controller_core.specs.declared.state.State.TheVariants.{Looking, Addressing, Connecting, Writing, Ending, Waiting, Exchanging, Ended}
@@ -18,6 +18,7 @@ use Rattle.controller_core.specs.declared.event.Event.{Event}
 use Rattle.controller_core.specs.declared.event.Event.TheVariants.{Frame, Tick, Give, Status, Read, Write, Stop}
 use Rattle.controller_core.specs.State.{Live}
 use Rattle.controller_core.specs.Answers.{is_ready}
+use Rattle.controller_core.specs.Outcomes.{are_written}
 use Rattle.controller_core.specs.Machine.{Turn, ready_in}
 use Rattle.end_laws.specs.both.Small as small
 use Rattle.end_laws.specs.both.Small.{Controller, ToController, ToDevice}
@@ -50,7 +51,7 @@ abbrev pub IsInStep : Parts → State → Option Request → Type 0
 IsInStep plan Looking asked = asked ≡ Some asks.Identify
 IsInStep plan Addressing asked = asked ≡ Some asks.Address
 IsInStep plan Connecting asked = asked ≡ Some asks.Connect
-IsInStep plan Writing asked = (number : ℕ) × (number < length plan.records.items) × (asked ≡ Some (asks.Write number))
+IsInStep plan Writing asked = (number : ℕ) × (number < write_count plan) × (asked ≡ Some (asks.Write number))
 IsInStep plan Ending asked = asked ≡ Some asks.PrmEnd
 IsInStep plan Waiting asked = asked ≡ None
 IsInStep plan Exchanging asked = asked ≡ None
@@ -73,10 +74,20 @@ abbrev pub readied_by : Setup → Option ControlBlock → ToController
 readied_by setup (Some block) = if is_ready setup block then small.Readies else small.Nothing
 readied_by setup None = small.Nothing
 
+-- Whether the blocks of a response to the call with a sequence number say that each record was written: those of the
+-- response to a Write, whose number is one less.
+abbrev pub says_written : Parts → ℕ → List ℕ → Bool
+says_written plan zero blocks = true
+says_written plan (suc number) blocks = if nat_lt number (write_count plan) then are_written plan number blocks else true
+
+-- a positive response: its status, and that of each record
+abbrev pub is_positive : Parts → Response → Bool
+is_positive plan response = is_done response.status && says_written plan response.header.sequence response.blocks
+
 -- a response of its activity, and ApplicationReady of its relation; everything else says nothing of a start-up
 abbrev pub said_to : Setup → Heard → ToController
 said_to setup (Responds response) =
-    if pointwise nat_eq response.header.activity setup.activity then small.Answers response.header.sequence (is_done response.status) else small.Nothing
+    if pointwise nat_eq response.header.activity setup.activity then small.Answers response.header.sequence (is_positive setup.plan response) else small.Nothing
 said_to setup (Refuses refusal) = small.Nothing
 said_to setup (Calls caller call) = readied_by setup (ready_in call)
 said_to setup Nothing = small.Nothing
@@ -110,8 +121,8 @@ said_by plan (Ends route header reason) = small.Idle
 -- The small step of a turn that hears this: the state moves, and each message says to the device what it may say then.
 pub record GoesOn (plan : Parts) (heard : ToController) (live : Live) (turn : Turn) : Type 0 where
   pub in_step : IsSteady plan turn.live
-  pub moves : Moves plan.continue_on_refused_record (length plan.records.items) heard (small_of plan live) (small_of plan turn.live)
-  pub says : AllByRecursion (λ message. SaysToDevice (length plan.records.items) (small_of plan turn.live) (said_by plan message)) turn.sent
+  pub moves : Moves plan.continue_on_refused_record (write_count plan) heard (small_of plan live) (small_of plan turn.live)
+  pub says : AllByRecursion (λ message. SaysToDevice (write_count plan) (small_of plan turn.live) (said_by plan message)) turn.sent
 
 -- what an event says, given what is heard of a frame
 abbrev pub said_in : Setup → (List ℕ → Heard) → Event → ToController

@@ -15,16 +15,22 @@ use Rattle.pn_values.specs.declared.im_value.ImValue.{ImValue}
 use Rattle.records.specs.declared.writes.taken.TakenRecord.{TakenRecord}
 use Rattle.records.specs.declared.writes.write.Effect.TheVariants.{Stores, Keeps}
 use Rattle.records.specs.declared.writes.write.Write.{Write}
-use Rattle.records.specs.writes.Handled.{write_of}
+use Rattle.record_blocks.specs.declared.write_record.IodWriteReq.{IodWriteReq}
+use Rattle.records.specs.declared.writes.writing.Writing.TheVariants.{One, Each}
+use Rattle.records.specs.writes.Asked.{writing_of}
+use Rattle.records.specs.writes.Entry.{Entry}
 use Rattle.relations.specs.declared.phase.Phase.TheVariants.{Started, Awaiting}
 use Rattle.relations.specs.declared.ready.Ready.{Ready}
 use Rattle.relations.specs.Connect.{connect_blocks, connect_of, differing_of, rows_of}
-use Rattle.relations.specs.Phases.{exchanging_from, made_of, parameterized_from, restarted, with_taken}
+use Rattle.relations.specs.Phases.{Named, exchanging_from, made_of, parameterized_from, restarted, updated, with_taken}
 use Rattle.relations.specs.RelationState.{RelationState, uuid_of}
 use Rattle.relations.specs.exchange.Marks.{Starting}
 use Rattle.device_frames.specs.Heard.{Heard, Calls, Reported}
-use Rattle.device_frames.specs.Sent.{Sent, CallAnswer, Again, ReadyCall}
+use Rattle.device_frames.specs.Sent.{Sent, CallAnswer, Again, Exchanges, ReadyCall}
+use Rattle.pn_values.specs.declared.set_item.BlockError.{BlockError}
 use Rattle.device_core.specs.Handled.{answer_from, kept_for, outcome_of, partner_of}
+use Rattle.device_core.specs.Machine.{link_behind, several_answer}
+use Rattle.device_core.specs.Several.{judged_each}
 use Rattle.device_core.specs.State.{Live, Rest, Station}
 use Rattle.end_laws.specs.both.Small as small
 use Rattle.end_laws.specs.device.Owed.{IsOfRelation}
@@ -63,14 +69,22 @@ pub record GoesBy (live : Live) (heard : Heard) (after : Rest) (sent : List Sent
   pub link : (option_map link_of after.link ≡ option_map link_of live.rest.link) ⊎ (option_map link_of after.link ≡ None)
   pub others : AllByRecursion (IsOther live after.link) sent
 
--- the response that confirms ApplicationReady, while the relation waits for it
+-- a frame of the exchange
+abbrev pub IsExchange : Sent → Type 0
+IsExchange (Exchanges route frame) = Unit {0}
+IsExchange message = ⊥
+
+-- the response that confirms ApplicationReady, while the relation waits for it: data is exchanged, and frames of the exchange may
+-- be sent
 pub record Confirms (live : Live) (heard : Heard) (after : Rest) (sent : List Sent) : Type 0 where
   pub confirms : (planned : Planned) → heard_as planned heard ≡ small.Confirms
   pub link : RelationState
   pub was : live.rest.link ≡ Some link
   pub awaits : link.phase ≡ Awaiting
-  pub becomes : after ≡ record live.rest { link = Some (exchanging_from link) }
-  pub silent : sent ≡ []
+  pub next : RelationState
+  pub exchanges : link_of next ≡ link_of (exchanging_from link)
+  pub becomes : after ≡ record live.rest { link = Some next }
+  pub others : AllByRecursion IsExchange sent
 
 -- ---- calls
 
@@ -101,7 +115,7 @@ IsRestarted before after = after ≡ option_map restarted before
 -- a Write is accepted whose record the settings store
 pub record Stored (station : Station) (blocks : List ℕ) (before after : Option RelationState) : Type 0 where
   pub write : Write
-  pub judged : write_of (uuid_of before) station.real blocks ≡ Ok write
+  pub judged : writing_of (uuid_of before) station.real blocks ≡ Ok (One write)
   pub value : ImValue
   pub stores : write.effect ≡ Stores value
   pub same : IsRestarted before after
@@ -111,10 +125,26 @@ pub record Written (station : Station) (blocks : List ℕ) (before after : Optio
   pub link : RelationState
   pub was : before ≡ Some link
   pub write : Write
-  pub judged : write_of (uuid_of before) station.real blocks ≡ Ok write
+  pub judged : writing_of (uuid_of before) station.real blocks ≡ Ok (One write)
   pub value : TakenRecord
   pub keeps : write.effect ≡ Keeps value
   pub becomes : after ≡ Some (restarted (with_taken (link.taken ++ value ∷ []) link))
+
+-- a relation that was named has these records after its others
+abbrev pub with_more : List TakenRecord → RelationState → RelationState
+with_more values link = restarted (with_taken (link.taken ++ values) link)
+
+-- A Write of several records is accepted, and the relation has more records, if it accepted any: each record is carried
+-- out and answered by itself, in order.
+pub record WrittenEach (station : Station) (blocks octets : List ℕ) (before after : Option RelationState) : Type 0 where
+  pub header : IodWriteReq
+  pub entries : List Entry
+  pub judged : writing_of (uuid_of before) station.real blocks ≡ Ok (Each header entries)
+  pub answers : List BlockError
+  pub tells : octets ≡ several_answer header (judged_each (uuid_of before) station.real entries) answers before
+  pub carried : after ≡ updated Named (link_behind (judged_each (uuid_of before) station.real entries) before)
+  pub values : List TakenRecord
+  pub becomes : after ≡ option_map (with_more values) before
 
 -- a PrmEnd is accepted, by a device whose application says when it is ready, or by another
 pub record Parameterized (before after : Option RelationState) : Type 0 where
@@ -134,7 +164,8 @@ pub record Released (before after : Option RelationState) : Type 0 where
 abbrev pub IsEffect : Station → Caller → List ℕ → Result (List ℕ) CallFault → Operation → Option RelationState → Option RelationState → Type 0
 IsEffect station caller blocks (Err fault) which before after = after ≡ before
 IsEffect station caller blocks (Ok octets) operation.Connect before after = Connected station caller blocks octets before after
-IsEffect station caller blocks (Ok octets) operation.Write before after = Written station blocks before after ⊎ Stored station blocks before after
+IsEffect station caller blocks (Ok octets) operation.Write before after =
+    Written station blocks before after ⊎ (Stored station blocks before after ⊎ WrittenEach station blocks octets before after)
 IsEffect station caller blocks (Ok octets) operation.Control before after = Parameterized before after
 IsEffect station caller blocks (Ok octets) operation.Release before after = Released before after
 IsEffect station caller blocks (Ok octets) operation.Read before after = IsRestarted before after

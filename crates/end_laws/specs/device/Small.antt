@@ -1,11 +1,14 @@
 -- A device as a small machine, and what it says and hears of a start-up.
-use Rattle.std.specs.Prelude.{◌≡◌, ◌+◌, ◌-◌, ◌==◌, ◌&&◌, ℕ, Bool, true, false, nat_eq, List, [], unwrap_or, Option, Some, None, option_map, slice_get, if◌then◌else◌, Ok}
+use Rattle.std.specs.Prelude.{◌≡◌, ◌+◌, ◌-◌, ◌==◌, ◌&&◌, ◌++◌, ◌∷◌, ℕ, Bool, true, false, nat_eq, List, [], unwrap_or, Option, Some, None, option_map, if◌then◌else◌, Ok}
+use Rattle.std.specs.List.{AllByRecursion}
 use Rattle.std.specs.Cmp.Lexicographic.{pointwise}
 use Rattle.pn_values.specs.declared.identity.Identity.{Identity}
 use Rattle.pn_values.specs.declared.real.Real.{Real}
 use Rattle.rpc_core.specs.Cache.{Kept as Answer, kept_of}
 use Rattle.rpc_core.specs.Call.{Asked as Call}
 use Rattle.rpc_core.specs.Response.{Answered as Response, is_done}
+use Rattle.rpc_core.specs.Sendable.{IsStatus}
+use Rattle.rpc_core.specs.declared.response.Status.{Status}
 use Rattle.connect_blocks.specs.declared.control.ControlBlock.{ControlBlock}
 use Rattle.block_codec.specs.Block.{block_of}
 use Rattle.records.specs.declared.status.operation.Operation.{Operation}
@@ -16,14 +19,20 @@ use Rattle.connect_requests.specs.Handled.{request_of}
 use Rattle.records.specs.declared.writes.taken.TakenRecord.{TakenRecord}
 use Rattle.records.specs.declared.writes.write.Effect.TheVariants.{Keeps}
 use Rattle.records.specs.declared.writes.write.Write.{Write}
-use Rattle.records.specs.writes.Handled.{write_of}
+use Rattle.records.specs.declared.writes.writing.Writing.{Writing}
+use Rattle.records.specs.declared.writes.writing.Writing.TheVariants.{One, Each}
+use Rattle.record_blocks.specs.declared.write_record.IodWriteReq.{IodWriteReq}
+use Rattle.records.specs.writes.Answer.{answer_of, outcomes_of}
+use Rattle.records.specs.writes.Entry.{Entry}
+use Rattle.records.specs.writes.Asked.{writing_of}
 use Rattle.relations.specs.declared.phase.Phase.{Phase}
 use Rattle.relations.specs.declared.phase.Phase.TheVariants.{Started, Preparing, Awaiting, Exchanging}
 use Rattle.relations.specs.RelationState.{RelationState}
 use Rattle.relations.specs.Ready.{confirmed_block}
-use Rattle.device_frames.specs.Heard.{Heard, Ticks, Unreadable, Elsewhere, Asks, Resolves, Reported, Cyclic, Alarms, Given, Raised, Rated, Readied, Said, Calls, Responds, Garbled}
+use Rattle.device_frames.specs.Heard.{Heard, Ticks, Unreadable, Elsewhere, Asks, Resolves, Reported, Cyclic, Alarms, LowReplies, LowConfirms, Given, Raised, Rated, Met, Diagnosed, Readied, Said, Calls, Responds, Garbled}
 use Rattle.device_frames.specs.Sent.{Sent, IdentifyAnswer, GetAnswer, SetAnswer, ArpReply, CallAnswer, Again, ReadyCall, Ends, Exchanges, bytes_of}
 use Rattle.device_core.specs.State.{Live}
+use Rattle.device_core.specs.Several.{Judged, judged_each}
 use Rattle.end_laws.specs.both.Small as small
 use Rattle.end_laws.specs.both.Small.{Rules, ToDevice, ToController}
 use Rattle.end_laws.specs.both.Steps.{SaysAtMost}
@@ -56,7 +65,7 @@ small_of activity live = record { kept = option_map kept_in (kept_of activity li
 abbrev pub Planned : Type 0
 Planned = ℕ → List ℕ → Bool
 
--- a Write of the start-up asks for the record whose number is one less than its sequence number
+-- a Write of the start-up has a number that is one less than its sequence number
 abbrev pub written_by : Bool → ℕ → ToDevice
 written_by true sequence = small.Call sequence (small.Writes (sequence - 1))
 written_by false sequence = small.Call sequence small.Accesses
@@ -98,22 +107,54 @@ heard_as planned (Asks source request) = small.Idle
 heard_as planned (Resolves asker packet) = small.Idle
 heard_as planned (Cyclic source frame_id body) = small.Idle
 heard_as planned (Alarms source header message) = small.Idle
+heard_as planned (LowReplies source header message) = small.Idle
+heard_as planned (LowConfirms source header message) = small.Idle
 heard_as planned (Given slot subslot value) = small.Idle
 heard_as planned (Raised slot subslot octets) = small.Idle
 heard_as planned (Rated slot subslot is_good) = small.Idle
+heard_as planned (Met peer) = small.Idle
+heard_as planned (Diagnosed change) = small.Idle
 heard_as planned Readied = small.Idle
 
 -- ---- the calls of a start-up
 
+-- A record of several that is judged asks for this one of the start-up, or it is refused.
+abbrev pub IsKeeping : Judged → TakenRecord → Type 0
+IsKeeping judged value = (write : Write) → judged.1 ≡ Ok write → write.effect ≡ Keeps value
+
+-- these are the records of a Write of the start-up, in order, each of them judged
+abbrev pub AreKeeping : List Judged → List TakenRecord → Type 0
+AreKeeping [] [] = Unit {0}
+AreKeeping (judged ∷ others) (value ∷ values) = IsKeeping judged value × AreKeeping others values
+AreKeeping judged values = ⊥
+
+-- the outcomes of several records, in order, each with the header of its record and a status of four octets
+abbrev pub AreOutcomesOf : List Entry → List (IodWriteReq × Status) → Type 0
+AreOutcomesOf [] [] = Unit {0}
+AreOutcomesOf (entry ∷ entries) (outcome ∷ outcomes) = (outcome.0 ≡ entry.0) × IsStatus outcome.1 × AreOutcomesOf entries outcomes
+AreOutcomesOf entries outcomes = ⊥
+
+-- each of these records was written
+abbrev pub AreDone : List (IodWriteReq × Status) → Type 0
+AreDone outcomes = AllByRecursion (λ outcome. is_done outcome.1 ≡ true) outcomes
+
+-- what a Write of the start-up with these records asks for: the one record; or each of them, and if the response says that
+-- each was written, each was
+abbrev pub IsWritingOf : Rules TakenRecord Request → Real → Option (List ℕ) → ℕ → List TakenRecord → Writing → Type 0
+IsWritingOf rules real standing sequence values (One write) = (value : TakenRecord) × (values ≡ value ∷ []) × (write.effect ≡ Keeps value)
+IsWritingOf rules real standing sequence values (Each header entries) =
+    AreKeeping (judged_each standing real entries) values
+    × ((outcomes : List (IodWriteReq × Status)) → AreOutcomesOf entries outcomes
+    → rules.grants sequence (answer_of header ++ outcomes_of outcomes) ≡ true → AreDone outcomes)
+
 -- A call with these blocks is one of the start-up. Its Connect is read as the expected request. Its Writes, if they are
--- accepted, store the records. The contents of a PrmEnd or a Release are looked at when it arrives, and so are those of a
+-- accepted, store their records, each one. The contents of a PrmEnd or a Release are looked at when it arrives, and so are those of a
 -- Read or of another Write, which is a call of the application.
 pub record IsPlannedWrite (rules : Rules TakenRecord Request) (real : Real) (sequence : ℕ) (blocks : List ℕ) : Type 0 where
   pub number : ℕ
-  pub value : TakenRecord
   pub is : sequence ≡ number + 1
-  pub there : slice_get rules.records number ≡ Some value
-  pub keeps : (standing : Option (List ℕ)) (write : Write) → write_of standing real blocks ≡ Ok write → write.effect ≡ Keeps value
+  pub keeps : (standing : Option (List ℕ)) (writing : Writing) → writing_of standing real blocks ≡ Ok writing →
+      IsWritingOf rules real standing sequence (rules.group number) writing
 
 -- these blocks of a call with this operation are those of the start-up, or of a call of the application
 abbrev pub IsPlannedAs : Rules TakenRecord Request → Real → ℕ → List ℕ → Option Operation → Type 0
@@ -148,25 +189,33 @@ IsPlanned rules activity real (Asks source request) = Unit {0}
 IsPlanned rules activity real (Resolves asker packet) = Unit {0}
 IsPlanned rules activity real (Cyclic source frame_id body) = Unit {0}
 IsPlanned rules activity real (Alarms source header message) = Unit {0}
+IsPlanned rules activity real (LowReplies source header message) = Unit {0}
+IsPlanned rules activity real (LowConfirms source header message) = Unit {0}
 IsPlanned rules activity real (Given slot subslot value) = Unit {0}
 IsPlanned rules activity real (Raised slot subslot octets) = Unit {0}
 IsPlanned rules activity real (Rated slot subslot is_good) = Unit {0}
+IsPlanned rules activity real (Met peer) = Unit {0}
+IsPlanned rules activity real (Diagnosed change) = Unit {0}
 IsPlanned rules activity real Readied = Unit {0}
 
 -- ---- what it says
 
+-- whether a response is positive: its status, and that of each record
+abbrev pub is_positive : Rules TakenRecord Request → Response → Bool
+is_positive rules response = is_done response.status && rules.grants response.header.sequence response.blocks
+
 -- What the controller hears of a message: the response to a call, or ApplicationReady. A repeated response is not
 -- covered here: what it says was said before.
-abbrev pub said_by : Sent → ToController
-said_by (CallAnswer caller address answer) = small.Answers answer.header.sequence (is_done answer.status)
-said_by (ReadyCall address ready) = small.Readies
-said_by (IdentifyAnswer asker running xid) = small.Nothing
-said_by (GetAnswer asker running request) = small.Nothing
-said_by (SetAnswer asker request answers) = small.Nothing
-said_by (ArpReply asker address target) = small.Nothing
-said_by (Again frame) = small.Nothing
-said_by (Ends farewell) = small.Nothing
-said_by (Exchanges route frame) = small.Nothing
+abbrev pub said_by : Rules TakenRecord Request → Sent → ToController
+said_by rules (CallAnswer caller address answer) = small.Answers answer.header.sequence (is_positive rules answer)
+said_by rules (ReadyCall address ready) = small.Readies
+said_by rules (IdentifyAnswer asker running xid) = small.Nothing
+said_by rules (GetAnswer asker running alias request) = small.Nothing
+said_by rules (SetAnswer asker request answers) = small.Nothing
+said_by rules (ArpReply asker address target) = small.Nothing
+said_by rules (Again frame) = small.Nothing
+said_by rules (Ends farewell) = small.Nothing
+said_by rules (Exchanges route frame) = small.Nothing
 
 -- both ends hear this in its octets: the device nothing, and the controller what it says, or nothing
 abbrev pub IsHeardBy : Rules TakenRecord Request → List ℕ → ToController → Type 0
@@ -175,10 +224,10 @@ IsHeardBy rules frame says = (rules.to_device frame ≡ small.Idle) × SaysAtMos
 -- both ends hear a message of the device as it is meant
 abbrev pub IsHeardAs : Rules TakenRecord Request → Identity → Sent → Type 0
 IsHeardAs rules identity (Again frame) = Unit {0}
-IsHeardAs rules identity (CallAnswer caller address answer) = IsHeardBy rules (bytes_of identity (CallAnswer caller address answer)) (said_by (CallAnswer caller address answer))
+IsHeardAs rules identity (CallAnswer caller address answer) = IsHeardBy rules (bytes_of identity (CallAnswer caller address answer)) (said_by rules (CallAnswer caller address answer))
 IsHeardAs rules identity (ReadyCall address ready) = IsHeardBy rules (bytes_of identity (ReadyCall address ready)) small.Readies
 IsHeardAs rules identity (IdentifyAnswer asker running xid) = IsHeardBy rules (bytes_of identity (IdentifyAnswer asker running xid)) small.Nothing
-IsHeardAs rules identity (GetAnswer asker running request) = IsHeardBy rules (bytes_of identity (GetAnswer asker running request)) small.Nothing
+IsHeardAs rules identity (GetAnswer asker running alias request) = IsHeardBy rules (bytes_of identity (GetAnswer asker running alias request)) small.Nothing
 IsHeardAs rules identity (SetAnswer asker request answers) = IsHeardBy rules (bytes_of identity (SetAnswer asker request answers)) small.Nothing
 IsHeardAs rules identity (ArpReply asker address target) = IsHeardBy rules (bytes_of identity (ArpReply asker address target)) small.Nothing
 IsHeardAs rules identity (Ends farewell) = IsHeardBy rules (bytes_of identity (Ends farewell)) small.Nothing

@@ -1,6 +1,6 @@
 -- One turn of a device: what it does, and what becomes of its relation, of the responses that it stores, and what it
 -- sends, as far as outputs and alarms are concerned.
-use Rattle.std.specs.Prelude.{◌≡◌, ◌⊎◌, ◌++◌, ℕ, List, [], ◌∷◌, Option, Some, None, option_map, Ok}
+use Rattle.std.specs.Prelude.{◌≡◌, ◌⊎◌, ◌&&◌, ◌++◌, ℕ, Bool, false, List, [], ◌∷◌, Option, Some, None, option_map, Ok}
 use Rattle.std.specs.List.{AllByRecursion}
 use Rattle.pn_values.specs.declared.identity.Identity.{Identity}
 use Rattle.pn_values.specs.declared.mac.Mac.{Mac}
@@ -20,25 +20,33 @@ use Rattle.pn_alarms.specs.declared.abort.Abort.{Abort}
 use Rattle.pn_alarms.specs.declared.message.Notice.TheVariants as notice
 use Rattle.pn_alarms.specs.declared.pdu.Header.{Header}
 use Rattle.pn_alarms.specs.Ends.{DeviceEnd}
+use Rattle.pn_alarms.specs.Message.{ToDevice}
 use Rattle.pn_alarms.specs.Receiver.{taken_as}
+use Rattle.diagnosis.specs.Existing.{changed}
+use Rattle.diagnosis.specs.declared.diagnosis.Change.{Change}
+use Rattle.diagnosis.specs.declared.diagnosis.Diagnosis.{Diagnosis}
+use Rattle.diagnosis_alarms.specs.Alarms.{Low, is_next}
 use Rattle.cyclic_data.specs.Image.{Shown as Image}
 use Rattle.cyclic_exchange.specs.declared.received.Received.TheVariants as received
 use Rattle.cyclic_exchange.specs.declared.route.Route.{Route}
 use Rattle.relations.specs.exchange.Flow.{Flow}
-use Rattle.relations.specs.exchange.Frames.{Inputs, Notifies, Replies}
+use Rattle.relations.specs.exchange.Diagnosis.{begins_with_one, behind_low, diagnoses_begun, next_reported}
+use Rattle.relations.specs.exchange.Frames.{Inputs, Notifies, Replies, Reports, RepliesLow}
 use Rattle.relations.specs.exchange.Marks.{Starting}
 use Rattle.relations.specs.exchange.Notices.{behind_message, raised_at}
 use Rattle.relations.specs.exchange.Received.{behind_frame, received_as}
-use Rattle.relations.specs.exchange.Units.{flow_later, tick_of}
+use Rattle.relations.specs.exchange.Units.{flow_later, repeated_of, tick_of}
 use Rattle.relations.specs.declared.phase.Partner.{Partner}
+use Rattle.relations.specs.declared.phase.Phase.TheVariants.{Awaiting}
 use Rattle.relations.specs.Connect.{connect_of}
+use Rattle.relations.specs.Diagnosed.{diagnose_one, diagnosing, is_full_in}
 use Rattle.relations.specs.Exchanged.{raised_to}
 use Rattle.relations.specs.Farewells.{farewell_of}
-use Rattle.relations.specs.RelationState.{RelationState}
-use Rattle.relations.specs.Phases.{made_of, with_flow}
+use Rattle.relations.specs.RelationState.{RelationState, flow_of, is_exchanging}
+use Rattle.relations.specs.Phases.{exchanging_from, made_of, updated, with_flow}
 use Rattle.relations.specs.Timers.{unit_later}
-use Rattle.device_frames.specs.Heard.{Heard, Alarms, Calls, Cyclic, Raised, Ticks, Reported}
-use Rattle.device_frames.specs.Relation.{alarms_of, replies_of, where_due}
+use Rattle.device_frames.specs.Heard.{Heard, Alarms, Calls, Cyclic, Diagnosed, LowConfirms, LowReplies, Raised, Ticks, Reported}
+use Rattle.device_frames.specs.Relation.{alarms_of, low_alarms_of, low_replies_of, replies_of, where_due}
 use Rattle.device_frames.specs.Sent.{Sent, IdentifyAnswer, GetAnswer, SetAnswer, ArpReply, CallAnswer, Again, ReadyCall, Ends, Exchanges}
 use Rattle.device_core.specs.State.{Live, Rest, Station}
 use Rattle.device_core.specs.Handled.{kept_for}
@@ -47,11 +55,15 @@ use Rattle.end_laws.specs.device.Does.{Does}
 
 -- ---- what stays the same of a relation
 
--- The request of the Connect, the device's end of alarms, the stations between which frames go, the counter of the last
--- cyclic frame accepted, if there is one, and the image of the outputs.
+-- The request of the Connect, the device's end of alarms, of either priority, whether data is exchanged, by the exchange and by
+-- the phase, the stations between which frames go, the counter of the last cyclic frame accepted, if there is one, and the image
+-- of the outputs.
 pub record Standing : Type 0 where
   pub request : Request
   pub alarms : DeviceEnd
+  pub low : Low
+  pub begun : Bool
+  pub exchanges : Bool
   pub route : Route
   pub last : Option ℕ
   pub outputs : Image
@@ -61,6 +73,9 @@ abbrev pub standing_of : RelationState → Standing
 standing_of link = record {
   request = link.request;
   alarms = link.flow.alarms;
+  low = link.flow.low;
+  begun = link.flow.cyclic.begun;
+  exchanges = is_exchanging link.phase;
   route = link.flow.cyclic.route;
   last = link.flow.cyclic.hearing.last;
   outputs = link.flow.cyclic.taken;
@@ -74,12 +89,14 @@ IsSameOr before after = (option_map standing_of after ≡ option_map standing_of
 
 -- a message without alarm data and without a reply to it: inputs and the ERR belong to the relation that existed
 abbrev pub IsCalm : Option RelationState → Sent → Type 0
-IsCalm before (Exchanges route (Inputs inputs counter)) = (link : RelationState) × (before ≡ Some link) × (route ≡ link.flow.cyclic.route)
+IsCalm before (Exchanges route (Inputs has_problem inputs counter)) = (link : RelationState) × (before ≡ Some link) × (route ≡ link.flow.cyclic.route)
 IsCalm before (Exchanges route (Notifies header alarm)) = ⊥
 IsCalm before (Exchanges route (Replies header)) = ⊥
+IsCalm before (Exchanges route (Reports tag header alarm)) = ⊥
+IsCalm before (Exchanges route (RepliesLow tag header)) = ⊥
 IsCalm before (Ends farewell) = (reason : Abort) × (link : RelationState) × (before ≡ Some link) × (farewell ≡ farewell_of reason link)
 IsCalm before (IdentifyAnswer asker running xid) = Unit {0}
-IsCalm before (GetAnswer asker running request) = Unit {0}
+IsCalm before (GetAnswer asker running alias request) = Unit {0}
 IsCalm before (SetAnswer asker request answers) = Unit {0}
 IsCalm before (ArpReply asker address target) = Unit {0}
 IsCalm before (CallAnswer caller address answer) = Unit {0}
@@ -139,12 +156,20 @@ abbrev pub IsRaise : List RealModule → Option RelationState → ℕ → ℕ �
 IsRaise real before slot subslot octets after sent =
     Raises real before (Raised slot subslot octets) after sent ⊎ Refused real before slot subslot octets after sent
 
+-- it is heard as one of high priority, or under the FrameID of low priority before the device sent data of that
+abbrev pub IsHigh : Heard → Mac → Header → ToDevice → Type 0
+IsHigh heard source header message = (heard ≡ Alarms source header message) ⊎ (heard ≡ LowReplies source header message)
+
+-- it is heard as one of low priority
+abbrev pub IsLow : Heard → Mac → Header → ToDevice → Type 0
+IsLow heard source header message = (heard ≡ LowReplies source header message) ⊎ (heard ≡ LowConfirms source header message)
+
 -- an ACK arrives
 pub record HearsAck (before : Option RelationState) (heard : Heard) (after : Option RelationState) (sent : List Sent) : Type 0 where
   pub source : Mac
   pub header : Header
   pub number : ℕ
-  pub is : heard ≡ Alarms source header (notice.Ack number)
+  pub is : IsHigh heard source header (notice.Ack number)
   pub link : RelationState
   pub was : before ≡ Some link
   pub becomes : after ≡ Some (with_flow (behind_message link.flow (notice.Ack number)) link)
@@ -156,11 +181,54 @@ pub record HearsData (before : Option RelationState) (heard : Heard) (after : Op
   pub header : Header
   pub number : ℕ
   pub ack : AlarmAck
-  pub is : heard ≡ Alarms source header (notice.Data number ack)
+  pub is : IsHigh heard source header (notice.Data number ack)
   pub link : RelationState
   pub was : before ≡ Some link
   pub becomes : after ≡ Some (with_flow (behind_message link.flow (notice.Data number ack)) link)
   pub sends : sent ≡ replies_of (taken_as link.flow.alarms.seen number) (Some (behind_message link.flow (notice.Data number ack)))
+
+-- an ACK of low priority arrives
+pub record HearsLowAck (before : Option RelationState) (heard : Heard) (after : Option RelationState) (sent : List Sent) : Type 0 where
+  pub source : Mac
+  pub header : Header
+  pub number : ℕ
+  pub is : IsLow heard source header (notice.Ack number)
+  pub link : RelationState
+  pub was : before ≡ Some link
+  pub becomes : after ≡ Some (with_flow (behind_low link.flow (notice.Ack number)) link)
+  pub silent : sent ≡ []
+
+-- an AlarmAck of low priority arrives: after the reply the next change is reported
+pub record HearsLowData (real : List RealModule) (before : Option RelationState) (heard : Heard) (after : Option RelationState) (sent : List Sent) : Type 0 where
+  pub source : Mac
+  pub header : Header
+  pub number : ℕ
+  pub ack : AlarmAck
+  pub is : IsLow heard source header (notice.Data number ack)
+  pub link : RelationState
+  pub was : before ≡ Some link
+  pub becomes : after ≡ Some (with_flow (next_reported real (behind_low link.flow (notice.Data number ack))) link)
+  pub sends : sent ≡ low_replies_of (taken_as link.flow.low.alarms.seen number) (Some (behind_low link.flow (notice.Data number ack)))
+      ++ where_due (is_next real (behind_low link.flow (notice.Data number ack)).low)
+      (low_alarms_of (Some (next_reported real (behind_low link.flow (notice.Data number ack)))))
+
+-- data is exchanged from now on: what exists of diagnosis is reported
+pub record Begins (real : List RealModule) (diagnoses : List Diagnosis) (before : Option RelationState) (after : Option RelationState) (sent : List Sent) : Type 0 where
+  pub link : RelationState
+  pub was : before ≡ Some link
+  pub awaits : link.phase ≡ Awaiting
+  pub becomes : after ≡ Some (with_flow (diagnoses_begun real diagnoses (exchanging_from link).flow) (exchanging_from link))
+  pub sends : sent ≡ where_due (begins_with_one real diagnoses (exchanging_from link).flow)
+      (low_alarms_of (Some (diagnoses_begun real diagnoses (exchanging_from link).flow)))
+
+-- a diagnosis appears or disappears, after which these exist
+pub record Diagnoses (real : List RealModule) (diagnoses later : List Diagnosis) (before : Option RelationState) (heard : Heard) (after : Option RelationState) (sent : List Sent) : Type 0 where
+  pub change : Change
+  pub is : heard ≡ Diagnosed change
+  pub open_room : is_full_in before ≡ false
+  pub changes : changed change diagnoses ≡ Some later
+  pub becomes : after ≡ updated (diagnosing real change later before) before
+  pub sends : sent ≡ where_due (diagnose_one real change later before) (low_alarms_of (flow_of after))
 
 -- a unit passes, and the relation stays
 pub record Passes (before : Option RelationState) (heard : Heard) (after : Option RelationState) (sent : List Sent) : Type 0 where
@@ -169,7 +237,8 @@ pub record Passes (before : Option RelationState) (heard : Heard) (after : Optio
   pub was : before ≡ Some link
   pub becomes : after ≡ Some (unit_later link)
   pub others : List Sent
-  pub sends : sent ≡ where_due (tick_of link.flow).is_alarm (alarms_of (Some (flow_later link.flow))) ++ others
+  pub sends : sent ≡ where_due ((tick_of link.flow).is_alarm && (repeated_of link.flow).high) (alarms_of (Some (flow_later link.flow)))
+      ++ (where_due ((tick_of link.flow).is_alarm && (repeated_of link.flow).low) (low_alarms_of (Some (flow_later link.flow))) ++ others)
   pub calm : AreCalm before others
 
 -- a cyclic frame is accepted
@@ -184,11 +253,13 @@ pub record Takes (before : Option RelationState) (heard : Heard) (after : Option
   pub becomes : after ≡ Some (with_flow (behind_frame link.flow source frame_id body) link)
   pub silent : sent ≡ []
 
--- the kinds of turns, as far as outputs and alarms are concerned
-abbrev pub IsTurn : List RealModule → List Kept → Option RelationState → Heard → Option RelationState → List Sent → Type 0
-IsTurn real calls before heard after sent =
+-- the kinds of turns, as far as outputs and alarms are concerned, if these diagnoses existed, and these exist afterwards
+abbrev pub IsTurn : List RealModule → List Kept → List Diagnosis → List Diagnosis → Option RelationState → Heard → Option RelationState → List Sent → Type 0
+IsTurn real calls diagnoses later before heard after sent =
     Stays before after sent ⊎ (Makes calls before heard after sent ⊎ (Raises real before heard after sent
-    ⊎ (HearsAck before heard after sent ⊎ (HearsData before heard after sent ⊎ (Passes before heard after sent ⊎ Takes before heard after sent)))))
+    ⊎ (HearsAck before heard after sent ⊎ (HearsData before heard after sent ⊎ (Passes before heard after sent ⊎ (Takes before heard after sent
+    ⊎ (HearsLowAck before heard after sent ⊎ (HearsLowData real before heard after sent ⊎ (Begins real diagnoses before after sent
+    ⊎ Diagnoses real diagnoses later before heard after sent)))))))))
 
 -- ---- responses
 
@@ -204,9 +275,12 @@ pub record Answers (identity : Identity) (before after : List Kept) (sent : List
 
 -- ---- a turn
 
--- one turn of a device: what it does, its kind, the response that it stores, and that each message is owed
+-- one turn of a device: what it does, its kind, what becomes of its diagnoses, the response that it stores, and that each
+-- message is owed
 pub record Turn (station : Station) (live : Live) (heard : Heard) (after : Rest) (sent : List Sent) : Type 0 where
   pub does : Does station live heard after sent
-  pub is : IsTurn station.real.modules.items live.rest.calls live.rest.link heard after.link sent
+  pub is : IsTurn station.real.modules.items live.rest.calls live.rest.diagnoses after.diagnoses live.rest.link heard after.link sent
+  pub diagnoses : (after.diagnoses ≡ live.rest.diagnoses)
+      ⊎ Diagnoses station.real.modules.items live.rest.diagnoses after.diagnoses live.rest.link heard after.link sent
   pub answers : (after.calls ≡ live.rest.calls) ⊎ Answers station.identity live.rest.calls after.calls sent
   pub owed : AllByRecursion (IsOwed heard live) sent

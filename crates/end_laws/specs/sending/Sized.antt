@@ -4,7 +4,7 @@ use Rattle.record_blocks.specs.declared.alarm_ack.AlarmAck.{AlarmAck}
 use Rattle.record_blocks.specs.declared.alarm_notification.AlarmNotification.{AlarmNotification}
 use Rattle.pn_alarms.specs.declared.message.Notice.TheVariants as notice
 use Rattle.pn_alarms.specs.Ends.{ControllerEnd}
-use Rattle.pn_alarms.specs.Message.{ToController}
+use Rattle.alarm_reports.specs.Message.{ToController}
 use Rattle.controller_frames.specs.declared.record_request.RecordRequest.{RecordRequest}
 use Rattle.controller_frames.specs.declared.request.Request.{Request}
 use Rattle.controller_frames.specs.declared.request.Request.TheVariants as asks
@@ -12,8 +12,8 @@ use Rattle.controller_frames.specs.declared.setup.Setup.{Setup}
 use Rattle.controller_frames.specs.Heard.{Heard, Nothing, Answers, Responds, Refuses, Calls, Cyclic, Alarms, heard_of}
 use Rattle.controller_core.specs.declared.event.Event.{Event}
 use Rattle.controller_core.specs.declared.event.Event.TheVariants.{Frame, Tick, Give, Status, Read, Write, Stop}
-use Rattle.controller_core.specs.Access.{Accessing}
-use Rattle.controller_core.specs.Connect.{Chosen, chosen_of, found_in, nothing}
+use Rattle.record_access.specs.Access.{Accessing}
+use Rattle.connect_answers.specs.Connect.{Chosen, chosen_of, found_in, nothing}
 use Rattle.controller_core.specs.State.{Live}
 use Rattle.codec_laws.specs.frames.Sendable.{IsMac}
 use Rattle.rpc_core.specs.Sendable.{IsHeader}
@@ -86,7 +86,7 @@ abbrev pub IsNotice : ToController → Type 0
 IsNotice (notice.Data number report) = (number < 65536) × IsNoted report.notification
 IsNotice notice.Nack = ⊤
 IsNotice (notice.Ack number) = ⊤
-IsNotice notice.Abort = ⊤
+IsNotice (notice.Abort status) = ⊤
 
 -- the type of what is found in the response to a Connect
 abbrev TypeOf : {A : Type 0} → A → Type 0

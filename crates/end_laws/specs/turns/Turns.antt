@@ -1,5 +1,5 @@
 -- Each turn of a controller is of one of these kinds: its next state, what it sends, and when it makes such a turn.
-use Rattle.std.specs.Prelude.{◌≡◌, ◌⊎◌, ◌+◌, ◌≤◌, ◌∷◌, [], ℕ, Bool, true, false, List, length, option_and_then, Option, Some, None}
+use Rattle.std.specs.Prelude.{◌≡◌, ◌⊎◌, ◌+◌, ◌≤◌, ◌&&◌, ◌∷◌, [], ℕ, Bool, true, false, List, length, option_and_then, Option, Some, None}
 use Rattle.pn_values.specs.declared.mac.Mac.{Mac}
 use Rattle.frame_codec.specs.declared.udp.Caller.{Caller}
 use Rattle.dcp_core.specs.Response.{Answered}
@@ -10,8 +10,8 @@ use Rattle.connect_blocks.specs.declared.control.ControlBlock.{ControlBlock}
 use Rattle.pn_alarms.specs.declared.abort.Abort.{Abort}
 use Rattle.pn_alarms.specs.declared.message.Notice.TheVariants as notice
 use Rattle.pn_alarms.specs.declared.pdu.Header.{Header}
-use Rattle.pn_alarms.specs.declared.priority.Priority.{Priority}
-use Rattle.pn_alarms.specs.declared.report.Report.{Report}
+use Rattle.alarm_reports.specs.declared.priority.Priority.{Priority}
+use Rattle.alarm_reports.specs.declared.report.Report.{Report}
 use Rattle.pn_alarms.specs.Receiver.{taken_as}
 use Rattle.pn_alarms.specs.Sending.{due}
 use Rattle.pn_alarms.specs.Sending.{is_again as is_repeated}
@@ -32,9 +32,10 @@ use Rattle.controller_core.specs.declared.state.Cause.{Cause}
 use Rattle.controller_core.specs.declared.state.State.TheVariants.{Looking, Addressing, Connecting, Ending, Waiting, Exchanging, Ended}
 use Rattle.controller_core.specs.declared.state.RefusedRecord.{RefusedRecord}
 use Rattle.controller_core.specs.State.{Live}
-use Rattle.controller_core.specs.Access.{Accessing, call_number}
+use Rattle.record_access.specs.Access.{Accessing, call_number}
 use Rattle.controller_core.specs.Answers.{is_answer, is_ready}
-use Rattle.controller_core.specs.Connect.{Chosen, chosen_of, found_in, nothing}
+use Rattle.controller_core.specs.Outcomes.{are_written}
+use Rattle.connect_answers.specs.Connect.{Chosen, chosen_of, found_in, nothing}
 use Rattle.controller_core.specs.Machine.{Turn, accessing, acked_under, asking, behind_ack, behind_data, brought, due_frames, end_of, ended_by, flow_later, given, is_again, later, noted, over, rated, ready_in, released, requested, requests_of, standing, stays, stopped, taken, ticked, turned, where_due, writing, written}
 use Rattle.end_laws.specs.turns.Ended.{IsReleased, may_release}
 
@@ -92,8 +93,8 @@ IsGoing live = (cause : Cause) → IsEnd cause live → ⊥
 
 -- Nothing changes, and nothing is sent; a station is asked for the relation, or its address is set; the controller
 -- ends, and these are the last status of a refusal and the last refused record then, or ends and informs the device; the
--- relation is established with what the device chose, and the first record is written; the record after this one is
--- written, because this one was accepted, or although it was refused; the controller waits for ApplicationReady; a Release
+-- relation is established with what the device chose, and the first Write is sent; the Write after this one is sent,
+-- because all its records were accepted, or although one was refused; the controller waits for ApplicationReady; a Release
 -- is no longer active; ApplicationReady is answered, and data is exchanged from then on, or was before; a cyclic frame is
 -- received; an alarm is received, or the ACK of an AlarmAck of a priority; an output is set, or its status; the application
 -- reads or writes a record, or its request is answered; a unit of the relation passes, or ends it, or a unit passes without
@@ -106,7 +107,7 @@ pub data Kind : Type 0 where
   Releases : (cause : Cause) → Kind
   Relates : (chosen : Chosen) → Kind
   Writes : (number : ℕ) → Kind
-  Skips : (number : ℕ) → (status : Status) → Kind
+  Skips : (number refused : ℕ) → (status : Status) → Kind
   Waits : Kind
   Forgets : Kind
   Begins : (caller : Caller) → (call : Call) → (block : ControlBlock) → Kind
@@ -131,7 +132,7 @@ turn_by setup live (Ends cause refusal refused) = stays (over cause (record live
 turn_by setup live (Releases cause) = released setup cause live
 turn_by setup live (Relates chosen) = writing (writing_from setup.plan 0) (standing setup live chosen)
 turn_by setup live (Writes number) = writing (writing_from setup.plan (number + 1)) live
-turn_by setup live (Skips number status) = writing (writing_from setup.plan (number + 1)) (noted status number live)
+turn_by setup live (Skips number refused status) = writing (writing_from setup.plan (number + 1)) (noted status refused live)
 turn_by setup live Waits = stays (record live { phase = Waiting; asked = None })
 turn_by setup live Forgets = stays (record live { asked = None })
 turn_by setup live (Begins caller call block) = record {
@@ -169,13 +170,13 @@ pub record IsGranted (setup : Setup) (live : Live) (came : Came) (request : Requ
   pub right : is_answer setup request response.header ≡ true
   pub granted : is_done response.status ≡ true
 
--- The record that is written is refused, and the plan says that the start-up goes on.
+-- A record that is written is refused, and the plan says that the start-up goes on.
 pub record IsSkipped (setup : Setup) (live : Live) (came : Came) (number : ℕ) : Type 0 where
   pub stood : live.asked ≡ Some (asks.Write number)
   pub response : Response
   pub comes : came ≡ Hears (Responds response)
   pub right : is_answer setup (asks.Write number) response.header ≡ true
-  pub refused : is_done response.status ≡ false
+  pub refused : (is_done response.status && are_written setup.plan number response.blocks) ≡ false
   pub goes_on : setup.plan.continue_on_refused_record ≡ true
 
 -- What a controller finds in the answer to a Connect.
@@ -203,8 +204,9 @@ IsKind setup live came (Addresses source) = IsSought live came source
 IsKind setup live came (Ends cause refusal refused) = IsGoing live
 IsKind setup live came (Releases cause) = IsGoing live × (may_release cause ≡ true)
 IsKind setup live came (Relates chosen) = (granted : IsGranted setup live came asks.Connect) × (chosen_in granted.response.blocks ≡ Some chosen)
-IsKind setup live came (Writes number) = IsGranted setup live came (asks.Write number)
-IsKind setup live came (Skips number status) = IsSkipped setup live came number
+IsKind setup live came (Writes number) =
+    (granted : IsGranted setup live came (asks.Write number)) × (are_written setup.plan number granted.response.blocks ≡ true)
+IsKind setup live came (Skips number refused status) = IsSkipped setup live came number
 IsKind setup live came Waits = IsGranted setup live came asks.PrmEnd
 IsKind setup live came Forgets = (heard : Heard) × (came ≡ Hears heard) × IsReleased setup live heard
 IsKind setup live came (Begins caller call block) = ((live.phase ≡ Ending) ⊎ (live.phase ≡ Waiting)) × IsReadied setup came caller call block

@@ -4,19 +4,20 @@ ghost use Rattle.std.specs.Cmp.Lexicographic.{pointwise};
 ghost use Rattle.pn_values.specs.declared.identity.Identity.{Identity};
 ghost use Rattle.record_blocks.specs.declared.alarm_ack.AlarmAck.{AlarmAck};
 ghost use Rattle.record_blocks.specs.declared.alarm_notification.AlarmNotification.{AlarmNotification};
+ghost use Rattle.pn_alarms.specs.Abort.{status_of};
 ghost use Rattle.pn_alarms.specs.declared.abort.Abort.{Abort};
 ghost use Rattle.pn_alarms.specs.declared.message.Notice.TheVariants as notice;
 ghost use Rattle.pn_alarms.specs.declared.pdu.Header.{Header};
 ghost use Rattle.pn_alarms.specs.declared.pdu.PduType.TheVariants as pdu;
-ghost use Rattle.pn_alarms.specs.declared.priority.Priority.{Priority};
-ghost use Rattle.pn_alarms.specs.declared.priority.Priority.TheVariants.{High, Low};
-ghost use Rattle.pn_alarms.specs.Report.{ours};
+ghost use Rattle.alarm_reports.specs.declared.priority.Priority.{Priority};
+ghost use Rattle.alarm_reports.specs.declared.priority.Priority.TheVariants.{High, Low};
+ghost use Rattle.alarm_reports.specs.Report.{diagnosed, ours};
 ghost use Rattle.cyclic_exchange.specs.declared.route.Route.{Route};
-ghost use Rattle.relations.specs.exchange.Frames.{Notifies, Replies as Answers};
+ghost use Rattle.relations.specs.exchange.Frames.{Notifies, Replies as Answers, Reports, RepliesLow};
 ghost use Rattle.plans.specs.declared.parts.Controller.{Controller};
 ghost use Rattle.relations.specs.declared.farewell.Farewell.{Farewell};
 ghost use Rattle.relations.specs.Farewells.{said_by};
-ghost use Rattle.device_frames.specs.Heard.{Alarms, Unreadable, heard_of as device_hears};
+ghost use Rattle.device_frames.specs.Heard.{Alarms, LowConfirms, heard_of as device_hears, heard_reply};
 ghost use Rattle.device_frames.specs.Sent.{Ends as Farewells, Exchanges, bytes_of as device_bytes};
 ghost use Rattle.controller_frames.specs.declared.setup.Setup.{Setup};
 ghost use Rattle.controller_frames.specs.Heard.{Alarms as Alarmed, Nothing, heard_of as controller_hears};
@@ -49,6 +50,21 @@ pub fn alarms_are_heard()
         → IsDevice identity → IsRoute route → header.kind ≡ pdu.Nack → IsHeader header
         → controller_hears mine (device_bytes identity (Exchanges route (Answers header)))
         ≡ mine_hears mine route.partner (Alarmed identity.mac High header notice.Nack) }
+    // Of a change of diagnosis the controller hears data with its number, and the alarm itself, as one of low priority with the
+    // UserStructureIdentifier 0x8000.
+    ensures low { (mine : Controller) (identity : Identity) (route : Route) (tag : ℕ) (header : Header) (alarm : AlarmNotification)
+        → IsDevice identity → IsRoute route → tag < 65536 → header.kind ≡ pdu.Data → IsHeader header → IsAlarm alarm
+        → controller_hears mine (device_bytes identity (Exchanges route (Reports tag header alarm)))
+        ≡ mine_hears mine route.partner (Alarmed identity.mac Low header (notice.Data header.send_number (diagnosed alarm))) }
+    // The same of an ACK and of a NACK of low priority.
+    ensures low_ack { (mine : Controller) (identity : Identity) (route : Route) (tag : ℕ) (header : Header)
+        → IsDevice identity → IsRoute route → tag < 65536 → header.kind ≡ pdu.Ack → IsHeader header
+        → controller_hears mine (device_bytes identity (Exchanges route (RepliesLow tag header)))
+        ≡ mine_hears mine route.partner (Alarmed identity.mac Low header (notice.Ack header.ack_number)) }
+    ensures low_nack { (mine : Controller) (identity : Identity) (route : Route) (tag : ℕ) (header : Header)
+        → IsDevice identity → IsRoute route → tag < 65536 → header.kind ≡ pdu.Nack → IsHeader header
+        → controller_hears mine (device_bytes identity (Exchanges route (RepliesLow tag header)))
+        ≡ mine_hears mine route.partner (Alarmed identity.mac Low header notice.Nack) }
 {
     frames_are_read();
     pdus_are_read();
@@ -63,20 +79,20 @@ pub fn confirmations_are_heard()
         → IsSetup setup → IsRoute route → header.kind ≡ pdu.Data → IsHeader header → IsAck ack
         → device_hears identity (comes (controller_bytes setup (Confirms route High header ack)))
         ≡ own_hears identity route.partner (Alarms setup.plan.controller.mac header (notice.Data header.send_number ack)) }
-    // An AlarmAck of low priority the device finds unreadable.
+    // Of an AlarmAck of low priority it hears the same, as one of low priority.
     ensures low { (identity : Identity) (setup : Setup) (route : Route) (header : Header) (ack : AlarmAck)
         → IsSetup setup → IsRoute route → header.kind ≡ pdu.Data → IsHeader header → IsAck ack
         → device_hears identity (comes (controller_bytes setup (Confirms route Low header ack)))
-        ≡ own_hears identity route.partner Unreadable }
+        ≡ own_hears identity route.partner (LowConfirms setup.plan.controller.mac header (notice.Data header.send_number ack)) }
     // Of an AlarmAck of low priority that goes to another station a controller hears nothing.
     ensures unheard { (mine : Controller) (setup : Setup) (route : Route) (header : Header) (ack : AlarmAck)
         → IsSetup setup → IsRoute route → header.kind ≡ pdu.Data → pointwise nat_eq route.partner.octets mine.mac.octets ≡ false
         → controller_hears mine (controller_bytes setup (Confirms route Low header ack)) ≡ Nothing }
-    // In an ACK of either priority the device hears the number of the alarm that arrived.
+    // In an ACK of either priority the device hears the number of the alarm that arrived, under the FrameID of that priority.
     ensures ack { (identity : Identity) (setup : Setup) (route : Route) (priority : Priority) (header : Header)
         → IsSetup setup → IsRoute route → header.kind ≡ pdu.Ack → IsHeader header
         → device_hears identity (comes (controller_bytes setup (Replies route priority header)))
-        ≡ own_hears identity route.partner (Alarms setup.plan.controller.mac header (notice.Ack header.ack_number)) }
+        ≡ own_hears identity route.partner (heard_reply setup.plan.controller.mac priority header (notice.Ack header.ack_number)) }
     // In a NACK of either priority the device hears that data was refused.
     ensures nack { (identity : Identity) (setup : Setup) (route : Route) (priority : Priority) (header : Header)
         → IsSetup setup → IsRoute route → header.kind ≡ pdu.Nack → IsHeader header
@@ -95,12 +111,12 @@ pub fn ends_are_heard()
     ensures device { (identity : Identity) (setup : Setup) (route : Route) (header : Header) (reason : Abort) → IsSetup setup →
         IsRoute route → IsHeader header
         → device_hears identity (comes (controller_bytes setup (Ends route header reason)))
-        ≡ own_hears identity route.partner (Alarms setup.plan.controller.mac (end_pdu header reason).header notice.Abort) }
+        ≡ own_hears identity route.partner (Alarms setup.plan.controller.mac (end_pdu header reason).header (notice.Abort (status_of reason))) }
     // In the device's ERR the controller hears that the device ends the relation.
     ensures controller { (mine : Controller) (identity : Identity) (farewell : Farewell)
         → IsDevice identity → IsMac farewell.initiator → farewell.tag < 65536 → IsHeader (said_by farewell).header
         → controller_hears mine (device_bytes identity (Farewells farewell))
-        ≡ mine_hears mine farewell.initiator (Alarmed identity.mac Low (said_by farewell).header notice.Abort) }
+        ≡ mine_hears mine farewell.initiator (Alarmed identity.mac Low (said_by farewell).header (notice.Abort (status_of farewell.reason))) }
 {
     frames_are_read();
     pdus_are_read();

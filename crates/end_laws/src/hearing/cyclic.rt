@@ -1,9 +1,9 @@
 //! Cyclic frames.
-ghost use Rattle.std.specs.Prelude.{◌≡◌, ◌≤◌, ℕ, length, Some};
+ghost use Rattle.std.specs.Prelude.{◌≡◌, ◌≤◌, ℕ, Bool, length, Some};
 ghost use Rattle.pn_values.specs.declared.identity.Identity.{Identity};
 ghost use Rattle.cyclic_data.specs.Image.{Shown};
 ghost use Rattle.cyclic_exchange.specs.declared.route.Route.{Route};
-ghost use Rattle.cyclic_exchange.specs.Frames.{cyclic_body};
+ghost use Rattle.cyclic_exchange.specs.Frames.{body_at};
 ghost use Rattle.relations.specs.exchange.Frames.{Inputs};
 ghost use Rattle.plans.specs.declared.parts.Controller.{Controller};
 ghost use Rattle.device_frames.specs.Heard.{Cyclic, heard_of as device_hears};
@@ -18,17 +18,17 @@ use codec_laws::frames_are_read;
 pub fn inputs_are_heard()
     // If its body has at most 1,498 octets, the controller that the frame goes to hears it: from the device, under its
     // FrameID, with its padding.
-    ensures controller { (mine : Controller) (identity : Identity) (route : Route) (inputs : Shown) (counter : ℕ)
-        → IsDevice identity → IsRoute route → length (cyclic_body inputs counter) ≤ 1498
-        → controller_hears mine (device_bytes identity (Exchanges route (Inputs inputs counter)))
+    ensures controller { (mine : Controller) (identity : Identity) (route : Route) (has_problem : Bool) (inputs : Shown) (counter : ℕ)
+        → IsDevice identity → IsRoute route → length (body_at has_problem inputs counter) ≤ 1498
+        → controller_hears mine (device_bytes identity (Exchanges route (Inputs has_problem inputs counter)))
         ≡ mine_hears mine route.partner (Comes identity.mac route.sent_id
-        (padded identity.mac route.partner (Some route.sent_tag) route.sent_id (cyclic_body inputs counter))) }
+        (padded identity.mac route.partner (Some route.sent_tag) route.sent_id (body_at has_problem inputs counter))) }
     // If its body has at most 1,498 octets, a device that the frame goes to hears the same.
-    ensures device { (other identity : Identity) (route : Route) (inputs : Shown) (counter : ℕ)
-        → IsDevice identity → IsRoute route → length (cyclic_body inputs counter) ≤ 1498
-        → device_hears other (comes (device_bytes identity (Exchanges route (Inputs inputs counter))))
+    ensures device { (other identity : Identity) (route : Route) (has_problem : Bool) (inputs : Shown) (counter : ℕ)
+        → IsDevice identity → IsRoute route → length (body_at has_problem inputs counter) ≤ 1498
+        → device_hears other (comes (device_bytes identity (Exchanges route (Inputs has_problem inputs counter))))
         ≡ own_hears other route.partner (Cyclic identity.mac route.sent_id
-        (padded identity.mac route.partner (Some route.sent_tag) route.sent_id (cyclic_body inputs counter))) }
+        (padded identity.mac route.partner (Some route.sent_tag) route.sent_id (body_at has_problem inputs counter))) }
 {
     frames_are_read();
 }

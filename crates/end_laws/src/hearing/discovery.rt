@@ -1,5 +1,5 @@
 //! DCP and ARP.
-ghost use Rattle.std.specs.Prelude.{◌≡◌, ◌≤◌, ◌<◌, ℕ, length, List};
+ghost use Rattle.std.specs.Prelude.{◌≡◌, ◌≤◌, ◌<◌, ℕ, length, List, Option};
 ghost use Rattle.pn_values.specs.declared.identity.Identity.{Identity};
 ghost use Rattle.pn_values.specs.declared.mac.Mac.{Mac};
 ghost use Rattle.pn_values.specs.declared.set_item.BlockError.{BlockError};
@@ -50,10 +50,10 @@ pub fn answers_are_heard()
         → controller_hears mine (device_bytes identity (IdentifyAnswer asker running xid))
         ≡ mine_hears mine asker (Answers identity.mac (identify_said identity running xid)) }
     // If the response fits a frame, the controller hears what the device reports of each kind that was asked for.
-    ensures get { (mine : Controller) (identity : Identity) (asker : Mac) (running : Settings) (request : Asked)
-        → IsDevice identity → IsMac asker → request.xid < 4294967296 → length (get_bytes identity running request) ≤ 1498
-        → controller_hears mine (device_bytes identity (GetAnswer asker running request))
-        ≡ mine_hears mine asker (Answers identity.mac (get_said identity running request)) }
+    ensures get { (mine : Controller) (identity : Identity) (asker : Mac) (running : Settings) (alias : Option (List ℕ)) (request : Asked)
+        → IsDevice identity → IsMac asker → request.xid < 4294967296 → length (get_bytes identity running alias request) ≤ 1498
+        → controller_hears mine (device_bytes identity (GetAnswer asker running alias request))
+        ≡ mine_hears mine asker (Answers identity.mac (get_said identity running alias request)) }
     // If the response fits a frame, the controller hears the outcome of each block of a Set.
     ensures set { (mine : Controller) (identity : Identity) (asker : Mac) (request : Asked) (outcomes : List BlockError)
         → IsDevice identity → IsMac asker → request.xid < 4294967296 → length (set_bytes request outcomes) ≤ 1498

@@ -1,5 +1,5 @@
 //! The laws of a controller.
-ghost use Rattle.end_laws.specs.turns.Alarms.{AreTakenInOrder, LackAtMostTheLast, ShowsTheLast};
+ghost use Rattle.end_laws.specs.turns.Alarms.{AreAllTaken, AreTakenInOrder, LackAtMostTheLast, ListsWhatIsReported, ShowsTheLast};
 ghost use Rattle.end_laws.specs.turns.Ended.{CountsUnits, DropsWhatComes, IsSilent, KeepsItsCause, RepeatsItsRelease};
 
 /// What remains of a controller that ended, for any events after its end. These are laws of the definition that
@@ -19,16 +19,21 @@ pub fn ended_is_kept()
     ensures units { CountsUnits }
 {}
 
-/// The alarms of a relation between a device's end, by the definition that specifies `DeviceAlarms`, and a controller,
-/// over a network that may lose, repeat or reorder frames. These are laws of the definitions; the function has no code.
+/// The alarms of either priority of a relation between a device's end, by the definition that specifies `DeviceAlarms`, and a
+/// controller, over a network that may lose, repeat or reorder frames, and bring ACKs of any number. These are laws of the
+/// definitions; the function has no code.
 pub fn alarms_are_taken_in_order()
     // While at most 32,768 alarms are raised, the alarms that the controller accepted are a prefix of those that were
     // raised.
     ensures prefix { AreTakenInOrder }
     // While at most 32,768 alarms are raised, at most the last one is missing.
     ensures last { LackAtMostTheLast }
+    // While at most 32,768 alarms are raised, none is missing if no alarm is unconfirmed.
+    ensures all { AreAllTaken }
     // The controller reports the last alarm that it accepted.
     ensures shown { ShowsTheLast }
+    // While its relation is established, its list of diagnoses is what the accepted changes report.
+    ensures listed { ListsWhatIsReported }
 {
     codec_laws::alarms_are_taken_in_order();
 }

@@ -34,12 +34,13 @@ use denote.Triple.Clauses.{lasts}
 use denote.Triple.Spec.{triple_of}
 use denote.Triple.Table.{framed}
 use denote.Triple.Walked.{Stays, walk_of, says, stay_dropped, stay_ref, gave_ref, Goes-dropped, Goes-gave_ref, Goes-ref, ends_at}
-use Rattle.device_abi.specs.port.State.{State, closed}
-use Rattle.device_abi.specs.operations.Serves.{HandsOut}
+use Rattle.device_abi.specs.port.State.{closed}
+use Rattle.station_abi.specs.State.{Served}
+use Rattle.station_abi.specs.Serves.{HandsOut}
 use Rattle.c_layout.specs.contracts.op.Op.{the_row as O}
-use Rattle.device_abi.specs.contracts.port.device.Port.{the_row as R}
-use Rattle.device_abi.specs.contracts.hand_out as g
-use Rattle.device_abi.proofs.hand_out.Met.{met}
+use Rattle.station_abi.specs.contracts.served.ServedPort.{the_row as R}
+use Rattle.station_abi.specs.contracts.hand_out as g
+use Rattle.station_abi.proofs.hand_out.Met.{met}
 use Rattle.nandutable.specs.Handed.{lie_for, Lends}
 use Rattle.nandutable.proofs.Said.{said}
 use Rattle.nandutable.specs.contracts.pn_fetch as f
@@ -62,11 +63,11 @@ pn_fetch_spec 𝓤 𝓛 𝓜 𝓡 wired =
     let Params = RawPtr ∷ MutRef (named 0) κ O ∷ MutRef (named 1) η u32 ∷ MutRef (named 2) ζ RawPtr ∷ [] in
     let Passed = ‵ (flft κ qs.0) ⊛ (‵ (flft η qs.1.0) ⊛ ‵ ftrue) in
     let Tokens = ‵ (flft κ qs.0) ⊛ (‵ (flft η qs.1.0) ⊛ (‵ (flft ζ qs.1.1.0) ⊛ ‵ ftrue)) in
-    let IsHanded : O.Denot → ℕ → List ℕ → State → Type 0 = λ last r octets new. HandsOut (closed s.stage) s op.now r octets new last in
+    let IsHanded : O.Denot → ℕ → List ℕ → Served → Type 0 = λ last r octets new. HandsOut (closed s.port.stage) s op.now r octets new last in
     let Octets : Lft → Bor (List ℕ) → List Val → types.Kit.Item 𝓤 = λ α r vs. ‵ ((ShrSlice (named 0) α u8).own_val r vs) in
-    let ToldFor = λ (p at : Ptr) (last : O.Denot) (r : ℕ) (new : State) (octets : List ℕ). sep 𝓤 (Lends 𝓛 R p new at octets) (fact 𝓤 (IsHanded last r octets new)) in
-    let Told = λ (p at : Ptr) (last : O.Denot) (r : ℕ) (new : State). ex 𝓤 (ToldFor p at last r new) in
-    let told : (b o : ℕ) (last : O.Denot) (r : ℕ) (new : State) (γ α : ℕ) (x : Bor (List ℕ)) → IsHanded last r x.now new
+    let ToldFor = λ (p at : Ptr) (last : O.Denot) (r : ℕ) (new : Served) (octets : List ℕ). sep 𝓤 (Lends 𝓛 R p new at octets) (fact 𝓤 (IsHanded last r octets new)) in
+    let Told = λ (p at : Ptr) (last : O.Denot) (r : ℕ) (new : Served). ex 𝓤 (ToldFor p at last r new) in
+    let told : (b o : ℕ) (last : O.Denot) (r : ℕ) (new : Served) (γ α : ℕ) (x : Bor (List ℕ)) → IsHanded last r x.now new
     → ent 𝓤 (sep 𝓤 (types.Logic.sem 𝓛 (flft (α ∷ []) full_share)) (sep 𝓤 (types.Logic.sem 𝓛 ((ShrSlice (named 0) (α ∷ []) u8).own_val x (shr_slice_vals x)))
     (sep 𝓤 (types.Logic.sem 𝓛 (flent (α ∷ []) (Body (mem R) b o γ))) (types.Logic.sem 𝓛 (fres γ (R.coded.code new))))))
     (ex 𝓤 (Told (block_ptr b o) (block_ptr x.ref_ptr.0 x.ref_ptr.1) last r)) = λ b o last r new γ α x handed.
@@ -98,14 +99,14 @@ pn_fetch_spec 𝓤 𝓛 𝓜 𝓡 wired =
     (lends_ref 𝓛 R (named 0) (α ∷ []) s b o) $ await ! tt $ pick ! (λ γ. split ! $
     -- [the loan; what the lender keeps; its token; the tokens; the operation; the answer; the place]
     let G = triple_of 𝓛 g.signature (g.spec 𝓛 𝓜.mem 𝓡.returns) in
-    let loan : MutBor State = record { ref_ptr = (b, o); ghost_name = γ; now = s } in
+    let loan : MutBor Served = record { ref_ptr = (b, o); ghost_name = γ; now = s } in
     let z : G.Ghost = (((α ∷ [], (κ, (η, tt))), (full_share, (qs.0, (qs.1.0, tt))), tt, (loan, (op, (answer, tt))), (mut_vals loan, (mut_vals op, (mut_vals answer, tt)))), tt) in
     move ! (3 ∷ []) $ split ! $ move ! (1 ∷ []) $ split ! $ move ! (1 ∷ []) $ split ! $ move ! (1 ∷ []) $ drop ! $
     -- [the place's token; the answer's; the operation's; the loan; what the lender keeps; its token; the operation; the answer; the place]
     nothing ! $ move ! (8 ∷ 0 ∷ []) $ join ! $ move ! (7 ∷ 0 ∷ []) $ join ! $ move ! (4 ∷ 0 ∷ []) $ join ! $
     nothing ! $ move ! (3 ∷ 0 ∷ []) $ join ! $ move ! (3 ∷ 0 ∷ []) $ join ! $ move ! (4 ∷ 0 ∷ []) $ join ! $ join ! $
     nothing ! $ move ! (1 ∷ 0 ∷ []) $ use2 𝓛 (raw (G.pre z)) (id⊢ 𝓤 _) $
-    calls_at ! (framed 𝓤 𝓛.H 𝓜 𝓣) G (met 𝓤 𝓛 𝓜 𝓡 (code.calls-device_abi::hand_out 𝓡.env wired)) z (and_then ! (get ! refl) (and_then ! (get ! refl) (and_then ! (get ! refl) (no_more !)))) (λ v.
+    calls_at ! (framed 𝓤 𝓛.H 𝓜 𝓣) G (met 𝓤 𝓛 𝓜 𝓡 (code.calls-station_abi::hand_out 𝓡.env wired)) z (and_then ! (get ! refl) (and_then ! (get ! refl) (and_then ! (get ! refl) (no_more !)))) (λ v.
     use1 𝓛 (later (some (λ (r : Bor (List ℕ)). ((‵ (flft (α ∷ []) full_share) ⊛ Passed) ⊛ Octets (α ∷ []) r (v ∷ [])) ⊛
     some (λ (ws : Unit {0} × (O.Denot × (ℕ × Unit {0}))). ‵ (lasts g.ended z.0.0 z.0.3 ws) ⊛ ‵ (follows_so R R γ none (λ _ _. ⊤) (λ new. IsHanded ws.1.0 ws.1.1.0 r.now new)))))) (id⊢ 𝓤 _) $
     await ! tt $ pick ! (λ r. split ! $ split ! $ split ! $
@@ -124,7 +125,7 @@ pn_fetch_spec 𝓤 𝓛 𝓜 𝓡 wired =
     -- [the place, in two parts; its token; its first part; the octets; their token; the tokens; the last values; what the lender keeps]
     move ! (7 ∷ []) $ pick ! (λ ws. split ! $ fsplit ! $ drop ! $ fsplit ! $ move ! (1 ∷ []) $ fsplit ! $ move ! (1 ∷ []) $ drop ! $
     -- [the answer's last value; the operation's; the port's; the place, in two parts; its token; its first part; the octets; their token; the tokens; what the lender keeps]
-    move ! (2 ∷ []) $ use1 𝓛 (some (λ (new : State). ‵ (fres γ (R.coded.code new)) ⊛ raw (fact 𝓤 (IsHanded ws.1.0 ws.1.1.0 r.now new)))) (said 𝓛 R γ (λ _ _. ⊤) (λ new. IsHanded ws.1.0 ws.1.1.0 r.now new)) $
+    move ! (2 ∷ []) $ use1 𝓛 (some (λ (new : Served). ‵ (fres γ (R.coded.code new)) ⊛ raw (fact 𝓤 (IsHanded ws.1.0 ws.1.1.0 r.now new)))) (said 𝓛 R γ (λ _ _. ⊤) (λ new. IsHanded ws.1.0 ws.1.1.0 r.now new)) $
     pick ! (λ new. split ! $ move ! (1 ∷ []) $ heard ! _ (λ handed.
     returns ! (look_at ! 0 refl) $ free_all ! refl $
     move ! (8 ∷ 7 ∷ 10 ∷ 0 ∷ []) $ group ! 4 $ use1 𝓛 (raw (ex 𝓤 (Told (block_ptr b o) at ws.1.0 ws.1.1.0))) (told b o ws.1.0 ws.1.1.0 new γ α r handed) $

@@ -26,14 +26,14 @@ use denote.Triple.Spec.{triple_of}
 use denote.Triple.Table.{framed}
 use denote.Triple.Walked.{Stays, walk_of, says, stay_dropped, Goes-dropped, ends_at}
 use borrow.Table.OneValue.{part_in}
-use Rattle.device_abi.specs.port.State.{State}
-use Rattle.device_abi.specs.contracts.port.device.Port.{the_row as R}
-use Rattle.device_abi.proofs.port.device.Port.TheLaws.{the_row_laws as port_laws}
-use Rattle.device_abi.specs.operations.Made.{IsMade}
-use Rattle.device_abi.specs.operations.Stations.{is_station}
-use Rattle.device_abi.specs.contracts.operations.station.Station.{the_row as S}
-use Rattle.device_abi.specs.contracts.port_of as g
-use Rattle.device_abi.proofs.port_of.Met.{met}
+use Rattle.station_abi.specs.State.{Served}
+use Rattle.station_abi.specs.contracts.served.ServedPort.{the_row as R}
+use Rattle.station_abi.proofs.served.ServedPort.TheLaws.{the_row_laws as port_laws}
+use Rattle.station_abi.specs.Made.{IsMade}
+use Rattle.station_abi.specs.Stations.{is_station}
+use Rattle.station_abi.specs.contracts.c_station.Station.{the_row as S}
+use Rattle.station_abi.specs.contracts.port_of as g
+use Rattle.station_abi.proofs.port_of.Met.{met}
 use Rattle.nandutable.specs.contracts.pn_put as f
 use Rattle.nandutable.proofs.pn_put.Statement.{statement}
 use Rattle.nandutable.proofs.pn_put.Code as code
@@ -52,8 +52,8 @@ pn_put_spec 𝓤 𝓛 𝓜 𝓡 wired =
     let y : Ptr → W.Ghost = λ p. ((κs, qs, bounds, (p, a.1), vals p), tt) in
     let Params = RawPtr ∷ ShrRef (named 0) κ S ∷ [] in
     let Tokens = ‵ (flft κ qs.0) ⊛ ‵ ftrue in
-    let Reported = λ (b o : ℕ) (port : State). sep 𝓤 (types.Logic.sem 𝓛 (lies_at R full_share (block_ptr b o) port)) (fact 𝓤 (IsMade station.now port)) in
-    let reported : (b o : ℕ) (port : State) → IsMade station.now port → ent 𝓤 (types.Logic.sem 𝓛 (lies_at R full_share (block_ptr b o) port)) (ex 𝓤 (Reported b o)) = λ b o port made.
+    let Reported = λ (b o : ℕ) (port : Served). sep 𝓤 (types.Logic.sem 𝓛 (lies_at R full_share (block_ptr b o) port)) (fact 𝓤 (IsMade station.now port)) in
+    let reported : (b o : ℕ) (port : Served) → IsMade station.now port → ent 𝓤 (types.Logic.sem 𝓛 (lies_at R full_share (block_ptr b o) port)) (ex 𝓤 (Reported b o)) = λ b o port made.
     qed 𝓛 (‵ (lies_at R full_share (block_ptr b o) port) ∷ []) ∵ show ! (Reported b o) port $ says ! made $ done ! in
     qed 𝓛 ((Tokens ⊛ ‵ (owns Params a (vals a.0))) ∷ (‵ (room_at R a.0) ⊛ raw (fact 𝓤 (is_station station.now ≡ true))) ∷ []) ∵
     split ! $ move ! (1 ∷ []) $ fsplit ! $ drop ! $ fsplit ! $ move ! (1 ∷ []) $ drop ! $ move ! (2 ∷ []) $ split ! $ move ! (1 ∷ []) $ heard ! _ (λ fits.
@@ -67,8 +67,8 @@ pn_put_spec 𝓤 𝓛 𝓜 𝓡 wired =
     let z : G.Ghost = (((κ, tt), (qs.0, tt), tt, (station, tt), (shr_vals station, tt)), tt) in
     nothing ! $ move ! (2 ∷ 0 ∷ []) $ join ! $ move ! (2 ∷ 0 ∷ []) $ join ! $
     use0 𝓛 (raw (fact 𝓤 (is_station station.now ≡ true))) (fact_i 𝓤 _ _ fits) $ move ! (1 ∷ 0 ∷ []) $ use2 𝓛 (raw (G.pre z)) (id⊢ 𝓤 _) $
-    calls_at ! (framed 𝓤 𝓛.H 𝓜 𝓣) G (met 𝓤 𝓛 𝓜 𝓡 (code.calls-device_abi::port_of 𝓡.env wired)) z (and_then ! (get ! refl) (no_more !)) (λ v.
-    use1 𝓛 (later (some (λ (port : State). (Tokens ⊛ ‵ (R.own_val port (v ∷ []))) ⊛
+    calls_at ! (framed 𝓤 𝓛.H 𝓜 𝓣) G (met 𝓤 𝓛 𝓜 𝓡 (code.calls-station_abi::port_of 𝓡.env wired)) z (and_then ! (get ! refl) (no_more !)) (λ v.
+    use1 𝓛 (later (some (λ (port : Served). (Tokens ⊛ ‵ (R.own_val port (v ∷ []))) ⊛
     some (λ (ws : Unit {0} × Unit {0}). ‵ (lasts g.ended z.0.0 z.0.3 ws) ⊛ raw (fact 𝓤 (IsMade station.now port)))))) (id⊢ 𝓤 _) $
     await ! tt $ pick ! (λ port. split ! $ split ! $
     -- [the tokens; the port; its facts; the memory]

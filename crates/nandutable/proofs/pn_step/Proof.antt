@@ -31,12 +31,12 @@ use denote.Triple.Clauses.{lasts}
 use denote.Triple.Spec.{triple_of}
 use denote.Triple.Table.{framed}
 use denote.Triple.Walked.{Stays, walk_of, says, stay_dropped, gave_ref, Goes-dropped, Goes-gave_ref, ends_at}
-use Rattle.device_abi.specs.port.State.{State}
-use Rattle.device_abi.specs.operations.Serves.{Serves, operation_of}
+use Rattle.station_abi.specs.State.{Served}
+use Rattle.station_abi.specs.Serves.{Serves, operation_of}
 use Rattle.c_layout.specs.contracts.op.Op.{the_row as O}
-use Rattle.device_abi.specs.contracts.port.device.Port.{the_row as R}
-use Rattle.device_abi.specs.contracts.serve as g
-use Rattle.device_abi.proofs.serve.Met.{met}
+use Rattle.station_abi.specs.contracts.served.ServedPort.{the_row as R}
+use Rattle.station_abi.specs.contracts.serve as g
+use Rattle.station_abi.proofs.serve.Met.{met}
 use Rattle.nandutable.specs.contracts.pn_step as f
 use Rattle.nandutable.proofs.pn_step.Statement.{statement}
 use Rattle.nandutable.proofs.pn_step.Code as code
@@ -55,9 +55,9 @@ pn_step_spec 𝓤 𝓛 𝓜 𝓡 wired =
     let y : Ptr → W.Ghost = λ p. ((κs, qs, bounds, (p, a.1), vals p), s) in
     let Params = RawPtr ∷ MutRef (named 0) κ O ∷ ShrSlice (named 1) η u8 ∷ [] in
     let Tokens = ‵ (flft κ qs.0) ⊛ (‵ (flft η qs.1.0) ⊛ ‵ ftrue) in
-    let IsServed : ℕ → State → O.Denot → Type 0 = λ r new last. Serves (operation_of op.now.what) s op.now given.now r new last in
-    let Reported = λ (b o r : ℕ) (last : O.Denot) (new : State). sep 𝓤 (types.Logic.sem 𝓛 (lies_at R full_share (block_ptr b o) new)) (fact 𝓤 (IsServed r new last)) in
-    let reported : (b o r : ℕ) (last : O.Denot) (new : State) → IsServed r new last → ent 𝓤 (types.Logic.sem 𝓛 (lies_at R full_share (block_ptr b o) new)) (ex 𝓤 (Reported b o r last)) = λ b o r last new served.
+    let IsServed : ℕ → Served → O.Denot → Type 0 = λ r new last. Serves (operation_of op.now.what) s op.now given.now r new last in
+    let Reported = λ (b o r : ℕ) (last : O.Denot) (new : Served). sep 𝓤 (types.Logic.sem 𝓛 (lies_at R full_share (block_ptr b o) new)) (fact 𝓤 (IsServed r new last)) in
+    let reported : (b o r : ℕ) (last : O.Denot) (new : Served) → IsServed r new last → ent 𝓤 (types.Logic.sem 𝓛 (lies_at R full_share (block_ptr b o) new)) (ex 𝓤 (Reported b o r last)) = λ b o r last new served.
     qed 𝓛 (‵ (lies_at R full_share (block_ptr b o) new) ∷ []) ∵ show ! (Reported b o r last) new $ says ! served $ done ! in
     qed 𝓛 ((Tokens ⊛ ‵ (owns Params a (vals a.0))) ∷ ‵ (lies_at R full_share a.0 s) ∷ []) ∵
     split ! $ move ! (1 ∷ []) $ fsplit ! $ drop ! $ fsplit ! $ move ! (1 ∷ []) $ fsplit ! $ move ! (1 ∷ []) $ drop ! $ move ! (3 ∷ 2 ∷ 1 ∷ []) $
@@ -78,13 +78,13 @@ pn_step_spec 𝓤 𝓛 𝓜 𝓡 wired =
     (lends_ref 𝓛 R (named 0) (α ∷ []) s b o) $ await ! tt $ pick ! (λ γ. split ! $
     -- [the loan; what the lender keeps; its token; the tokens; the operation; the given octets]
     let G = triple_of 𝓛 g.signature (g.spec 𝓛 𝓜.mem 𝓡.returns) in
-    let loan : MutBor State = record { ref_ptr = (b, o); ghost_name = γ; now = s } in
+    let loan : MutBor Served = record { ref_ptr = (b, o); ghost_name = γ; now = s } in
     let z : G.Ghost = (((α ∷ [], (κ, (η, tt))), (full_share, (qs.0, (qs.1.0, tt))), tt, (loan, a.1), (mut_vals loan, (mut_vals op, (shr_slice_vals given, tt)))), tt) in
     nothing ! $ move ! (6 ∷ 0 ∷ []) $ join ! $ move ! (5 ∷ 0 ∷ []) $ join ! $ move ! (1 ∷ 0 ∷ []) $ join ! $
     move ! (2 ∷ 3 ∷ []) $ join ! $ join ! $ nothing ! $ move ! (1 ∷ 0 ∷ []) $ use2 𝓛 (raw (G.pre z)) (id⊢ 𝓤 _) $
-    calls_at ! (framed 𝓤 𝓛.H 𝓜 𝓣) G (met 𝓤 𝓛 𝓜 𝓡 (code.calls-device_abi::serve 𝓡.env wired)) z (and_then ! (get ! refl) (and_then ! (get ! refl) (and_then ! (get ! refl) (no_more !)))) (λ v.
+    calls_at ! (framed 𝓤 𝓛.H 𝓜 𝓣) G (met 𝓤 𝓛 𝓜 𝓡 (code.calls-station_abi::serve 𝓡.env wired)) z (and_then ! (get ! refl) (and_then ! (get ! refl) (and_then ! (get ! refl) (no_more !)))) (λ v.
     use1 𝓛 (later (some (λ (r : ℕ). ((‵ (flft (α ∷ []) full_share) ⊛ Tokens) ⊛ ‵ (u32.own_val r (v ∷ []))) ⊛
-    some (λ (ws : State × (O.Denot × (Unit {0} × Unit {0}))). ‵ (lasts g.ended z.0.0 z.0.3 ws) ⊛ raw (fact 𝓤 (IsServed r ws.0 ws.1.0)))))) (id⊢ 𝓤 _) $
+    some (λ (ws : Served × (O.Denot × (Unit {0} × Unit {0}))). ‵ (lasts g.ended z.0.0 z.0.3 ws) ⊛ raw (fact 𝓤 (IsServed r ws.0 ws.1.0)))))) (id⊢ 𝓤 _) $
     await ! tt $ pick ! (λ r. split ! $ split ! $ split ! $ lft_end ! tt $
     -- [that its lifetime is over; the tokens; the result; the last values; what the lender keeps]
     move ! (2 ∷ []) $ peeks ! u32 (Is u32) (shows 𝓛 u32) r (v ∷ []) (λ is. lands_as ! refl refl ((uint_Lawful 𝓛 w32).typed r _ is).0 $

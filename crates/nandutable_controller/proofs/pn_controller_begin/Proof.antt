@@ -27,7 +27,7 @@ use denote.Triple.Clauses.{lasts}
 use denote.Triple.Spec.{triple_of}
 use denote.Triple.Table.{framed}
 use denote.Triple.Walked.{Stays, walk_of, says, stay_dropped, Goes-dropped, ends_at}
-use Rattle.station.specs.Served.{begun}
+use Rattle.controller_station.specs.Served.{begun}
 use Rattle.controller_abi.specs.State.{State, opened}
 use Rattle.controller_abi.specs.contracts.port.Port.{the_row as R}
 use Rattle.controller_abi.specs.contracts.start as g

@@ -18,7 +18,7 @@ use Rattle.im_records.specs.Records.{is_real}
 use Rattle.records.specs.declared.status.call_fault.CallFault.{CallFault}
 use Rattle.records.specs.declared.status.call_fault.CallFault.TheVariants as fault
 use Rattle.records.specs.declared.reads.listing.Listing.{Listing}
-use Rattle.records.specs.declared.reads.listing.Listing.TheVariants.{Identification, Apis, Diagnosis, Expected, Found}
+use Rattle.records.specs.declared.reads.listing.Listing.TheVariants.{Identification, Apis, Diagnosis, Maintenance, Expected, Found, Input, Output, Relations, Log, Port, Interface, Network}
 use Rattle.records.specs.declared.reads.listing.Level.{Level}
 use Rattle.records.specs.declared.reads.listing.Level.TheVariants.{Subslot, Slot, Relation, Device}
 use Rattle.records.specs.calls.Handled.{handled}
@@ -36,11 +36,13 @@ level_of index =
     else if index / 4096 == 15 then Some Device
     else None
 
--- Whether the record with this index tells diagnosis: 0xF80C, and at each level x the records x00A to x00C and x010 to x013.
+-- Whether the record with this index tells diagnosis: 0xF80C, and at each level x the records x00A to x00C.
 unfoldable pub is_diagnosis : ℕ → Bool
-is_diagnosis index = index == 0xF80C
-    || ((index % 4096 == 0x00A || index % 4096 == 0x00B || index % 4096 == 0x00C)
-    || (index % 4096 == 0x010 || index % 4096 == 0x011 || index % 4096 == 0x012 || index % 4096 == 0x013))
+is_diagnosis index = index == 0xF80C || index % 4096 == 0x00A || index % 4096 == 0x00B || index % 4096 == 0x00C
+
+-- Whether it tells diagnosis of maintenance: at each level x the records x010 to x013.
+unfoldable pub is_maintenance : ℕ → Bool
+is_maintenance index = index % 4096 == 0x010 || index % 4096 == 0x011 || index % 4096 == 0x012 || index % 4096 == 0x013
 
 -- What the record with this index lists, at the level of its index.
 unfoldable pub kind_of : ℕ → Option Listing
@@ -53,7 +55,16 @@ kind_of index =
     else if index == 0xC000 then Some Expected
     else if index == 0xE000 then Some Expected
     else if index == 0xE001 then Some Found
+    else if index == 0x8028 then Some Input
+    else if index == 0x8029 then Some Output
+    else if index == 0xF820 then Some Relations
+    else if index == 0xF020 then Some Relations
+    else if index == 0xF830 then Some Log
+    else if index == 0x802A then Some Port
+    else if index == 0x8080 then Some Interface
+    else if index == 0xF841 then Some Network
     else if is_diagnosis index then Some Diagnosis
+    else if is_maintenance index then Some Maintenance
     else None
 
 -- ---- the octets
@@ -112,14 +123,22 @@ identification_bytes type value =
 unfoldable pub api_bytes : List ℕ
 api_bytes = 0x00 ∷ 0x1A ∷ 0x00 ∷ 0x08 ∷ 0x01 ∷ 0x00 ∷ 0x00 ∷ 0x01 ∷ 0x00 ∷ 0x00 ∷ 0x00 ∷ 0x00 ∷ []
 
--- The octets of a record, if there is one at its place. No diagnosis exists, so its records are empty. A record of the
--- relation is what the relation has there.
+-- The octets of a record, if there is one at its place. No diagnosis of maintenance exists, so its records are empty. A record
+-- that is made elsewhere is `own`.
 abbrev pub octets_of : Real → Option (List ℕ) → Level → ℕ → ℕ → Listing → Option (List ℕ)
 octets_of real own level slot subslot Identification = Some (identification_bytes 0x0013 (plugged_of real level slot subslot))
 octets_of real own level slot subslot Apis = Some api_bytes
-octets_of real own level slot subslot Diagnosis = Some []
+octets_of real own level slot subslot Diagnosis = own
+octets_of real own level slot subslot Maintenance = Some []
 octets_of real own level slot subslot Expected = own
 octets_of real own level slot subslot Found = own
+octets_of real own level slot subslot Input = own
+octets_of real own level slot subslot Output = own
+octets_of real own level slot subslot Relations = own
+octets_of real own level slot subslot Log = own
+octets_of real own level slot subslot Port = own
+octets_of real own level slot subslot Interface = own
+octets_of real own level slot subslot Network = own
 
 -- ---- the order of the checks
 

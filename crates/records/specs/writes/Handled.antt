@@ -5,8 +5,6 @@ use Rattle.pn_values.specs.declared.command.Command.{Command}
 use Rattle.pn_values.specs.declared.command.Command.TheVariants.{SetIm}
 use Rattle.wire.specs.Checks.{or_fault}
 use Rattle.wire.specs.Codec.{◌>>=◌}
-use Rattle.block_codec.specs.declared.block_type.BlockType.TheVariants as kind
-use Rattle.block_codec.specs.Block.{in_iod_write_req}
 use Rattle.record_blocks.specs.declared.write_record.IodWriteReq.{IodWriteReq}
 use Rattle.im_records.specs.declared.fault.RecordFault.{RecordFault}
 use Rattle.im_records.specs.Indices.{is_read_only, record_with}
@@ -15,7 +13,6 @@ use Rattle.im_records.specs.Writes.{command_of}
 use Rattle.records.specs.declared.status.call_fault.CallFault.{CallFault}
 use Rattle.records.specs.declared.status.call_fault.CallFault.TheVariants as fault
 use Rattle.records.specs.calls.Handled.{handled}
-use Rattle.records.specs.calls.Single.{single_of}
 use Rattle.records.specs.calls.Naming.{in_relation}
 use Rattle.records.specs.reads.Handled.{has_parameter, placed}
 use Rattle.records.specs.reads.Parameters.{parameter_length}
@@ -83,9 +80,3 @@ unfoldable pub handled_request : Option (List ℕ) → Real → IodWriteReq → 
 handled_request standing real request behind = targeted standing real request
     >>= λ _. written real request behind
     >>= λ effect. Ok (record { request = request; effect = effect })
-
--- The checks of a Write while this relation is active: its block, the relation, the place, and then the record.
-unfoldable pub write_of : Option (List ℕ) → Real → List ℕ → Result Write CallFault
-write_of standing real blocks = single_of kind.IodWriteReq blocks
-    >>= λ x. or_fault fault.BlockForm (in_iod_write_req x.0)
-    >>= λ request. handled_request standing real request x.1

@@ -6,7 +6,7 @@ ghost use Rattle.std.specs.List.{list_any};
 ghost use Rattle.std.specs.Option.{option_map};
 ghost use Rattle.arrayvec.specs.ArrayVec.{array_vec_len};
 ghost use Rattle.record_blocks.specs.FilterData.{filter_data};
-ghost use Rattle.records.specs.reads.Listing.{api_bytes, covers_slot, covers_subslot, identification_bytes, is_diagnosis};
+ghost use Rattle.records.specs.reads.Listing.{api_bytes, covers_slot, covers_subslot, identification_bytes, is_diagnosis, is_maintenance};
 ghost use Rattle.records.specs.reads.Listing.{is_of_relation, is_there, kind_of, level_of, listed_at, listing_of, modules_at};
 ghost use Rattle.records.specs.reads.Listing.{parts_at, plugged_of, submodules_at};
 
@@ -28,12 +28,28 @@ pub enum Listing {
     Identification,
     /// APIData: the APIs of the device.
     Apis,
-    /// Diagnosis, of which there is none.
+    /// DiagnosisData: the diagnoses that exist.
     Diagnosis,
+    /// Diagnoses of maintenance, of which there are none.
+    Maintenance,
     /// ExpectedIdentificationData: the modules and submodules that the relation expects.
     Expected,
     /// RealIdentificationData: the modules and submodules that are plugged where the relation expects some.
     Found,
+    /// RecordInputDataObjectElement: the data and the statuses of an input of the relation.
+    Input,
+    /// RecordOutputDataObjectElement: those of an output.
+    Output,
+    /// ARData: the relations that the device has.
+    Relations,
+    /// LogData: the ends of relations, and the Connects that were refused.
+    Log,
+    /// PDPortDataReal: the port, and its neighbour.
+    Port,
+    /// PDInterfaceDataReal: who the station is.
+    Interface,
+    /// PDRealData: both.
+    Network,
 }
 
 /// The part of the device that a record lists.
@@ -122,9 +138,16 @@ fn is_diagnosis(index: u16) -> bool
     ensures { result ≡ is_diagnosis index }
 {
     let number = index % 4096;
-    let is_buffer = number == 0x00A || number == 0x00B || number == 0x00C;
-    let is_other = number == 0x010 || number == 0x011 || number == 0x012 || number == 0x013;
-    index == 0xF80C || is_buffer || is_other
+    index == 0xF80C || number == 0x00A || number == 0x00B || number == 0x00C
+}
+
+/// Whether the record with this index tells diagnosis of maintenance.
+#[tactic(auto, unfolding(crate::specs::reads::Listing::is_maintenance))]
+fn is_maintenance(index: u16) -> bool
+    ensures { result ≡ is_maintenance index }
+{
+    let number = index % 4096;
+    number == 0x010 || number == 0x011 || number == 0x012 || number == 0x013
 }
 
 /// What the record with this index lists.
@@ -137,7 +160,15 @@ fn kind_of(index: u16) -> Option<Listing>
         0xF821 => Some(Listing::Apis),
         0x8000 | 0xC000 | 0xE000 => Some(Listing::Expected),
         0xE001 => Some(Listing::Found),
+        0x8028 => Some(Listing::Input),
+        0x8029 => Some(Listing::Output),
+        0xF820 | 0xF020 => Some(Listing::Relations),
+        0xF830 => Some(Listing::Log),
+        0x802A => Some(Listing::Port),
+        0x8080 => Some(Listing::Interface),
+        0xF841 => Some(Listing::Network),
         _ if is_diagnosis(index) => Some(Listing::Diagnosis),
+        _ if is_maintenance(index) => Some(Listing::Maintenance),
         _ => None,
     }
 }
@@ -285,8 +316,17 @@ pub fn serve_listing(
             request,
             &[0x00, 0x1A, 0x00, 0x08, 0x01, 0x00, 0x00, 0x01, 0, 0, 0, 0],
         ),
-        Listing::Diagnosis => put_read_answer(answer, request, &[]),
-        Listing::Expected | Listing::Found => match own {
+        Listing::Maintenance => put_read_answer(answer, request, &[]),
+        Listing::Diagnosis
+        | Listing::Expected
+        | Listing::Found
+        | Listing::Input
+        | Listing::Output
+        | Listing::Relations
+        | Listing::Log
+        | Listing::Port
+        | Listing::Interface
+        | Listing::Network => match own {
             Some(octets) => put_read_answer(answer, request, octets),
             None => return Err(CallFault::Index),
         },

@@ -15,9 +15,10 @@ use pn_values::{Identity, Real, Settings};
 /// The blocks of a call or a response: at most 1,372 octets.
 pub type Blocks = ArrayVec<u8, 1372>;
 
-/// Puts the response to a request for a record of the device into an empty list, or returns why it is refused.
+/// Puts the response to a request for a record of the device into an empty list, or returns why it is refused. The request is
+/// for no record of a listing.
 #[tactic(auto, unfolding(crate::specs::reads::Handled::read_of))]
-pub(crate) fn serve(
+pub fn serve(
     identity: &Identity,
     real: &Real,
     settings: &Settings,

@@ -1,9 +1,12 @@
 //! The checks of a Write.
-ghost use Rattle.std.specs.Prelude.{◌≡◌};
+ghost use Rattle.std.specs.Prelude.{◌≡◌, ◌≤◌, IfOk, length};
 ghost use Rattle.std.specs.Option.{option_map};
-ghost use Rattle.records.specs.writes.Handled.{effect_of, is_known, handled_request, kept, stored, targeted, write_of, written};
+ghost use Rattle.records.specs.writes.Handled.{effect_of, is_known, handled_request, kept, stored, targeted, written};
+ghost use Rattle.records.specs.writes.Asked.{IsShort, handled_writing, several_of, writing_of};
+ghost use Rattle.records.specs.writes.Several.{most_entries};
 
-use crate::writes::{Effect, TakenRecord, Write};
+use crate::writes::entries::is_several;
+use crate::writes::{Effect, Entries, TakenRecord, Write, Writing};
 use crate::{CallFault, check_place, check_relation, parameter_length, single_block};
 use arrayvec::ArrayVec;
 use block_codec::{Block, BlockType, IodWriteReq};
@@ -13,9 +16,16 @@ use pn_values::{Command, Real};
 
 /// Returns what a Write asks for, or why it is refused. `standing` is the ARUUID of the active relation, if there is one.
 /// The first fault in the order of the checks is reported.
-#[tactic(auto, unfolding(crate::specs::writes::Handled::write_of))]
-pub fn judge_write(blocks: &[u8], standing: Option<&Uuid>, real: &Real) -> Result<Write, CallFault>
-    ensures { result ≡ write_of (option_map (λ uuid. uuid.now) standing.entry) real.now blocks.now }
+#[tactic(auto, unfolding(crate::specs::writes::Asked::writing_of))]
+pub fn judge_write<'a>(
+    blocks: &'a [u8],
+    standing: Option<&Uuid>,
+    real: &Real,
+) -> Result<Writing<'a>, CallFault>
+    // The result is what the definition `writing_of` gives.
+    ensures value { result ≡ writing_of (option_map (λ uuid. uuid.now) standing.entry) real.now blocks.now }
+    // A list has at most 16 records.
+    ensures few { IfOk result IsShort }
 {
     let (block, behind) = single_block(blocks, BlockType::IodWriteReq)?;
     match block {
@@ -25,8 +35,50 @@ pub fn judge_write(blocks: &[u8], standing: Option<&Uuid>, real: &Real) -> Resul
 }
 
 /// Returns what a request asks for. `behind` is the octets after its header.
+fn judge_request<'a>(
+    standing: Option<&Uuid>,
+    real: &Real,
+    request: &IodWriteReq,
+    behind: &'a [u8],
+) -> Result<Writing<'a>, CallFault>
+    ensures value { result ≡ handled_writing (option_map (λ uuid. uuid.now) standing.entry) real.now request.now behind.now }
+    ensures few { IfOk result IsShort }
+{
+    if is_several(request) {
+        let entries = judge_list(standing, request, behind)?;
+        return Ok(Writing::Each(*request, entries));
+    }
+    match judge_record(standing, real, request, behind) {
+        Ok(write) => Ok(Writing::One(write)),
+        Err(fault) => Err(fault),
+    }
+}
+
+/// Returns the records of a list. `behind` is the octets after the header of its request.
+#[tactic(auto, unfolding(crate::specs::writes::Asked::several_of))]
+fn judge_list<'a>(
+    standing: Option<&Uuid>,
+    request: &IodWriteReq,
+    behind: &'a [u8],
+) -> Result<Entries<'a>, CallFault>
+    ensures value { result ≡ several_of (option_map (λ uuid. uuid.now) standing.entry) request.now behind.now }
+    ensures few { IfOk result (λ entries. length entries ≤ most_entries) }
+{
+    let header = &request.header;
+    check_relation(standing, &header.ar_uuid)?;
+    let size = header.record_data_length as usize;
+    if size > behind.len() {
+        return Err(CallFault::WriteLength);
+    }
+    match Entries::read(&behind[..size]) {
+        Some(entries) => Ok(entries),
+        None => Err(CallFault::WriteLength),
+    }
+}
+
+/// Returns what a request for one record asks for. `behind` is the octets after its header.
 #[tactic(auto, unfolding(crate::specs::writes::Handled::handled_request))]
-fn judge_request(
+pub fn judge_record(
     standing: Option<&Uuid>,
     real: &Real,
     request: &IodWriteReq,

@@ -2,11 +2,13 @@
 use Rattle.std.specs.Prelude.{List}
 use Rattle.cyclic_exchange.specs.Cyclic.{Cyclic}
 use Rattle.pn_alarms.specs.Ends.{DeviceEnd}
+use Rattle.diagnosis_alarms.specs.Alarms.{Low}
 use Rattle.relations.specs.declared.exchange.marks.Mark.{Mark}
 
--- An exchange: the device's end of cyclic data, which sends inputs and accepts outputs, its end of the alarms, and why
--- the IOPS of inputs are not good.
+-- An exchange: the device's end of cyclic data, which sends inputs and accepts outputs, its end of the alarms of high
+-- priority, and those of low priority, and why the IOPS of inputs are not good.
 pub record Flow : Type 0 where
   pub cyclic : Cyclic
   pub alarms : DeviceEnd
+  pub low : Low
   pub marks : List Mark

@@ -6,10 +6,11 @@ use Rattle.cyclic_exchange.specs.Units.{Brought}
 use Rattle.relations.specs.exchange.Flow.{Flow}
 use Rattle.relations.specs.exchange.Units.{flow_later, tick_of}
 
--- The number of units up to and with the next one with which a frame is due, the data hold time is over, or the alarm is
+-- The number of units up to and with the next one with which a frame is due, the data hold time is over, or an alarm is
 -- sent again or given up.
 abbrev pub flow_due_in : Flow → ℕ
-flow_due_in flow = min (cyclic_due_in flow.cyclic) (data_due_in flow.alarms.sender.sending)
+flow_due_in flow =
+    min (min (cyclic_due_in flow.cyclic) (data_due_in flow.alarms.sender.sending)) (data_due_in flow.low.alarms.sender.sending)
 
 -- Nothing is brought.
 abbrev pub nothing_brought : Brought

@@ -8,15 +8,19 @@ use Rattle.cyclic_data.specs.declared.place.Place.{Place}
 use Rattle.cyclic_data.specs.declared.place.PlaceKind.TheVariants.{Data}
 use Rattle.cyclic_data.specs.Image.{good}
 use Rattle.cyclic_data.specs.Layout.{is_of}
+use Rattle.diagnosis.specs.declared.diagnosis.Diagnosis.{Diagnosis}
 use Rattle.relations.specs.declared.exchange.marks.Mark.{Mark}
 use Rattle.relations.specs.declared.statuses.InputStatus.{InputStatus}
 use Rattle.relations.specs.Statuses.{is_bad}
 
--- What the application says of its inputs as a relation begins: whether the IOPS of a submodule with inputs is bad until
--- the first input is given, and the statuses that it gave.
+-- What a relation begins with. What the application says of its inputs: whether the IOPS of a submodule with inputs is bad
+-- until the first input is given, and the statuses that it gave. The units since the start of the device. And the diagnoses
+-- that exist.
 pub record Starting : Type 0 where
   pub begin_bad : Bool
   pub statuses : List InputStatus
+  pub units : ℕ
+  pub diagnoses : List Diagnosis
 
 -- The mark of a place as a relation begins. A place without data has one octet, its status.
 abbrev pub first_mark : Starting → Listed DiffModule DiffSubmodule → Place → Mark

@@ -10,6 +10,8 @@ use Rattle.cyclic_data.specs.Image.{Cell, good}
 use Rattle.connect_requests.specs.declared.parts.Iocr.{Iocr}
 use Rattle.connect_requests.specs.Request.{Request}
 use Rattle.pn_alarms.specs.Device.{idle}
+use Rattle.diagnosis_alarms.specs.declared.alarms.Terms.{Terms}
+use Rattle.diagnosis_alarms.specs.Alarms.{opened as low_opened}
 use Rattle.cyclic_exchange.specs.declared.route.Route.{Route}
 use Rattle.cyclic_exchange.specs.Opening.{StatusOf}
 use Rattle.cyclic_exchange.specs.Opening.{begun_of as cyclic_begun, first_cell as first_with, opened as cyclic_opened}
@@ -44,6 +46,10 @@ statuses_of rows marks Iocs slot subslot = status_of rows slot subslot
 abbrev pub first_cell : Listed DiffModule DiffSubmodule → List Mark → Place → Cell
 first_cell rows marks place = first_with (statuses_of rows marks) place
 
+-- What it says of its alarms.
+abbrev pub terms_of : Request → Terms
+terms_of request = record { timeout_factor = request.alarm.timeout_factor; retries = request.alarm.retries; tag = request.alarm.tag_low }
+
 -- The exchange that a Connect asks for, if these modules and submodules differ, and if the application says this of its
 -- inputs. The interval of the inputs is counted from now. The data hold time is DataHoldFactor times the interval of the
 -- outputs.
@@ -56,6 +62,7 @@ opened request rows starting = record {
       (record { last = None; held = 0; limit = request.output.data_hold_factor * interval_of request.output })
       (statuses_of rows (first_marks request rows starting)) request.input.layout request.output.layout;
   alarms = idle request.alarm.timeout_factor request.alarm.retries;
+  low = low_opened (terms_of request) request.expected rows starting.diagnoses;
   marks = first_marks request rows starting;
 }
 

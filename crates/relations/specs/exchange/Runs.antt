@@ -15,6 +15,8 @@ use Rattle.cyclic_exchange.specs.Runs as core
 use Rattle.cyclic_exchange.specs.Cyclic.{Cyclic}
 use Rattle.cyclic_exchange.specs.Process.{given_at as cyclic_given}
 use Rattle.cyclic_exchange.specs.Runs.{held_in, later_one}
+use Rattle.diagnosis_alarms.specs.Alarms.{Low}
+use Rattle.relations.specs.exchange.Diagnosis.{with_low}
 use Rattle.relations.specs.exchange.Flow.{Flow}
 use Rattle.relations.specs.declared.exchange.marks.Mark.{Mark}
 use Rattle.relations.specs.exchange.Marks.{Starting, awaits, change_by, first_mark, iops_by, iops_of, mark_at, marked}
@@ -24,7 +26,8 @@ use Rattle.relations.specs.exchange.Received.{behind_frame}
 use Rattle.relations.specs.exchange.Process.{given_at, rated_at}
 use Rattle.relations.specs.exchange.Notices.{behind_message, raised_at}
 
--- What happens to an exchange that was opened: each call that changes it.
+-- What happens to an exchange that was opened: each call that changes it. A call that changes the alarms of low priority leaves
+-- these, whatever they are.
 pub data Event : Type 0 where
   Begins : Event
   Passes : Event
@@ -33,6 +36,7 @@ pub data Event : Type 0 where
   Rates : (slot : ℕ) → (subslot : ℕ) → (is_good : Bool) → Event
   Raises : (real : List RealModule) → (slot : ℕ) → (subslot : ℕ) → (octets : List ℕ) → Event
   Says : (message : ToDevice) → Event
+  Lowers : (low : Low) → Event
 
 -- The state after an event, and after several events in order.
 abbrev pub behind : Event → Flow → Flow
@@ -43,6 +47,7 @@ behind (Gives slot subslot value) flow = unwrap_or (given_at flow slot subslot v
 behind (Rates slot subslot is_good) flow = rated_at flow slot subslot is_good
 behind (Raises real slot subslot octets) flow = unwrap_or (raised_at flow real slot subslot octets) flow
 behind (Says message) flow = behind_message flow message
+behind (Lowers low) flow = with_low flow low
 
 abbrev pub behind_all : List Event → Flow → Flow
 behind_all [] flow = flow
@@ -66,6 +71,7 @@ cyclic_event (Gives slot subslot value) flow =
 cyclic_event (Rates slot subslot is_good) flow = core.States slot subslot (iops_after flow slot subslot (Some is_good)) ∷ []
 cyclic_event (Raises real slot subslot octets) flow = core.Rests ∷ []
 cyclic_event (Says message) flow = core.Rests ∷ []
+cyclic_event (Lowers low) flow = core.Rests ∷ []
 
 abbrev pub cyclic_events : List Event → Flow → List core.Event
 cyclic_events [] flow = []
@@ -80,6 +86,7 @@ units_of (Gives slot subslot value) = 0
 units_of (Rates slot subslot is_good) = 0
 units_of (Raises real slot subslot octets) = 0
 units_of (Says message) = 0
+units_of (Lowers low) = 0
 
 abbrev pub units_in : List Event → ℕ
 units_in [] = 0
@@ -100,6 +107,7 @@ given_with slot subslot size (Gives to_slot to_subslot value) =
 given_with slot subslot size (Rates to_slot to_subslot is_good) = None
 given_with slot subslot size (Raises real of_slot of_subslot octets) = None
 given_with slot subslot size (Says message) = None
+given_with slot subslot size (Lowers low) = None
 
 abbrev pub last_given : ℕ → ℕ → ℕ → List Event → Option (List ℕ)
 last_given slot subslot size [] = None
@@ -115,6 +123,7 @@ rated_with slot subslot (Rates to_slot to_subslot is_good) =
     if (slot == to_slot) && (subslot == to_subslot) then Some (not is_good) else None
 rated_with slot subslot (Raises real of_slot of_subslot octets) = None
 rated_with slot subslot (Says message) = None
+rated_with slot subslot (Lowers low) = None
 
 abbrev pub later_rated : Option Bool → Option Bool → Option Bool
 later_rated (Some later) earlier = Some later

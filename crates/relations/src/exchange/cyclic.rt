@@ -1,14 +1,35 @@
 //! Cyclic frames, and the units of time.
-ghost use Rattle.std.specs.Prelude.{◌≡◌, ◌≢◌, ◌<◌, ◌≤◌};
+ghost use Rattle.std.specs.Prelude.{◌≡◌, ◌≢◌, ◌<◌, ◌≤◌, false};
 ghost use Rattle.pn_alarms.specs.Leaps.{after};
 ghost use Rattle.relations.specs.exchange.Leaps.{BringNothing, flow_due_in};
 ghost use Rattle.relations.specs.exchange.Received.{behind_frame, received_as};
-ghost use Rattle.relations.specs.exchange.Units.{flow_later, tick_of};
+ghost use Rattle.relations.specs.exchange.Units.{flow_later, repeated_of, tick_of};
 
 use crate::exchange::DataExchange;
 use cyclic_exchange::{Received, Tick};
 use pn_alarms::Due;
 use pn_values::Mac;
+
+/// Which alarms are sent again with a unit of time.
+#[derive(Clone, Copy)]
+pub struct Repeated {
+    /// That of high priority.
+    pub high: bool,
+    /// That of low priority.
+    pub low: bool,
+}
+
+impl Repeated {
+    /// None.
+    pub(crate) fn none() -> Repeated
+        ensures { result ≡ record { high = false; low = false } }
+    {
+        Repeated {
+            high: false,
+            low: false,
+        }
+    }
+}
 
 impl DataExchange {
     /// Receives a cyclic frame: its source, its FrameID, and the octets that follow it.
@@ -23,26 +44,35 @@ impl DataExchange {
 
     /// Counts a unit of 31.25 microseconds. A frame of inputs is due each interval. Once data is exchanged, the
     /// relation ends if no frame of outputs was accepted for the data hold time, or else if an alarm was sent as often
-    /// as allowed without an ACK.
-    pub fn tick(&mut self) -> Tick
-        ensures brought { result ≡ tick_of self.old }
+    /// as allowed without an ACK. Returns what is due, and which alarms are due again.
+    pub fn tick(&mut self) -> (Tick, Repeated)
+        ensures brought { result.0 ≡ tick_of self.old }
+        ensures repeated { result.1 ≡ repeated_of self.old }
         ensures state { self.new ≡ flow_later self.old }
     {
-        match self.alarms.tick() {
+        let (high, low) = (self.alarms.tick(), self.low.tick());
+        let repeated = Repeated {
+            high: high.is_again(),
+            low: low.is_again(),
+        };
+        match high.or(low) {
             // Usually no alarm is due: then the checks for alarms are skipped.
-            Due::Nothing => self.cyclic.tick(Due::Nothing),
-            due => self.cyclic.tick(due),
+            Due::Nothing => (self.cyclic.tick(Due::Nothing), repeated),
+            due => (self.cyclic.tick(due), repeated),
         }
     }
 
     /// The number of units up to and with the next one with which a frame of inputs is due, the data hold time is over,
-    /// or the alarm is sent again or given up.
+    /// or an alarm is sent again or given up.
     pub fn due_in(&self) -> u32
         ensures value { result ≡ flow_due_in self.now }
         ensures some { 0 < result }
         ensures few { result ≤ 8388608 }
     {
-        self.cyclic.due_in().min(self.alarms.due_in())
+        self.cyclic
+            .due_in()
+            .min(self.alarms.due_in())
+            .min(self.low.due_in())
     }
 
     /// Counts several units of 31.25 microseconds at once. None of them may bring anything.
@@ -53,5 +83,6 @@ impl DataExchange {
     {
         self.cyclic.pass(units);
         self.alarms.pass(units);
+        self.low.pass(units);
     }
 }

@@ -9,6 +9,7 @@ use arrayvec::ArrayVec;
 use connect_requests::ConnectRequest;
 use cyclic_data::{Consumer, Provider};
 use cyclic_exchange::{CyclicExchange, Route};
+use diagnosis_alarms::{DiagnosisAlarms, Terms};
 use module_diff::DiffRows;
 use pn_alarms::DeviceAlarms;
 use std::marker::Model;
@@ -19,6 +20,7 @@ use std::marker::Model;
 pub struct DataExchange {
     pub(crate) cyclic: CyclicExchange,
     pub(crate) alarms: DeviceAlarms,
+    pub(crate) low: DiagnosisAlarms,
     /// Why the IOPS of inputs are not good, for each place.
     pub(crate) marks: ArrayVec<Mark, 128>,
 }
@@ -29,7 +31,7 @@ impl Model for DataExchange {
 
     ghost Value = { Flow };
 
-    ghost view = { λ exchange. record { cyclic = exchange.cyclic; alarms = exchange.alarms; marks = exchange.marks.items } };
+    ghost view = { λ exchange. record { cyclic = exchange.cyclic; alarms = exchange.alarms; low = exchange.low; marks = exchange.marks.items } };
 }
 
 impl DataExchange {
@@ -44,6 +46,7 @@ impl DataExchange {
         DataExchange {
             cyclic: CyclicExchange::new(),
             alarms: DeviceAlarms::new(1, 1),
+            low: DiagnosisAlarms::new(),
             marks: ArrayVec::new(),
         }
     }
@@ -53,7 +56,7 @@ impl DataExchange {
     /// remains.
     pub fn open(&mut self, request: &ConnectRequest, rows: &DiffRows, starting: Starting<'_>)
         ensures { self.new ≡ opened request.now rows.now
-            (record { begin_bad = starting.entry.begin_bad; statuses = starting.entry.statuses.now }) }
+            (record { begin_bad = starting.entry.begin_bad; statuses = starting.entry.statuses.now; units = starting.entry.units; diagnoses = starting.entry.diagnoses.now }) }
     {
         let (input, output, alarm) = (request.input(), request.output(), request.alarm());
         begin(&mut self.marks, input.layout.places(), rows, starting);
@@ -69,6 +72,13 @@ impl DataExchange {
             },
         );
         self.alarms = DeviceAlarms::new(alarm.timeout_factor, alarm.retries);
+        let terms = Terms {
+            timeout_factor: alarm.timeout_factor,
+            retries: alarm.retries,
+            tag: alarm.tag_low,
+        };
+        self.low
+            .open(terms, request.expected(), rows, starting.diagnoses);
     }
 
     /// Begins the exchange when ApplicationReady is answered: data is exchanged, and the data hold time runs from now

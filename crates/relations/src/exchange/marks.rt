@@ -7,6 +7,7 @@ ghost use Rattle.cyclic_data.specs.declared.place.PlaceKind.TheVariants.{Data};
 use crate::statuses::{InputStatus, is_bad};
 use arrayvec::ArrayVec;
 use cyclic_data::{GOOD, Place, PlaceKind};
+use diagnosis::Diagnoses;
 use module_diff::DiffRows;
 
 /// Why the IOPS at a place of the inputs is not good, if it is not.
@@ -22,19 +23,23 @@ pub struct Mark {
     pub is_bad: bool,
 }
 
-/// What the application says of its inputs as a relation begins.
+/// What a relation begins with: what the application says of its inputs, and the time.
 #[derive(Clone, Copy)]
 pub struct Starting<'a> {
     /// Whether the IOPS of a submodule with inputs is bad until the first input is given.
     pub begin_bad: bool,
     /// The statuses that it gave.
     pub statuses: &'a [InputStatus],
+    /// The units since the start of the device.
+    pub units: u64,
+    /// The diagnoses that exist.
+    pub diagnoses: &'a Diagnoses,
 }
 
 impl Mark {
     /// The first mark of a place.
     fn first(place: &Place, rows: &DiffRows, starting: Starting<'_>) -> Mark
-        ensures { result ≡ first_mark (record { begin_bad = starting.entry.begin_bad; statuses = starting.entry.statuses.now }) rows.now place.now }
+        ensures { result ≡ first_mark (record { begin_bad = starting.entry.begin_bad; statuses = starting.entry.statuses.now; units = starting.entry.units; diagnoses = starting.entry.diagnoses.now }) rows.now place.now }
     {
         Mark {
             place: *place,
@@ -90,7 +95,7 @@ pub(crate) fn begin(
 )
     requires { length places.now ≤ 128 }
     ensures { marks.new.items
-        ≡ map (first_mark (record { begin_bad = starting.entry.begin_bad; statuses = starting.entry.statuses.now }) rows.now) places.now }
+        ≡ map (first_mark (record { begin_bad = starting.entry.begin_bad; statuses = starting.entry.statuses.now; units = starting.entry.units; diagnoses = starting.entry.diagnoses.now }) rows.now) places.now }
 {
     marks.clear();
     for place in places {

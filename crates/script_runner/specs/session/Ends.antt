@@ -13,10 +13,9 @@ use Rattle.device_core.specs.Leaps.{live_due_in}
 use Rattle.device_core.specs.Machine.{Stepped, step_of}
 use Rattle.device_frames.specs.declared.note.Note.{Note}
 use Rattle.pn_values.specs.declared.settings.Settings.{Settings}
-use Rattle.services.specs.State as services
-use Rattle.services.specs.declared.announcement.Role.TheVariants as role
-use Rattle.station.specs.Beside.{beside}
-use Rattle.station.specs.Leaps.{due_beside}
+use Rattle.station.specs.Serving.{Serving, serving_at}
+use Rattle.station.specs.Beside.{beside, joined_beside}
+use Rattle.station.specs.Leaps.{due_beside, told_at}
 use Rattle.controller_core.specs.declared.event.Event.{Event as ControllerEvent}
 use Rattle.controller_core.specs.declared.event.Event.TheVariants as heard
 use Rattle.controller_core.specs.State.{Controlling}
@@ -31,11 +30,11 @@ use Rattle.script_lines.specs.Text.{out_lines}
 pub record Station : Type 0 where
   pub device : Device
   pub live : Live
-  pub services : Option services.State
+  pub services : Option Serving
 
 -- Services that begin beside a device with these running settings, or none.
-abbrev pub services_at : Bool → Device → Settings → Option services.State
-services_at true device running = Some (services.started role.Device device.identity.mac running.suite.address)
+abbrev pub services_at : Bool → Device → Settings → Option Serving
+services_at true device running = Some (serving_at device.identity running)
 services_at false device running = None
 
 -- A step of a station: the station after it, the frames that it sends, and its note.
@@ -44,9 +43,14 @@ pub record Turned : Type 0 where
   pub frames : List (List ℕ)
   pub note : Note
 
--- A step of the device, and what the services do beside it. The fixed part of the device stays, and the services' frames
--- follow the device's.
-abbrev pub turned : Option services.State → Device → Event → Stepped → Turned
+-- After a step the device is given the call that the services joined, if they did, in a step of its own.
+abbrev pub given : Device → Option Event → Stepped → Stepped
+given device None step = step
+given device (Some call) step = step_of [] device step.live call
+
+-- A step of the device, what the services do beside it, and the step of a call that the event completed. The fixed part of the
+-- device stays, and the services' frames follow the device's.
+abbrev pub turned : Option Serving → Device → Event → Stepped → Turned
 turned None device event step = record {
   station = record { device = device; live = step.live; services = None };
   frames = step.frames;
@@ -54,23 +58,34 @@ turned None device event step = record {
 }
 turned (Some state) device event step =
     let after = beside device.identity state step.live.values step.note event in
+    let last = given device (joined_beside state step.live.values step.note event) step in
     record {
-      station = record { device = device; live = step.live; services = Some after.services };
-      frames = step.frames ++ after.sent;
+      station = record { device = device; live = last.live; services = Some after.services };
+      frames = last.frames ++ after.sent;
       note = after.note;
     }
 
 -- The number of units up to and with the next one that brings something to the station.
-abbrev pub due_with : Option services.State → Live → ℕ
+abbrev pub due_with : Option Serving → Live → ℕ
 due_with None live = live_due_in live
 due_with (Some state) live = due_beside live state
 
 abbrev pub due_of : Station → ℕ
 due_of station = due_with station.services station.live
 
+-- Before an event the device is told of its neighbour, if that changed.
+abbrev pub ready_with : Option Serving → Device → Live → Station
+ready_with None device live = record { device = device; live = live; services = None }
+ready_with (Some state) device live =
+    let told = told_at device live state in record { device = device; live = told.live; services = Some told.services }
+
+abbrev pub ready_of : Station → Station
+ready_of station = ready_with station.services station.device station.live
+
 -- A step of the station, whose flash never fails.
 abbrev pub station_step : Station → Event → Turned
-station_step station event = turned station.services station.device event (step_of [] station.device station.live event)
+station_step station event =
+    let ready = ready_of station in turned ready.services ready.device event (step_of [] ready.device ready.live event)
 
 -- What is kept besides the station: the options of its next start, whether services begin with that, and the other end: the
 -- plan of the next controller, the controller once there is one, and the frames that wait at either end, in order.
@@ -116,7 +131,7 @@ pub record Running : Type 0 where
   pub flash : MemoryFlash 4096
   pub station : Device
   pub live : Live
-  pub services : Option services.State
+  pub services : Option Serving
 
 -- The station of a device that starts, with services that begin with it or without any.
 abbrev pub begun : Bool → State (MemoryFlash 4096) → Running

@@ -4,7 +4,7 @@ use Rattle.std.specs.Prelude.{◌≡◌, ℕ, Bool, true, false, List, [], ◌++
 use Rattle.flash_model.specs.declared.flash.Order.{Order}
 use Rattle.configurator.specs.declared.fault.PlanFault.{PlanFault}
 use Rattle.configurator.specs.declared.fault.PlanFault.TheVariants.{OutOfMemory}
-use Rattle.script_lines.specs.Line.{Command, Frame, Restart, Tick, Elapse, Show, Due, Choose, Ready, Arm, Input, Alarm, Status, Provider, Config, Start, Give, OutputStatus, Stop, Deliver, Serve, Line, Unfit, Skipped, Asks, Unknown}
+use Rattle.script_lines.specs.Line.{Command, Frame, Restart, Tick, Elapse, Show, Due, Choose, Ready, Arm, Input, Alarm, Status, Diagnosis, Provider, Config, Start, Give, OutputStatus, Stop, Stands, Deliver, Serve, Line, Unfit, Skipped, Asks, Unknown}
 use Rattle.script_lines.specs.Text.{boot_line, lost_line, off_line}
 use Rattle.script_runner.specs.session.Ends.{Other, cleared}
 use Rattle.script_runner.specs.declared.session.power.Power.{Power}
@@ -59,12 +59,14 @@ hands (Arm order) = false
 hands (Input slot subslot bytes) = true
 hands (Alarm slot subslot bytes) = true
 hands (Status slot subslot is_good) = true
+hands (Diagnosis slot subslot channel error appears) = true
 hands (Provider slot subslot) = false
 hands (Config catalogue) = false
 hands (Start ar activity) = false
 hands (Give slot subslot bytes) = false
 hands (OutputStatus slot subslot is_good) = false
 hands Stop = false
+hands Stands = false
 hands Deliver = true
 hands Serve = false
 

@@ -19,10 +19,10 @@ use Rattle.controller_core.specs.Machine.{step_of as controller_step}
 use Rattle.controller_core.specs.State.{Controlling}
 use Rattle.script_runner.specs.session.Demo.{demo_device}
 use Rattle.script_runner.specs.session.Ends.{Station, Turned, due_of, serving, services_at, station_step, Other, Network, DeviceRun, with_ends, arrived_at, chosen, cleared, device_run, frames_for_device, nobody, printed_for, ticked_by, with_fresh, with_plan, with_run, with_sent}
-use Rattle.services.specs.State as services
-use Rattle.script_lines.specs.Line.{Command, Frame, Restart, Tick, Elapse, Show, Due, Choose, Ready, Arm, Input, Alarm, Status, Provider, Config, Start, Give, OutputStatus, Stop, Deliver, Serve, Line, Unfit, Skipped, Asks, Unknown}
+use Rattle.station.specs.Serving.{Serving}
+use Rattle.script_lines.specs.Line.{Command, Frame, Restart, Tick, Elapse, Show, Due, Choose, Ready, Arm, Input, Alarm, Status, Diagnosis, Provider, Config, Start, Give, OutputStatus, Stop, Stands, Deliver, Serve, Line, Unfit, Skipped, Asks, Unknown}
 use Rattle.script_lines.specs.declared.command.Choice.{Choice}
-use Rattle.script_lines.specs.Show.{shown, outputs_shown, controller_shown, due_line, provider_line}
+use Rattle.script_lines.specs.Show.{shown, outputs_shown, controller_shown, diagnoses_shown, due_line, provider_line}
 use Rattle.script_lines.specs.Text.{boot_line, moved_line, note_line, printed}
 
 -- The demo device, started with these options from these settings, with services that begin with it or without any.
@@ -30,7 +30,7 @@ abbrev pub demo_started : DeviceOptions → Bool → Settings → ℕ → Statio
 demo_started options serves settings room = record { device = demo_device options; live = started settings room; services = services_at serves (demo_device options) settings }
 
 -- Services beside the device, if there are none yet.
-abbrev pub served : Option services.State → Station → Station
+abbrev pub served : Option Serving → Station → Station
 served None station = record station { services = services_at true station.device station.live.values.running }
 served (Some state) station = station
 
@@ -124,6 +124,11 @@ abbrev pub heard_outcome : Network → ControllerEvent → Option Controlling �
 heard_outcome network event (Some controller) = at_other network (with_run network.other (controller_step controller event))
 heard_outcome network event None = Refuses
 
+-- The diagnoses that the controller knows of are shown.
+abbrev pub stands_outcome : Network → Option Controlling → Outcome
+stands_outcome network (Some controller) = Answers (record { network = network; text = diagnoses_shown controller.live.diagnosis.existing })
+stands_outcome network None = Refuses
+
 -- The frames that waited for the device were handed over: they wait no longer, and what the device sent waits for the
 -- controller.
 abbrev pub handed_over : Other → DeviceRun → Other
@@ -159,11 +164,13 @@ said plans network (Arm order) = Answers (unchanged network)
 said plans network (Input slot subslot bytes) = Answers (event_answer network (event.Input slot subslot (handed bytes)))
 said plans network (Alarm slot subslot bytes) = Answers (event_answer network (event.Alarm slot subslot (handed bytes)))
 said plans network (Status slot subslot is_good) = Answers (event_answer network (event.Status slot subslot is_good))
+said plans network (Diagnosis slot subslot channel error appears) = Answers (event_answer network (event.Diagnosis slot subslot channel error appears))
 said plans network (Provider slot subslot) = Answers (provider_answer network slot subslot)
 said plans network (Config catalogue) = config_outcome network catalogue (plans catalogue)
 said plans network (Start ar activity) = start_outcome network ar activity network.other.plan
 said plans network (Give slot subslot bytes) = heard_outcome network (heard.Give slot subslot (handed bytes)) network.other.controller
 said plans network (OutputStatus slot subslot is_good) = heard_outcome network (heard.Status slot subslot is_good) network.other.controller
+said plans network Stands = stands_outcome network network.other.controller
 said plans network Stop = heard_outcome network heard.Stop network.other.controller
 said plans network Deliver = deliver_outcome network network.other.controller
 said plans network Serve = Answers (serve_answer network)
@@ -189,12 +196,14 @@ arms (Arm order) = true
 arms (Input slot subslot bytes) = false
 arms (Alarm slot subslot bytes) = false
 arms (Status slot subslot is_good) = false
+arms (Diagnosis slot subslot channel error appears) = false
 arms (Provider slot subslot) = false
 arms (Config catalogue) = false
 arms (Start ar activity) = false
 arms (Give slot subslot bytes) = false
 arms (OutputStatus slot subslot is_good) = false
 arms Stop = false
+arms Stands = false
 arms Deliver = false
 arms Serve = false
 

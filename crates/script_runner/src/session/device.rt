@@ -27,9 +27,14 @@ pub(crate) fn receive(received: &mut Event, bytes: &[u8])
             room.clear();
             let _ = room.try_extend_from_slice(bytes);
         }
-        Event::Tick | Event::Input(..) | Event::Alarm(..) | Event::Status(..) | Event::Ready => {
-            *received = Event::Frame(copied(bytes))
-        }
+        Event::Call(..)
+        | Event::Tick
+        | Event::Input(..)
+        | Event::Alarm(..)
+        | Event::Status(..)
+        | Event::Neighbour(..)
+        | Event::Diagnosis(..)
+        | Event::Ready => *received = Event::Frame(copied(bytes)),
     }
 }
 

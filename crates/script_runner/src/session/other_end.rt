@@ -58,7 +58,7 @@ impl Model for OtherEnd {
 
 impl OtherEnd {
     ghost use Rattle.std.specs.Prelude.{is_some, length};
-    ghost use Rattle.script_lines.specs.Show.{controller_shown};
+    ghost use Rattle.script_lines.specs.Show.{controller_shown, known_shown};
     ghost use Rattle.station.specs.State.{in_order};
     ghost use Rattle.script_runner.specs.session.Ends.{Hears, Plans, Starts, arrived_at, chosen, cleared, nobody, printed_for, serving, ticked_by};
     ghost use Rattle.script_runner.specs.session.Ends.{with_sent};
@@ -133,6 +133,16 @@ impl OtherEnd {
     {
         match &self.controller {
             Some(controller) => show::state(controller.state(), text),
+            None => Ok(()),
+        }
+    }
+
+    /// Appends the diagnoses that the controller knows of, if there is a controller.
+    pub(crate) fn show_diagnoses(&self, text: &mut Vec<u8>) -> Result<(), AllocError>
+        ensures { OnOk result (text.new.items ≡ text.old.items ++ known_shown self.now.controller) }
+    {
+        match &self.controller {
+            Some(controller) => show::diagnoses(controller.diagnoses(), text),
             None => Ok(()),
         }
     }

@@ -5,15 +5,15 @@ ghost use Rattle.pn_values.specs.declared.settings.Settings.{Settings};
 ghost use Rattle.flash_model.specs.Image.{erased};
 ghost use Rattle.flash_model.specs.Memory.{image_of, IsReliable};
 ghost use Rattle.settings_journal.specs.Image.{StartsWith, LeftByDevice, capacity};
-ghost use Rattle.services.specs.State.{started};
-ghost use Rattle.services.specs.declared.announcement.Role.TheVariants as role;
+ghost use Rattle.station.specs.Serving.{serving_at};
 
 use device_core::{Device, Event, Note};
 use flash_model::{Flash, Lent, MemoryFlash, Order};
 use relations::DeviceOptions;
-use services::{Role, Services};
 use settings_journal::BootFault;
-use station::{StationOutbox, due_beside, elapse_alone, elapse_beside, step_alone, step_beside};
+use station::{
+    DeviceServices, StationOutbox, due_beside, elapse_alone, elapse_beside, step_alone, step_beside,
+};
 use std::marker::Model;
 
 /// The flash of the demo device. The device borrows it: it is large, and is not moved.
@@ -27,7 +27,7 @@ pub(crate) type DemoDevice<'a> = Device<DemoFlash<'a>, 4096>;
 #[derive(Drop)]
 pub(crate) struct DemoStation<'a> {
     device: DemoDevice<'a>,
-    services: Option<Services>,
+    services: Option<DeviceServices>,
 }
 
 impl<'a> Model for DemoStation<'a> {
@@ -39,14 +39,10 @@ impl<'a> Model for DemoStation<'a> {
 }
 
 /// The services at the start of a device.
-fn services_of(device: &DemoDevice<'_>) -> Services
-    ensures { result ≡ started role.Device device.now.station.identity.mac device.now.live.values.running.suite.address }
+fn services_of(device: &DemoDevice<'_>) -> DeviceServices
+    ensures { result ≡ serving_at device.now.station.identity device.now.live.values.running }
 {
-    Services::new(
-        Role::Device,
-        device.identity().mac,
-        device.running().suite.address(),
-    )
+    DeviceServices::new(device.identity(), device.running())
 }
 
 impl<'a> DemoStation<'a> {

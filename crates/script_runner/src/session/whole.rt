@@ -57,7 +57,7 @@ impl<'a> Session<'a> {
     ghost use Rattle.script_lines.specs.Text.{boot_line};
     ghost use Rattle.script_runner.specs.session.Ends.{IsRightFor, cleared, nobody};
     ghost use Rattle.script_runner.specs.session.Said.{arms, config_outcome, deliver_answer, deliver_outcome, factory_device};
-    ghost use Rattle.script_runner.specs.session.Said.{heard_outcome, is_order, outcome_of, restart_answer, said, serve_answer, show_answer, start_outcome};
+    ghost use Rattle.script_runner.specs.session.Said.{heard_outcome, is_order, outcome_of, restart_answer, said, serve_answer, show_answer, stands_outcome, start_outcome};
     ghost use Rattle.script_runner.specs.session.Said.{due_answer, provider_answer, tick_answer};
     ghost use Rattle.script_runner.specs.session.Power.{IsArmed, IsBack, is_off, refusal_of};
     ghost use Rattle.script_runner.specs.session.Session.{Are, AreRightFor, Comes, Obeys};
@@ -161,6 +161,9 @@ impl<'a> Session<'a> {
                 always(Ok(()))
             }
             Command::Ready => always(self.ready(text)),
+            Command::Diagnosis(slot, subslot, channel, error, appears) => {
+                always(self.diagnose(slot, subslot, channel, error, appears, text))
+            }
             Command::Arm(order) => {
                 self.arm(order);
                 Ok(true)
@@ -174,6 +177,7 @@ impl<'a> Session<'a> {
                 if_there(self.output_status(slot, subslot, is_good, text))
             }
             Command::Stop => if_there(self.stop(text)),
+            Command::Stands => if_there(self.stands(text)),
             Command::Deliver => if_there(self.deliver(text)),
             Command::Serve => {
                 self.power.serve();
@@ -263,6 +267,32 @@ impl<'a> Session<'a> {
         ensures lost { TellsLoss (self.new.other ≡ self.old.other) self.old.power self.new.power text.old.items text.new.items result }
     {
         let event = Event::Status(slot, subslot, is_good);
+        answered(
+            &mut self.power,
+            &event,
+            &mut self.outbox,
+            &mut self.other,
+            text,
+        )
+    }
+
+    /// A diagnosis appears or disappears.
+    fn diagnose(
+        &mut self,
+        slot: u16,
+        subslot: u16,
+        channel: u16,
+        error: u16,
+        appears: bool,
+        text: &mut Vec<u8>,
+    ) -> Result<(), AllocError>
+        ensures obeys { (network : Network) → Are network self.old →
+            OnOk result (IsObeyed (event_answer network (event.Diagnosis slot subslot channel error appears)) self.new text.old.items
+            text.new.items) }
+        ensures demo { IsDemo self.old.power → IsDemo self.new.power }
+        ensures lost { TellsLoss (self.new.other ≡ self.old.other) self.old.power self.new.power text.old.items text.new.items result }
+    {
+        let event = Event::Diagnosis(slot, subslot, channel, error, appears);
         answered(
             &mut self.power,
             &event,
@@ -454,6 +484,20 @@ impl<'a> Session<'a> {
         ensures same { self.new.power ≡ self.old.power }
     {
         self.hear(&ControllerEvent::Stop, text)
+    }
+
+    /// Shows the diagnoses that the controller knows of. Returns whether there is a controller.
+    #[inline(never)]
+    fn stands(&mut self, text: &mut Vec<u8>) -> Result<bool, AllocError>
+        ensures obeys { (network : Network) → Are network self.old →
+            IfOk result (Comes (stands_outcome network network.other.controller) self.new text.old.items text.new.items) }
+        ensures same { self.new ≡ self.old }
+    {
+        if !self.other.is_started() {
+            return Ok(false);
+        }
+        self.other.show_diagnoses(text)?;
+        Ok(true)
     }
 
     /// Hands an event of its application to the controller. Returns whether there is a controller.

@@ -13,7 +13,7 @@ use Rattle.controller_frames.specs.declared.setup.Setup.{Setup}
 use Rattle.controller_frames.specs.declared.request.Request.TheVariants as asks
 use Rattle.controller_frames.specs.Requests.{blocks_of, call_for}
 use Rattle.controller_frames.specs.Sent.{calls_at}
-use Rattle.controller_core.specs.Connect.{Chosen, found_in, nothing}
+use Rattle.connect_answers.specs.Connect.{Chosen, found_in, nothing}
 
 -- the controller as the caller
 abbrev pub caller_of : Controller → Caller

@@ -3,6 +3,7 @@ use Rattle.std.specs.Prelude.{ℕ, true, List, [], ◌∷◌, ◌++◌, map}
 use Rattle.pn_values.specs.declared.real.RealModule.{RealModule}
 use Rattle.connect_blocks.specs.declared.iocr.IocrType.{IocrType}
 use Rattle.connect_blocks.specs.declared.iocr.IocrType.TheVariants.{Input, Output}
+use Rattle.connect_blocks.specs.declared.iocr.RtClass.TheVariants.{Class1}
 use Rattle.module_blocks.specs.declared.expected.ExpectedSubmodule.{ExpectedSubmodule}
 use Rattle.module_blocks.specs.declared.module_diff.DiffModule.{DiffModule}
 use Rattle.module_blocks.specs.declared.module_diff.DiffSubmodule.{DiffSubmodule}
@@ -29,7 +30,15 @@ expected_of modules = record { modules = record { items = map module_of modules 
 
 -- The relation with this ARUUID, to the controller.
 abbrev pub ar_for : Parts → List ℕ → Ar
-ar_for parts ar = record { uuid = ar; session_key = session_number; initiator = parts.controller.mac; object = initiator_object; timeout_factor = activity_factor }
+ar_for parts ar = record {
+  uuid = ar;
+  session_key = session_number;
+  initiator = parts.controller.mac;
+  object = initiator_object;
+  properties = 0x11;
+  timeout_factor = activity_factor;
+  name = record { items = parts.controller.name };
+}
 
 -- The FrameIDs: the controller chooses that of inputs, and the device that of outputs.
 abbrev pub frame_id_of : IocrType → ℕ
@@ -40,6 +49,7 @@ frame_id_of Output = 0xC000
 abbrev pub iocr_for : Parts → IocrType → Iocr
 iocr_for parts direction = record {
   reference = reference_of direction;
+  class = Class1;
   frame_id = frame_id_of direction;
   send_clock_factor = parts.times.send_clock_factor;
   reduction_ratio = parts.times.reduction_ratio;

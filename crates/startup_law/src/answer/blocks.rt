@@ -5,8 +5,8 @@ ghost use Rattle.startup_law.specs.answer.Answer.{IsAllThere};
 
 use arrayvec::ArrayVec;
 use block_codec::{AlarmCrBlockRes, ArBlockRes, Block, IocrBlockRes, write_block};
+use connect_answers::blocks_are_found;
 use connect_blocks::{alarm_cr_block_res_len, ar_block_res_len, iocr_block_res_len};
-use controller_core::blocks_are_found;
 
 // A block of at most 64 octets is read back, with anything after it.
 #[tactic(auto, unfolding(block_codec::specs::Block::block_size))]

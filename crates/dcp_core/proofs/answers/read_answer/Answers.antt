@@ -37,11 +37,11 @@ returns-clause-identify c = λ identity settings xid id sent.
     c.response_at.ensures
 
 pub returns-clause-get : goal.returns-clause-get
-returns-clause-get c = λ identity settings request id sent.
-    let said : Answered = get_said identity settings request in
-    let s = subst (λ (frame_id : ℕ). IsAnswer frame_id (get_bytes identity settings request) said) (sym id) (get_spelled identity settings request sent.short sent.number) in
+returns-clause-get c = λ identity settings alias request id sent.
+    let said : Answered = get_said identity settings alias request in
+    let s = subst (λ (frame_id : ℕ). IsAnswer frame_id (get_bytes identity settings alias request) said) (sym id) (get_spelled identity settings alias request sent.short sent.number) in
     only answered c.response_at.result (answer_of c.args.frame_id c.args.bytes.now) said
-    (answer_again c.args.frame_id c.args.bytes.now said (answer_sent c.args.frame_id request.xid (get_bytes identity settings request) c.args.bytes.now said sent s))
+    (answer_again c.args.frame_id c.args.bytes.now said (answer_sent c.args.frame_id request.xid (get_bytes identity settings alias request) c.args.bytes.now said sent s))
     c.response_at.ensures
 
 pub returns-clause-set : goal.returns-clause-set

@@ -1,5 +1,5 @@
 -- One pair after another is written.
-use Rattle.std.proofs.Common.{◌≡◌, ◌+◌, ℕ, List, [], map, sym, ap, ◌∙◌, subst}
+use Rattle.std.proofs.Common.{◌≡◌, ◌+◌, ℕ, List, [], map, option_map, sym, ap, ◌∙◌, subst}
 use Rattle.std.specs.List.{flat_map}
 use Rattle.std.proofs.lemmas.Simd.{map-map}
 use Rattle.arrayvec.specs.ArrayVec.{ArrayVec}
@@ -14,18 +14,18 @@ use Rattle.dcp_core.proofs.get.get_answer.Goals.{then-not-is_among, else-not-is_
 pub loop-index-init : goal.loop-index-init
 loop-index-init c =
     record {
-      so_far = so_far_none (got c.args.identity.now c.args.settings.now) c.new-blocks.result.items c.as_slice-asked_for.result.now c.new-blocks.ensures;
+      so_far = so_far_none (got c.args.identity.now c.args.settings.now (option_map (λ alias. alias.now.items) c.args.alias)) c.new-blocks.result.items c.as_slice-asked_for.result.now c.new-blocks.ensures;
       few = c.as_slice-asked_for.ensures.fits;
     }
 
 pub put_pair-requires : goal.put_pair-requires
 put_pair-requires c =
-    has_room (got c.args.identity.now c.args.settings.now) c.as_slice-asked_for.result.now c.loop-index.index _ c.loop-index-test.true c.loop-index.blocks.items
+    has_room (got c.args.identity.now c.args.settings.now (option_map (λ alias. alias.now.items) c.args.alias)) c.as_slice-asked_for.result.now c.loop-index.index _ c.loop-index-test.true c.loop-index.blocks.items
     (sym c.is_among.ensures ∙ c.if-not-is_among.true) c.loop-index.invariant.few c.loop-index.invariant.so_far
 
 pub loop-index-preserved : goal.loop-index-preserved
 loop-index-preserved c =
-    let values : Kind → List ℕ = got c.args.identity.now c.args.settings.now in
+    let values : Kind → List ℕ = got c.args.identity.now c.args.settings.now (option_map (λ alias. alias.now.items) c.args.alias) in
     let P : ArrayVec ℕ → Type 0 = λ blocks. IsSoFar values blocks.items c.as_slice-asked_for.result.now (c.loop-index.index + 1) in
     record {
       so_far = elim c.if-not-is_among.branch [
@@ -42,7 +42,7 @@ loop-index-preserved c =
 pub returns-clause-items : goal.returns-clause-items
 unfolding get_bytes
 returns-clause-items c =
-    let values : Kind → List ℕ = got c.args.identity.now c.args.settings.now in
+    let values : Kind → List ℕ = got c.args.identity.now c.args.settings.now (option_map (λ alias. alias.now.items) c.args.alias) in
     let all = so_far_all values c.loop-index.blocks.items c.as_slice-asked_for.result.now c.loop-index.index c.loop-index-test.false c.loop-index.invariant.so_far in
     let kinds : kinds_in c.as_slice-asked_for.result.now ≡ map (λ (block : AskedBlock). block.kind) (map asked_block c.args.request.now.blocks.items) =
     ap kinds_in c.as_slice-asked_for.ensures.value ∙ sym (map-map (λ (block : AskedBlock). block.kind) asked_block c.args.request.now.blocks.items) in

@@ -1,5 +1,5 @@
 -- Every block of the request matches if and only if every block of its contents does.
-use Rattle.std.proofs.Common.{rules, arith, sym, ◌∙◌}
+use Rattle.std.proofs.Common.{rules, arith, option_map, sym, ◌∙◌}
 use Rattle.std.proofs.Common.{tests}
 use Rattle.std.proofs.lemmas.Grind.{common_steps}
 use Rattle.std.proofs.lemmas.Iterator.{YieldsList-from_slice}
@@ -14,9 +14,9 @@ pub returns-then-not-is_empty : goal.returns-then-not-is_empty
 unfolding matches
 returns-then-not-is_empty c =
     let all =
-    all_from_yields_List (λ (block : Block). kind_matches c.args.identity.now c.args.settings.now block.kind block.contents.now) _ _ c.all.result c.all.ensures.ran
+    all_from_yields_List (λ (block : Block). kind_matches c.args.identity.now c.args.settings.now (option_map (λ alias. alias.now.items) c.args.alias) block.kind block.contents.now) _ _ c.all.result c.all.ensures.ran
     (YieldsList-from_slice c.args.request.now.blocks.items cc) (λ x b q k. search (rules, tests))
-    ∙ sym (list_all-map (λ (block : AskedBlock). kind_matches c.args.identity.now c.args.settings.now block.kind block.contents) asked_block c.args.request.now.blocks.items) in
+    ∙ sym (list_all-map (λ (block : AskedBlock). kind_matches c.args.identity.now c.args.settings.now (option_map (λ alias. alias.now.items) c.args.alias) block.kind block.contents) asked_block c.args.request.now.blocks.items) in
     grind (arith, common_steps, all)
 
 pub returns-else-not-is_empty : goal.returns-else-not-is_empty

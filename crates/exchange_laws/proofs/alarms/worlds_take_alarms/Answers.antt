@@ -1,6 +1,8 @@
-use Rattle.exchange_laws.proofs.Law.{DeviceSo, follows_so, in_order, lacks_one, last_shown, shows}
+use Rattle.exchange_laws.proofs.Law.{DeviceSo, high_so, in_order, lacks_one, last_shown, shows}
 use Rattle.exchange_laws.proofs.Messages.{HearsSo}
-use Rattle.exchange_laws.specs.Over.{raised_over, taken_over}
+use Rattle.exchange_laws.proofs.Reporting.{list_so, low_so, told_so}
+use Rattle.exchange_laws.specs.Over.{raised_over, reported_over, taken_over}
+use Rattle.alarm_reports.specs.declared.priority.Priority.TheVariants.{High, Low}
 use Rattle.startup_law.specs.Played.{last_world}
 use Rattle.exchange_laws.proofs.alarms.worlds_take_alarms.Goals as goal
 
@@ -15,6 +17,9 @@ hears_so g c = record {
   alarm = c.alarms_are_heard.ensures.alarm;
   ack = c.alarms_are_heard.ensures.ack;
   nack = c.alarms_are_heard.ensures.nack;
+  low_alarm = c.alarms_are_heard.ensures.low;
+  low_ack = c.alarms_are_heard.ensures.low_ack;
+  low_nack = c.alarms_are_heard.ensures.low_nack;
   end_heard = c.ends_are_heard.ensures.controller;
   confirms = c.confirmations_are_heard.ensures.confirms;
   low = c.confirmations_are_heard.ensures.low;
@@ -40,27 +45,50 @@ hears_so g c = record {
 
 pub returns-clause-front : goal.returns-clause-front
 returns-clause-front g c = λ can first run begins made real few.
-    let follows = follows_so (device_so g c) (hears_so g c) c.args.setup.now c.args.identity.now c.stations_are_real.ensures.setup can
+    let follows = high_so (device_so g c) (hears_so g c) c.args.setup.now c.args.identity.now c.stations_are_real.ensures.setup can
     g.F.Flash first run begins real made (c.worlds_start_up.ensures.meant can first run begins made) in
-    in_order (last_world first run) (raised_over first run) (taken_over first run) follows c.alarms_are_taken_in_order.ensures.prefix few
+    in_order High (last_world first run) (raised_over first run) (taken_over High first run) follows c.alarms_are_taken_in_order.ensures.prefix few
 
 pub returns-clause-last : goal.returns-clause-last
 returns-clause-last g c = λ can first run begins made real few.
-    let follows = follows_so (device_so g c) (hears_so g c) c.args.setup.now c.args.identity.now c.stations_are_real.ensures.setup can
+    let follows = high_so (device_so g c) (hears_so g c) c.args.setup.now c.args.identity.now c.stations_are_real.ensures.setup can
     g.F.Flash first run begins real made (c.worlds_start_up.ensures.meant can first run begins made) in
-    lacks_one (last_world first run) (raised_over first run) (taken_over first run) follows c.alarms_are_taken_in_order.ensures.last few
+    lacks_one High (last_world first run) (raised_over first run) (taken_over High first run) follows c.alarms_are_taken_in_order.ensures.last few
 
 pub returns-clause-shown : goal.returns-clause-shown
 returns-clause-shown g c = λ can first run begins made real.
-    let follows = follows_so (device_so g c) (hears_so g c) c.args.setup.now c.args.identity.now c.stations_are_real.ensures.setup can
+    let follows = high_so (device_so g c) (hears_so g c) c.args.setup.now c.args.identity.now c.stations_are_real.ensures.setup can
     g.F.Flash first run begins real made (c.worlds_start_up.ensures.meant can first run begins made) in
-    shows (last_world first run) (raised_over first run) (taken_over first run) follows c.alarms_are_taken_in_order.ensures.shown
+    shows High (last_world first run) (raised_over first run) (taken_over High first run) follows c.alarms_are_taken_in_order.ensures.shown
 
 pub returns-clause-alarm : goal.returns-clause-alarm
 returns-clause-alarm g c = λ can first run begins made real few.
-    let follows = follows_so (device_so g c) (hears_so g c) c.args.setup.now c.args.identity.now c.stations_are_real.ensures.setup can
+    let follows = high_so (device_so g c) (hears_so g c) c.args.setup.now c.args.identity.now c.stations_are_real.ensures.setup can
     g.F.Flash first run begins real made (c.worlds_start_up.ensures.meant can first run begins made) in
-    last_shown (raised_over first run) (taken_over first run) (last_world first run).controller.live.alarm
-    (in_order (last_world first run) (raised_over first run) (taken_over first run) follows c.alarms_are_taken_in_order.ensures.prefix few)
-    (lacks_one (last_world first run) (raised_over first run) (taken_over first run) follows c.alarms_are_taken_in_order.ensures.last few)
-    (shows (last_world first run) (raised_over first run) (taken_over first run) follows c.alarms_are_taken_in_order.ensures.shown)
+    last_shown (raised_over first run) (taken_over High first run) (last_world first run).controller.live.alarm
+    (in_order High (last_world first run) (raised_over first run) (taken_over High first run) follows c.alarms_are_taken_in_order.ensures.prefix few)
+    (lacks_one High (last_world first run) (raised_over first run) (taken_over High first run) follows c.alarms_are_taken_in_order.ensures.last few)
+    (shows High (last_world first run) (raised_over first run) (taken_over High first run) follows c.alarms_are_taken_in_order.ensures.shown)
+
+pub returns-clause-reports : goal.returns-clause-reports
+returns-clause-reports g c = λ can first run begins made real few.
+    let follows = low_so (device_so g c) (hears_so g c) c.args.setup.now c.args.identity.now c.stations_are_real.ensures.setup can
+    g.F.Flash first run begins real made (c.worlds_start_up.ensures.meant can first run begins made) in
+    in_order Low (last_world first run) (reported_over first run) (taken_over Low first run) follows c.alarms_are_taken_in_order.ensures.prefix few
+
+pub returns-clause-reported_last : goal.returns-clause-reported_last
+returns-clause-reported_last g c = λ can first run begins made real few.
+    let follows = low_so (device_so g c) (hears_so g c) c.args.setup.now c.args.identity.now c.stations_are_real.ensures.setup can
+    g.F.Flash first run begins real made (c.worlds_start_up.ensures.meant can first run begins made) in
+    lacks_one Low (last_world first run) (reported_over first run) (taken_over Low first run) follows c.alarms_are_taken_in_order.ensures.last few
+
+pub returns-clause-told : goal.returns-clause-told
+returns-clause-told g c = λ can first run begins made real known sized link is on.
+    told_so (device_so g c) (hears_so g c) c.args.setup.now c.args.identity.now c.stations_are_real.ensures.setup can g.F.Flash first run begins real made
+    (c.worlds_start_up.ensures.meant can first run begins made) c.reports_are_followed.ensures.elsewhere known sized link is on
+
+pub returns-clause-list : goal.returns-clause-list
+returns-clause-list g c = λ can first run begins made real known sized few link is on none empty up.
+    list_so (device_so g c) (hears_so g c) c.args.setup.now c.args.identity.now c.stations_are_real.ensures.setup can g.F.Flash first run begins real made
+    (c.worlds_start_up.ensures.meant can first run begins made) c.reports_are_followed.ensures.elsewhere c.reports_are_followed.ensures.follows
+    c.alarms_are_taken_in_order.ensures.all c.alarms_are_taken_in_order.ensures.listed known sized few link is on none empty up

@@ -17,16 +17,20 @@ laws g c = record {
   lacks = c.worlds_take_alarms.ensures.last;
   shown = c.worlds_take_alarms.ensures.shown;
   alarm = c.worlds_take_alarms.ensures.alarm;
+  reports = c.worlds_take_alarms.ensures.reports;
+  reported_last = c.worlds_take_alarms.ensures.reported_last;
+  told = c.worlds_take_alarms.ensures.told;
+  list = c.worlds_take_alarms.ensures.list;
 }
 
 pub returns-clause-played : goal.returns-clause-played
 returns-clause-played g c =
     on_good _ _ c.play-played.result (played_so g.F.Flash c.args.setup c.args.identity.now (laws g c) c.requires.meets c.args.device c.requires.known
     (subst (λ (r : Real). AreSizedModules r.modules.items) c.real.ensures c.modules_are_sized.ensures) c.begin_world-world.result c.begin_world-world.ensures.begins c.begin_world-world.ensures.device
-    c.args.moves.now c.play-played.new.self) c.play-played.ensures.played
+    c.args.moves.now c.play-played.new.self c.moves_are_sized.ensures) c.play-played.ensures.played
 
 pub returns-clause-cut : goal.returns-clause-cut
 returns-clause-cut g c =
     on_bad _ _ c.play-played.result (cut_so g.F.Flash c.args.setup c.args.identity.now (laws g c) c.requires.meets c.args.device c.requires.known
     (subst (λ (r : Real). AreSizedModules r.modules.items) c.real.ensures c.modules_are_sized.ensures) c.begin_world-world.result c.begin_world-world.ensures.begins c.begin_world-world.ensures.device
-    c.args.moves.now c.play-played.new.self) c.play-played.ensures.front
+    c.args.moves.now c.play-played.new.self c.moves_are_sized.ensures) c.play-played.ensures.front

@@ -1,5 +1,6 @@
-use Rattle.std.proofs.Common.{◌≡◌, ◌++◌, ℕ, List, refl, subst, ◌∙◌}
-use Rattle.device_frames.specs.Heard.{Given, Raised, heard_of}
+use Rattle.std.proofs.Common.{◌≡◌, ◌++◌, ℕ, List, Option, refl, subst, ◌∙◌}
+use Rattle.lldp.specs.Peer.{Peer}
+use Rattle.device_frames.specs.Heard.{Given, Met, Raised, heard_of}
 use Rattle.controller_core.specs.declared.event.Event.{Event as ControllerEvent}
 use Rattle.controller_core.specs.declared.event.Event.TheVariants as controller
 use Rattle.controller_core.specs.State.{Controlling}
@@ -27,9 +28,21 @@ pub returns-in-Status : goal.returns-in-Status
 unfolding heard_of
 returns-in-Status g c = rw c.in-Status.is (record { hears = c.happen_at_device-in-Status.ensures; controller = refl })
 
+pub returns-in-Diagnosis : goal.returns-in-Diagnosis
+unfolding heard_of
+returns-in-Diagnosis g c = rw c.in-Diagnosis.is (record { hears = c.happen_at_device-in-Diagnosis.ensures; controller = refl })
+
 pub returns-in-Ready : goal.returns-in-Ready
 unfolding heard_of
 returns-in-Ready g c = rw c.in-Ready.is (record { hears = c.happen_at_device-in-Ready.ensures; controller = refl })
+
+pub returns-in-Neighbour : goal.returns-in-Neighbour
+unfolding heard_of
+returns-in-Neighbour g c = rw c.in-Neighbour.is (record {
+  hears = subst (λ (peer : Option Peer). IsHeard g.F.Flash c.args.device.now c.args.sent.now.frames (Met peer) c.happen_at_device-in-Neighbour.new.device c.happen_at_device-in-Neighbour.new.sent.frames)
+      c.copied.ensures c.happen_at_device-in-Neighbour.ensures;
+  controller = refl;
+})
 
 -- the controller and the frames after its step are those of the world
 given_at : {F : Type 0} (before : World F) (event : ControllerEvent) (after : Controlling) (frames : List (List ℕ)) → after ≡ (step_of before.controller event).controller

@@ -7,14 +7,14 @@ use Rattle.pn_alarms.proofs.reading.read_pdu.Goals as goal
 
 pub returns-clause-found : goal.returns-clause-found
 returns-clause-found c =
-    found said (λ (meaning : Said). IsPdu c.args.bytes.now meaning) c.pdu_in.result (pdu_of c.args.bytes.now) (pdu_takes c.args.bytes.now) c.pdu_in.ensures
+    found said (λ (meaning : Said). IsPdu c.args.bytes.now meaning) c.pdu_in.result (pdu_of c.args.bytes.now) (pdu_takes c.args.bytes.now) c.pdu_in.ensures.exact
 
 pub returns-clause-only : goal.returns-clause-only
 returns-clause-only c = λ meaning s.
-    only said c.pdu_in.result (pdu_of c.args.bytes.now) meaning (pdu_again c.args.bytes.now meaning s) c.pdu_in.ensures
+    only said c.pdu_in.result (pdu_of c.args.bytes.now) meaning (pdu_again c.args.bytes.now meaning s) c.pdu_in.ensures.exact
 
 pub returns-clause-behind : goal.returns-clause-behind
 returns-clause-behind c = λ first more meaning s e.
     only said c.pdu_in.result (pdu_of c.args.bytes.now) meaning
     (pdu_again c.args.bytes.now meaning (subst (λ (bytes : List ℕ). IsPdu bytes meaning) (sym e) (pdu_behind first more meaning s)))
-    c.pdu_in.ensures
+    c.pdu_in.ensures.exact

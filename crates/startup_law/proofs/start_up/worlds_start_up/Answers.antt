@@ -6,6 +6,7 @@ use Rattle.end_laws.specs.device.Small.{link_of, phase_in}
 use Rattle.startup_law.specs.View.{rules_of, view_of}
 use Rattle.startup_law.specs.Played.{viewed}
 use Rattle.startup_law.proofs.Given.{GoesSo, HeardSo}
+use Rattle.startup_law.proofs.Lists.{are_the_plans}
 use Rattle.startup_law.proofs.Known.{meant_is, run_is, starts_small}
 use Rattle.startup_law.proofs.Runs.{exchanges_small, is_run, related_small}
 use Rattle.startup_law.proofs.start_up.worlds_start_up.Goals as goal
@@ -32,6 +33,7 @@ heard_so g c = record {
   agreed_at_device = c.ready_answers_are_heard.ensures.device;
   agreed_at_controller = c.ready_answers_are_heard.ensures.controller;
   block_read = c.blocks_are_read.ensures.read;
+  block_long = c.blocks_are_read.ensures.long;
 }
 
 goes_so : (g : _) → goal.After-start_up_is_kept g → GoesSo
@@ -48,6 +50,9 @@ goes_so g c = record {
 
 pub returns-clause-run : goal.returns-clause-run
 returns-clause-run g c = λ before after moves played. is_run g.F.Flash before moves after played
+
+pub returns-clause-records : goal.returns-clause-records
+returns-clause-records g c = λ station. are_the_plans c.args.setup.now station
 
 pub returns-clause-meant : goal.returns-clause-meant
 returns-clause-meant g c = λ can first run begins made.

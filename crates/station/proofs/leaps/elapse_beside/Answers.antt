@@ -1,119 +1,51 @@
--- The device by its own leap, and the services by theirs.
-use Rattle.std.proofs.Common.{◌≡◌, ◌≤◌, ◌-◌, ◌++◌, ℕ, suc, true, false, List, [], map, sym, ap, subst, ◌∙◌, arith}
-use Rattle.arrayvec.specs.ArrayVec.{ArrayVec}
-use Rattle.pn_values.specs.declared.settings.Settings.{Settings}
-use Rattle.settings_store.specs.State.{Values}
-use Rattle.frame_codec.specs.Outbox.{boxed}
-use Rattle.device_core.specs.State.{Live, State}
-use Rattle.services.specs.State.{observed, ticked}
-use Rattle.services.specs.Leaps.{ticks_of as services_ticks}
-use Rattle.station.specs.Leaps.{due_beside}
-use Rattle.station.proofs.Leaping.{both_leap, live_alone, lost_leap, ticks_values, within}
+-- The device is told of its neighbour, and then the units pass.
+use Rattle.std.proofs.Common.{◌-◌}
+use Rattle.station.specs.State.{in_order}
+use Rattle.station.specs.Steps.{station_of}
+use Rattle.station.proofs.Leaping.{one_before, some_units}
+use Rattle.station.proofs.Telling.{elapsed, none_elapsed}
 use Rattle.station.proofs.leaps.elapse_beside.Goals as goal
 
-abbrev with_live : {F : Type 0} → State F → Live → State F
-with_live device live = record { flash = device.flash; station = device.station; live = live }
+pub returns-then-units-eq0-clause-device : goal.returns-then-units-eq0-clause-device
+returns-then-units-eq0-clause-device g c =
+    (none_elapsed c.args.units c.args.device.now c.args.services.now c.elapse_told.new.device c.elapse_told.new.services (in_order c.elapse_told.new.outbox) c.if-units-eq0.true
+    (record { device = c.elapse_told.ensures.device; services = c.elapse_told.ensures.services; frames = c.elapse_told.ensures.frames; last = c.elapse_told.ensures.last; quiet = c.elapse_told.ensures.quiet })).device
 
-pub returns-then-is_lost-clause-device : goal.returns-then-is_lost-clause-device
-returns-then-is_lost-clause-device g c =
-    c.elapse-note.ensures.device
-    ∙ ap (λ (l : Live). with_live c.args.device.now l) (sym (live_alone c.args.units c.args.device.now.station c.args.device.now.live c.args.services.now))
+pub returns-then-units-eq0-clause-services : goal.returns-then-units-eq0-clause-services
+returns-then-units-eq0-clause-services g c =
+    (none_elapsed c.args.units c.args.device.now c.args.services.now c.elapse_told.new.device c.elapse_told.new.services (in_order c.elapse_told.new.outbox) c.if-units-eq0.true
+    (record { device = c.elapse_told.ensures.device; services = c.elapse_told.ensures.services; frames = c.elapse_told.ensures.frames; last = c.elapse_told.ensures.last; quiet = c.elapse_told.ensures.quiet })).services
 
-pub returns-then-is_lost-clause-services : goal.returns-then-is_lost-clause-services
-returns-then-is_lost-clause-services g c =
-    let live = c.args.device.now.live in
-    let at = c.args.device.now.station in
-    let state = c.args.services.now in
-    let count : c.args.units ≡ suc (c.args.units - 1) = omega arith in
-    let values : c.elapse-note.new.self.live.values ≡ live.values = ap (λ (d : State g.row.F.Denot). d.live.values) c.elapse-note.ensures.device ∙ ticks_values c.args.units at live in
-    let lost : live.values.is_lost ≡ true = sym (ap (λ (v : Values). v.is_lost) values) ∙ (sym c.is_lost.ensures ∙ c.if-is_lost.true) in
-    let sent = boxed c.clear.new.self in
-    let none : sent ≡ [] = ap (λ (xs : List (ArrayVec ℕ)). map (λ (f : ArrayVec ℕ). f.items) xs) c.clear.ensures in
-    let leap = lost_leap c.args.units (c.args.units - 1) at live state sent count lost c.elapse-note.ensures.last none in
-    leap.0
+pub returns-then-units-eq0-clause-frames : goal.returns-then-units-eq0-clause-frames
+returns-then-units-eq0-clause-frames g c =
+    (none_elapsed c.args.units c.args.device.now c.args.services.now c.elapse_told.new.device c.elapse_told.new.services (in_order c.elapse_told.new.outbox) c.if-units-eq0.true
+    (record { device = c.elapse_told.ensures.device; services = c.elapse_told.ensures.services; frames = c.elapse_told.ensures.frames; last = c.elapse_told.ensures.last; quiet = c.elapse_told.ensures.quiet })).frames
 
-pub returns-then-is_lost-clause-frames : goal.returns-then-is_lost-clause-frames
-returns-then-is_lost-clause-frames g c =
-    let live = c.args.device.now.live in
-    let at = c.args.device.now.station in
-    let state = c.args.services.now in
-    let count : c.args.units ≡ suc (c.args.units - 1) = omega arith in
-    let values : c.elapse-note.new.self.live.values ≡ live.values = ap (λ (d : State g.row.F.Denot). d.live.values) c.elapse-note.ensures.device ∙ ticks_values c.args.units at live in
-    let lost : live.values.is_lost ≡ true = sym (ap (λ (v : Values). v.is_lost) values) ∙ (sym c.is_lost.ensures ∙ c.if-is_lost.true) in
-    let sent = boxed c.clear.new.self in
-    let none : sent ≡ [] = ap (λ (xs : List (ArrayVec ℕ)). map (λ (f : ArrayVec ℕ). f.items) xs) c.clear.ensures in
-    let leap = lost_leap c.args.units (c.args.units - 1) at live state sent count lost c.elapse-note.ensures.last none in
-    ap (λ (f : List (List ℕ)). f ++ sent) c.elapse-note.ensures.frames ∙ leap.1
-
-pub returns-then-is_lost-clause-last : goal.returns-then-is_lost-clause-last
-returns-then-is_lost-clause-last g c =
-    let live = c.args.device.now.live in
-    let at = c.args.device.now.station in
-    let state = c.args.services.now in
-    let count : c.args.units ≡ suc (c.args.units - 1) = omega arith in
-    let values : c.elapse-note.new.self.live.values ≡ live.values = ap (λ (d : State g.row.F.Denot). d.live.values) c.elapse-note.ensures.device ∙ ticks_values c.args.units at live in
-    let lost : live.values.is_lost ≡ true = sym (ap (λ (v : Values). v.is_lost) values) ∙ (sym c.is_lost.ensures ∙ c.if-is_lost.true) in
-    let sent = boxed c.clear.new.self in
-    let none : sent ≡ [] = ap (λ (xs : List (ArrayVec ℕ)). map (λ (f : ArrayVec ℕ). f.items) xs) c.clear.ensures in
-    let leap = lost_leap c.args.units (c.args.units - 1) at live state sent count lost c.elapse-note.ensures.last none in
-    leap.2
-
-pub elapse_services-requires-clause-due : goal.elapse_services-requires-clause-due
-elapse_services-requires-clause-due g c =
-    let live = c.args.device.now.live in
-    let at = c.args.device.now.station in
-    let state = c.args.services.now in
-    let count : c.args.units ≡ suc (c.args.units - 1) = omega arith in
-    let values : c.elapse-note.new.self.live.values ≡ live.values = ap (λ (d : State g.row.F.Denot). d.live.values) c.elapse-note.ensures.device ∙ ticks_values c.args.units at live in
-    let there : live.values.is_lost ≡ false = sym (ap (λ (v : Values). v.is_lost) values) ∙ (sym c.is_lost.ensures ∙ c.if-is_lost.false) in
-    (within (c.args.units - 1) live state there (subst (λ (n : ℕ). n ≤ due_beside live state) count c.requires)).0
+pub returns-then-units-eq0-clause-last : goal.returns-then-units-eq0-clause-last
+returns-then-units-eq0-clause-last g c =
+    (none_elapsed c.args.units c.args.device.now c.args.services.now c.elapse_told.new.device c.elapse_told.new.services (in_order c.elapse_told.new.outbox) c.if-units-eq0.true
+    (record { device = c.elapse_told.ensures.device; services = c.elapse_told.ensures.services; frames = c.elapse_told.ensures.frames; last = c.elapse_told.ensures.last; quiet = c.elapse_told.ensures.quiet })).last
 
 pub returns-clause-device : goal.returns-clause-device
 returns-clause-device g c =
-    c.elapse-note.ensures.device
-    ∙ ap (λ (l : Live). with_live c.args.device.now l) (sym (live_alone c.args.units c.args.device.now.station c.args.device.now.live c.args.services.now))
+    (elapsed g.F.Flash c.args.units (c.args.units - 1) (station_of c.args.device.now c.args.services.now) (station_of c.tell_beside.new.device c.tell_beside.new.services) c.elapse_told-2.new.device
+    c.elapse_told-2.new.services (in_order c.elapse_told-2.new.outbox) (one_before c.args.units (some_units c.args.units c.if-units-eq0.false)) c.tell_beside.ensures.tells
+    (record { device = c.elapse_told-2.ensures.device; services = c.elapse_told-2.ensures.services; frames = c.elapse_told-2.ensures.frames; last = c.elapse_told-2.ensures.last; quiet = c.elapse_told-2.ensures.quiet })).device
 
 pub returns-clause-services : goal.returns-clause-services
 returns-clause-services g c =
-    let live = c.args.device.now.live in
-    let at = c.args.device.now.station in
-    let state = c.args.services.now in
-    let count : c.args.units ≡ suc (c.args.units - 1) = omega arith in
-    let values : c.elapse-note.new.self.live.values ≡ live.values = ap (λ (d : State g.row.F.Denot). d.live.values) c.elapse-note.ensures.device ∙ ticks_values c.args.units at live in
-    let there : live.values.is_lost ≡ false = sym (ap (λ (v : Values). v.is_lost) values) ∙ (sym c.is_lost.ensures ∙ c.if-is_lost.false) in
-    let address = c.address-address.ensures.value ∙ (ap (λ (s : Settings). s.suite.address) c.running.ensures ∙ ap (λ (v : Values). v.running.suite.address) values) in
-    let sent = boxed c.elapse_services.new.outbox in
-    let seen = (within (c.args.units - 1) live state there (subst (λ (n : ℕ). n ≤ due_beside live state) count c.requires)).1 in
-    let leap = both_leap c.args.units (c.args.units - 1) at live state c.elapse_services.new.services sent count there c.elapse-note.ensures.last seen c.elapse_services.ensures.none
-    (c.elapse_services.ensures.state ∙ ap (λ a. observed (ticked (services_ticks (c.args.units - 1) state)) a) address) c.elapse_services.ensures.frames in
-    leap.0
+    (elapsed g.F.Flash c.args.units (c.args.units - 1) (station_of c.args.device.now c.args.services.now) (station_of c.tell_beside.new.device c.tell_beside.new.services) c.elapse_told-2.new.device
+    c.elapse_told-2.new.services (in_order c.elapse_told-2.new.outbox) (one_before c.args.units (some_units c.args.units c.if-units-eq0.false)) c.tell_beside.ensures.tells
+    (record { device = c.elapse_told-2.ensures.device; services = c.elapse_told-2.ensures.services; frames = c.elapse_told-2.ensures.frames; last = c.elapse_told-2.ensures.last; quiet = c.elapse_told-2.ensures.quiet })).services
 
 pub returns-clause-frames : goal.returns-clause-frames
 returns-clause-frames g c =
-    let live = c.args.device.now.live in
-    let at = c.args.device.now.station in
-    let state = c.args.services.now in
-    let count : c.args.units ≡ suc (c.args.units - 1) = omega arith in
-    let values : c.elapse-note.new.self.live.values ≡ live.values = ap (λ (d : State g.row.F.Denot). d.live.values) c.elapse-note.ensures.device ∙ ticks_values c.args.units at live in
-    let there : live.values.is_lost ≡ false = sym (ap (λ (v : Values). v.is_lost) values) ∙ (sym c.is_lost.ensures ∙ c.if-is_lost.false) in
-    let address = c.address-address.ensures.value ∙ (ap (λ (s : Settings). s.suite.address) c.running.ensures ∙ ap (λ (v : Values). v.running.suite.address) values) in
-    let sent = boxed c.elapse_services.new.outbox in
-    let seen = (within (c.args.units - 1) live state there (subst (λ (n : ℕ). n ≤ due_beside live state) count c.requires)).1 in
-    let leap = both_leap c.args.units (c.args.units - 1) at live state c.elapse_services.new.services sent count there c.elapse-note.ensures.last seen c.elapse_services.ensures.none
-    (c.elapse_services.ensures.state ∙ ap (λ a. observed (ticked (services_ticks (c.args.units - 1) state)) a) address) c.elapse_services.ensures.frames in
-    ap (λ (f : List (List ℕ)). f ++ sent) c.elapse-note.ensures.frames ∙ leap.1
+    (elapsed g.F.Flash c.args.units (c.args.units - 1) (station_of c.args.device.now c.args.services.now) (station_of c.tell_beside.new.device c.tell_beside.new.services) c.elapse_told-2.new.device
+    c.elapse_told-2.new.services (in_order c.elapse_told-2.new.outbox) (one_before c.args.units (some_units c.args.units c.if-units-eq0.false)) c.tell_beside.ensures.tells
+    (record { device = c.elapse_told-2.ensures.device; services = c.elapse_told-2.ensures.services; frames = c.elapse_told-2.ensures.frames; last = c.elapse_told-2.ensures.last; quiet = c.elapse_told-2.ensures.quiet })).frames
 
 pub returns-clause-last : goal.returns-clause-last
 returns-clause-last g c =
-    let live = c.args.device.now.live in
-    let at = c.args.device.now.station in
-    let state = c.args.services.now in
-    let count : c.args.units ≡ suc (c.args.units - 1) = omega arith in
-    let values : c.elapse-note.new.self.live.values ≡ live.values = ap (λ (d : State g.row.F.Denot). d.live.values) c.elapse-note.ensures.device ∙ ticks_values c.args.units at live in
-    let there : live.values.is_lost ≡ false = sym (ap (λ (v : Values). v.is_lost) values) ∙ (sym c.is_lost.ensures ∙ c.if-is_lost.false) in
-    let address = c.address-address.ensures.value ∙ (ap (λ (s : Settings). s.suite.address) c.running.ensures ∙ ap (λ (v : Values). v.running.suite.address) values) in
-    let sent = boxed c.elapse_services.new.outbox in
-    let seen = (within (c.args.units - 1) live state there (subst (λ (n : ℕ). n ≤ due_beside live state) count c.requires)).1 in
-    let leap = both_leap c.args.units (c.args.units - 1) at live state c.elapse_services.new.services sent count there c.elapse-note.ensures.last seen c.elapse_services.ensures.none
-    (c.elapse_services.ensures.state ∙ ap (λ a. observed (ticked (services_ticks (c.args.units - 1) state)) a) address) c.elapse_services.ensures.frames in
-    leap.2
+    (elapsed g.F.Flash c.args.units (c.args.units - 1) (station_of c.args.device.now c.args.services.now) (station_of c.tell_beside.new.device c.tell_beside.new.services) c.elapse_told-2.new.device
+    c.elapse_told-2.new.services (in_order c.elapse_told-2.new.outbox) (one_before c.args.units (some_units c.args.units c.if-units-eq0.false)) c.tell_beside.ensures.tells
+    (record { device = c.elapse_told-2.ensures.device; services = c.elapse_told-2.ensures.services; frames = c.elapse_told-2.ensures.frames; last = c.elapse_told-2.ensures.last; quiet = c.elapse_told-2.ensures.quiet })).last

@@ -1,6 +1,17 @@
-use Rattle.station.proofs.Stepping.{station_steps}
+use Rattle.station.specs.Steps.{station_of}
+use Rattle.station.proofs.Sparing.{lost, refused, sparing}
+use Rattle.station.proofs.Telling.{is_ready}
 use Rattle.station.proofs.step.step_beside.Goals as goal
 
 pub returns : goal.returns
 returns g c =
-    station_steps g.F.Flash c.args.device.now c.step_both.new.device c.args.event.now _ _ c.step_both.result.0 c.step_both.result.1 c.args.services.now c.step_both.new.services c.step_both.ensures.alone c.step_both.ensures.beside
+    let steps = c.step_told.ensures in
+    record {
+      between = station_of c.tell_beside.new.device c.tell_beside.new.services;
+      tells = c.tell_beside.ensures.tells;
+      ready = is_ready g.F.Flash (station_of c.args.device.now c.args.services.now) (station_of c.tell_beside.new.device c.tell_beside.new.services) c.tell_beside.ensures.tells;
+      steps = steps;
+      sparing = sparing g.F.Flash _ _ _ _ _ steps;
+      lost = lost g.F.Flash _ _ _ _ _ steps;
+      refused = refused g.F.Flash _ _ _ _ _ steps;
+    }

@@ -1,26 +1,35 @@
-use Rattle.std.proofs.Common.{ℕ, sym, ap, ◌∙◌}
+-- The device's step, and then what the services do beside it, unless power was lost.
+use Rattle.std.proofs.Common.{◌≡◌, ℕ, List, [], map, sym, ap, ◌∙◌}
 use Rattle.arrayvec.specs.ArrayVec.{ArrayVec}
-use Rattle.services.specs.State.{observed}
-use Rattle.station.specs.Beside.{has_any}
-use Rattle.station.specs.State.{Frames}
+use Rattle.frame_codec.specs.Outbox.{boxed}
+use Rattle.station.specs.Serving.{observed}
+use Rattle.station.specs.Views.{note_in}
 use Rattle.station.proofs.Answered.{undisputed}
-use Rattle.station.proofs.Stepping.{idle_beside, none_in, observed_beside}
+use Rattle.station.proofs.Stepping.{idle_silent, joined_there, none_lost, observed_beside}
 use Rattle.station.proofs.step.step_both.Goals as goal
 
-pub attend-said-requires-clause-known : goal.attend-said-requires-clause-known
-attend-said-requires-clause-known g c = λ dropped silent.
-    undisputed g.F.Flash c.args.device.now c.step_alone-note.new.device c.args.event.now _ _ c.args.services.now c.step_alone-note.ensures.alone.steps dropped
-    (ap (λ (f : Frames). has_any f.device) (sym c.outbox.view_is) ∙ (sym c.has_frames-has_sent.ensures ∙ silent))
-
-pub attend-said-requires-clause-empty : goal.attend-said-requires-clause-empty
-attend-said-requires-clause-empty g c = none_in (λ (f : ArrayVec ℕ). f.items) _ (ap (λ (f : Frames). f.services) c.outbox.view_is ∙ c.step_alone-note.ensures.services)
+pub attend-attended-requires-clause-known : goal.attend-attended-requires-clause-known
+attend-attended-requires-clause-known g c = λ dropped silent.
+    undisputed g.F.Flash c.args.device.now c.step_device-note.new.device c.args.event.now _ _ c.args.services.now c.step_device-note.ensures.steps dropped
+    (sym c.has_frames-has_sent.ensures ∙ silent)
 
 pub returns-then-is_lost-clause-beside : goal.returns-then-is_lost-clause-beside
 returns-then-is_lost-clause-beside g c =
-    rw c.step_alone-note.ensures.services (idle_beside c.args.device.now.station.identity c.args.services.now c.step_alone-note.new.device.live.values c.step_alone-note.result c.args.event.now (sym c.is_lost.ensures ∙ c.if-is_lost.true))
+    let none : boxed c.clear.new.self ≡ [] = ap (λ (xs : List (ArrayVec ℕ)). map (λ (f : ArrayVec ℕ). f.items) xs) c.clear.ensures in
+    idle_silent c.args.device.now.station.identity c.args.services.now c.step_device-note.new.device.live.values c.step_device-note.result c.args.event.now (boxed c.clear.new.self) none
+    (sym c.is_lost.ensures ∙ c.if-is_lost.true)
+
+pub returns-then-is_lost-clause-call : goal.returns-then-is_lost-clause-call
+returns-then-is_lost-clause-call g c =
+    none_lost c.args.services.now c.step_device-note.new.device.live.values c.step_device-note.result c.args.event.now (sym c.is_lost.ensures ∙ c.if-is_lost.true)
 
 pub returns-clause-beside : goal.returns-clause-beside
 returns-clause-beside g c =
-    observed_beside c.args.device.now.station.identity c.identity.result.now c.args.services.now c.attend-said.new.services c.observe.new.self c.step_alone-note.new.device.live.values c.step_alone-note.result c.attend-said.result c.args.event.now
-    _ (c.identity.ensures ∙ ap (λ s. s.identity) c.step_alone-note.ensures.alone.steps.same) (sym c.is_lost.ensures ∙ c.if-is_lost.false) c.attend-said.ensures.state c.attend-said.ensures.frames c.attend-said.ensures.note
-    (c.observe.ensures.state ∙ ap (λ a. observed c.attend-said.new.services a) (c.address.ensures.value ∙ ap (λ s. s.suite.address) c.running.ensures))
+    observed_beside c.args.device.now.station.identity c.identity.result.now c.args.services.now c.attend-attended.new.self c.observe.new.self c.step_device-note.new.device.live.values c.step_device-note.result
+    (note_in c.attend-attended.result) c.args.event.now
+    _ (c.identity.ensures ∙ ap (λ s. s.identity) c.step_device-note.ensures.steps.same) (sym c.is_lost.ensures ∙ c.if-is_lost.false) c.attend-attended.ensures.state c.attend-attended.ensures.frames c.attend-attended.ensures.note
+    (c.observe.ensures ∙ ap (observed c.attend-attended.new.self) c.running.ensures)
+
+pub returns-clause-call : goal.returns-clause-call
+returns-clause-call g c =
+    joined_there c.args.services.now c.step_device-note.new.device.live.values c.step_device-note.result c.args.event.now _ (sym c.is_lost.ensures ∙ c.if-is_lost.false) c.attend-attended.ensures.call

@@ -1,6 +1,6 @@
 -- This follows from the laws of the formats.
 use Rattle.codec_laws.proofs.AlarmsBlocks.{ack_long}
-use Rattle.codec_laws.proofs.AlarmsPdus.{ack_said}
+use Rattle.codec_laws.proofs.AlarmsPdus.{ack_said, low_ack_said}
 use Rattle.codec_laws.proofs.alarms.alarm_law.acks_are_read.Goals as goal
 
 pub returns-clause-read : goal.returns-clause-read
@@ -8,3 +8,6 @@ returns-clause-read c = ack_said c.fitting_pdus_are_read.ensures.read c.blocks_a
 
 pub returns-clause-long : goal.returns-clause-long
 returns-clause-long c = ack_long c.blocks_are_read.ensures.long
+
+pub returns-clause-low : goal.returns-clause-low
+returns-clause-low c = low_ack_said c.fitting_pdus_are_read.ensures.read c.reports_are_read.ensures.low_ack

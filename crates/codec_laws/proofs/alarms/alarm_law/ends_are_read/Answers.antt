@@ -1,6 +1,6 @@
 -- This follows from the laws of the formats.
 use Rattle.pn_alarms.specs.Carried.{ack_of}
-use Rattle.pn_alarms.specs.Report.{report_of}
+use Rattle.alarm_reports.specs.Report.{report_of}
 use Rattle.codec_laws.proofs.AlarmsPdus.{end_said}
 use Rattle.codec_laws.proofs.alarms.alarm_law.ends_are_read.Goals as goal
 

@@ -1,6 +1,6 @@
 -- This follows from the laws of the formats.
 use Rattle.pn_alarms.specs.Carried.{ack_of}
-use Rattle.pn_alarms.specs.Report.{report_of}
+use Rattle.alarm_reports.specs.Report.{low_ack_of, report_of}
 use Rattle.codec_laws.proofs.AlarmsPdus.{ack_replied, nack_replied}
 use Rattle.codec_laws.proofs.alarms.alarm_law.replies_are_read.Goals as goal
 
@@ -15,3 +15,9 @@ returns-clause-device_nack c = nack_replied c.fitting_pdus_are_read.ensures.read
 
 pub returns-clause-controller_nack : goal.returns-clause-controller_nack
 returns-clause-controller_nack c = nack_replied c.fitting_pdus_are_read.ensures.read report_of
+
+pub returns-clause-device_low_ack : goal.returns-clause-device_low_ack
+returns-clause-device_low_ack c = ack_replied c.fitting_pdus_are_read.ensures.read low_ack_of
+
+pub returns-clause-device_low_nack : goal.returns-clause-device_low_nack
+returns-clause-device_low_nack c = nack_replied c.fitting_pdus_are_read.ensures.read low_ack_of

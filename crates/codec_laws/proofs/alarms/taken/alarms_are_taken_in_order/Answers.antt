@@ -1,6 +1,6 @@
 use Rattle.std.proofs.Common.{refl}
 use Rattle.codec_laws.specs.alarms.World.{behind_all, start}
-use Rattle.codec_laws.proofs.AlarmsMoves.{ordered, lacking}
+use Rattle.codec_laws.proofs.AlarmsMoves.{ordered, lacking, complete}
 use Rattle.codec_laws.proofs.alarms.taken.alarms_are_taken_in_order.Goals as goal
 
 pub returns-clause-prefix : goal.returns-clause-prefix
@@ -8,3 +8,6 @@ returns-clause-prefix c = λ factor retries moves few. ordered factor retries mo
 
 pub returns-clause-last : goal.returns-clause-last
 returns-clause-last c = λ factor retries moves few. lacking factor retries moves (behind_all moves (start factor retries)) refl few
+
+pub returns-clause-all : goal.returns-clause-all
+returns-clause-all c = λ factor retries moves few none. complete factor retries moves (behind_all moves (start factor retries)) refl few none

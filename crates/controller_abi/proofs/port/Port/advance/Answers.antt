@@ -1,6 +1,6 @@
 -- The next frame is fetched.
 use Rattle.std.proofs.Common.{ap, ◌∙◌}
-use Rattle.station.specs.Served.{in_order}
+use Rattle.controller_station.specs.Served.{in_order}
 use Rattle.controller_abi.specs.State.{advanced}
 use Rattle.controller_abi.specs.contracts.port.Port.{the_view}
 use Rattle.controller_abi.proofs.Left.{taken}

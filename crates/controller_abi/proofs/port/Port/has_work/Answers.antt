@@ -1,7 +1,7 @@
 -- Whether frames remain.
 use Rattle.std.proofs.Common.{sym, ap, ◌∙◌}
 use Rattle.std.specs.Prelude.{nat_lt}
-use Rattle.station.specs.Served.{in_order}
+use Rattle.controller_station.specs.Served.{in_order}
 use Rattle.controller_abi.proofs.Left.{left_is}
 use Rattle.controller_abi.proofs.port.Port.has_work.Goals as goal
 

@@ -1,5 +1,5 @@
 -- The next frame.
-use Rattle.station.specs.Served.{in_order}
+use Rattle.controller_station.specs.Served.{in_order}
 use Rattle.controller_abi.proofs.Left.{next_is}
 use Rattle.controller_abi.proofs.port.Port.next.Goals as goal
 

@@ -4,6 +4,6 @@ use Rattle.cyclic_data.specs.declared.place.PlaceKind.TheVariants.{Data}
 use Rattle.cyclic_data.proofs.Taken.{value_seen}
 use Rattle.cyclic_data.proofs.image.Image.get.Goals as goal
 
-pub returns : goal.returns
-returns c =
+pub returns-clause-value : goal.returns-clause-value
+returns-clause-value c =
     c.value.ensures ∙ value_seen c.self.inside.laid_out.octets Data c.args.slot c.args.subslot c.self.inside.laid_out.places.items _ refl c.self.inside.laid_out.data_length c.args.self.now c.self.view_is

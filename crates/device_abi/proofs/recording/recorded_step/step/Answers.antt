@@ -16,4 +16,4 @@ returns-clause-records g c =
     let inactive = s.inactive (going ∙ sym c.requires) in
     let placed = subst (λ o. OneByOne as_recorded o (store_of old) (items_of old.station old.live (heard_of old.station.identity c.args.event.now)) (store_of c.step.new.self)) inactive s.placed in
     let stretch = subst (λ o. Stretch as_recorded (store_of old) (step_of o old.station old.live c.args.event.now).accepted (store_of c.step.new.self)) inactive s.stretch in
-    step_records old c.step.new.self c.args.event.now c.stored.ensures.holds c.requires placed stretch going
+    step_records old c.step.new.self c.args.event.now c.stored.ensures.holds c.requires s.few placed stretch going

@@ -1,5 +1,5 @@
 -- What a unit brings is sent: the ERR of a relation that a timeout ends, otherwise what is due.
-use Rattle.std.proofs.Common.{◌≡◌, Bool, true, false, [], refl}
+use Rattle.std.proofs.Common.{◌≡◌, ◌&&◌, Bool, true, false, [], refl}
 use Rattle.std.specs.Prelude.{option_map}
 use Rattle.std.proofs.lemmas.List.{append-nil}
 use Rattle.relations.specs.Farewells.{farewell_of}
@@ -15,11 +15,11 @@ pub returns-in-Some-clause-frames : goal.returns-in-Some-clause-frames
 returns-in-Some-clause-frames g c =
     let elapsed = c.args.elapsed.now in
     rw (c.end.ensures.frames, ← c.ending.ensures, c.in-Some.is)
-    (rw (idle elapsed.tick.is_alarm, idle elapsed.is_ready, idle elapsed.tick.is_cyclic, append-nil (farewells_in (option_map (farewell_of c.in-Some.reason) c.args.self.now.live.rest.link))) refl)
+    (rw (idle (elapsed.tick.is_alarm && elapsed.repeated.high), idle (elapsed.tick.is_alarm && elapsed.repeated.low), idle elapsed.is_ready, idle elapsed.tick.is_cyclic, append-nil (farewells_in (option_map (farewell_of c.in-Some.reason) c.args.self.now.live.rest.link))) refl)
 
 pub returns-in-None-clause-frames : goal.returns-in-None-clause-frames
 returns-in-None-clause-frames g c =
-    rw (c.send_each.ensures.frames, c.is_alarm.ensures, c.is_cyclic.ensures, ← c.ending.ensures, c.in-None.is) refl
+    rw (c.send_each.ensures.frames, c.repeated_with.ensures, c.is_cyclic.ensures, ← c.ending.ensures, c.in-None.is) refl
 
 pub returns-in-Some-clause-state : goal.returns-in-Some-clause-state
 returns-in-Some-clause-state g c =
@@ -33,8 +33,8 @@ pub returns-in-Some-clause-sendable : goal.returns-in-Some-clause-sendable
 returns-in-Some-clause-sendable g c =
     let elapsed = c.args.elapsed.now in
     rw (← c.ending.ensures, c.in-Some.is)
-    (rw (idle elapsed.tick.is_alarm, idle elapsed.is_ready, idle elapsed.tick.is_cyclic, append-nil (farewells_in (option_map (farewell_of c.in-Some.reason) c.args.self.now.live.rest.link))) c.end.ensures.sendable)
+    (rw (idle (elapsed.tick.is_alarm && elapsed.repeated.high), idle (elapsed.tick.is_alarm && elapsed.repeated.low), idle elapsed.is_ready, idle elapsed.tick.is_cyclic, append-nil (farewells_in (option_map (farewell_of c.in-Some.reason) c.args.self.now.live.rest.link))) c.end.ensures.sendable)
 
 pub returns-in-None-clause-sendable : goal.returns-in-None-clause-sendable
 returns-in-None-clause-sendable g c =
-    rw (← c.ending.ensures, c.in-None.is, ← c.is_alarm.ensures, ← c.is_cyclic.ensures) c.send_each.ensures.sendable
+    rw (← c.ending.ensures, c.in-None.is) (rw (c.repeated_with.ensures, c.is_cyclic.ensures) at c.send_each.ensures.sendable)

@@ -72,3 +72,11 @@ returns-clause-sendable g c =
     let same = follows by_application address now link blocks c.control-came.result ended c.control-came.new.answer.items refl c.control-came.ensures.done c.control-came.ensures.refused in
     subst (λ old. CanSend old (called old c.args.serving.now operation.Control)) c.self.view_is
     (first, subst (λ (sent : List Sent). AreSendable c.self.inside.identity sent) (sym same) ready)
+
+pub returns-clause-state : goal.returns-clause-state
+returns-clause-state g c =
+    let link = c.self.inside.relation in
+    let blocks = c.args.serving.now.blocks.now in
+    let out = answer_as c.control-came.result (prm_end_answer link blocks) c.control-came.new.answer.items c.control-came.ensures.done c.control-came.ensures.refused in
+    let calls = rw (c.address-address.ensures.value, c.running.ensures, c.requires.operation, out) at c.give.ensures.kept in
+    rw (← c.self.view_is) (rw (calls, c.control-came.ensures.state) refl)

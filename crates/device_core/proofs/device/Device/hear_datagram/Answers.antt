@@ -37,9 +37,9 @@ returns-in-Ok-read_response-clause-steps g c =
     rw (← c.self.view_is) (rw c.running.ensures at (sym c.is_running.ensures ∙ c.if-not-is_running.false)) in
     let said : said_by c.args.body.now ≡ Responds (answered c.in-Ok-read_response.response) = rw (c.in-Err.ensures.exact, c.in-Ok-read_response.ensures.exact) refl in
     let answer = answer_of (answered c.in-Ok-read_response.response) here.live.rest.link in
-    inactive_steps g.F.Flash here _ (Reported c.args.caller.now c.args.address (said_by c.args.body.now)) (handled_answer here.live answer) _ _ c.requires.stored
+    inactive_steps g.F.Flash here _ (Reported c.args.caller.now c.args.address (said_by c.args.body.now)) (handled_answer here.station here.live answer) _ _ c.requires.stored
     (cond-true _ _ _ runs ∙ ap (handled_said here.station here.live c.args.caller.now) said)
-    (answer_asks_nothing here.live answer) c.hear_response.ensures.state c.hear_response.ensures.frames c.hear_response.ensures.note c.hear_response.ensures.sendable
+    (answer_asks_nothing here.station here.live answer) c.hear_response.ensures.state c.hear_response.ensures.frames c.hear_response.ensures.note c.hear_response.ensures.sendable
 
 pub returns-in-Err-read_response-clause-steps : goal.returns-in-Err-read_response-clause-steps
 unfolding said_by

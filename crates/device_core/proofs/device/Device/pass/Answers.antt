@@ -9,13 +9,13 @@ pass-requires g c = below_right c.args.units _ _ (rw (← c.self.view_is) at c.r
 
 pub returns-clause-device : goal.returns-clause-device
 returns-clause-device g c =
-    let fits : c.args.self.now.live.rest.units < 65536 = rw (← c.self.view_is) c.counter_later-self-inside.ensures.fits in
+    let fits : c.args.self.now.live.rest.units < 18446744073709551616 = rw (← c.self.view_is) c.units_later-self-inside.ensures.fits in
     let none : NothingDueFor c.args.units c.args.self.now.live.rest.link = rw (← c.self.view_is) c.pass.ensures.nothing in
     rw (ticks_live c.args.self.now.station c.args.self.now.live c.args.units fits none)
-    (rw (← c.self.view_is) (rw (c.saturating_sub-self-inside.ensures, c.counter_later-self-inside.ensures.value, c.pass.ensures.state) refl))
+    (rw (← c.self.view_is) (rw (c.saturating_sub-self-inside.ensures, c.units_later-self-inside.ensures.value, c.pass.ensures.state) refl))
 
 pub returns-clause-none : goal.returns-clause-none
 returns-clause-none g c =
-    let fits : c.args.self.now.live.rest.units < 65536 = rw (← c.self.view_is) c.counter_later-self-inside.ensures.fits in
+    let fits : c.args.self.now.live.rest.units < 18446744073709551616 = rw (← c.self.view_is) c.units_later-self-inside.ensures.fits in
     let none : NothingDueFor c.args.units c.args.self.now.live.rest.link = rw (← c.self.view_is) c.pass.ensures.nothing in
     none_sends c.args.self.now.station c.args.self.now.live c.args.units fits none

@@ -1,26 +1,18 @@
--- The outcome of an alarm frame follows from its content, or it cannot be read.
-use Rattle.std.proofs.Common.{ap, map, refl, subst, sym, ◌∙◌}
-use Rattle.device_frames.specs.declared.note.Note.TheVariants.{Fault}
-use Rattle.device_frames.specs.Heard.{Alarms, Unreadable, heard_alarm}
-use Rattle.device_core.specs.Handled.{handled_alarm}
+-- The outcome of an alarm frame follows from its content, or it may carry an AlarmAck of low priority.
+use Rattle.std.proofs.Common.{ap, map, subst, sym, ◌∙◌}
+use Rattle.device_frames.specs.Heard.{heard_alarm, heard_reply}
 use Rattle.device_core.specs.Steps.{Steps}
-use Rattle.device_core.proofs.Handled.{alarm_asks_nothing}
-use Rattle.device_core.proofs.Steps.{inactive_steps, refuses_steps}
 use Rattle.device_core.proofs.device.Device.read_alarm.Goals as goal
 
 pub returns-in-Ok-clause-steps : goal.returns-in-Ok-clause-steps
 returns-in-Ok-clause-steps g c =
-    let old = c.args.self.now in
-    let source = c.args.source in
-    let header = c.in-Ok.header in
-    let message = c.in-Ok.message in
-    let said = ap (heard_alarm source) (sym c.read_message.ensures ∙ c.in-Ok.is) in
-    subst (λ heard. Steps g.F.Flash c.args.self.now heard (map (λ frame. frame.items) c.hear_alarm.new.outbox.items) c.hear_alarm.result c.hear_alarm.new.self) (sym said)
-    (inactive_steps g.F.Flash old _ (Alarms source header message) (handled_alarm old.live source header message) _ _ c.requires.stored refl
-    (alarm_asks_nothing old.live source header message) c.hear_alarm.ensures.state c.hear_alarm.ensures.frames c.hear_alarm.ensures.note c.hear_alarm.ensures.sendable)
+    let said = ap (heard_alarm c.args.source c.args.frame_id c.args.body.now) (sym c.read_message.ensures ∙ c.in-Ok.is) in
+    let under = ap (λ priority. heard_reply c.args.source priority c.in-Ok.header c.in-Ok.message) (sym c.of.ensures) in
+    subst (λ heard. Steps g.F.Flash c.args.self.now heard (map (λ frame. frame.items) c.hear_under.new.outbox.items) c.hear_under.result c.hear_under.new.self)
+    (sym (said ∙ under)) c.hear_under.ensures.steps
 
 pub returns-in-Err-clause-steps : goal.returns-in-Err-clause-steps
 returns-in-Err-clause-steps g c =
-    let said = ap (heard_alarm c.args.source) (sym c.read_message.ensures ∙ c.in-Err.is) in
-    subst (λ heard. Steps g.F.Flash c.args.self.now heard (map (λ frame. frame.items) c.args.outbox.now.items) Fault c.args.self.now) (sym said)
-    (refuses_steps g.F.Flash c.args.self.now Unreadable Fault _ _ c.requires.stored refl (ap (map (λ frame. frame.items)) c.requires.empty) refl)
+    let said = ap (heard_alarm c.args.source c.args.frame_id c.args.body.now) (sym c.read_message.ensures ∙ c.in-Err.is) in
+    subst (λ heard. Steps g.F.Flash c.args.self.now heard (map (λ frame. frame.items) c.read_low_confirm.new.outbox.items) c.read_low_confirm.result c.read_low_confirm.new.self)
+    (sym said) c.read_low_confirm.ensures.steps

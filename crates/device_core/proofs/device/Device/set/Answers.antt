@@ -1,8 +1,11 @@
 -- What the store carried out is what the blocks ask for, and its answers say whether the relation ends.
-use Rattle.std.proofs.Common.{◌≡◌, is_some, refl, ap, ◌∙◌}
+use Rattle.std.proofs.Common.{◌≡◌, Option, is_some, option_map, refl, ap, ◌∙◌}
 use Rattle.dcp_core.specs.Request.{asked}
 use Rattle.dcp_core.specs.Set.{plan_of}
-use Rattle.device_core.specs.Machine.{lamp_after, link_after, resets}
+use Rattle.lldp.specs.Views.{peer_as}
+use Rattle.relations.specs.declared.farewell.Farewell.{Farewell}
+use Rattle.device_core.specs.Log.{err_log}
+use Rattle.device_core.specs.Machine.{farewell_at, lamp_after, link_after, resets}
 use Rattle.device_core.proofs.Steps.{asked_set_steps}
 use Rattle.device_core.proofs.device.Device.set.Goals as goal
 
@@ -15,13 +18,15 @@ returns-clause-steps g c =
     let ended : c.is_ended-is_ended.result ≡ resets (plan_of (is_some link) request) answers =
     c.is_ended-is_ended.ensures ∙ ap (λ i. resets i c.as_slice-4.result.now) (c.as_slice-3.ensures.value ∙ plan) ∙ ap (resets (plan_of (is_some link) request)) c.as_slice-4.ensures.value in
     let lamp = c.lamp_after-self-inside.ensures ∙ ap (lamp_after c.self.inside.lamp) (c.as_slice-2.ensures.value ∙ plan) in
-    let left = c.end_if.ensures.link ∙ ap (λ e. link_after e link) ended in
+    let left = c.end_if-farewell.ensures.link ∙ ap (λ e. link_after e link) ended in
+    let logged = c.log_err.ensures ∙ ap (λ (f : Option Farewell). err_log f c.self.inside.units c.self.inside.log) (c.end_if-farewell.ensures.farewell ∙ ap (λ e. farewell_at e link) ended) in
     rw (← c.self.view_is) (asked_set_steps g.F.Flash _ _ c.args.asker request answers _ _
-    c.requires.service (rw (c.as_slice.ensures.value ∙ plan) at c.carry_out-answers.ensures.carries) refl
-    (ap (λ l. record { lamp = l; calls = c.self.inside.answers.kept; link = c.end_if.new.relation; units = c.self.inside.units; statuses = c.self.inside.statuses.items }) lamp
-    ∙ ap (λ r. record { lamp = lamp_after c.self.inside.lamp (plan_of (is_some link) request); calls = c.self.inside.answers.kept; link = r; units = c.self.inside.units; statuses = c.self.inside.statuses.items }) left)
-    (rw (c.send_dcp_answer.ensures.frames, c.end_if.ensures.frames, c.requires.empty, ended, c.set_answer-answer.ensures.items) refl) refl
-    (rw ended at c.end_if.ensures.sendable) (rw c.set_answer-answer.ensures.items at c.send_dcp_answer.ensures.sendable))
+    c.requires.service (rw plan at c.fill_plan.ensures.count) (rw (c.as_slice.ensures.value ∙ plan) at c.carry_out-answers.ensures.carries) refl
+    (ap (λ l. record { lamp = l; calls = c.self.inside.answers.kept; link = c.end_if-farewell.new.relation; units = c.self.inside.units; statuses = c.self.inside.statuses.items; log = c.log_err.new.log; peer = option_map peer_as c.self.inside.neighbour; diagnoses = c.self.inside.diagnoses }) lamp
+    ∙ ap (λ r. record { lamp = lamp_after c.self.inside.lamp (plan_of (is_some link) request); calls = c.self.inside.answers.kept; link = r; units = c.self.inside.units; statuses = c.self.inside.statuses.items; log = c.log_err.new.log; peer = option_map peer_as c.self.inside.neighbour; diagnoses = c.self.inside.diagnoses }) left
+    ∙ ap (λ l. record { lamp = lamp_after c.self.inside.lamp (plan_of (is_some link) request); calls = c.self.inside.answers.kept; link = link_after (resets (plan_of (is_some link) request) answers) link; units = c.self.inside.units; statuses = c.self.inside.statuses.items; log = l; peer = option_map peer_as c.self.inside.neighbour; diagnoses = c.self.inside.diagnoses }) logged)
+    (rw (c.send_dcp_answer.ensures.frames, c.end_if-farewell.ensures.frames, c.requires.empty, ended, c.set_answer-answer.ensures.items) refl) refl
+    (rw ended at c.end_if-farewell.ensures.sendable) (rw c.set_answer-answer.ensures.items at c.send_dcp_answer.ensures.sendable))
 
 pub returns-clause-reliable : goal.returns-clause-reliable
 returns-clause-reliable g c = rw (← c.self.view_is) c.carry_out-answers.ensures.reliable

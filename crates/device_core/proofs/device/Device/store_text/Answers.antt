@@ -1,5 +1,5 @@
 -- The answer depends on the outcome of the command.
-use Rattle.std.proofs.Common.{◌≡◌, [], ◌∷◌, refl, sym, ap, ◌∙◌}
+use Rattle.std.proofs.Common.{◌≡◌, [], ◌∷◌, refl, sym, ap, ◌∙◌, arith}
 use Rattle.rpc_core.specs.Call.{asked}
 use Rattle.records.specs.writes.Answer.{answer_of}
 use Rattle.relations.specs.Phases.{Named, answered}
@@ -21,7 +21,7 @@ returns-clause-steps g c =
     let link = rw named at c.hear_controller.ensures in
     rw (← c.self.view_is) (λ heard is.
     settled_steps g.F.Flash _ _ heard
-    (Writes c.args.serving.now.caller.now c.self.inside.store.values.running.suite.address (asked c.args.serving.now.call.now) header c.args.value) (c.carry.result ∷ []) _ _ is c.carry.ensures.listed refl
+    (Writes c.args.serving.now.caller.now c.self.inside.store.values.running.suite.address (asked c.args.serving.now.call.now) header c.args.value) (c.carry.result ∷ []) _ _ is (omega arith) c.carry.ensures.listed refl
     (rw (calls, link) refl) frames refl (sendable, tt))
 
 pub returns-clause-reliable : goal.returns-clause-reliable

@@ -14,7 +14,11 @@ returns-then-is_inputs-clause-frames g c =
 pub returns-then-is_inputs-clause-state : goal.returns-then-is_inputs-clause-state
 returns-then-is_inputs-clause-state g c =
     let relation = c.elapse-elapsed.new.self in
-    rw (← c.self.view_is) (rw (c.elapse-elapsed.ensures.state ∙ c.is_inputs.ensures.left relation c.if-is_inputs.true, c.saturating_sub-self-inside.ensures) refl)
+    rw (← c.self.view_is) (rw (
+      c.elapse-elapsed.ensures.due ∙ c.is_inputs.ensures.due relation c.if-is_inputs.true,
+      c.elapse-elapsed.ensures.state ∙ c.is_inputs.ensures.left relation c.if-is_inputs.true,
+      c.saturating_sub-self-inside.ensures,
+    ) refl)
 
 pub returns-then-is_inputs-clause-sendable : goal.returns-then-is_inputs-clause-sendable
 returns-then-is_inputs-clause-sendable g c =
@@ -30,7 +34,7 @@ returns-clause-frames g c =
 
 pub returns-clause-state : goal.returns-clause-state
 returns-clause-state g c =
-    rw (← c.self.view_is) (rw (c.bring.ensures.state, c.elapse-elapsed.ensures.state, c.saturating_sub-self-inside.ensures) refl)
+    rw (← c.self.view_is) (rw (c.bring.ensures.state, c.elapse-elapsed.ensures.due, c.elapse-elapsed.ensures.state, c.saturating_sub-self-inside.ensures) refl)
 
 pub returns-clause-sendable : goal.returns-clause-sendable
 returns-clause-sendable g c =

@@ -15,9 +15,9 @@ returns-clause-identify c =
 
 pub returns-clause-get : goal.returns-clause-get
 returns-clause-get c =
-    λ mine identity asker running request is mac small few.
-    answer_heard c.frames_are_read.ensures.real_time 65277 get_set_is mine asker identity.mac None (get_bytes identity running request) (get_said identity running request) (record { destination = mac; source = is; tag = tt; content = (omega arith, few) })
-    (λ more. c.answers_are_read.ensures.get identity running request more small few)
+    λ mine identity asker running alias request is mac small few.
+    answer_heard c.frames_are_read.ensures.real_time 65277 get_set_is mine asker identity.mac None (get_bytes identity running alias request) (get_said identity running alias request) (record { destination = mac; source = is; tag = tt; content = (omega arith, few) })
+    (λ more. c.answers_are_read.ensures.get identity running alias request more small few)
 
 pub returns-clause-set : goal.returns-clause-set
 returns-clause-set c =

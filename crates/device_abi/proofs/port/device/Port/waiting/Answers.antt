@@ -1,6 +1,6 @@
 -- The kind of the next piece of work.
 use Rattle.std.proofs.Common.{◌∙◌, sym}
-use Rattle.device_abi.proofs.OperationsReported.{kind_next}
+use Rattle.device_abi.proofs.PortReported.{kind_next}
 use Rattle.device_abi.proofs.PortLeft.{no_calls}
 use Rattle.device_abi.proofs.port.device.Port.waiting.Goals as goal
 

@@ -1,7 +1,7 @@
 -- Several units at once, beside services or without.
 use Rattle.std.proofs.Common.{◌≡◌, replicate, Option, Some, None, sym, subst}
 use Rattle.device_frames.specs.declared.event.Event.TheVariants as event
-use Rattle.services.specs.State as services
+use Rattle.station.specs.Serving.{Serving}
 use Rattle.script_runner.specs.session.Ends.{device_run}
 use Rattle.script_runner.specs.session.Power.{Runs}
 use Rattle.script_runner.specs.session.Session.{IsLeapt}
@@ -18,6 +18,6 @@ returns-in-Some-clause-leapt c station runs =
 pub returns-in-None-clause-leapt : goal.returns-in-None-clause-leapt
 returns-in-None-clause-leapt c station runs =
     let same : c.args.self.now ≡ running_of c.self.inside.device None = cc in
-    subst (λ (had : Option services.State). IsLeapt (device_run station (replicate c.args.units event.Tick)) (running_of c.elapse_alone.new.device had) c.elapse_alone.new.outbox) (sym c.in-None.is)
+    subst (λ (had : Option Serving). IsLeapt (device_run station (replicate c.args.units event.Tick)) (running_of c.elapse_alone.new.device had) c.elapse_alone.new.outbox) (sym c.in-None.is)
     (leapt_alone station c.self.inside.device c.elapse_alone.new.device c.args.units c.elapse_alone.new.outbox
     (subst (Runs station) same runs) c.elapse_alone.ensures.device c.elapse_alone.ensures.frames c.elapse_alone.ensures.services)

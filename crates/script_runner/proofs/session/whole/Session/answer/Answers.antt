@@ -47,6 +47,10 @@ pub returns-in-Status-clause-obeys : goal.returns-in-Status-clause-obeys
 unfolding said
 returns-in-Status-clause-obeys c plans network right are plain = rw c.in-Status.is (always_obeys _ _ _ _ _ _ (c.status.ensures.obeys network are) c.always-in-Status.ensures)
 
+pub returns-in-Diagnosis-clause-obeys : goal.returns-in-Diagnosis-clause-obeys
+unfolding said
+returns-in-Diagnosis-clause-obeys c plans network right are plain = rw c.in-Diagnosis.is (always_obeys _ _ _ _ _ _ (c.diagnose.ensures.obeys network are) c.always-in-Diagnosis.ensures)
+
 pub returns-in-Provider-clause-obeys : goal.returns-in-Provider-clause-obeys
 unfolding said
 returns-in-Provider-clause-obeys c plans network right are plain = rw c.in-Provider.is (always_obeys _ _ _ _ _ _ (c.provider.ensures network are) c.always-in-Provider.ensures)
@@ -84,6 +88,9 @@ returns-in-Ready-clause-lost c handed there gone = rw c.in-Ready.is (always_tell
 
 pub returns-in-Status-clause-lost : goal.returns-in-Status-clause-lost
 returns-in-Status-clause-lost c handed there gone = rw c.in-Status.is (always_tells _ _ _ (c.status.ensures.lost there gone) c.always-in-Status.ensures)
+
+pub returns-in-Diagnosis-clause-lost : goal.returns-in-Diagnosis-clause-lost
+returns-in-Diagnosis-clause-lost c handed there gone = rw c.in-Diagnosis.is (always_tells _ _ _ (c.diagnose.ensures.lost there gone) c.always-in-Diagnosis.ensures)
 
 pub returns-in-Deliver-clause-lost : goal.returns-in-Deliver-clause-lost
 returns-in-Deliver-clause-lost c handed there gone = rw c.in-Deliver.is (if_there_tells _ _ _ (c.deliver.ensures.lost there gone) c.if_there-in-Deliver.ensures)

@@ -1,0 +1,3 @@
+pub mod Priority
+pub mod Report
+pub mod Message

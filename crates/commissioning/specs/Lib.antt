@@ -1,0 +1,4 @@
+pub mod Asked
+pub mod Place
+pub mod Named
+pub mod Record

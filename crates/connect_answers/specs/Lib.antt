@@ -1,0 +1,4 @@
+pub mod AlarmRelation
+pub mod OtherBlock
+pub mod Usable
+pub mod Connect

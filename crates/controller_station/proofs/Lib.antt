@@ -1,0 +1,6 @@
+pub mod RealTime
+pub mod Ticks
+pub mod Besides
+pub mod Leaping
+pub mod Order
+pub mod Running

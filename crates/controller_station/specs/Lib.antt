@@ -1,0 +1,4 @@
+pub mod Beside
+pub mod Served
+pub mod Leaps
+pub mod Runs

@@ -1,0 +1,39 @@
+-- A controller and what is beside it over any list of events.
+use Rattle.std.specs.Prelude.{ℕ, List, [], ◌∷◌}
+use Rattle.controller_core.specs.declared.event.Event.{Event}
+use Rattle.controller_core.specs.Machine.{step_of}
+use Rattle.controller_core.specs.State.{Controlling}
+use Rattle.controller_station.specs.Served.{Frames, Served, beside, services_after}
+
+-- The controller alone after these events.
+abbrev pub alone : Controlling → List Event → Controlling
+alone controller [] = controller
+alone controller (event ∷ events) = alone (step_of controller event).controller events
+
+-- What the controller alone sends, event by event.
+abbrev pub sent_alone : Controlling → List Event → List (List (List ℕ))
+sent_alone controller [] = []
+sent_alone controller (event ∷ events) = (step_of controller event).frames ∷ sent_alone (step_of controller event).controller events
+
+-- Both after an event.
+abbrev pub after_event : Served → Event → Served
+after_event served event = record {
+  controller = (step_of served.controller event).controller;
+  services = services_after served.services event (step_of served.controller event).frames;
+}
+
+-- Both after these events.
+abbrev pub after : Served → List Event → Served
+after served [] = served
+after served (event ∷ events) = after (after_event served event) events
+
+-- What both send, event by event.
+abbrev pub sent_at : Served → Event → Frames
+sent_at served event = record {
+  controller = (step_of served.controller event).frames;
+  services = beside served.services event (step_of served.controller event).frames;
+}
+
+abbrev pub sent : Served → List Event → List Frames
+sent served [] = []
+sent served (event ∷ events) = sent_at served event ∷ sent (after_event served event) events

@@ -1,0 +1,237 @@
+//! A controller and what is beside it.
+ghost use Rattle.std.specs.Prelude.{◌≡◌, ◌<◌, ◌≤◌, [], ◌∷◌, ℕ, List, true, false, length, option_map};
+ghost use Rattle.frame_codec.specs.declared.arp.Arp.{Arp};
+ghost use Rattle.frame_codec.specs.Frame.{frame_bytes, frame_of};
+ghost use Rattle.frame_codec.specs.Meaning.{ArpPacket, Meaning};
+ghost use Rattle.frame_codec.specs.Outbox.{boxed};
+ghost use Rattle.lldp.specs.State.{Known};
+ghost use Rattle.lldp.specs.Views.{peer_as};
+ghost use Rattle.services.specs.Answer.{answer_to, arp_reply_of};
+ghost use Rattle.controller_frames.specs.Heard.{Nothing, heard_of};
+ghost use Rattle.controller_core.specs.Machine.{opening_of, step_of};
+ghost use Rattle.controller_core.specs.declared.event.Event.TheVariants.{Frame as Framed};
+ghost use Rattle.controller_station.specs.Beside.{beside_at, due_in, ticks_of};
+ghost use Rattle.controller_station.specs.Served.{after_frame, begun, beside, beside_frame, by_services, is_sought, no_frames, only, services_after};
+ghost use Rattle.controller_station.specs.Leaps.{OnlyTheLastSends, sent_beside, sent_by, served_due_in, ticked_by};
+
+use crate::{ControllerServices, ServedOutbox};
+use controller_core::{Controller, Event};
+use frame_codec::{Frame, Outbox};
+use lldp::Neighbour;
+use plans::Plan;
+use rpc_core::Uuid;
+use std::marker::Model;
+
+/// A controller and what is beside it: the services of its IP address, and its neighbour by LLDP. In clauses it is both.
+#[derive(Drop)]
+pub struct ServedController {
+    controller: Controller,
+    services: ControllerServices,
+}
+
+impl Model for ServedController {
+    ghost use Rattle.std.specs.Prelude.{◌≡◌};
+    ghost use Rattle.services.specs.declared.announcement.Role.TheVariants.{Controller};
+    ghost use Rattle.controller_station.specs.Served.{Served};
+
+    ghost Value = { Served };
+
+    ghost view = { λ served. record { controller = served.controller; services = served.services } };
+
+    ghost invariant = { λ served.
+        (served.services.ip.role ≡ Controller)
+        × (served.services.ip.mac ≡ served.controller.setup.plan.controller.mac)
+        × (served.services.ip.address ≡ served.controller.setup.plan.controller.address) };
+}
+
+impl ServedController {
+    /// The controller of a plan, with the ARUUID of its relation, which is not zero, and the activity of its calls, and
+    /// what is beside the controller of the plan. Its opening frame counts as sent.
+    pub fn new(plan: Plan, ar: Uuid, activity: Uuid) -> ServedController
+        ensures { result ≡ begun plan ar activity }
+    {
+        ServedController {
+            services: services_of(&plan),
+            controller: Controller::new(plan, ar, activity),
+        }
+    }
+
+    /// The controller of a plan before it starts, and what is beside it. It is small to make, so it can be written where it
+    /// stays: `start` then completes it in place.
+    #[inline(always)]
+    pub fn unstarted(plan: Plan, ar: Uuid, activity: Uuid) -> ServedController
+        ensures { result.controller.setup ≡ record { plan = plan; ar = ar; activity = activity } }
+    {
+        ServedController {
+            services: services_of(&plan),
+            controller: Controller::unstarted(plan, ar, activity),
+        }
+    }
+
+    /// Starts in place, in any state: both are then as `new` makes them from the same plan. Its opening frame counts as
+    /// sent.
+    pub fn start(&mut self)
+        ensures { self.new ≡ begun self.old.controller.setup.plan self.old.controller.setup.ar self.old.controller.setup.activity }
+    {
+        self.controller.start();
+        self.services = services_of(self.controller.plan());
+    }
+
+    /// Replaces the content of the outbox by the Identify frame with which it begins.
+    pub fn send_opening(&self, outbox: &mut ServedOutbox)
+        ensures { outbox.new ≡ record { controller = opening_of self.now.controller ∷ []; services = [] } }
+    {
+        outbox.controller.clear();
+        outbox.services.clear();
+        self.controller.send_opening(&mut outbox.controller);
+    }
+
+    /// The Identify frame with which it begins.
+    pub fn opening(&self) -> Frame
+        ensures { result.items ≡ opening_of self.now.controller }
+    {
+        self.controller.opening()
+    }
+
+    /// The controller.
+    pub fn controller(&self) -> &Controller
+        ensures { result.now ≡ self.now.controller }
+    {
+        &self.controller
+    }
+
+    /// How many frames of ARP came from another station that uses the controller's address.
+    pub fn conflicts(&self) -> u64
+        ensures { result ≡ self.now.services.ip.conflicts }
+    {
+        self.services.conflicts()
+    }
+
+    /// The neighbour by LLDP that is known: the station at the other end of the controller's cable.
+    pub fn neighbour(&self) -> Option<&Neighbour>
+        ensures { option_map (λ n. peer_as n.now) result ≡ option_map (λ (k : Known). k.peer) self.now.services.near.known }
+    {
+        self.services.neighbour()
+    }
+
+    /// Handles one event, and replaces the content of the outbox by the frames to be sent.
+    pub fn step(&mut self, event: &Event, outbox: &mut ServedOutbox)
+        // The controller is the controller alone after this event.
+        ensures controller { self.new.controller ≡ (step_of self.old.controller event.now).controller }
+        // What is beside receives a frame that the controller does not answer, and each tick.
+        ensures services { self.new.services
+            ≡ services_after self.old.services event.now (step_of self.old.controller event.now).frames }
+        // The controller sends what the controller alone sends, in the same order.
+        ensures frames { outbox.new.controller ≡ (step_of self.old.controller event.now).frames }
+        // For a frame the services of the IP address send their answer, and nothing if the controller sends anything. In a
+        // tick they send theirs, and LLDP follows if it is due.
+        ensures beside { outbox.new.services
+            ≡ beside self.old.services event.now (step_of self.old.controller event.now).frames }
+        // At most two frames are sent beside.
+        ensures few { length outbox.new.services ≤ 2 }
+        // Whatever the controller does: a request of ARP for its address, to it or to all, is answered by this reply, and
+        // by nothing else.
+        ensures arp { (octets : List ℕ) (meaning : Meaning) (packet : Arp) → event.now ≡ Framed (record { items = octets }) →
+            frame_of octets ≡ Ok meaning → meaning.content ≡ ArpPacket packet → is_sought self.old meaning.destination packet ≡ true →
+            outbox.new ≡ by_services (frame_bytes (arp_reply_of self.old.controller.setup.plan.controller.mac
+            self.old.controller.setup.plan.controller.address meaning.source packet.sender)) }
+        // No other packet of ARP is answered: none for another address, none to another station, and no reply.
+        ensures arp_dropped { (octets : List ℕ) (meaning : Meaning) (packet : Arp) → event.now ≡ Framed (record { items = octets }) →
+            frame_of octets ≡ Ok meaning → meaning.content ≡ ArpPacket packet → is_sought self.old meaning.destination packet ≡ false →
+            outbox.new ≡ no_frames }
+        // What the controller drops goes to the services, and their answer is all that is sent.
+        ensures dropped { (octets : List ℕ) → event.now ≡ Framed (record { items = octets }) →
+            heard_of self.old.controller.setup.plan.controller octets ≡ Nothing →
+            outbox.new ≡ only (answer_to self.old.services.ip octets) }
+    {
+        advance(
+            &mut self.controller,
+            &mut self.services,
+            event,
+            &mut outbox.controller,
+            &mut outbox.services,
+        );
+    }
+
+    /// The number of units up to and with the next one with which either of both sends something, the neighbour is forgotten,
+    /// or the controller ends.
+    pub fn due(&self) -> u32
+        ensures value { result ≡ served_due_in self.now }
+        ensures some { 0 < result }
+    {
+        self.controller.due().min(self.services.due_in())
+    }
+
+    /// Lets `units` units of 31.25 microseconds pass at once, at most as many as `due` returns, and replaces the content of
+    /// the outbox by the frames to be sent. It does what as many Tick events do, one by one.
+    pub fn elapse(&mut self, units: u32, outbox: &mut ServedOutbox)
+        requires { units ≤ served_due_in self.old }
+        // Both, and what they send, are those after that many Tick events. Only the last of them may send.
+        ensures state { self.new ≡ ticked_by units self.old }
+        ensures frames { outbox.new ≡ sent_by units self.old }
+        ensures last { OnlyTheLastSends units self.old }
+    {
+        self.controller.elapse(units, &mut outbox.controller);
+        pass_beside(&mut self.services, units, &mut outbox.services);
+    }
+}
+
+/// What is beside the controller of a plan at its start.
+fn services_of(plan: &Plan) -> ControllerServices
+    ensures { result ≡ beside_at plan.now.controller }
+{
+    ControllerServices::new(plan.controller())
+}
+
+/// One event at the controller, and then beside it.
+fn advance(
+    controller: &mut Controller,
+    services: &mut ControllerServices,
+    event: &Event,
+    sent: &mut Outbox,
+    outbox: &mut Outbox,
+)
+    ensures controller { controller.new ≡ (step_of controller.old event.now).controller }
+    ensures services { services.new ≡ services_after services.old event.now (step_of controller.old event.now).frames }
+    ensures frames { boxed sent.new ≡ (step_of controller.old event.now).frames }
+    ensures beside { boxed outbox.new ≡ beside services.old event.now (step_of controller.old event.now).frames }
+{
+    controller.step(event, sent);
+    outbox.clear();
+    match event {
+        Event::Frame(bytes) => hear_beside(services, bytes.as_slice(), sent, outbox),
+        Event::Tick => services.tick(outbox),
+        Event::Give(_, _, _)
+        | Event::Status(_, _, _)
+        | Event::Read(_, _, _)
+        | Event::Write(_, _, _, _)
+        | Event::Stop => {}
+    }
+}
+
+/// Units of time beside the controller, at most as many as are due there: only the last may send.
+fn pass_beside(services: &mut ControllerServices, units: u32, outbox: &mut Outbox)
+    requires { units ≤ due_in services.old }
+    ensures state { services.new ≡ ticks_of units services.old }
+    ensures frames { boxed outbox.new ≡ sent_beside units services.old }
+    ensures last { (before : ℕ) → before < units → sent_beside before services.old ≡ [] }
+{
+    outbox.clear();
+    if units == 0 {
+        return;
+    }
+    services.pass(units - 1);
+    services.tick(outbox);
+}
+
+/// A frame for which the controller sent these frames: only if it sent none, what is beside receives it.
+#[inline(always)]
+fn hear_beside(services: &mut ControllerServices, bytes: &[u8], sent: &Outbox, outbox: &mut Outbox)
+    requires empty { outbox.old.items ≡ [] }
+    ensures services { services.new ≡ after_frame services.old bytes.now (boxed sent.now) }
+    ensures frames { boxed outbox.new ≡ beside_frame services.old bytes.now (boxed sent.now) }
+{
+    if sent.len() == 0 {
+        services.hear(bytes, outbox);
+    }
+}

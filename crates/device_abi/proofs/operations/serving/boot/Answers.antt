@@ -1,5 +1,0 @@
--- It started, or not.
-use Rattle.device_abi.proofs.operations.serving.boot.Goals as goal
-
-pub returns : goal.returns
-returns c = (c.boot.result, c.boot.ensures, c.done.ensures)

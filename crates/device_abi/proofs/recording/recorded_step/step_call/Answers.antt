@@ -1,0 +1,22 @@
+-- What the step of a call records.
+use Rattle.std.proofs.Common.{◌∙◌, subst, sym}
+use Rattle.device_core.specs.Machine.{items_of, step_of}
+use Rattle.device_core.specs.State.{store_of}
+use Rattle.device_frames.specs.declared.event.Event.{Event}
+use Rattle.device_frames.specs.declared.event.Event.TheVariants.{Call}
+use Rattle.device_frames.specs.Heard.{heard_of}
+use Rattle.settings_store.specs.Carries.{OneByOne, Stretch}
+use Rattle.device_abi.proofs.RecordingOneStep.{step_records}
+use Rattle.device_abi.proofs.RecordingPlaced.{as_recorded}
+use Rattle.device_abi.proofs.recording.recorded_step.step_call.Goals as goal
+
+pub returns-clause-records : goal.returns-clause-records
+returns-clause-records g c =
+    let event : Event = Call c.args.caller.now c.args.address (record { items = c.args.octets.now }) in
+    let s = c.step_call.ensures.steps in
+    let old = c.args.device.now in
+    let going = (c.step_call.ensures.reliable tt c.requires).1 in
+    let inactive = s.inactive (going ∙ sym c.requires) in
+    let placed = subst (λ o. OneByOne as_recorded o (store_of old) (items_of old.station old.live (heard_of old.station.identity event)) (store_of c.step_call.new.self)) inactive s.placed in
+    let stretch = subst (λ o. Stretch as_recorded (store_of old) (step_of o old.station old.live event).accepted (store_of c.step_call.new.self)) inactive s.stretch in
+    step_records old c.step_call.new.self event c.stored.ensures.holds c.requires s.few placed stretch going

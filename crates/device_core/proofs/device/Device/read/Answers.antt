@@ -1,0 +1,29 @@
+-- A Read is answered, and shows that the controller is alive.
+use Rattle.std.proofs.Common.{◌≡◌, refl, sym, ap, ◌∙◌}
+use Rattle.relations.specs.Phases.{Named, answered}
+use Rattle.device_core.proofs.Served.{came_as, same_moving}
+use Rattle.device_core.proofs.device.Device.read.Goals as goal
+
+pub returns-clause-state : goal.returns-clause-state
+returns-clause-state g c =
+    let came = c.read_within-came.result in
+    let blocks = c.read_within-came.new.answer.items in
+    let out = rw c.running-settings.ensures at (came_as came _ blocks c.read_within-came.ensures.done c.read_within-came.ensures.refused) in
+    let calls = rw (c.address-address.ensures.value, c.running.ensures, c.requires.operation, out) at c.give.ensures.kept in
+    let moving = Named in
+    let named = sym (same_moving moving came blocks) ∙ ap (answered moving) out in
+    let link = rw named at c.hear_controller.ensures in
+    rw (← c.self.view_is) (rw (calls, link) refl)
+
+pub returns-clause-frames : goal.returns-clause-frames
+returns-clause-frames g c =
+    let came = c.read_within-came.result in
+    let out = rw c.running-settings.ensures at (came_as came _ c.read_within-came.new.answer.items c.read_within-came.ensures.done c.read_within-came.ensures.refused) in
+    rw (← c.self.view_is) (rw (c.address-address.ensures.value, c.running.ensures, c.requires.operation, out) at c.give.ensures.frames)
+
+pub returns-clause-sendable : goal.returns-clause-sendable
+returns-clause-sendable g c =
+    let came = c.read_within-came.result in
+    let out = rw c.running-settings.ensures at (came_as came _ c.read_within-came.new.answer.items c.read_within-came.ensures.done c.read_within-came.ensures.refused) in
+    let sendable = rw (c.address-address.ensures.value, c.running.ensures, c.requires.operation, out) at c.give.ensures.sendable in
+    rw (← c.self.view_is) (sendable, tt)

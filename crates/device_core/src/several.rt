@@ -1,0 +1,167 @@
+//! Several records in one Write (MultipleWrite; IEC 61158-6-10, 5.2.3): each is judged and carried out by itself, in order.
+ghost use Rattle.std.specs.Prelude.{◌≡◌, ◌+◌, ◌*◌, ◌≤◌, ◌++◌, ℕ, List, drop, length, if◌then◌else◌};
+ghost use Rattle.arrayvec.specs.ArrayVec.{array_vec_len};
+ghost use Rattle.record_blocks.specs.declared.write_record.IodWriteReq.{IodWriteReq as Header};
+ghost use Rattle.records.specs.declared.status.operation.Operation.TheVariants as operation;
+ghost use Rattle.records.specs.writes.Answer.{answer_of, outcome_of, outcomes_of};
+ghost use Rattle.records.specs.writes.Handled.{handled_request};
+ghost use Rattle.relations.specs.RelationState.{uuid_of};
+ghost use Rattle.device_core.specs.Handled.{came_with, outcome_of as came_as};
+ghost use Rattle.device_core.specs.Several.{judged_each, texts_by, texts_in};
+ghost use Rattle.device_core.specs.Machine.{first_answer as first_of, link_behind, one_answers, one_link, one_outcome, statuses_of};
+
+use crate::calls::written_as;
+use arrayvec::ArrayVec;
+use pn_values::{BlockError, Command, Real, SetItem};
+use records::{
+    Blocks, CallFault, Effect, Entries, Entry, Operation, Write, done, judge_record,
+    put_write_outcome,
+};
+use relations::Relation;
+use rpc_core::Status;
+
+/// Replaces a plan by the I&M texts among these records, in order.
+pub(crate) fn fill_texts(
+    entries: &Entries<'_>,
+    relation: &Relation,
+    real: &Real,
+    plan: &mut ArrayVec<SetItem, 16>,
+)
+    requires { length entries.now ≤ 16 }
+    ensures items { plan.new.items ≡ texts_in (judged_each (uuid_of relation.now) real.now entries.now) }
+    ensures few { length plan.new.items ≤ 16 }
+{
+    plan.clear();
+    let mut left = entries.again();
+    while let Some(entry) = left.next() {
+        let judged = judge(&entry, relation, real);
+        put_text(judged, plan);
+    }
+}
+
+/// Appends the I&M text that a record asks for, if it is one that is accepted. There must be room.
+fn put_text(judged: Result<Write, CallFault>, plan: &mut ArrayVec<SetItem, 16>)
+    requires { array_vec_len plan.old + 1 ≤ 16 }
+    ensures items { plan.new.items ≡ plan.old.items ++ texts_by judged }
+    ensures few { array_vec_len plan.new ≤ array_vec_len plan.old + 1 }
+{
+    match judged {
+        Ok(write) => match write.effect {
+            Effect::Stores(value) => plan.push(SetItem::Ask(Command::SetIm(value))),
+            Effect::Keeps(_parameter) => {}
+        },
+        Err(_fault) => {}
+    }
+}
+
+/// What a record asks for, or why it is refused, while this relation is active.
+fn judge(entry: &Entry<'_>, relation: &Relation, real: &Real) -> Result<Write, CallFault>
+    ensures { result ≡ handled_request (uuid_of relation.now) real.now entry.now.request entry.now.octets.now }
+{
+    judge_record(relation.uuid(), real, &entry.request, entry.octets)
+}
+
+/// Keeps the parameter records among these, and appends the outcome of each record, in order. `answers` are those to the
+/// I&M texts among them. There must be room.
+pub(crate) fn put_outcomes(
+    entries: &Entries<'_>,
+    real: &Real,
+    answers: &[BlockError],
+    relation: &mut Relation,
+    blocks: &mut Blocks,
+)
+    requires { array_vec_len blocks.old + 64 * length entries.now ≤ 1372 }
+    ensures blocks { blocks.new.items ≡ blocks.old.items
+        ++ outcomes_of (statuses_of (judged_each (uuid_of relation.old) real.now entries.now) answers.now relation.old) }
+    ensures link { relation.new ≡ link_behind (judged_each (uuid_of relation.old) real.now entries.now) relation.old }
+{
+    let mut left = entries.again();
+    let mut unused = answers;
+    while let Some(entry) = left.next() {
+        unused = put_outcome(&entry, real, unused, relation, blocks);
+    }
+}
+
+/// Keeps a record if it is a parameter record, and appends its outcome. Returns the answers for the records after it. There
+/// must be room.
+fn put_outcome<'a>(
+    entry: &Entry<'_>,
+    real: &Real,
+    answers: &'a [BlockError],
+    relation: &mut Relation,
+    blocks: &mut Blocks,
+) -> &'a [BlockError]
+    requires { array_vec_len blocks.old + 64 ≤ 1372 }
+    ensures blocks { blocks.new.items ≡ blocks.old.items ++ outcome_of entry.now.request (came_as operation.Write
+        (one_outcome entry.now.request (handled_request (uuid_of relation.old) real.now entry.now.request entry.now.octets.now) answers.now
+        relation.old)).0 }
+    ensures link { relation.new
+        ≡ one_link (handled_request (uuid_of relation.old) real.now entry.now.request entry.now.octets.now) relation.old }
+    ensures uuid { uuid_of relation.new ≡ uuid_of relation.old }
+    ensures answers { result.now
+        ≡ one_answers (handled_request (uuid_of relation.old) real.now entry.now.request entry.now.octets.now) answers.now }
+    ensures len { array_vec_len blocks.new ≡ array_vec_len blocks.old + 64 }
+{
+    let judged = judge(entry, relation, real);
+    let left = rest_of(is_text(&judged), answers);
+    let came = carry(judged, first_answer(answers), relation);
+    put_write_outcome(blocks, &entry.request, status_of(came));
+    left
+}
+
+/// Whether a record is an I&M text, which takes an answer.
+fn is_text(judged: &Result<Write, CallFault>) -> bool
+    ensures { (answers : List BlockError) → one_answers judged.now answers ≡ (if result then drop 1 answers else answers) }
+{
+    match judged {
+        Ok(write) => matches!(write.effect, Effect::Stores(_)),
+        Err(_) => false,
+    }
+}
+
+/// The first of the answers.
+fn first_answer(answers: &[BlockError]) -> BlockError
+    ensures { result ≡ first_of answers.now }
+{
+    match answers.first() {
+        Some(answer) => *answer,
+        None => BlockError::Local,
+    }
+}
+
+/// The answers after the first if that is taken, else all.
+fn rest_of(is_taken: bool, answers: &[BlockError]) -> &[BlockError]
+    ensures { result.now ≡ (if is_taken then drop 1 answers.now else answers.now) }
+{
+    if !is_taken || answers.is_empty() {
+        return answers;
+    }
+    &answers[1..]
+}
+
+/// What becomes of a record: an I&M text had this answer, a parameter record is kept if there is room, and one that was
+/// refused stays so.
+fn carry(
+    judged: Result<Write, CallFault>,
+    answer: BlockError,
+    relation: &mut Relation,
+) -> Result<(), CallFault>
+    ensures outcome { (header : Header) (answers : List BlockError) → first_of answers ≡ answer →
+        came_with result (answer_of header) ≡ one_outcome header judged answers relation.old }
+    ensures link { relation.new ≡ one_link judged relation.old }
+{
+    match judged?.effect {
+        Effect::Stores(_value) => written_as(answer),
+        Effect::Keeps(parameter) => relation.keep(parameter),
+    }
+}
+
+/// The PNIOStatus of one record.
+fn status_of(came: Result<(), CallFault>) -> Status
+    ensures { (blocks : List ℕ) → result ≡ (came_as operation.Write (came_with came blocks)).0 }
+{
+    match came {
+        Ok(()) => done(),
+        Err(fault) => fault.number(Operation::Write),
+    }
+}

@@ -1,0 +1,158 @@
+-- The several records of one Write of a start-up: those that the relation accepts are some of them, in order, and all if
+-- the response says so.
+use Rattle.std.proofs.Common.{◌≡◌, inl, ◌+◌, ℕ, Bool, true, false, cond, List, [], ◌∷◌, ◌++◌, Option, Some, None, Result, Ok, Err, refl, sym, ap, subst, ◌∙◌, append_assoc}
+use Rattle.std.proofs.lemmas.Bool.{false≢true}
+use Rattle.std.proofs.lemmas.List.{append-nil}
+use Rattle.wire.specs.Checks.{or_fault}
+use Rattle.wire.specs.Codec.{◌>>=◌}
+use Rattle.pn_values.specs.declared.real.Real.{Real}
+use Rattle.pn_values.specs.declared.set_item.BlockError.{BlockError}
+use Rattle.rpc_core.specs.Response.{is_done}
+use Rattle.block_codec.specs.declared.block_type.BlockType.TheVariants as kind
+use Rattle.block_codec.specs.Block.{in_iod_write_req}
+use Rattle.record_blocks.specs.declared.write_record.IodWriteReq.{IodWriteReq}
+use Rattle.records.specs.declared.status.call_fault.CallFault.{CallFault}
+use Rattle.records.specs.declared.status.call_fault.CallFault.TheVariants as fault
+use Rattle.records.specs.declared.status.operation.Operation.{Operation}
+use Rattle.records.specs.declared.status.operation.Operation.TheVariants as operation
+use Rattle.records.specs.status.Status.{status_of}
+use Rattle.records.specs.calls.Single.{single_of}
+use Rattle.records.specs.calls.Naming.{in_relation}
+use Rattle.records.specs.declared.writes.taken.TakenRecord.{TakenRecord}
+use Rattle.records.specs.declared.writes.write.Effect.{Effect}
+use Rattle.records.specs.declared.writes.write.Effect.TheVariants.{Stores, Keeps}
+use Rattle.records.specs.declared.writes.write.Write.{Write}
+use Rattle.records.specs.declared.writes.writing.Writing.{Writing}
+use Rattle.records.specs.declared.writes.writing.Writing.TheVariants.{One, Each}
+use Rattle.records.specs.writes.Asked.{handled_writing, several_of, writing_of}
+use Rattle.records.specs.writes.Entry.{Entry}
+use Rattle.records.specs.writes.Handled.{handled_request}
+use Rattle.records.specs.writes.Several.{is_several, list_behind}
+use Rattle.records.specs.writes.Taken.{keep_of}
+use Rattle.relations.specs.RelationState.{RelationState}
+use Rattle.relations.specs.Phases.{keeping, taking, updated, with_taken}
+use Rattle.device_core.specs.Handled.{kept_answer, outcome_of}
+use Rattle.device_core.specs.Several.{Judged, judged_each}
+use Rattle.device_core.specs.Machine.{first_answer, link_behind, one_answers, one_link, one_outcome, statuses_of}
+use Rattle.end_laws.specs.both.Steps.{IsPart}
+use Rattle.end_laws.specs.device.Small.{AreDone, AreKeeping, AreOutcomesOf}
+use Rattle.end_laws.proofs.BothEach.{part_more}
+use Rattle.end_laws.proofs.DeviceOwing.{IsPlainIn, bind_ok, keeping_plain, kept_plain, outcome_sized, request_plain, stored_plain}
+use Rattle.end_laws.proofs.DeviceWalk.{kept_is}
+
+-- ---- without a relation no list is accepted
+
+one_each : (write : Write) (header : IodWriteReq) (entries : List Entry) → ◌≡◌ {A = Result Writing CallFault} (Ok (One write)) (Ok (Each header entries)) → ⊥
+one_each write header entries e = absurd cc
+
+unrelated : (uuid : List ℕ) (nothing : Unit {0}) → in_relation None uuid ≡ Ok nothing → ⊥
+unfolding in_relation
+unrelated uuid nothing e = absurd cc
+
+none_several : (request : IodWriteReq) (behind : List ℕ) (entries : List Entry) → several_of None request behind ≡ Ok entries → ⊥
+unfolding several_of
+none_several request behind entries e =
+    let first = bind_ok (in_relation None request.header.ar_uuid) (λ _. or_fault fault.WriteLength (list_behind request behind)) entries e in
+    unrelated request.header.ar_uuid first.0 first.1
+
+none_writing : (real : Real) (request : IodWriteReq) (behind : List ℕ) (header : IodWriteReq) (entries : List Entry) → handled_writing None real request behind ≡ Ok (Each header entries) → ⊥
+none_writing real request behind header entries e = by_test (is_several request) e
+  where
+    by_test : (b : Bool) → cond b (several_of None request behind >>= λ found. Ok (Each request found)) (handled_request None real request behind >>= λ write. Ok (One write)) ≡ Ok (Each header entries) → ⊥
+    by_test true f =
+        let there = bind_ok (several_of None request behind) (λ found. Ok (Each request found)) (Each header entries) f in
+        none_several request behind there.0 there.1
+    by_test false f =
+        let there = bind_ok (handled_request None real request behind) (λ write. Ok (One write)) (Each header entries) f in
+        one_each there.0 header entries there.2
+
+pub none_listed : (real : Real) (blocks : List ℕ) (header : IodWriteReq) (entries : List Entry) → writing_of None real blocks ≡ Ok (Each header entries) → ⊥
+unfolding writing_of
+none_listed real blocks header entries e =
+    let one = bind_ok (single_of kind.IodWriteReq blocks) (λ x. or_fault fault.BlockForm (in_iod_write_req x.0) >>= λ request. handled_writing None real request x.1) (Each header entries) e in
+    let two = bind_ok (or_fault fault.BlockForm (in_iod_write_req one.0.0)) (λ request. handled_writing None real request one.0.1) (Each header entries) one.2 in
+    none_writing real two.0 one.0.1 header entries two.2
+
+-- ---- the outcomes of the records
+
+outcome_plain : (header : IodWriteReq) (one : Result Write CallFault) (answers : List BlockError) (link : Option RelationState) → IsPlainIn one → IsPlainIn (one_outcome header one answers link)
+outcome_plain header (Err why) answers link plain = plain
+outcome_plain header (Ok write) answers link plain = by_effect write.effect
+  where
+    by_effect : (effect : Effect) → IsPlainIn (one_outcome header (Ok (record write { effect = effect })) answers link)
+    by_effect (Stores value) = stored_plain header (first_answer answers)
+    by_effect (Keeps value) = kept_plain header (keeping value link) (keeping_plain value link)
+
+pub outcomes_are : (standing : Option (List ℕ)) (real : Real) (entries : List Entry) (answers : List BlockError) (link : Option RelationState)
+    → AreOutcomesOf entries (statuses_of (judged_each standing real entries) answers link)
+outcomes_are standing real [] answers link = tt
+outcomes_are standing real (entry ∷ entries) answers link =
+    let one = handled_request standing real entry.0 entry.1 in (
+      refl,
+      outcome_sized operation.Write (one_outcome entry.0 one answers link) (outcome_plain entry.0 one answers link (request_plain standing real entry.0 entry.1)),
+      outcomes_are standing real entries (one_answers one answers) (one_link one link),
+    )
+
+-- ---- what the relation accepts
+
+-- some of these records, in order; and all, if each outcome is positive
+pub record TakesOf (judged : List Judged) (group : List TakenRecord) (answers : List BlockError) (link : RelationState) : Type 0 where
+  pub values : List TakenRecord
+  pub becomes : link_behind judged (Some link) ≡ Some (with_taken (link.taken ++ values) link)
+  pub part : IsPart values group
+  pub whole : AreDone (statuses_of judged answers (Some link)) → values ≡ group
+
+module _ (refusals_are_not_done : (operation_is : Operation) (why : CallFault) → is_done (status_of operation_is why) ≡ false) where
+  module _ (header : IodWriteReq) (others : List Judged) (value : TakenRecord) (values : List TakenRecord)
+      (later : (answers : List BlockError) (next : RelationState) → TakesOf others values answers next) where
+    refused_take : (why : CallFault) (answers : List BlockError) (link : RelationState) → TakesOf ((header, Err why) ∷ others) (value ∷ values) answers link
+    refused_take why answers link =
+        let there = later answers link in
+        record {
+          values = there.values;
+          becomes = there.becomes;
+          part = part_more there.values value values there.part;
+          whole = λ done. absurd (false≢true (sym (refusals_are_not_done operation.Write why) ∙ done.0));
+        }
+
+    keeps_one : (write : Write) (answers : List BlockError) (link : RelationState) → TakesOf ((header, Ok (record write { effect = Keeps value })) ∷ others) (value ∷ values) answers link
+    keeps_one write answers link = by_keeping (keep_of value link.taken) refl
+      where
+        by_keeping : (kept : Result (List TakenRecord) CallFault) → keep_of value link.taken ≡ kept
+            → TakesOf ((header, Ok (record write { effect = Keeps value })) ∷ others) (value ∷ values) answers link
+        by_keeping (Err why) is =
+            let there = later answers link in
+            record {
+              values = there.values;
+              becomes = ap (λ (k : Result (List TakenRecord) CallFault). link_behind others (updated (taking k) (Some link))) is ∙ there.becomes;
+              part = part_more there.values value values there.part;
+              whole = λ done.
+                  let no = ap (λ (k : Result (List TakenRecord) CallFault). is_done (outcome_of operation.Write (kept_answer header k)).0) is in
+                  absurd (false≢true (sym (refusals_are_not_done operation.Write why) ∙ (sym no ∙ done.0)));
+            }
+        by_keeping (Ok taken) is =
+            let there = later answers (with_taken taken link) in
+            let all : taken ++ there.values ≡ link.taken ++ (value ∷ there.values) =
+            ap (λ (records : List TakenRecord). records ++ there.values) (kept_is value link.taken taken is) ∙ append_assoc link.taken (value ∷ []) there.values in
+            record {
+              values = value ∷ there.values;
+              becomes = ap (λ (k : Result (List TakenRecord) CallFault). link_behind others (updated (taking k) (Some link))) is
+                  ∙ (there.becomes ∙ ap (λ (records : List TakenRecord). Some (with_taken records link)) all);
+              part = inl (refl, there.part);
+              whole = λ done.
+                  let rest = subst (λ (k : Result (List TakenRecord) CallFault). AreDone (statuses_of others answers (updated (taking k) (Some link)))) is done.1 in
+                  ap (λ (more : List TakenRecord). value ∷ more) (there.whole rest);
+            }
+
+    one_take : (one : Result Write CallFault) → ((write : Write) → one ≡ Ok write → write.effect ≡ Keeps value) → (answers : List BlockError) (link : RelationState)
+        → TakesOf ((header, one) ∷ others) (value ∷ values) answers link
+    one_take (Err why) keeps answers link = refused_take why answers link
+    one_take (Ok write) keeps answers link =
+        subst (λ (effect : Effect). TakesOf ((header, Ok (record write { effect = effect })) ∷ others) (value ∷ values) answers link) (sym (keeps write refl)) (keeps_one write answers link)
+
+  pub keeps_take : (judged : List Judged) (group : List TakenRecord) → AreKeeping judged group → (answers : List BlockError) (link : RelationState) → TakesOf judged group answers link
+  keeps_take [] [] keeps answers link =
+      record { values = []; becomes = ap (λ (taken : List TakenRecord). Some (with_taken taken link)) (sym (append-nil link.taken)); part = refl; whole = λ done. refl }
+  keeps_take [] (value ∷ values) keeps answers link = absurd keeps
+  keeps_take (one ∷ others) [] keeps answers link = absurd keeps
+  keeps_take (one ∷ others) (value ∷ values) keeps answers link = one_take one.0 others value values (keeps_take others values keeps.1) one.1 keeps.0 answers link

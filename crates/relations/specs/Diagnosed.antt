@@ -1,0 +1,64 @@
+-- What a relation reports of the diagnoses of a device.
+use Rattle.std.specs.Prelude.{ℕ, Bool, false, List, Option, Some, None, is_some}
+use Rattle.pn_values.specs.declared.real.RealModule.{RealModule}
+use Rattle.diagnosis.specs.declared.diagnosis.Change.{Change}
+use Rattle.diagnosis.specs.declared.diagnosis.Diagnosis.{Diagnosis}
+use Rattle.pn_alarms.specs.declared.device.PduFate.{PduFate}
+use Rattle.pn_alarms.specs.declared.device.PduFate.TheVariants.{Ignored}
+use Rattle.pn_alarms.specs.Device.{heard_as}
+use Rattle.pn_alarms.specs.Message.{ToDevice}
+use Rattle.diagnosis_alarms.specs.Alarms.{is_next}
+use Rattle.diagnosis_alarms.specs.Own.{is_own}
+use Rattle.relations.specs.exchange.Diagnosis.{begins_with_one, behind_low, diagnosed, diagnoses_begun, is_diagnosed, is_full, next_reported}
+use Rattle.relations.specs.RelationState.{RelationState}
+use Rattle.relations.specs.Phases.{Handled, Exchanged, Unmoved}
+
+-- Data exchange begins, and these diagnoses exist; whether an alarm of low priority must be sent.
+abbrev pub beginning : List RealModule → List Diagnosis → Option RelationState → Handled
+beginning real diagnoses None = Unmoved
+beginning real diagnoses (Some link) = Exchanged (diagnoses_begun real diagnoses link.flow)
+
+abbrev pub begin_one : List RealModule → List Diagnosis → Option RelationState → Bool
+begin_one real diagnoses None = false
+begin_one real diagnoses (Some link) = begins_with_one real diagnoses link.flow
+
+-- The same of a change, after which these exist.
+abbrev pub diagnosing : List RealModule → Change → List Diagnosis → Option RelationState → Handled
+diagnosing real change diagnoses None = Unmoved
+diagnosing real change diagnoses (Some link) = Exchanged (diagnosed real change diagnoses link.flow)
+
+abbrev pub diagnose_one : List RealModule → Change → List Diagnosis → Option RelationState → Bool
+diagnose_one real change diagnoses None = false
+diagnose_one real change diagnoses (Some link) = is_diagnosed real change diagnoses link.flow
+
+-- And of the next change that waits.
+abbrev pub reporting : List RealModule → Option RelationState → Handled
+reporting real None = Unmoved
+reporting real (Some link) = Exchanged (next_reported real link.flow)
+
+abbrev pub report_one : List RealModule → Option RelationState → Bool
+report_one real None = false
+report_one real (Some link) = is_next real link.flow.low
+
+-- Whether no further change can wait, and whether an alarm of low priority was sent.
+abbrev pub is_full_in : Option RelationState → Bool
+is_full_in None = false
+is_full_in (Some link) = is_full link.flow
+
+abbrev pub has_sent_low : Option RelationState → Bool
+has_sent_low None = false
+has_sent_low (Some link) = is_some link.flow.low.alarms.sender.sending.last
+
+-- What happens to a PDU of low priority of the partner, and to the relation.
+abbrev pub heard_low : ToDevice → Option RelationState → PduFate
+heard_low message None = Ignored
+heard_low message (Some link) = heard_as link.flow.low.alarms message
+
+abbrev pub hearing_low : ToDevice → Option RelationState → Handled
+hearing_low message None = Unmoved
+hearing_low message (Some link) = Exchanged (behind_low link.flow message)
+
+-- Whether a submodule belongs to the relation.
+abbrev pub owns_in : Option RelationState → ℕ → ℕ → Bool
+owns_in None slot subslot = false
+owns_in (Some link) slot subslot = is_own link.flow.low.places slot subslot

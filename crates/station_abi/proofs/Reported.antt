@@ -1,0 +1,51 @@
+-- What is reported of a port.
+use Rattle.std.proofs.Common.{◌≡◌, ℕ, List, [], ◌∷◌, Option, Some, None, refl, sym, ap, subst, ◌∙◌}
+use Rattle.flash_model.specs.Calls.{Call}
+use Rattle.std.specs.Prelude.{if◌then◌else◌, Result, Ok, Err}
+use Rattle.device_abi.specs.declared.port.device.Passed.{Passed}
+use Rattle.device_abi.specs.port.State.{IsUnreported, has_some, waiting}
+use Rattle.device_abi.specs.port.Refusals.{refusal_number}
+use Rattle.device_abi.specs.declared.port.refusal.Refusal.{Refusal}
+use Rattle.c_layout.specs.declared.op.Op.{Op}
+use Rattle.station_abi.specs.State.{Served, barred_both, due_both, or_own, waiting_both}
+use Rattle.station_abi.specs.Steps.{PassesBoth}
+use Rattle.station_abi.specs.Serves.{IsHanded, IsTick, IsValue, IsValueOf, with_frame, with_nothing, with_passed}
+
+-- The next piece of work, as it is reported, is what is handed out.
+pub handed_nothing : (calls : List Call) (frames : List (List ℕ)) (asked : Op) (octets : List ℕ) (reported : Op) → calls ≡ [] → frames ≡ [] → octets ≡ [] → reported ≡ with_nothing asked
+    → IsHanded calls frames asked octets reported
+handed_nothing calls frames asked octets reported no_call no_frame none is =
+    subst (λ c. IsHanded c frames asked octets reported) (sym no_call) (subst (λ f. IsHanded [] f asked octets reported) (sym no_frame) (none, is))
+
+pub handed_frame : (calls : List Call) (frames : List (List ℕ)) (frame : List ℕ) (rest : List (List ℕ)) (asked : Op) (octets : List ℕ) (reported : Op) → calls ≡ [] → frames ≡ frame ∷ rest
+    → octets ≡ frame → reported ≡ with_frame frame asked → IsHanded calls frames asked octets reported
+handed_frame calls frames frame rest asked octets reported none next same is =
+    subst (λ c. IsHanded c frames asked octets reported) (sym none) (subst (λ f. IsHanded [] f asked octets reported) (sym next) (same, is))
+
+-- An output that is not reported.
+pub unreported : (why : Option Refusal) (value : Option (List ℕ)) (refusal : Refusal) (asked : Op) (answer : ℕ) (reported : Op)
+    → IsUnreported why value refusal → answer ≡ refusal_number refusal → reported ≡ asked → IsValueOf why value asked answer reported
+unreported (Some late) value refusal asked answer reported is at same = (at ∙ ap refusal_number is, same)
+unreported None value refusal asked answer reported is at same =
+    subst (λ v. IsValue v asked answer reported) (sym is.0) (at ∙ ap refusal_number is.1, same)
+
+-- Units that all passed, as they are reported.
+pub passed_all : (old new : Served) (asked reported : Op) (answer due work : ℕ) → barred_both old ≡ None → PassesBoth old asked.units 0 new → due ≡ due_both new → work ≡ waiting_both new
+    → answer ≡ 0 → reported ≡ record asked { units = 0; due = due; note = 0; work = work } → IsTick old asked answer new reported
+passed_all old new asked reported answer due work free passes is waits done told = (
+  Ok (record { left = 0; due = due }),
+  (free, passes, is),
+  done,
+  told ∙ (ap (λ (n : ℕ). let op : Op = record asked { units = 0; due = n; note = 0; work = work } in op) is
+      ∙ ap (λ (n : ℕ). let op : Op = record asked { units = 0; due = due_both new; note = 0; work = n } in op) waits),
+)
+
+pub counted_all : (old between new : Served) (asked reported : Op) (answer : ℕ) → barred_both old ≡ None → PassesBoth old asked.units 0 between → new ≡ between → answer ≡ 0
+    → reported ≡ with_passed (Ok (record { left = 0; due = due_both between })) between asked → IsTick old asked answer new reported
+counted_all old between new asked reported answer free passes same done told =
+    subst (λ (s : Served). IsTick old asked answer s reported) (sym same) (Ok (record { left = 0; due = due_both between }), (free, passes, refl), done, told)
+
+-- The kind of the next piece of work, if only frames of the port may be.
+pub waiting_only : (calls : List Call) (frames own : List (List ℕ)) → calls ≡ [] → own ≡ [] → (if has_some frames then 3 else 0) ≡ or_own (waiting calls frames) (waiting [] own)
+waiting_only calls [] own none no_own = rw none (rw no_own refl)
+waiting_only calls (frame ∷ frames) own none no_own = rw none refl

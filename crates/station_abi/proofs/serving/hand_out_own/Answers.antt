@@ -1,0 +1,32 @@
+-- A frame of the services is handed out, or nothing.
+use Rattle.std.proofs.Common.{◌≡◌, ◌∙◌, ℕ, refl, ap, subst}
+use Rattle.std.specs.Prelude.{option_map}
+use Rattle.c_layout.specs.declared.op.Op.{Op}
+use Rattle.station_abi.specs.Serves.{with_frame, with_nothing}
+use Rattle.device_abi.specs.port.State.{IsFirst}
+use Rattle.station_abi.specs.State.{frames_of, waiting_both}
+use Rattle.station_abi.proofs.Reported.{handed_frame, handed_nothing}
+use Rattle.station_abi.proofs.serving.hand_out_own.Goals as goal
+
+pub returns-in-Some : goal.returns-in-Some
+returns-in-Some c =
+    let port = c.args.port.now in
+    let new = c.fetch_own.follows.lender-at-none in
+    let fetched = c.fetch_own.follows.holds-at-none in
+    let frame = c.in-Some.frame.now.items in
+    let first = subst (λ r. IsFirst (frames_of port) (option_map (λ frame. frame.now.items) r)) c.in-Some.is fetched.0 in
+    let asked : Op = record c.args.op.now { more = waiting_both new } in
+    let told : c.tell_frame.new.op ≡ with_frame frame asked = c.tell_frame.ensures.reported ∙ ap (λ (m : ℕ). with_frame frame (record c.args.op.now { more = m })) fetched.2 in
+    let handed = handed_frame port.port.calls (frames_of port) frame first.0 asked c.tell_frame.result.now c.tell_frame.new.op c.requires.calls first.1 c.tell_frame.ensures.octets told in
+    ((refl, (λ _. tt), (handed, fetched.1)), tt)
+
+pub returns-in-None : goal.returns-in-None
+returns-in-None c =
+    let port = c.args.port.now in
+    let new = c.fetch_own.follows.lender-at-none in
+    let fetched = c.fetch_own.follows.holds-at-none in
+    let none = subst (λ r. IsFirst (frames_of port) (option_map (λ frame. frame.now.items) r)) c.in-None.is fetched.0 in
+    let asked : Op = record c.args.op.now { more = waiting_both new } in
+    let told = c.tell_nothing.ensures.reported ∙ ap (λ (m : ℕ). with_nothing (record c.args.op.now { more = m })) fetched.2 in
+    let handed = handed_nothing port.port.calls (frames_of port) asked c.tell_nothing.result.now c.tell_nothing.new.op c.requires.calls none c.tell_nothing.ensures.octets told in
+    ((refl, (λ _. tt), (handed, fetched.1)), tt)

@@ -1,0 +1,314 @@
+-- The result of an operation of a host. `asked` is the operation as the host wrote it, `reported` as the host finds it
+-- afterwards: an equation of the whole operation says which fields are written, and with what. All other fields are
+-- unchanged, and so are the octets after those that are written. A refused operation changes nothing, neither in the
+-- port nor in the operation.
+use Rattle.std.specs.Prelude.{◌≡◌, ◌==◌, ◌++◌, ℕ, Bool, not, min, if◌then◌else◌, List, [], ◌∷◌, drop, length, take, slice_get, slice_index, Option, Some, None, Result, Ok, Err, MatchResult}
+use Rattle.std.specs.Int.{w16, from_be_bytes}
+use Rattle.flash_model.specs.Calls.{Call, Programs, Erases, Arms}
+use Rattle.flash_model.specs.declared.flash.Sector.{Sector}
+use Rattle.flash_model.specs.declared.flash.Sector.TheVariants.{First, Second}
+use Rattle.pn_values.specs.declared.settings.Settings.{Settings}
+use Rattle.cyclic_exchange.specs.declared.exchange.ProviderStatus.{ProviderStatus}
+use Rattle.lldp.specs.declared.station.Link.{Link}
+use Rattle.records.specs.declared.writes.taken.TakenRecord.{TakenRecord}
+use Rattle.relations.specs.declared.phase.Phase.{Phase}
+use Rattle.relations.specs.declared.phase.Phase.TheVariants.{Started, Preparing, Awaiting, Exchanging}
+use Rattle.relations.specs.Exchanged.{output_in, provider_in}
+use Rattle.relations.specs.RelationState.{phase_of, taken_of}
+use Rattle.relations.specs.Outputs.{output_of}
+use Rattle.device_frames.specs.declared.event.Event.{Event}
+use Rattle.device_frames.specs.declared.event.Event.TheVariants.{Frame, Input, Alarm, Status, Diagnosis, Ready}
+use Rattle.device_frames.specs.declared.note.Note.{Note}
+use Rattle.device_frames.specs.Notes.{note_number}
+use Rattle.c_layout.specs.Places.{place_in}
+use Rattle.c_layout.specs.Reported.{with_octets}
+use Rattle.c_layout.specs.declared.op.Op.{Op}
+use Rattle.device_abi.specs.declared.port.device.Passed.{Passed}
+use Rattle.device_abi.specs.declared.port.refusal.Refusal.{Refusal}
+use Rattle.device_abi.specs.declared.port.refusal.Refusal.TheVariants as refusal
+use Rattle.device_abi.specs.port.Refusals.{refusal_number}
+use Rattle.device_abi.specs.port.State.{State, closed}
+use Rattle.station_abi.specs.State.{Served, advanced_both, conflicts_of, due_both, frames_of, linked_both, lost_both, waiting_both}
+use Rattle.station_abi.specs.Steps.{AnswersBoth, KnowsBothOrNot, PassesBothOrNot, StartsBothOrNot}
+use Rattle.station_abi.specs.declared.operation.Operation.{Operation}
+use Rattle.station_abi.specs.declared.operation.Operation.TheVariants as operation
+
+-- The operation of a number.
+abbrev pub operation_of : ℕ → Option Operation
+operation_of what =
+    if what == 1 then Some operation.Sector else
+    if what == 2 then Some operation.Boot else
+    if what == 3 then Some operation.Frame else
+    if what == 4 then Some operation.Tick else
+    if what == 5 then Some operation.Input else
+    if what == 6 then Some operation.Alarm else
+    if what == 8 then Some operation.Output else
+    if what == 9 then Some operation.State else
+    if what == 10 then Some operation.Running else
+    if what == 11 then Some operation.Stored else
+    if what == 12 then Some operation.Lose else
+    if what == 13 then Some operation.Record else
+    if what == 14 then Some operation.Left else
+    if what == 15 then Some operation.Due else
+    if what == 16 then Some operation.Status else
+    if what == 17 then Some operation.Ready else
+    if what == 18 then Some operation.Provider else
+    if what == 19 then Some operation.Diagnosis else
+    if what == 20 then Some operation.Conflicts else
+    if what == 21 then Some operation.Link else None
+
+-- The result of what was done, or of what was refused.
+abbrev pub answer_of : {T : Type 0} → Result T Refusal → ℕ
+answer_of (Ok done) = 0
+answer_of (Err refusal) = refusal_number refusal
+
+-- ---- events
+
+-- The outcome of an event, and the kind of the first piece of its work.
+abbrev pub noted : Result Note Refusal → Served → Op → Op
+noted (Ok note) new asked = record asked { note = note_number note; work = waiting_both new }
+noted (Err refusal) new asked = asked
+
+-- An event was handled, and its outcome is reported and what work it made, or it was refused and nothing changed.
+abbrev pub IsEvent : Served → Event → Op → ℕ → Served → Op → Type 0
+IsEvent old event asked answer new reported =
+    (result : Result Note Refusal) × AnswersBoth old event result new × (answer ≡ answer_of result) × (reported ≡ noted result new asked)
+
+-- 9 if the slot or the subslot is not a number of 16 bits: nothing is plugged there.
+abbrev pub IsInput : Option (ℕ × ℕ) → Served → List ℕ → Op → ℕ → Served → Op → Type 0
+IsInput (Some place) old given asked answer new reported =
+    IsEvent old (Input place.0 place.1 (record { items = take 1519 given })) asked answer new reported
+IsInput None old given asked answer new reported = (answer ≡ 9) × (new ≡ old) × (reported ≡ asked)
+
+abbrev pub IsAlarm : Option (ℕ × ℕ) → Served → List ℕ → Op → ℕ → Served → Op → Type 0
+IsAlarm (Some place) old given asked answer new reported =
+    IsEvent old (Alarm place.0 place.1 (record { items = take 1519 given })) asked answer new reported
+IsAlarm None old given asked answer new reported = (answer ≡ 9) × (new ≡ old) × (reported ≡ asked)
+
+-- The status of the inputs of a submodule: bad if `place` is 0.
+abbrev pub IsStatus : Option (ℕ × ℕ) → Served → Op → ℕ → Served → Op → Type 0
+IsStatus (Some place) old asked answer new reported = IsEvent old (Status place.0 place.1 (not (asked.place == 0))) asked answer new reported
+IsStatus None old asked answer new reported = (answer ≡ 9) × (new ≡ old) × (reported ≡ asked)
+
+-- A diagnosis of a submodule: its channel is asked for as `units`, its error as `sector`, and it disappears if `place` is 0. 9 if
+-- one of the four is not a number of 16 bits.
+abbrev pub IsDiagnosis : Option (ℕ × ℕ) → Option (ℕ × ℕ) → Served → Op → ℕ → Served → Op → Type 0
+IsDiagnosis (Some place) (Some what) old asked answer new reported =
+    IsEvent old (Diagnosis place.0 place.1 what.0 what.1 (not (asked.place == 0))) asked answer new reported
+IsDiagnosis (Some place) None old asked answer new reported = (answer ≡ 9) × (new ≡ old) × (reported ≡ asked)
+IsDiagnosis None what old asked answer new reported = (answer ≡ 9) × (new ≡ old) × (reported ≡ asked)
+
+-- The number of units that remain, what is due, and the kind of the first piece of work. The note is 0, done. Due is the
+-- number of units up to and with the next one with which anything is due.
+abbrev pub with_passed : Result Passed Refusal → Served → Op → Op
+with_passed (Ok units) new asked =
+    record asked { units = units.left; due = due_both new; note = 0; work = waiting_both new }
+with_passed (Err refusal) new asked = asked
+
+-- The units of time that are asked for passed, and the number that remains is reported, or none passed and nothing
+-- changed.
+abbrev pub IsTick : Served → Op → ℕ → Served → Op → Type 0
+IsTick old asked answer new reported =
+    (result : Result Passed Refusal) × PassesBothOrNot old asked.units result new × (answer ≡ answer_of result) × (reported ≡ with_passed result new asked)
+
+-- ---- a start
+
+abbrev pub sector_number : Sector → ℕ
+sector_number First = 0
+sector_number Second = 1
+
+abbrev pub sector_of : ℕ → Option Sector
+sector_of number = if number == 0 then Some First else if number == 1 then Some Second else None
+
+-- The content of a sector of the chip is accepted, or not, and then nothing changed; 8 if there is no such sector.
+abbrev pub IsSector : Option Sector → Served → List ℕ → ℕ → Served → Type 0
+IsSector (Some sector) old octets answer new = (result : Result (Unit {0}) Refusal) × KnowsBothOrNot old sector octets result new × (answer ≡ answer_of result)
+IsSector None old octets answer new = (answer ≡ 8) × (new ≡ old)
+
+abbrev pub IsBoot : Served → ℕ → Served → Type 0
+IsBoot old answer new = (result : Result (Unit {0}) Refusal) × StartsBothOrNot old result new × (answer ≡ answer_of result)
+
+-- ---- work
+
+-- A flash call as it is reported, with the octets that it programs: 1 is a program call, 2 an erase.
+abbrev pub IsCall : Call → Op → List ℕ → Op → Type 0
+IsCall (Programs sector place bytes) asked octets reported =
+    (octets ≡ bytes) × (reported ≡ record asked { work = 1; sector = sector_number sector; place = place; length = length bytes })
+IsCall (Erases sector) asked octets reported = (octets ≡ []) × (reported ≡ record asked { work = 2; sector = sector_number sector; length = 0 })
+IsCall (Arms order) asked octets reported = ⊥
+
+-- A frame, 3.
+abbrev pub with_frame : List ℕ → Op → Op
+with_frame frame asked = record asked { work = 3; length = length frame }
+
+-- No more work, 0.
+abbrev pub with_nothing : Op → Op
+with_nothing asked = record asked { work = 0; length = 0 }
+
+-- What is handed out next, and which octets: a call if one remains, a frame only if no call does, and 0 if no work
+-- remains.
+abbrev pub IsHanded : List Call → List (List ℕ) → Op → List ℕ → Op → Type 0
+IsHanded [] [] asked octets reported = (octets ≡ []) × (reported ≡ with_nothing asked)
+IsHanded [] (frame ∷ frames) asked octets reported = (octets ≡ frame) × (reported ≡ with_frame frame asked)
+IsHanded (call ∷ calls) frames asked octets reported = IsCall call asked octets reported
+
+-- The next piece of work is handed out and reported, with the kind of the one after it, and it is then fetched, if the
+-- port is open.
+abbrev pub HandsOut : Option Refusal → Served → Op → ℕ → List ℕ → Served → Op → Type 0
+HandsOut (Some refusal) old asked answer octets new reported =
+    (answer ≡ refusal_number refusal) × (octets ≡ []) × (new ≡ old) × (reported ≡ asked)
+HandsOut None old asked answer octets new reported =
+    (answer ≡ 0) × IsHanded old.port.calls (frames_of old) (record asked { more = waiting_both new }) octets reported × (new ≡ advanced_both old)
+
+-- Power is lost.
+abbrev pub IsLoss : Served → ℕ → Served → Type 0
+IsLoss old answer new = (result : Result (Unit {0}) Refusal)
+    × MatchResult result (λ done. (closed old.port.stage ≡ None) × (new ≡ lost_both old)) (λ refusal. (closed old.port.stage ≡ Some refusal) × (new ≡ old))
+    × (answer ≡ answer_of result)
+
+-- ---- values that are reported: what a closed port returns, and what an open one reports
+
+-- Address, mask and gateway, the I&M texts, and the name, one after the other.
+abbrev pub settings_octets : Settings → List ℕ
+settings_octets settings =
+    ((((((settings.suite.address ++ settings.suite.mask) ++ settings.suite.gateway) ++ settings.im1) ++ settings.im2) ++ settings.im3) ++ settings.im4) ++ settings.name
+
+abbrev pub IsSettings : Option Refusal → Settings → Op → ℕ → Op → Type 0
+IsSettings (Some refusal) settings asked answer reported = (answer ≡ refusal_number refusal) × (reported ≡ asked)
+IsSettings None settings asked answer reported = (answer ≡ 0) × (reported ≡ with_octets (settings_octets settings) asked)
+
+-- The number of units up to and with the next one with which anything is due.
+abbrev pub IsDue : Option Refusal → ℕ → Op → ℕ → Op → Type 0
+IsDue (Some refusal) due asked answer reported = (answer ≡ refusal_number refusal) × (reported ≡ asked)
+IsDue None due asked answer reported = (answer ≡ 0) × (reported ≡ record asked { units = due })
+
+-- The number of commits that the flash still accepts.
+abbrev pub IsLeft : Option Refusal → ℕ → Op → ℕ → Op → Type 0
+IsLeft (Some refusal) left asked answer reported = (answer ≡ refusal_number refusal) × (reported ≡ asked)
+IsLeft None left asked answer reported = (answer ≡ 0) × (reported ≡ record asked { place = left })
+
+abbrev pub phase_number : Option Phase → ℕ
+phase_number None = 0
+phase_number (Some Started) = 1
+phase_number (Some Preparing) = 2
+phase_number (Some Awaiting) = 2
+phase_number (Some Exchanging) = 3
+
+-- The phase, and the number of units for which the lamp still flashes.
+abbrev pub IsState : Option Refusal → State → Op → ℕ → Op → Type 0
+IsState (Some refusal) port asked answer reported = (answer ≡ refusal_number refusal) × (reported ≡ asked)
+IsState None port asked answer reported =
+    (answer ≡ 0) × (reported ≡ record asked { phase = phase_number (phase_of port.device.live.rest.link); units = port.device.live.rest.lamp })
+
+-- The output of a submodule; 9 if no submodule with an output is plugged there.
+abbrev pub IsValue : Option (List ℕ) → Op → ℕ → Op → Type 0
+IsValue (Some value) asked answer reported = (answer ≡ 0) × (reported ≡ with_octets value asked)
+IsValue None asked answer reported = (answer ≡ 9) × (reported ≡ asked)
+
+abbrev pub value_of : State → ℕ → ℕ → Option (List ℕ)
+value_of port slot subslot = output_of port.device.station.real slot subslot (output_in slot subslot port.device.live.rest.link)
+
+abbrev pub IsValueOf : Option Refusal → Option (List ℕ) → Op → ℕ → Op → Type 0
+IsValueOf (Some refusal) value asked answer reported = (answer ≡ refusal_number refusal) × (reported ≡ asked)
+IsValueOf None value asked answer reported = IsValue value asked answer reported
+
+abbrev pub IsOutput : Option (ℕ × ℕ) → State → Op → ℕ → Op → Type 0
+IsOutput (Some place) port asked answer reported = IsValueOf (closed port.stage) (value_of port place.0 place.1) asked answer reported
+IsOutput None port asked answer reported = (answer ≡ 9) × (reported ≡ asked)
+
+-- What the controller says of the output of a submodule: IOPS, then DataStatus; 24 if no frame with it was accepted.
+abbrev pub with_statuses : ProviderStatus → Op → Op
+with_statuses status asked = with_octets (status.iops ∷ status.data_status.0 ∷ []) asked
+
+abbrev pub IsProviderAt : Option ProviderStatus → Op → ℕ → Op → Type 0
+IsProviderAt (Some status) asked answer reported = (answer ≡ 0) × (reported ≡ with_statuses status asked)
+IsProviderAt None asked answer reported = (answer ≡ 24) × (reported ≡ asked)
+
+abbrev pub IsProviderOf : Option Refusal → Option ProviderStatus → Op → ℕ → Op → Type 0
+IsProviderOf (Some refusal) status asked answer reported = (answer ≡ refusal_number refusal) × (reported ≡ asked)
+IsProviderOf None status asked answer reported = IsProviderAt status asked answer reported
+
+abbrev pub IsProvider : Option (ℕ × ℕ) → State → Op → ℕ → Op → Type 0
+IsProvider (Some place) port asked answer reported =
+    IsProviderOf (closed port.stage) (provider_in place.0 place.1 port.device.live.rest.link) asked answer reported
+IsProvider None port asked answer reported = (answer ≡ 24) × (reported ≡ asked)
+
+-- A parameter record that the relation accepted: its submodule, its index and its octets; 15 if no record has this
+-- number.
+abbrev pub with_record : TakenRecord → Op → Op
+with_record taken asked =
+    with_octets taken.value.items (record asked { slot = taken.slot; subslot = taken.subslot; place = taken.index })
+
+abbrev pub IsRecordAt : Option TakenRecord → Op → ℕ → Op → Type 0
+IsRecordAt (Some taken) asked answer reported = (answer ≡ 0) × (reported ≡ with_record taken asked)
+IsRecordAt None asked answer reported = (answer ≡ 15) × (reported ≡ asked)
+
+abbrev pub IsRecordOf : Option Refusal → Option TakenRecord → Op → ℕ → Op → Type 0
+IsRecordOf (Some refusal) taken asked answer reported = (answer ≡ refusal_number refusal) × (reported ≡ asked)
+IsRecordOf None taken asked answer reported = IsRecordAt taken asked answer reported
+
+-- How many conflicts of the running IP address were heard, at most the maximum of 32 bits; 0 without services.
+abbrev pub IsConflicts : Option Refusal → ℕ → Op → ℕ → Op → Type 0
+IsConflicts (Some refusal) conflicts asked answer reported = (answer ≡ refusal_number refusal) × (reported ≡ asked)
+IsConflicts None conflicts asked answer reported = (answer ≡ 0) × (reported ≡ record asked { units = min conflicts 4294967295 })
+
+-- ---- the link
+
+-- Which link some octets say, if they say one: what is supported and enabled, what is advertised, and the type of the MAU. 8 if
+-- they are neither five nor none.
+abbrev pub link_at : List ℕ → Link
+link_at octets = record {
+  support = slice_index octets 0;
+  capability = from_be_bytes w16 (take 2 (drop 1 octets));
+  mau_type = from_be_bytes w16 (drop 3 octets);
+}
+
+abbrev pub link_of : List ℕ → Result (Option Link) Refusal
+link_of octets = if length octets == 0 then Ok None else (if length octets == 5 then Ok (Some (link_at octets)) else Err refusal.BadLength)
+
+-- The host says what the link is, or the port is closed.
+abbrev pub LinksOrNot : Bool → Option Link → Served → Result (Unit {0}) Refusal → Served → Type 0
+LinksOrNot is_up link old result new = MatchResult result (λ done. (closed old.port.stage ≡ None) × (new ≡ linked_both is_up link old))
+    (λ refusal. (closed old.port.stage ≡ Some refusal) × (new ≡ old))
+
+-- The link is down if `place` is 0.
+abbrev pub IsLink : Result (Option Link) Refusal → Served → Op → ℕ → Served → Type 0
+IsLink (Ok link) old asked answer new =
+    (result : Result (Unit {0}) Refusal) × LinksOrNot (not (asked.place == 0)) link old result new × (answer ≡ answer_of result)
+IsLink (Err refused) old asked answer new = (answer ≡ refusal_number refused) × (new ≡ old)
+
+-- ---- all of them
+
+-- The result of an operation: 10 if there is no such operation.
+abbrev pub Serves : Option Operation → Served → Op → List ℕ → ℕ → Served → Op → Type 0
+Serves (Some operation.Sector) old asked given answer new reported = (reported ≡ asked) × IsSector (sector_of asked.sector) old given answer new
+Serves (Some operation.Boot) old asked given answer new reported = (reported ≡ asked) × IsBoot old answer new
+Serves (Some operation.Frame) old asked given answer new reported =
+    IsEvent old (Frame (record { items = take 1519 given })) asked answer new reported
+Serves (Some operation.Tick) old asked given answer new reported = IsTick old asked answer new reported
+Serves (Some operation.Input) old asked given answer new reported = IsInput (place_in asked.slot asked.subslot) old given asked answer new reported
+Serves (Some operation.Alarm) old asked given answer new reported = IsAlarm (place_in asked.slot asked.subslot) old given asked answer new reported
+Serves (Some operation.Output) old asked given answer new reported =
+    (new ≡ old) × IsOutput (place_in asked.slot asked.subslot) old.port asked answer reported
+Serves (Some operation.State) old asked given answer new reported = (new ≡ old) × IsState (closed old.port.stage) old.port asked answer reported
+Serves (Some operation.Running) old asked given answer new reported =
+    (new ≡ old) × IsSettings (closed old.port.stage) old.port.device.live.values.running asked answer reported
+Serves (Some operation.Stored) old asked given answer new reported =
+    (new ≡ old) × IsSettings (closed old.port.stage) old.port.device.live.values.stored asked answer reported
+Serves (Some operation.Lose) old asked given answer new reported = (reported ≡ asked) × IsLoss old answer new
+Serves (Some operation.Record) old asked given answer new reported =
+    (new ≡ old) × IsRecordOf (closed old.port.stage) (slice_get (taken_of old.port.device.live.rest.link) asked.place) asked answer reported
+Serves (Some operation.Left) old asked given answer new reported =
+    (new ≡ old) × IsLeft (closed old.port.stage) old.port.device.live.values.room asked answer reported
+Serves (Some operation.Due) old asked given answer new reported =
+    (new ≡ old) × IsDue (closed old.port.stage) (due_both old) asked answer reported
+Serves (Some operation.Status) old asked given answer new reported = IsStatus (place_in asked.slot asked.subslot) old asked answer new reported
+Serves (Some operation.Diagnosis) old asked given answer new reported =
+    IsDiagnosis (place_in asked.slot asked.subslot) (place_in asked.units asked.sector) old asked answer new reported
+Serves (Some operation.Ready) old asked given answer new reported = IsEvent old Ready asked answer new reported
+Serves (Some operation.Provider) old asked given answer new reported =
+    (new ≡ old) × IsProvider (place_in asked.slot asked.subslot) old.port asked answer reported
+Serves (Some operation.Conflicts) old asked given answer new reported =
+    (new ≡ old) × IsConflicts (closed old.port.stage) (conflicts_of old.services) asked answer reported
+Serves (Some operation.Link) old asked given answer new reported = (reported ≡ asked) × IsLink (link_of given) old asked answer new
+Serves None old asked given answer new reported = (answer ≡ 10) × (new ≡ old) × (reported ≡ asked)

@@ -1,0 +1,694 @@
+//! One operation of the host.
+ghost use Rattle.std.specs.Prelude.{◌≡◌, ◌≤◌, Ok, Some, [], slice_get, take, true};
+ghost use Rattle.device_frames.specs.declared.event.Event.TheVariants.{Frame as Framed, Ready as IsReady};
+ghost use Rattle.device_abi.specs.recorded.Entry.{call_of};
+ghost use Rattle.relations.specs.Exchanged.{provider_in};
+ghost use Rattle.relations.specs.RelationState.{phase_of, taken_of};
+ghost use Rattle.std.specs.Prelude.{⊤};
+ghost use mathlib.Core.Option.{none};
+ghost use types.Logic.{sem};
+ghost use denote.Follow.{follows_so};
+ghost use Rattle.station_abi.specs.contracts.served.ServedPort.{the_row as Row};
+ghost use Rattle.device_abi.specs.port.State.{closed, has_some};
+ghost use Rattle.station_abi.specs.State.{advanced_both, conflicts_of, due_both, frames_of, waiting_both};
+ghost use Rattle.c_layout.specs.Places.{place_in};
+ghost use Rattle.c_layout.specs.Reported.{with_octets};
+ghost use Rattle.station_abi.specs.Serves.{IsAlarm, IsBoot, IsCall, IsConflicts, IsDiagnosis, IsDue, IsEvent, IsInput, IsLeft, IsLink, IsLoss, HandsOut, IsHanded, IsOutput, with_frame, with_nothing};
+ghost use Rattle.station_abi.specs.Serves.{IsRecordAt, IsRecordOf, IsProvider, IsProviderAt, IsProviderOf, IsSector, IsSettings, IsState, IsStatus, IsTick, IsValueOf, Serves, answer_of, link_of};
+ghost use Rattle.station_abi.specs.Serves.{noted as is_noted, operation_of as operation_in, with_passed, phase_number};
+ghost use Rattle.station_abi.specs.Serves.{sector_number as number_of, sector_of, settings_octets, value_of};
+
+use crate::operation::{Operation, operation_of};
+use crate::{Leap, ServedPort};
+use c_layout::{BAD_LENGTH, NO_FRAME, NO_RECORD, NO_SLOT, Op, UNKNOWN, place_of, put, put_more};
+use device_abi::{Port, Recorded, Refusal};
+use device_core::Note;
+use flash_model::Sector;
+use frame_codec::Frame;
+use lldp::Link;
+use pn_values::Settings;
+use records::TakenRecord;
+use relations::{Phase, ProviderStatus};
+
+/// Carries out one operation, with the given octets. Returns 0, or why nothing changed.
+pub fn serve(port: &mut ServedPort, op: &mut Op, given: &[u8]) -> u32
+    ensures { Serves (operation_in op.old.what) port.old op.old given.now result port.new op.new }
+{
+    // Units of time are the most frequent operation, and then frames. Most units bring nothing; those have a function of their
+    // own, so that no other saves the registers that they need.
+    if op.what == 4 {
+        if port.is_quiet(op.units) {
+            return tick(port, op);
+        }
+        return tick_more(port, op);
+    }
+    if op.what == 3 {
+        return frame(port, op, given);
+    }
+    serve_other(port, op, given)
+}
+
+// The same. It has a function of its own, so that units of time and a frame make few comparisons.
+#[inline(never)]
+fn serve_other(port: &mut ServedPort, op: &mut Op, given: &[u8]) -> u32
+    ensures { Serves (operation_in op.old.what) port.old op.old given.now result port.new op.new }
+{
+    match operation_of(op.what) {
+        Some(operation) => perform(operation, port, op, given),
+        None => UNKNOWN,
+    }
+}
+
+// Carries out a known operation. Each has a function of its own, so that a unit of time saves no register that only another
+// operation needs.
+fn perform(operation: Operation, port: &mut ServedPort, op: &mut Op, given: &[u8]) -> u32
+    ensures { Serves (Some operation) port.old op.old given.now result port.new op.new }
+{
+    match operation {
+        Operation::Sector => fill(port, op, given),
+        Operation::Boot => boot(port),
+        Operation::Frame => frame(port, op, given),
+        Operation::Tick => tick(port, op),
+        Operation::Input => input(port, op, given),
+        Operation::Alarm => alarm(port, op, given),
+        Operation::Output => output(port.port(), op),
+        Operation::State => state(port.port(), op),
+        Operation::Running => running(port.port(), op),
+        Operation::Stored => stored(port.port(), op),
+        Operation::Lose => lose(port),
+        Operation::Record => tell_taken(port.port(), op),
+        Operation::Left => left(port.port(), op),
+        Operation::Due => due(port, op),
+        Operation::Status => status(port, op),
+        Operation::Ready => ready(port, op),
+        Operation::Provider => provider(port.port(), op),
+        Operation::Diagnosis => diagnosis(port, op),
+        Operation::Conflicts => conflicts(port, op),
+        Operation::Link => link(port, op, given),
+    }
+}
+
+// ---- a start
+
+// The content of a sector of the chip, before a start.
+#[inline(never)]
+fn fill(port: &mut ServedPort, op: &Op, given: &[u8]) -> u32
+    ensures { IsSector (sector_of op.now.sector) port.old given.now result port.new }
+{
+    match sector_at(op.sector) {
+        Some(sector) => done(port.fill(sector, given)),
+        None => BAD_LENGTH,
+    }
+}
+
+// The sector of this number.
+fn sector_at(number: u32) -> Option<Sector>
+    ensures { result ≡ sector_of number }
+{
+    match number {
+        0 => Some(Sector::First),
+        1 => Some(Sector::Second),
+        _ => None,
+    }
+}
+
+// A start.
+#[inline(never)]
+fn boot(port: &mut ServedPort) -> u32
+    ensures { IsBoot port.old result port.new }
+{
+    done(port.boot())
+}
+
+// The result of what was done, or refused.
+fn done(outcome: Result<(), Refusal>) -> u32
+    ensures { result ≡ answer_of outcome }
+{
+    match outcome {
+        Ok(()) => 0,
+        Err(refusal) => refusal.number(),
+    }
+}
+
+// ---- events
+
+#[inline(never)]
+fn frame(port: &mut ServedPort, op: &mut Op, given: &[u8]) -> u32
+    ensures { IsEvent port.old (Framed (record { items = take 1519 given.now })) op.old result port.new op.new }
+{
+    match port.frame(given) {
+        Some(outcome) => noted(outcome, port, op),
+        None => {
+            op.note = 0;
+            op.work = 0;
+            0
+        }
+    }
+}
+
+#[inline(never)]
+fn input(port: &mut ServedPort, op: &mut Op, given: &[u8]) -> u32
+    ensures { IsInput (place_in op.old.slot op.old.subslot) port.old given.now op.old result port.new op.new }
+{
+    match place_of(op) {
+        Some(place) => {
+            let outcome = port.input(place.0, place.1, given);
+            noted(outcome, port, op)
+        }
+        None => NO_SLOT,
+    }
+}
+
+#[inline(never)]
+fn alarm(port: &mut ServedPort, op: &mut Op, given: &[u8]) -> u32
+    ensures { IsAlarm (place_in op.old.slot op.old.subslot) port.old given.now op.old result port.new op.new }
+{
+    match place_of(op) {
+        Some(place) => {
+            let outcome = port.alarm(place.0, place.1, given);
+            noted(outcome, port, op)
+        }
+        None => NO_SLOT,
+    }
+}
+
+// The status of the inputs of a submodule: `place` is 0 if they are bad.
+#[inline(never)]
+fn status(port: &mut ServedPort, op: &mut Op) -> u32
+    ensures { IsStatus (place_in op.old.slot op.old.subslot) port.old op.old result port.new op.new }
+{
+    match place_of(op) {
+        Some(place) => {
+            let is_good = op.place != 0;
+            let outcome = port.status(place.0, place.1, is_good);
+            noted(outcome, port, op)
+        }
+        None => NO_SLOT,
+    }
+}
+
+// A diagnosis of a submodule: its channel is `units` and its error `sector`; it disappears if `place` is 0.
+#[inline(never)]
+fn diagnosis(port: &mut ServedPort, op: &mut Op) -> u32
+    ensures { IsDiagnosis (place_in op.old.slot op.old.subslot) (place_in op.old.units op.old.sector) port.old op.old result port.new op.new }
+{
+    match place_of(op) {
+        Some(place) => diagnose(port, op, place),
+        None => NO_SLOT,
+    }
+}
+
+// The same, of the submodule in this slot and subslot.
+fn diagnose(port: &mut ServedPort, op: &mut Op, place: (u16, u16)) -> u32
+    ensures { IsDiagnosis (Some place) (place_in op.old.units op.old.sector) port.old op.old result port.new op.new }
+{
+    match channel_of(op) {
+        Some(what) => {
+            let appears = op.place != 0;
+            let outcome = port.diagnosis(place.0, place.1, what.0, what.1, appears);
+            noted(outcome, port, op)
+        }
+        None => NO_SLOT,
+    }
+}
+
+// The channel and the error of a diagnosis, if both are numbers of 16 bits.
+fn channel_of(op: &Op) -> Option<(u16, u16)>
+    ensures { result ≡ place_in op.now.units op.now.sector }
+{
+    if op.units < 65536 && op.sector < 65536 {
+        Some((op.units as u16, op.sector as u16))
+    } else {
+        None
+    }
+}
+
+// The application is ready.
+#[inline(never)]
+fn ready(port: &mut ServedPort, op: &mut Op) -> u32
+    ensures { IsEvent port.old IsReady op.old result port.new op.new }
+{
+    let outcome = port.ready();
+    noted(outcome, port, op)
+}
+
+// The outcome of an event and the kind of the first piece of its work, or why it was refused.
+#[inline(never)]
+fn noted(outcome: Result<Note, Refusal>, port: &ServedPort, op: &mut Op) -> u32
+    ensures answer { result ≡ answer_of outcome }
+    ensures reported { op.new ≡ is_noted outcome port.now op.old }
+{
+    match outcome {
+        Ok(note) => {
+            op.note = u32::from(note.number());
+            op.work = port.waiting();
+            0
+        }
+        Err(refusal) => refusal.number(),
+    }
+}
+
+#[inline(never)]
+fn tick(port: &mut ServedPort, op: &mut Op) -> u32
+    ensures { IsTick port.old op.old result port.new op.new }
+{
+    match port.skip(op.units) {
+        Leap::Due(due) => tell_passed(op, due, 0, 0),
+        Leap::Uncounted => tell_count(port, op),
+        Leap::Refused => tick_more(port, op),
+    }
+}
+
+// The same if the units may bring something. Of these most are handed in one at a time.
+#[inline(never)]
+fn tick_more(port: &mut ServedPort, op: &mut Op) -> u32
+    ensures { IsTick port.old op.old result port.new op.new }
+{
+    if op.units != 1 {
+        return tick_all(port, op);
+    }
+    match port.unit() {
+        Leap::Due(due) => {
+            let work = if port.has_frames() { 3 } else { 0 };
+            tell_passed(op, due, 0, work)
+        }
+        Leap::Uncounted => tell_count(port, op),
+        Leap::Refused => tick_all(port, op),
+    }
+}
+
+// All units passed: what is due is counted.
+#[inline(never)]
+fn tell_count(port: &mut ServedPort, op: &mut Op) -> u32
+    ensures same { port.new ≡ port.old }
+    ensures answer { result ≡ 0 }
+    ensures reported { op.new ≡ with_passed (Ok (record { left = 0; due = due_both port.old })) port.old op.old }
+{
+    let due = port.count();
+    let work = port.waiting();
+    tell_passed(op, due, 0, work)
+}
+
+// The same of any units.
+#[inline(never)]
+fn tick_all(port: &mut ServedPort, op: &mut Op) -> u32
+    ensures { IsTick port.old op.old result port.new op.new }
+{
+    match port.tick(op.units) {
+        Ok(passed) => {
+            let work = port.waiting();
+            tell_passed(op, passed.due, passed.left, work)
+        }
+        Err(refusal) => refusal.number(),
+    }
+}
+
+// Reports units that passed: what is due then, the number that remains, and the kind of the first piece of work.
+#[inline(always)]
+fn tell_passed(op: &mut Op, due: u32, left: u32, work: u32) -> u32
+    ensures answer { result ≡ 0 }
+    ensures reported { op.new ≡ record op.old { units = left; due = due; note = 0; work = work } }
+{
+    op.due = due;
+    op.units = left;
+    op.note = 0;
+    op.work = work;
+    0
+}
+
+// Power is lost on the host's side.
+#[inline(never)]
+fn lose(port: &mut ServedPort) -> u32
+    ensures { IsLoss port.old result port.new }
+{
+    done(port.lose())
+}
+
+// ---- work
+
+/// Hands out the next piece of work, which is then fetched: its octets, and in the operation what belongs to it and the
+/// kind of the piece after it. `answer` is 0, or says why nothing was handed out.
+pub fn hand_out<'a>(port: &'a mut ServedPort, op: &mut Op, answer: &mut u32) -> &'a [u8]
+    ensures* { sem 𝓛 (follows_so Row Row port.entry.ghost_name none (λ _ _. ⊤)
+        (λ new. HandsOut (closed port.old.port.stage) port.old op.old answer.new result.now new op.new)) }
+{
+    if let Some(refusal) = port.port().closed() {
+        *answer = refusal.number();
+        return &[];
+    }
+    *answer = 0;
+    if port.has_calls() {
+        return hand_out_call(port, op);
+    }
+    if port.has_frames() {
+        return if port.is_calm() {
+            hand_out_only(port, op)
+        } else {
+            hand_out_frame(port, op)
+        };
+    }
+    hand_out_own(port, op)
+}
+
+// Hands out the next frame of the device, if the services have none.
+#[inline(always)]
+fn hand_out_only<'a>(port: &'a mut ServedPort, op: &mut Op) -> &'a [u8]
+    requires calls { port.old.port.calls ≡ [] }
+    requires own { port.old.frames ≡ [] }
+    requires frames { has_some port.old.port.frames ≡ true }
+    ensures* { sem 𝓛 (follows_so Row Row port.entry.ghost_name none (λ _ _. ⊤) (λ new. IsHanded port.old.port.calls (frames_of port.old)
+        (record op.old { more = waiting_both new }) result.now op.new × (new ≡ advanced_both port.old))) }
+{
+    match port.fetch_only(&mut op.more) {
+        Some(frame) => tell_frame(frame, op),
+        None => tell_nothing(op),
+    }
+}
+
+// Hands out the next frame of the device.
+#[inline(never)]
+fn hand_out_frame<'a>(port: &'a mut ServedPort, op: &mut Op) -> &'a [u8]
+    requires calls { port.old.port.calls ≡ [] }
+    requires frames { has_some port.old.port.frames ≡ true }
+    ensures* { sem 𝓛 (follows_so Row Row port.entry.ghost_name none (λ _ _. ⊤) (λ new. IsHanded port.old.port.calls (frames_of port.old)
+        (record op.old { more = waiting_both new }) result.now op.new × (new ≡ advanced_both port.old))) }
+{
+    match port.fetch_frame(&mut op.more) {
+        Some(frame) => tell_frame(frame, op),
+        None => tell_nothing(op),
+    }
+}
+
+// Hands out the next frame of the services, or nothing.
+#[inline(never)]
+fn hand_out_own<'a>(port: &'a mut ServedPort, op: &mut Op) -> &'a [u8]
+    requires calls { port.old.port.calls ≡ [] }
+    requires frames { port.old.port.frames ≡ [] }
+    ensures* { sem 𝓛 (follows_so Row Row port.entry.ghost_name none (λ _ _. ⊤) (λ new. IsHanded port.old.port.calls (frames_of port.old)
+        (record op.old { more = waiting_both new }) result.now op.new × (new ≡ advanced_both port.old))) }
+{
+    match port.fetch_own(&mut op.more) {
+        Some(frame) => tell_frame(frame, op),
+        None => tell_nothing(op),
+    }
+}
+
+// Reports that no work remains.
+fn tell_nothing<'a>(op: &mut Op) -> &'a [u8]
+    ensures octets { result.now ≡ [] }
+    ensures reported { op.new ≡ with_nothing op.old }
+{
+    op.work = 0;
+    op.length = 0;
+    &[]
+}
+
+// Hands out the next flash call. It has a function of its own, so that a frame, which is far more frequent, saves no
+// register that only a call needs.
+#[inline(never)]
+fn hand_out_call<'a>(port: &'a mut ServedPort, op: &mut Op) -> &'a [u8]
+    requires { has_some port.old.port.calls ≡ true }
+    ensures* { sem 𝓛 (follows_so Row Row port.entry.ghost_name none (λ _ _. ⊤) (λ new. IsHanded port.old.port.calls (frames_of port.old)
+        (record op.old { more = waiting_both new }) result.now op.new × (new ≡ advanced_both port.old))) }
+{
+    let call = port.fetch_call(&mut op.more);
+    tell_call(call, op)
+}
+
+// Reports a frame, and returns its octets.
+#[inline(always)]
+fn tell_frame<'a>(frame: &'a Frame, op: &mut Op) -> &'a [u8]
+    ensures octets { result.now ≡ frame.now.items }
+    ensures reported { op.new ≡ with_frame frame.now.items op.old }
+{
+    let octets = frame.as_slice();
+    op.work = 3;
+    op.length = octets.len() as u32;
+    octets
+}
+
+// Reports a flash call, and returns the octets that it programs.
+#[inline(never)]
+fn tell_call<'a>(call: &'a Recorded, op: &mut Op) -> &'a [u8]
+    ensures { IsCall (call_of call.now) op.old result.now op.new }
+{
+    match call {
+        Recorded::Program {
+            sector,
+            place,
+            bytes,
+        } => {
+            op.work = 1;
+            op.sector = sector_number(*sector);
+            op.place = *place;
+            op.length = bytes.len() as u32;
+            bytes.as_slice()
+        }
+        Recorded::Erase { sector } => {
+            op.work = 2;
+            op.sector = sector_number(*sector);
+            op.length = 0;
+            &[]
+        }
+    }
+}
+
+fn sector_number(sector: Sector) -> u32
+    ensures { result ≡ number_of sector }
+{
+    match sector {
+        Sector::First => 0,
+        Sector::Second => 1,
+    }
+}
+
+// ---- values that are reported
+
+#[inline(never)]
+fn output(port: &Port, op: &mut Op) -> u32
+    ensures { IsOutput (place_in op.old.slot op.old.subslot) port.now op.old result op.new }
+{
+    match place_of(op) {
+        Some(place) => tell_output(port, place.0, place.1, op),
+        None => NO_SLOT,
+    }
+}
+
+// The output of a submodule, or why there is none.
+fn tell_output(port: &Port, slot: u16, subslot: u16, op: &mut Op) -> u32
+    ensures { IsValueOf (closed port.now.stage) (value_of port.now slot subslot) op.old result op.new }
+{
+    match port.output(slot, subslot) {
+        Ok(value) => {
+            put(op, value);
+            0
+        }
+        Err(refusal) => refusal.number(),
+    }
+}
+
+#[inline(never)]
+fn state(port: &Port, op: &mut Op) -> u32
+    ensures { IsState (closed port.now.stage) port.now op.old result op.new }
+{
+    match port.phase() {
+        Ok(phase) => tell_state(phase, port, op),
+        Err(refusal) => refusal.number(),
+    }
+}
+
+// The phase, and the number of units for which the lamp still flashes.
+fn tell_state(phase: Option<Phase>, port: &Port, op: &mut Op) -> u32
+    requires { phase ≡ phase_of port.now.device.live.rest.link }
+    ensures { IsState (closed port.now.stage) port.now op.old result op.new }
+{
+    match port.lamp() {
+        Ok(lamp) => {
+            op.phase = number_of_phase(phase);
+            op.units = lamp;
+            0
+        }
+        Err(refusal) => refusal.number(),
+    }
+}
+
+fn number_of_phase(phase: Option<Phase>) -> u32
+    ensures { result ≡ phase_number phase }
+{
+    match phase {
+        None => 0,
+        Some(Phase::Started) => 1,
+        Some(Phase::Preparing | Phase::Awaiting) => 2,
+        Some(Phase::Exchanging) => 3,
+    }
+}
+
+#[inline(never)]
+fn running(port: &Port, op: &mut Op) -> u32
+    ensures { IsSettings (closed port.now.stage) port.now.device.live.values.running op.old result op.new }
+{
+    match port.running() {
+        Ok(settings) => {
+            put_settings(settings, op);
+            0
+        }
+        Err(refusal) => refusal.number(),
+    }
+}
+
+#[inline(never)]
+fn stored(port: &Port, op: &mut Op) -> u32
+    ensures { IsSettings (closed port.now.stage) port.now.device.live.values.stored op.old result op.new }
+{
+    match port.stored() {
+        Ok(settings) => {
+            put_settings(settings, op);
+            0
+        }
+        Err(refusal) => refusal.number(),
+    }
+}
+
+// Settings: address, mask and gateway, the I&M texts, and the name.
+fn put_settings(settings: &Settings, op: &mut Op)
+    ensures { op.new ≡ with_octets (settings_octets settings.now) op.old }
+{
+    put(op, &settings.suite.address());
+    put_more(op, &settings.suite.mask());
+    put_more(op, &settings.suite.gateway());
+    put_more(op, settings.im1.as_bytes());
+    put_more(op, settings.im2.as_bytes());
+    put_more(op, settings.im3.as_bytes());
+    put_more(op, settings.im4.as_bytes());
+    put_more(op, settings.name.as_bytes());
+}
+
+// The number of units up to and with the next one with which anything is due.
+#[inline(never)]
+fn due(port: &mut ServedPort, op: &mut Op) -> u32
+    ensures same { port.new ≡ port.old }
+    ensures due { IsDue (closed port.old.port.stage) (due_both port.old) op.old result op.new }
+{
+    match port.due() {
+        Ok(due) => {
+            op.units = due;
+            0
+        }
+        Err(refusal) => refusal.number(),
+    }
+}
+
+// How many conflicts of the running IP address the services have counted.
+#[inline(never)]
+fn conflicts(port: &ServedPort, op: &mut Op) -> u32
+    ensures { IsConflicts (closed port.now.port.stage) (conflicts_of port.now.services) op.old result op.new }
+{
+    match port.port().closed() {
+        Some(refusal) => refusal.number(),
+        None => {
+            op.units = port.conflicts().min(0xFFFF_FFFF) as u32;
+            0
+        }
+    }
+}
+
+// What the host says of the link: `place` is 0 if it is down, and the given octets say which link it is, if any are given.
+#[inline(never)]
+fn link(port: &mut ServedPort, op: &Op, given: &[u8]) -> u32
+    ensures { IsLink (link_of given.now) port.old op.now result port.new }
+{
+    match link_in(given) {
+        Ok(link) => done(port.set_link(op.place != 0, link)),
+        Err(refusal) => refusal.number(),
+    }
+}
+
+// Which link these octets say, if they say one: what is supported and enabled, what is advertised, and the type of the MAU.
+fn link_in(given: &[u8]) -> Result<Option<Link>, Refusal>
+    ensures { result ≡ link_of given.now }
+{
+    match given {
+        [] => Ok(None),
+        [support, high, low, mau_high, mau_low] => Ok(Some(Link {
+            support: *support,
+            capability: u16::from_be_bytes([*high, *low]),
+            mau_type: u16::from_be_bytes([*mau_high, *mau_low]),
+        })),
+        _ => Err(Refusal::BadLength),
+    }
+}
+
+// What the controller says of the output of a submodule.
+#[inline(never)]
+fn provider(port: &Port, op: &mut Op) -> u32
+    ensures { IsProvider (place_in op.old.slot op.old.subslot) port.now op.old result op.new }
+{
+    match place_of(op) {
+        Some(place) => tell_provider(port, place.0, place.1, op),
+        None => NO_FRAME,
+    }
+}
+
+// The same, or why nothing is known of it.
+fn tell_provider(port: &Port, slot: u16, subslot: u16, op: &mut Op) -> u32
+    ensures { IsProviderOf (closed port.now.stage) (provider_in slot subslot port.now.device.live.rest.link) op.old result op.new }
+{
+    match port.provider(slot, subslot) {
+        Ok(status) => tell_statuses(status, op),
+        Err(refusal) => refusal.number(),
+    }
+}
+
+// The IOPS and DataStatus of the last accepted frame, if there was one.
+fn tell_statuses(status: Option<ProviderStatus>, op: &mut Op) -> u32
+    ensures { IsProviderAt status op.old result op.new }
+{
+    match status {
+        Some(status) => {
+            put(op, &[status.iops, status.data_status.0]);
+            0
+        }
+        None => NO_FRAME,
+    }
+}
+
+// The number of commits that the flash still accepts.
+#[inline(never)]
+fn left(port: &Port, op: &mut Op) -> u32
+    ensures { IsLeft (closed port.now.stage) port.now.device.live.values.room op.old result op.new }
+{
+    match port.left() {
+        Ok(left) => {
+            op.place = left;
+            0
+        }
+        Err(refusal) => refusal.number(),
+    }
+}
+
+// A parameter record that the relation accepted, by its number.
+#[inline(never)]
+fn tell_taken(port: &Port, op: &mut Op) -> u32
+    ensures { IsRecordOf (closed port.now.stage) (slice_get (taken_of port.now.device.live.rest.link) op.old.place) op.old result op.new }
+{
+    match port.taken() {
+        Ok(records) => tell_record(records, op),
+        Err(refusal) => refusal.number(),
+    }
+}
+
+// One of these records.
+fn tell_record(records: &[TakenRecord], op: &mut Op) -> u32
+    ensures { IsRecordAt (slice_get records.now op.old.place) op.old result op.new }
+{
+    match records.get(op.place as usize) {
+        Some(entry) => {
+            op.slot = u32::from(entry.slot);
+            op.subslot = u32::from(entry.subslot);
+            op.place = u32::from(entry.index);
+            put(op, entry.value.as_slice());
+            0
+        }
+        None => NO_RECORD,
+    }
+}

@@ -1,0 +1,181 @@
+//! A tool before a controller starts. Scapy 2.5 made the octets of each frame but the Identify by a name by the place and the Set,
+//! which were composed by hand from IEC 61158-6-10, 4.3.
+
+use super::operations::asked;
+use super::served::{padded, spelled};
+use c_layout::Op;
+use commissioning::Search;
+use commissioning_abi::{WrittenTarget, WrittenTool, find, hear, name, outcome, read, record};
+
+/// A station without a name answers.
+const NAMELESS: &str = "0200000000020200000000018892feff05014e414d450000001002020002000002030006000001230456000000\
+    000000000000000000000000000000";
+
+/// The same one with a name.
+const NAMED: &str = "0200000000020200000000018892feff05014e414d450000001602020008000070756d702d3102030006000001\
+    230456000000000000000000000000";
+
+/// Another one without a name.
+const OTHER: &str = "0200000000020200000000038892feff05014e414d450000001002020002000002030006000001230456000000\
+    000000000000000000000000000000";
+
+/// The station has the name.
+const DONE: &str = "0200000000020200000000018892fefd04014e414d450000000805040003020200000000000000000000000000\
+    000000000000000000000000000000";
+
+/// The station could not store it.
+const FAILED: &str = "0200000000020200000000018892fefd04014e414d450000000805040003020205000000000000000000000000\
+    000000000000000000000000000000";
+
+/// The Read Implicit of 0xF841.
+const ASK: &str = "0200000000010200000000020800450000c0000040004011b8d9c0a80001c0a800028894889400ac29c0040020\
+    0000000000dea000006c9711d18271000104560123dea000016c9711d1827100a02442df7d6263646566676869\
+    6a6b6c6d6e6f70710000000000000001000000000005ffffffff0054000000000000055c000000400000055c00\
+    000000000000400009003c010000000000000000000000000000000000000000000000000000000000f8410000\
+    051c000000000000000000000000000000000000000000000000";
+
+/// Its answer, in little endian: four octets.
+const ANSWER: &str = "0200000000020200000000010800450000c4000040004011b8d5c0a80002c0a800018894889400b071b504020a\
+    00100000000000a0de976cd11182710001045601230100a0de976cd111827100a02442df7d6564636267666968\
+    6a6b6c6d6e6f70710000000001000000000000000500ffffffff58000000000000000000440000005c05000000\
+    000000440000008009003c010000000000000000000000000000000000000000000000000000000000f8410000\
+    0004000000000000000000000000000000000000000000000000c0ffee01";
+
+/// It is refused: there is no such index.
+const REFUSAL: &str = "020000000002020000000001080045000080000040004011b919c0a80002c0a8000188948894006cb67b04020a\
+    0000000000dea000006c9711d18271000104560123dea000016c9711d1827100a02442df7d6263646566676869\
+    6a6b6c6d6e6f70710000000000000001000000000005ffffffff001400000000de80b000000000000000055c00\
+    00000000000000";
+
+const TOOL: WrittenTool = WrittenTool {
+    mac: [2, 0, 0, 0, 0, 2],
+    address: [192, 168, 0, 1],
+};
+
+const TARGET: WrittenTarget = WrittenTarget {
+    mac: [2, 0, 0, 0, 0, 1],
+    address: [192, 168, 0, 2],
+    vendor_id: 0x0123,
+    device_id: 0x0456,
+};
+
+/// The activity of the read.
+const ACTIVITY: [u8; 16] = *b"bcdefghijklmnopq";
+
+/// The octets that an operation reports.
+fn told(op: &Op) -> &[u8] {
+    &op.octets[..op.length as usize]
+}
+
+/// A search that heard these frames.
+fn search(frames: &[&str]) -> Search {
+    let mut search = Search::new();
+    for digits in frames {
+        hear(&TOOL, &mut search, &spelled(digits));
+    }
+    search
+}
+
+#[test]
+fn a_name_by_the_place_is_asked_for() {
+    let mut op = asked(0);
+    assert_eq!(find(&TOOL, b"port-003.switch-a", &mut op), 0);
+    let wanted = "010ecf00000002000000000288 92fefe05004e414d4500010016 02060011706f72742d3030332e7377697463682d6100";
+    assert_eq!(told(&op), padded(&wanted.replace(' ', "")));
+    assert_eq!(find(&TOOL, &[b'x'; 511], &mut op), 0);
+    assert_eq!(op.length, 14 + 12 + 4 + 512);
+    op.length = 5;
+    assert_eq!(find(&TOOL, &[b'x'; 512], &mut op), 8);
+    assert_eq!(find(&TOOL, b"", &mut op), 8);
+    assert_eq!(op.length, 5);
+}
+
+#[test]
+fn the_only_nameless_station_gets_the_name() {
+    let mut op = asked(0);
+    let wanted = "02000000000102000000000288 92fefd04004e414d450000000c 02020008000170756d702d31";
+    // It answers twice; frames of others, and its answers to others, count for nothing.
+    let mut to_another = spelled(NAMELESS);
+    to_another[5] = 3;
+    let mut of_another_request = spelled(OTHER);
+    of_another_request[21] = 1;
+    let mut found = search(&[NAMELESS, NAMELESS, DONE, ANSWER]);
+    hear(&TOOL, &mut found, &to_another);
+    hear(&TOOL, &mut found, &of_another_request);
+    assert_eq!(name(&TOOL, &found, b"pump-1", &mut op), 0);
+    assert_eq!(told(&op), padded(&wanted.replace(' ', "")));
+    for (frame, answer, error) in [(DONE, 0, 0), (FAILED, 0, 5), (NAMELESS, 27, 9)] {
+        op.note = 9;
+        assert_eq!(outcome(&TOOL, &found, &spelled(frame), &mut op), answer);
+        assert_eq!(op.note, error);
+    }
+    let mut of_another = spelled(DONE);
+    of_another[11] = 3;
+    assert_eq!(outcome(&TOOL, &found, &of_another, &mut op), 27);
+    assert_eq!(outcome(&TOOL, &search(&[]), &spelled(DONE), &mut op), 27);
+    // A station that does not support the Set (ServiceType 5).
+    let mut unsupported = spelled(DONE);
+    unsupported[17] = 5;
+    assert_eq!(outcome(&TOOL, &found, &unsupported, &mut op), 0);
+    assert_eq!(op.note, 1);
+    // An answer to the Set that tells no outcome.
+    let mut silent = spelled(DONE);
+    silent[25] = 0;
+    op.note = 9;
+    assert_eq!(outcome(&TOOL, &found, &silent, &mut op), 0);
+    assert_eq!(op.note, 1);
+}
+
+#[test]
+fn no_other_station_gets_it() {
+    let mut untold = spelled(NAMELESS);
+    untold.drain(26..32); // the block of the name
+    untold[25] -= 6;
+    let mut coy = search(&[]);
+    hear(&TOOL, &mut coy, &untold);
+    for (search, why) in [
+        (search(&[]), 28),
+        (search(&[NAMELESS, OTHER]), 29),
+        (search(&[OTHER, NAMED]), 29),
+        (search(&[NAMELESS, OTHER, NAMELESS, NAMELESS]), 29),
+        (search(&[NAMED]), 30),
+        (search(&[NAMELESS, NAMED]), 30),
+        (coy, 31),
+    ] {
+        let mut op = asked(0);
+        op.length = 5;
+        assert_eq!(name(&TOOL, &search, b"pump-1", &mut op), why);
+        assert_eq!(op.length, 5);
+    }
+    let mut op = asked(0);
+    let found = search(&[NAMELESS]);
+    for text in [&b""[..], b"Pump", &[b'a'; 241]] {
+        assert_eq!(name(&TOOL, &found, text, &mut op), 41);
+    }
+    let named = search(&[NAMED]);
+    assert_eq!(&named.name[..named.length as usize], b"pump-1");
+    let both = search(&[NAMELESS, OTHER]);
+    assert_eq!((both.first, both.other), ([2, 0, 0, 0, 0, 1], [2, 0, 0, 0, 0, 3]));
+}
+
+#[test]
+fn a_record_is_read() {
+    let mut op = asked(0);
+    op.place = 0xF841;
+    assert_eq!(read(&TOOL, &TARGET, &ACTIVITY, &mut op), 0);
+    assert_eq!(told(&op), spelled(ASK));
+    assert_eq!(record(&TOOL, &ACTIVITY, &spelled(ANSWER), &mut op), 0);
+    assert_eq!((op.units, told(&op)), (0, &[0xC0, 0xFF, 0xEE, 0x01][..]));
+    assert_eq!(record(&TOOL, &ACTIVITY, &spelled(REFUSAL), &mut op), 0);
+    assert_eq!((op.units, op.length), (0xDE80_B000, 4));
+    let mut another = ACTIVITY;
+    another[0] = 0;
+    for (activity, frame) in [(&another, ANSWER), (&another, REFUSAL), (&ACTIVITY, ASK), (&ACTIVITY, NAMELESS)] {
+        assert_eq!(record(&TOOL, activity, &spelled(frame), &mut op), 27);
+    }
+    for (slot, subslot, index) in [(65536, 0, 0), (0, 65536, 0), (0, 0, 65536)] {
+        (op.slot, op.subslot, op.place, op.length) = (slot, subslot, index, 5);
+        assert_eq!(read(&TOOL, &TARGET, &ACTIVITY, &mut op), 9);
+        assert_eq!(op.length, 5);
+    }
+}
