@@ -82,7 +82,7 @@ SECTORS = 2 * 4096
 # In a listing of callgrind: the device's step, and the script's, which also prints the frames that were sent. It is used
 # if the compiler made one function of both.
 DEVICE_STEP = r"device_core::\S*\bstep"
-SCRIPT_STEP = r"script_runner::session::device::step"
+SCRIPT_STEP = r"script_session::power::\S*\bstep"
 
 
 def keeps(name, figure, bound):
@@ -243,7 +243,7 @@ def print_room(program, bench):
     print(f"a plan in memory: {plan} octets (at most {MOST_OF_A_PLAN})")
     known = launcher()
     below = "|".join(known.stands_on("device_core", known.crates(), []))
-    octets, name = blocks.largest_frame(program, rf"\S*(?:{below})::|script_runner::session::device::step")
+    octets, name = blocks.largest_frame(program, rf"\S*(?:{below})::|{SCRIPT_STEP}")
     print(f"the largest frame on the stack of a step: {octets} octets, of {name} (at most {MOST_ON_THE_STACK})")
     is_small = keeps("a device in memory", device - SECTORS, MOST_IN_MEMORY)
     is_small = keeps("a plan in memory", plan, MOST_OF_A_PLAN) and is_small

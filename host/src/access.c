@@ -10,7 +10,6 @@
 #include <stdio.h>
 #include <string.h>
 
-#define RECORD_LONGEST 1308 /* octets of a record */
 #define FIRST_PAUSE (5 * SECOND)
 
 static const char *verb(const struct access *access)
@@ -18,8 +17,13 @@ static const char *verb(const struct access *access)
     return access->is_write ? "write" : "read";
 }
 
-/* Reads the words SLOT SUBSLOT INDEX; the index may also be `0x` and hex digits. Returns whether they are that. */
-static int read_place(char *words[], struct access *access)
+void access_spell(uint8_t status[4], uint32_t value)
+{
+    for (int i = 0; i < 4; i++)
+        status[i] = (uint8_t)(value >> (24 - 8 * i));
+}
+
+int access_place(char *words[], struct access *access)
 {
     unsigned long slot, subslot, index;
     if (!words_number(words[0], 65535, &slot) || !words_number(words[1], 65535, &subslot) || !words_index(words[2], &index))
@@ -54,10 +58,10 @@ static void ask(struct relation *relation, const struct access *wanted, const ui
 void access_read(struct relation *relation, char *words[])
 {
     struct access wanted = {.is_write = 0};
-    if (read_place(words + 1, &wanted))
+    if (access_place(words + 1, &wanted))
         ask(relation, &wanted, NULL, 0);
     else
-        lines_answer(&relation->loop->lines, "wrong: read SLOT SUBSLOT INDEX, each from 0 to 65535; INDEX may be 0x and hex digits");
+        lines_answer(&relation->loop->lines, "wrong: read " ACCESS_PLACE);
 }
 
 void access_read_diagnosis(struct relation *relation, unsigned index)
@@ -69,38 +73,42 @@ void access_read_diagnosis(struct relation *relation, unsigned index)
 void access_write(struct relation *relation, char *words[])
 {
     struct access wanted = {.is_write = 1};
-    uint8_t octets[RECORD_LONGEST];
+    uint8_t octets[ACCESS_RECORD];
     long length = strcmp(words[4], "-") == 0 ? 0 : words_octets(words[4], octets, sizeof octets);
-    if (read_place(words + 1, &wanted) && length >= 0)
+    if (access_place(words + 1, &wanted) && length >= 0)
         ask(relation, &wanted, octets, (size_t)length);
     else
         lines_answer(&relation->loop->lines, "wrong: write SLOT SUBSLOT INDEX HEX, each number from 0 to 65535, at most %d octets, - for none",
-                     RECORD_LONGEST);
+                     ACCESS_RECORD);
 }
 
-/* Reports an answer: its octets, or why the request was refused. */
-static void tell(struct relation *relation, const struct relation_answer *answer)
+void access_words(const struct access *access, const struct access_answer *answer, char *text, size_t size)
 {
-    const struct access *access = &relation->access;
-    struct lines *lines = &relation->loop->lines;
-    char label[64], text[2 * RECORD_LONGEST + 96];
+    char label[64], status[STATUSES_LONGEST + 32];
     snprintf(label, sizeof label, "%s %u %u %u", verb(access), access->slot, access->subslot, access->index);
     if (answer->is_refused) {
-        reasons_status(answer->status, text, sizeof text);
-        lines_tell(lines, "%s refused: %s", label, text);
+        reasons_status(answer->status, status, sizeof status);
+        snprintf(text, size, "%s refused: %s", label, status);
     } else if (access->is_write) {
-        lines_tell(lines, "%s done", label);
+        snprintf(text, size, "%s done", label);
     } else if (answer->length == 0) {
-        lines_tell(lines, "%s -", label);
+        snprintf(text, size, "%s -", label);
     } else {
-        words_labelled(text, sizeof text, label, answer->octets, answer->length);
-        lines_tell(lines, "%s", text);
+        words_labelled(text, size, label, answer->octets, answer->length);
     }
+}
+
+/* Reports an answer. */
+static void tell(struct relation *relation, const struct access_answer *answer)
+{
+    char text[ACCESS_TEXT];
+    access_words(&relation->access, answer, text, sizeof text);
+    lines_tell(&relation->loop->lines, "%s", text);
 }
 
 void access_look(struct relation *relation)
 {
-    struct relation_answer answer;
+    struct access_answer answer;
     if (!relation->access.is_waiting || !relation_answer(relation, &answer))
         return;
     relation->access.is_waiting = 0;

@@ -6,6 +6,7 @@
 #include "naming.h"
 #include "options.h"
 #include "place.h"
+#include "reading.h"
 #include "reasons.h"
 #include "relation.h"
 #include "routing.h"
@@ -34,6 +35,11 @@ struct options {
     int is_forced; /* the name is set even if another station has it or the plan's address */
     const char *place; /* the name by its place of the station that first gets the plan's name, or NULL */
     int is_list;
+    struct access access; /* the record to read */
+    int is_read;
+    const char *from; /* the station whose record is read: its name or its MAC address; NULL: that of the plan */
+    char **words;     /* the whole command line, */
+    int count;        /* and the number of its words */
     uint64_t pause; /* after which a controller that ended is started again, in nanoseconds; 0: it is not */
 };
 
@@ -41,6 +47,7 @@ struct controller {
     struct loop loop;
     struct relation *relations; /* one for each plan */
     unsigned count;
+    int is_kernel_told;      /* that the kernel has the controller's address too */
     struct relation *chosen; /* the one that the line that is being read names, or NULL */
     uint64_t pause;
     int is_stopped; /* by a line or a signal: no controller is started again */
@@ -199,8 +206,21 @@ static void stop(struct controller *controller, struct relation *relation)
     speak_for(controller, NULL);
 }
 
+/* The kernel answers ARP, and calls, for each of its own addresses, on every interface. It is reported again if the kernel did not have the
+ * address at the start before. */
+static void look_at_kernel(struct controller *controller)
+{
+    const char *other = wire_with_address(controller->relations[0].plan.controller_address);
+    if (other != NULL && !controller->is_kernel_told)
+        lines_tell(&controller->loop.lines, "warning: the kernel has the controller's address on %s and answers for it too: remove it (`ip address del`)", other);
+    controller->is_kernel_told = other != NULL;
+}
+
 static void start_again(struct controller *controller, struct relation *relation)
 {
+    speak_for(controller, NULL);
+    look_at_kernel(controller);
+    speak_for(controller, relation);
     relation_make(relation, &controller->loop);
     relation_begin(relation);
     look_at_state(controller, relation);
@@ -389,6 +409,7 @@ static void usage(void)
     puts("Usage: nandutable-controller IFACE PLAN.json [PLAN.json ..] [--assign MAC [--force] | --replace PORT.STATION] [--retry SECONDS]\n"
          "                             [--socket PATH] [--socket-group GROUP] [--period US] [--realtime N]\n"
          "       nandutable-controller IFACE [PLAN.json] --list\n"
+         "       nandutable-controller IFACE [PLAN.json] --read SLOT SUBSLOT INDEX [--from STATION]\n"
          "\n"
          "A PROFINET IO controller on the network interface IFACE. It finds the station of the plan by its name, sets its address, makes\n"
          "the relation, writes its records, and exchanges data until it is stopped. With several plans it does so with each station; the\n"
@@ -398,9 +419,12 @@ static void usage(void)
          "                        share/doc/nandutable/pump.json)\n"
          "  --list                prints a line for each station that answers within a second, with its ports and their neighbours, and ends.\n"
          "                        It reads the ports from the controller's address of the plan; without a plan from that of IFACE, if it has one\n"
+         "  --read SLOT SUBSLOT INDEX  prints a record of the station of the plan, which is read without a relation, and ends. INDEX is decimal, or\n"
+         "                        0x and hex digits: 0xAFF0 is I&M0, 0xF000 what is plugged. The call comes from the same address as with --list\n"
+         "  --from STATION        reads the record of the station with this name or this MAC address instead\n"
          "  --assign MAC          first sets the name of the plan permanently at the station with this MAC address. Refused if another\n"
          "                        station has this name or the plan's address. It takes one plan\n"
-         "  --force               sets the name all the same, with a warning\n"
+         "  --force               sets the name anyway, with a warning\n"
          "  --replace PORT.STATION  first sets the name of the plan permanently at the station whose cable leads to this port of this station,\n"
          "                        as LLDP says it (AliasName). Refused if no station answers to that place, more than one, or one that has a\n"
          "                        name, or if another station has the plan's name or address. It takes one plan\n"
@@ -411,13 +435,15 @@ static void usage(void)
          "  --period US           hands in time in this period, 31 to 10000 microseconds, and not only when something is due; choose at most the\n"
          "                        shortest interval of a plan (default: when something is due)\n"
          "  --realtime N          runs with this priority, 1 to 99, of the first-in first-out scheduler\n"
-         "  --help, --version\n"
-         "\n"
+         "  --help, --version");
+    puts("\n"
          "It needs the capability CAP_NET_RAW: run it as root, or run `setcap cap_net_raw+ep nandutable-controller` once.\n"
          "\n"
          "Examples:\n"
          "  nandutable-controller eth1 --list\n"
          "  nandutable-controller eth1 pump.json --list\n"
+         "  nandutable-controller eth1 pump.json --read 0 1 0xAFF0\n"
+         "  nandutable-controller eth1 --read 0 1 0xF000 --from 02:00:00:00:00:01\n"
          "  nandutable-controller eth1 pump.json --assign 02:00:00:00:00:01\n"
          "  nandutable-controller eth1 pump.json --replace port-002.switch-1\n"
          "  nandutable-controller eth1 pump.json\n"
@@ -430,7 +456,8 @@ static void usage(void)
          "`status`, `read`, `write`, `diagnosis`, `restart`, `show`, `statistics` and `stop` that are for one station. On SIGUSR1 it prints its statistics; SIGTERM stops it, and a second one\n"
          "ends it at once. Its status is the cause of its end (with several plans the lowest): 1 another device, 2 refused, 3 other\n"
          "modules, 4 data hold, 5 ended by the device, 6 an alarm without answer, 7 stopped; 64 and more: it did not start (64: the plans do\n"
-         "not fit together; 66: no station answers; 75: another station has the name or the address, or the station at the place has a name).");
+         "not fit together; 66: no station answers; 69: the station does not answer a call, or has no address for it; 75: another station has the\n"
+         "name or the address, or the station at the place has a name).");
 }
 
 static void take_pause(struct options *options, const char *word)
@@ -444,9 +471,22 @@ static void take_pause(struct options *options, const char *word)
 /* A name by a place has a dot between the port and the station. */
 static void take_place(struct options *options, const char *word)
 {
-    if (strchr(word, '.') == NULL || strlen(word) > 511)
+    if (strchr(word, '.') == NULL || strlen(word) > PLACE_LONGEST)
         options_misused("--replace takes PORT.STATION, such as port-002.switch-1: ", word);
     options->place = word;
+}
+
+/* `--read SLOT SUBSLOT INDEX`: getopt knows of one argument; the two after it are taken here. */
+static void take_record(struct options *options, char *word)
+{
+    char *words[3] = {word, NULL, NULL};
+    if (optind + 2 > options->count)
+        options_misused("--read takes SLOT SUBSLOT INDEX: ", word);
+    words[1] = options->words[optind++];
+    words[2] = options->words[optind++];
+    if (!access_place(words, &options->access))
+        options_misused("--read takes " ACCESS_PLACE, "");
+    options->is_read = 1;
 }
 
 static int take_option(void *context, int option, const char *word)
@@ -454,6 +494,8 @@ static int take_option(void *context, int option, const char *word)
     struct options *options = context;
     switch (option) {
     case 'l': options->is_list = 1; return 1;
+    case 'd': take_record(options, optarg); return 1;
+    case 'm': options->from = word; return 1;
     case 'f': options->is_forced = 1; return 1;
     case 't': take_pause(options, word); return 1;
     case 'c': take_place(options, word); return 1;
@@ -466,9 +508,31 @@ static int take_option(void *context, int option, const char *word)
     }
 }
 
+/* Refuses what does not go with --list and --read. `plain` are the words that are no option and no argument of one. */
+static void check_tool(const struct options *options, int plain)
+{
+    int is_tool = options->is_list || options->is_read;
+    if (options->is_list && options->is_read)
+        options_misused("--list and --read exclude each other", "");
+    if (is_tool && (options->has_assigned || options->place != NULL))
+        options_misused(options->is_list ? "--list takes neither --assign nor --replace" : "--read takes neither --assign nor --replace", "");
+    if (options->from != NULL && !options->is_read)
+        options_misused("--from takes --read", "");
+    if (options->from != NULL && (options->from[0] == '\0' || strlen(options->from) > 240))
+        options_misused("--from takes the name or the MAC address of a station: ", options->from);
+    if (is_tool && (plain < 1 || plain > 2))
+        options_misused("name a network interface, and at most one plan", "");
+    if (options->is_read && options->from == NULL && plain < 2)
+        options_misused("name the plan of the station, or the station by --from", "");
+    if (!is_tool && plain < 2)
+        options_misused("name a network interface and a plan, or several plans", "");
+}
+
 static void read_words(struct options *options, int count, char *words[])
 {
     static const struct option known[] = {{"list", no_argument, NULL, 'l'},
+                                          {"read", required_argument, NULL, 'd'},
+                                          {"from", required_argument, NULL, 'm'},
                                           {"assign", required_argument, NULL, 'a'},
                                           {"force", no_argument, NULL, 'f'},
                                           {"replace", required_argument, NULL, 'c'},
@@ -477,13 +541,10 @@ static void read_words(struct options *options, int count, char *words[])
     const struct command_line line = {known, usage, take_option};
     int first;
     memset(options, 0, sizeof *options);
+    options->words = words;
+    options->count = count;
     first = options_read(&line, &options->shared, options, count, words);
-    if (options->is_list && (first + 1 > count || first + 2 < count))
-        options_misused("name a network interface, and at most one plan", "");
-    if (options->is_list && (options->has_assigned || options->place != NULL))
-        options_misused("--list takes neither --assign nor --replace", "");
-    if (!options->is_list && first + 2 > count)
-        options_misused("name a network interface and a plan, or several plans", "");
+    check_tool(options, count - first);
     if (options->shared.socket_group != NULL && options->shared.socket == NULL)
         options_misused("--socket-group takes --socket", "");
     if (options->is_forced && !options->has_assigned)
@@ -515,7 +576,7 @@ static void refuse_or_warn(const struct options *options, const char *value, con
     words_show_mac(mac, found);
     if (!options->is_forced)
         fail(STATUS_IN_USE, "another station has %s: %s. Nothing was set%s", value, mac,
-             options->has_assigned ? " (--force sets the name all the same)" : "");
+             options->has_assigned ? " (--force sets the name anyway)" : "");
     say("warning: another station has %s: %s", value, mac);
 }
 
@@ -535,7 +596,7 @@ static void check_others(struct controller *controller, const struct options *op
     }
 }
 
-/* A tool asks once, so it says at once why nobody will answer. */
+/* A tool asks once, so it says at once why no station can answer. */
 static void say_link(const struct wire *wire)
 {
     char words[WIRE_WHY];
@@ -578,31 +639,47 @@ static void refuse_place(const pn_plan *plan, const char *place, const pn_search
         fail(STATUS_IN_USE, "the station at %s, %s, does not say whether it has a name: %s. Nothing was set", place, first, pn_strerror(why));
 }
 
+/* A name in lower case. Returns whether it is another one. */
+static int is_lowered(const char *name, char lower[PLACE_LONGEST + 1])
+{
+    size_t length = strlen(name);
+    for (size_t i = 0; i <= length; i++)
+        lower[i] = (char)(name[i] >= 'A' && name[i] <= 'Z' ? name[i] - 'A' + 'a' : name[i]);
+    return strcmp(name, lower) != 0;
+}
+
 /* Sets the name of the plan at the station that answers to a name by its place, if it has none. */
 static void replace(struct controller *controller, const struct options *options)
 {
     const pn_plan *plan = &controller->relations[0].plan;
     const pn_tool tool = tool_of(plan);
     struct wire *wire = &controller->loop.wire;
-    char mac[WORDS_MAC];
+    const char *place = options->place;
+    char mac[WORDS_MAC], lower[PLACE_LONGEST + 1];
     pn_search search;
     uint32_t why;
     int answer;
-    place_find(wire, &tool, options->place, &search);
+    place_find(wire, &tool, place, &search);
+    /* Names in DCP have no capitals; the port or the name of a neighbour that is no PROFINET station may have some. */
+    if (search.stations == 0 && is_lowered(place, lower)) {
+        say("no station answers to %s; names in DCP have no capitals, so %s is asked for", place, lower);
+        place = lower;
+        place_find(wire, &tool, place, &search);
+    }
     why = place_judge(&tool, &search, plan->name, plan->name_length);
     if (why != PN_OK) {
-        refuse_place(plan, options->place, &search, why);
+        refuse_place(plan, place, &search, why);
         return;
     }
     check_others(controller, options, search.first);
     answer = place_name(wire, &tool, &search, plan->name, plan->name_length);
     words_show_mac(mac, search.first);
     if (answer < 0)
-        fail(STATUS_NO_INPUT, "the station at %s, %s, does not answer the Set of its name; it may have the name now (--list shows it)", options->place, mac);
+        fail(STATUS_NO_INPUT, "the station at %s, %s, does not answer the Set of its name; it may have the name now (--list shows it)", place, mac);
     if (answer > 0)
-        fail(PN_WAS_REFUSED, "the station at %s, %s, does not accept the name, BlockError %d: %s", options->place, mac, answer,
+        fail(PN_WAS_REFUSED, "the station at %s, %s, does not accept the name, BlockError %d: %s", place, mac, answer,
              reasons_block_error((uint8_t)answer));
-    say("the station at %s, %s, has the name '%.*s' now", options->place, mac, (int)plan->name_length, (const char *)plan->name);
+    say("the station at %s, %s, has the name '%.*s' now", place, mac, (int)plan->name_length, (const char *)plan->name);
 }
 
 /* Refuses two plans that name one station, or give one address to two. */
@@ -661,28 +738,54 @@ static pn_controller *open_services(struct controller *controller)
     return &relation->room;
 }
 
-/* Lists the stations, and ends. */
-static _Noreturn void list(struct controller *controller, const struct options *options)
+/* Opens the interface for a tool that calls stations, from the address of the plan's controller, or without a plan from that of the interface. */
+static void open_caller(struct controller *controller, const struct options *options, struct caller *caller)
 {
     struct wire *wire = &controller->loop.wire;
-    struct lister lister = {.services = NULL};
+    memset(caller, 0, sizeof *caller);
     if (options->plan_count == 1)
         open_relations(controller, options);
     wire_open(wire, options->shared.interface);
     if (options->plan_count == 1) {
-        lister.tool = tool_of(&controller->relations[0].plan);
-        lister.has_address = 1;
-        lister.services = open_services(controller);
-        wire_take(wire, lister.tool.mac);
+        caller->tool = tool_of(&controller->relations[0].plan);
+        caller->has_address = 1;
+        caller->services = open_services(controller);
+        wire_take(wire, caller->tool.mac);
     } else {
-        listing_take_address(&lister, wire);
+        caller_take_address(caller, wire);
     }
     say_link(wire);
-    if (listing_print(&lister, wire) == 0)
+}
+
+/* Lists the stations, and ends. */
+static _Noreturn void list(struct controller *controller, const struct options *options)
+{
+    struct caller caller;
+    open_caller(controller, options, &caller);
+    if (listing_print(&caller, &controller->loop.wire) == 0)
         fail(STATUS_NO_INPUT, "no station answers on %s", options->shared.interface);
-    if (!lister.has_address)
+    if (!caller.has_address)
         say("the ports of the stations were not read: %s has no IP address, and no plan gives one (%s IFACE PLAN.json --list)", options->shared.interface,
             say_name());
+    exit(0);
+}
+
+/* Prints a record of a station, and ends. */
+static _Noreturn void read_one(struct controller *controller, const struct options *options)
+{
+    struct reading_station station = {.word = options->from};
+    struct caller caller;
+    open_caller(controller, options, &caller);
+    if (!caller.has_address)
+        fail(STATUS_USAGE, "%s has no IP address for the call, and no plan gives one (%s IFACE PLAN.json --read ..)", options->shared.interface, say_name());
+    if (options->from == NULL) {
+        const struct relation *relation = &controller->relations[0];
+        station = (struct reading_station){.word = relation->station, .name = relation->plan.name, .name_length = relation->plan.name_length};
+    } else if (strchr(options->from, ':') == NULL || !words_mac(options->from, station.mac)) {
+        station.name = (const uint8_t *)options->from;
+        station.name_length = strlen(options->from);
+    }
+    reading_print(&caller, &controller->loop.wire, &station, &options->access);
     exit(0);
 }
 
@@ -717,13 +820,11 @@ static void warn_of_plan(struct relation *relation)
 
 static void begin(struct controller *controller)
 {
-    const char *other = wire_with_address(controller->relations[0].plan.controller_address);
     for (unsigned i = 0; i < controller->count; i++)
         relation_make(&controller->relations[i], &controller->loop);
     loop_start(&controller->loop, controller->count == 1 ? &events : &events_of_several, controller);
     for_each(controller, relation_introduce);
-    if (other != NULL)
-        lines_tell(&controller->loop.lines, "warning: the kernel has the controller's address on %s and answers for it too: remove it (`ip address del`)", other);
+    look_at_kernel(controller);
     loop_tell_link(&controller->loop);
     for_each(controller, warn_of_plan);
     for_each(controller, relation_begin);
@@ -749,6 +850,8 @@ int main(int count, char *words[])
     read_words(&options, count, words);
     if (options.is_list)
         list(&controller, &options);
+    if (options.is_read)
+        read_one(&controller, &options);
     open_all(&controller, &options);
     begin(&controller);
     loop_run(&controller.loop);

@@ -15,7 +15,7 @@
 #include <stdio.h>
 #include <string.h>
 
-/* With a period: without a relation nothing is due at a unit of time, so many units may pass at once. */
+/* With a period: without a relation nothing is due at a unit of time, and a large number of units may pass at once. */
 #define IDLE_MOST 320000u /* units: ten seconds */
 /* Another station that uses the device's address is reported at most once in this time. */
 #define CONFLICT_PAUSE (10 * SECOND)
@@ -52,6 +52,8 @@ struct diagnosis {
 };
 
 #define DIAGNOSES 32
+#define SUBMODULE_ITSELF 0x8000u /* as a channel */
+#define ALARM_LONGEST 32u        /* octets of an alarm */
 
 struct device {
     pn_device room;
@@ -77,6 +79,9 @@ struct device {
     int is_link_up;    /* what it was told */
     int knows_link;
     pn_link link;
+    int has_news_of_kernel; /* whether to look for the device's address at the kernel: a Set came, or a relation began */
+    int is_kernel_told;     /* that the kernel has the address in `kernel_told` too */
+    uint8_t kernel_told[4];
     uint32_t conflicts;     /* of the address, that were seen */
     uint64_t conflict_told; /* when the last one was reported; 0: none yet */
     /* Statistics. */
@@ -166,15 +171,17 @@ static void tell_name(const char *label, const pn_settings *s, char *text, size_
     snprintf(text, size, "%s %.*s", label, s->name_length == 0 ? 1 : (int)s->name_length, s->name_length == 0 ? "-" : (const char *)s->name);
 }
 
-/* The kernel answers ARP, and calls, for each of its own addresses, on every interface. */
-static void warn_of_kernel(struct device *device, const pn_settings *settings)
+/* The kernel answers ARP, and calls, for each of its own addresses, on every interface. Each address is reported once, and again if the kernel
+ * did not have it in the meantime. */
+static void look_at_kernel(struct device *device)
 {
-    static const uint8_t none[4];
-    const char *interface;
-    if (memcmp(settings->address, none, 4) == 0)
-        return;
-    interface = wire_with_address(settings->address);
-    if (interface != NULL)
+    const pn_settings *settings = &device->watch.settings;
+    const char *interface = arp_is_zero(settings->address) ? NULL : wire_with_address(settings->address);
+    int is_told = device->is_kernel_told && memcmp(device->kernel_told, settings->address, 4) == 0;
+    device->has_news_of_kernel = 0;
+    device->is_kernel_told = interface != NULL;
+    memcpy(device->kernel_told, settings->address, 4);
+    if (interface != NULL && !is_told)
         lines_tell(&device->loop.lines, "warning: the kernel has the device's address %u.%u.%u.%u on %s and answers for it too: remove it (`ip address del`) or assign another to the device",
                    settings->address[0], settings->address[1], settings->address[2], settings->address[3], interface);
 }
@@ -192,7 +199,7 @@ static void tell_settings(struct device *device, uint32_t news)
     if ((news & PN_NEW_ADDRESS) != 0) {
         tell_suite("ip", now, text, sizeof text);
         lines_tell(&device->loop.lines, "%s", text);
-        warn_of_kernel(device, now);
+        look_at_kernel(device);
     }
 }
 
@@ -284,6 +291,7 @@ static void look_at_state(void *context)
     device->last_cyclic = 0;
     if (device->phase <= PN_STARTED)
         device->is_stopped = -1;
+    device->has_news_of_kernel |= device->phase == PN_STARTED;
     loop_pace(&device->loop, device->phase == PN_NONE);
     look_at_outputs(device);
 }
@@ -330,6 +338,15 @@ static void look_at_link(void *context)
     device->link = link;
 }
 
+/* Once a second. Reading the addresses of all interfaces takes time, so not with each Set. */
+static void look_around(void *context)
+{
+    struct device *device = context;
+    look_at_link(context);
+    if (device->has_news_of_kernel)
+        look_at_kernel(device);
+}
+
 /* --- Events --- */
 
 static uint32_t tick(void *context, uint32_t units)
@@ -370,6 +387,7 @@ static void take_frame(void *context, const uint8_t *octets, size_t length)
     if (!is_cyclic) {
         look_at_news(device, 0);
         look_at_conflicts(device, octets, length);
+        device->has_news_of_kernel |= sets_is_set(octets, length, device->station.mac);
     }
     look_at_state(device);
     if (is_cyclic) {
@@ -441,14 +459,38 @@ static void take_input(struct device *device, uint16_t slot, uint16_t subslot, c
     }
 }
 
+/* Whether a submodule is plugged. */
+static int is_plugged(const struct device *device, unsigned slot, unsigned subslot)
+{
+    const pn_station *station = &device->station;
+    for (uint32_t i = 0; i < station->module_count; i++)
+        for (unsigned k = 0; station->modules[i].slot == slot && k < station->modules[i].submodule_count; k++)
+            if (station->modules[i].submodules[k].subslot == subslot)
+                return 1;
+    return 0;
+}
+
+/* Why the device refused an alarm. */
+static const char *why_no_alarm(struct device *device, unsigned slot, unsigned subslot, size_t length)
+{
+    if (!is_plugged(device, slot, subslot))
+        return "nothing is plugged there";
+    if (length > ALARM_LONGEST)
+        return "an alarm has at most 32 octets";
+    loop_must(pn_state(&device->room, &device->op), "pn_state");
+    return device->op.phase != PN_EXCHANGING ? "no data is exchanged" : "the alarm before it is not acknowledged yet";
+}
+
 static void take_alarm(struct device *device, uint16_t slot, uint16_t subslot, const uint8_t *octets, size_t length)
 {
     uint32_t note;
     loop_must(pn_alarm(&device->room, &device->op, slot, subslot, octets, length), "pn_alarm");
     note = device->op.note;
     carry_out(device);
-    lines_answer(&device->loop.lines, note == PN_DONE ? "note done"
-                                                      : "note refused: an alarm has a plugged submodule and at most 32 octets, and may be raised while data is exchanged and no alarm is active");
+    if (note == PN_DONE)
+        lines_answer(&device->loop.lines, "note done");
+    else
+        lines_answer(&device->loop.lines, "note refused: %s", why_no_alarm(device, slot, subslot, length));
 }
 
 /* Hands in a status. Returns whether it is that of a submodule that is plugged. */
@@ -499,12 +541,19 @@ static int diagnose(struct device *device, const struct diagnosis *diagnosis, in
     return note == PN_DONE;
 }
 
-/* Keeps a diagnosis for the next start of the device, or keeps it no more. It is one that the device accepted. */
-static void keep_diagnosis(struct device *device, const struct diagnosis *diagnosis, int appears)
+/* The place of a diagnosis among those that exist; their number if it does not. */
+static unsigned find_diagnosis(const struct device *device, const struct diagnosis *diagnosis)
 {
     unsigned at = 0;
     while (at < device->diagnosis_count && memcmp(&device->diagnoses[at], diagnosis, sizeof *diagnosis) != 0)
         at++;
+    return at;
+}
+
+/* Keeps a diagnosis for the next start of the device, or keeps it no more. It is one that the device accepted. */
+static void keep_diagnosis(struct device *device, const struct diagnosis *diagnosis, int appears)
+{
+    unsigned at = find_diagnosis(device, diagnosis);
     if (appears && at < DIAGNOSES) {
         device->diagnoses[at] = *diagnosis;
         device->diagnosis_count += at == device->diagnosis_count;
@@ -512,6 +561,25 @@ static void keep_diagnosis(struct device *device, const struct diagnosis *diagno
         device->diagnosis_count--;
         memmove(&device->diagnoses[at], &device->diagnoses[at + 1], (device->diagnosis_count - at) * sizeof *diagnosis);
     }
+}
+
+/* Why the device refused a diagnosis. */
+static const char *why_no_diagnosis(const struct device *device, const struct diagnosis *diagnosis, int appears)
+{
+    int exists = find_diagnosis(device, diagnosis) < device->diagnosis_count;
+    if (!is_plugged(device, diagnosis->slot, diagnosis->subslot))
+        return "nothing is plugged there";
+    if (diagnosis->channel > SUBMODULE_ITSELF)
+        return "a channel is 0 to 32767, or 32768 for the submodule itself";
+    if (diagnosis->error == 0)
+        return "an error is 1 to 65535";
+    if (appears && exists)
+        return "it exists already";
+    if (!appears && !exists)
+        return "it does not exist";
+    if (appears && device->diagnosis_count == DIAGNOSES)
+        return "32 diagnoses exist";
+    return "32 changes wait for their alarms";
 }
 
 static void take_diagnosis(void *context, char *words[])
@@ -529,8 +597,7 @@ static void take_diagnosis(void *context, char *words[])
         keep_diagnosis(device, &diagnosis, appears);
         lines_answer(&device->loop.lines, "note done");
     } else {
-        lines_answer(&device->loop.lines, "note refused: a diagnosis has a plugged submodule, a channel up to 32768 (the submodule itself) and an error from 1; "
-                                          "one that appears does not exist yet, one that disappears exists, and at most 32 exist and 32 changes wait for their alarms");
+        lines_answer(&device->loop.lines, "note refused: %s", why_no_diagnosis(device, &diagnosis, appears));
     }
 }
 
@@ -600,7 +667,8 @@ static void usage(void)
          "  --smallest-interval N  refuses a relation with a shorter interval, in units of 31.25 microseconds, 1 to 65536 (default: 32, 1 ms)\n"
          "  --inputs-begin-bad    the IOPS of an input is bad until its first `input` in a relation\n"
          "  --ready-by-application  the device is ready at the line `ready` after `parameters end`, and not by itself\n"
-         "  --no-services         answers no ping, no endpoint mapper's lookup and no call that nobody serves, and does not announce its address\n"
+         "  --no-services         the device alone: no answer to ping, to lookups of the endpoint mapper and to calls to other interfaces, no\n"
+         "                        announcement of the address, and no LLDP\n"
          "  --help, --version\n"
          "\n"
          "It needs the capability CAP_NET_RAW: run it as root, or run `setcap cap_net_raw+ep nandutable-device` once.\n"
@@ -748,7 +816,7 @@ static const struct events events = {.idle_most = IDLE_MOST,
                                      .take_frame = take_frame,
                                      .commands = commands,
                                      .statistics = statistics,
-                                     .look_around = look_at_link};
+                                     .look_around = look_around};
 
 static void begin(struct device *device)
 {

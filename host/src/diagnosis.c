@@ -157,7 +157,7 @@ static unsigned tell_missing(struct lines *lines, const char *where, const struc
     return missing;
 }
 
-void diagnosis_compare(struct relation *relation, const struct relation_answer *answer)
+void diagnosis_compare(struct relation *relation, const struct access_answer *answer)
 {
     struct lines *lines = &relation->loop->lines;
     struct diagnoses record, alarms;

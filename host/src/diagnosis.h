@@ -5,7 +5,7 @@
 #include "nandutable_controller.h"
 
 struct relation;
-struct relation_answer;
+struct access_answer;
 
 /* One diagnosis. */
 struct diagnosis {
@@ -32,6 +32,6 @@ int diagnosis_has(const struct diagnoses *diagnoses, const struct diagnosis *wan
 void diagnosis_take(struct relation *relation, char *words[]);
 
 /* Compares what the alarms reported with the record that was read. */
-void diagnosis_compare(struct relation *relation, const struct relation_answer *answer);
+void diagnosis_compare(struct relation *relation, const struct access_answer *answer);
 
 #endif

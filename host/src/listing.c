@@ -1,22 +1,11 @@
-#define _GNU_SOURCE
 #include "listing.h"
-#include "loop.h"
 #include "naming.h"
 #include "ports.h"
 #include "reasons.h"
-#include "say.h"
 #include "statuses.h"
 #include "ticker.h"
-#include <arpa/inet.h>
-#include <errno.h>
-#include <net/if.h>
-#include <netinet/in.h>
 #include <stdio.h>
 #include <string.h>
-#include <sys/ioctl.h>
-#include <sys/random.h>
-#include <sys/socket.h>
-#include <unistd.h>
 
 /* The most stations whose ports are read. */
 #define STATIONS 512u
@@ -26,9 +15,6 @@
 #define INDEX_ALL 0xF841u
 #define INDEX_PORT 0x802Au
 #define SUBSLOT_PORT 0x8001u
-
-/* The port of calls. */
-#define PORT_CALLS 34964u
 
 struct station {
     char line[NAMING_LINE];
@@ -41,30 +27,6 @@ struct station {
 
 static struct station stations[STATIONS];
 static uint8_t octets[WIRE_FRAME];
-static pn_op op;
-
-void listing_take_address(struct lister *lister, const struct wire *wire)
-{
-    struct sockaddr_in address;
-    struct ifreq request;
-    int fd;
-    memcpy(lister->tool.mac, wire->hardware, sizeof lister->tool.mac);
-    memset(&request, 0, sizeof request);
-    memcpy(request.ifr_name, wire->name, sizeof request.ifr_name);
-    fd = socket(AF_INET, SOCK_DGRAM | SOCK_CLOEXEC, 0);
-    if (fd < 0 || ioctl(fd, SIOCGIFADDR, &request) != 0) {
-        if (fd >= 0)
-            close(fd);
-        return;
-    }
-    memcpy(&address, &request.ifr_addr, sizeof address);
-    memcpy(lister->tool.address, &address.sin_addr, sizeof lister->tool.address);
-    lister->has_address = 1;
-    /* The socket stays open while the program runs: the kernel must not answer that nobody receives at the port. Nothing is read from it. */
-    address.sin_port = htons(PORT_CALLS);
-    if (bind(fd, (struct sockaddr *)&address, sizeof address) != 0)
-        close(fd); /* another program has the port: then the kernel does not answer either */
-}
 
 /* --- Who is there --- */
 
@@ -100,51 +62,34 @@ static int has_address(const pn_target *target)
 }
 
 /* Asks a station for a record of its ports. */
-static void ask(const struct lister *lister, struct wire *wire, struct station *station, uint16_t subslot, uint16_t index)
+static void ask(const struct caller *caller, struct wire *wire, struct station *station, const struct access *access)
 {
-    if (getrandom(station->activity, sizeof station->activity, 0) != (ssize_t)sizeof station->activity)
-        fail(STATUS_SYSTEM, "the system gives no random numbers: %s", strerror(errno));
+    caller_make_activity(station->activity);
     station->is_waiting = 1;
-    loop_must(pn_tool_ask_record(&lister->tool, &station->target, station->activity, &op, 0, subslot, index), "pn_tool_ask_record");
-    wire_send(wire, op.octets, op.length);
+    caller_ask(caller, wire, &station->target, station->activity, access);
 }
 
-/* Notes an answer, which is in the operation. */
-static void note(struct station *station)
+/* Notes an answer. */
+static void note(struct station *station, const struct access_answer *answer)
 {
-    uint8_t status[4] = {(uint8_t)(op.units >> 24), (uint8_t)(op.units >> 16), (uint8_t)(op.units >> 8), (uint8_t)op.units};
     char words[STATUSES_LONGEST + 32];
     station->is_waiting = 0;
-    if (op.units != 0) {
-        reasons_status(status, words, sizeof words);
+    if (answer->is_refused) {
+        reasons_status(answer->status, words, sizeof words);
         snprintf(station->words, sizeof station->words, "  ports refused: %s", words);
         return;
     }
-    station->is_done = ports_words(op.octets, op.length, station->words, sizeof station->words) && station->words[0] != '\0';
+    station->is_done = ports_words(answer->octets, answer->length, station->words, sizeof station->words) && station->words[0] != '\0';
     if (!station->is_done)
         strcpy(station->words, "  ports unknown: the record is not whole, or has no port");
 }
 
-/* Answers ARP for the tool's address. */
-static void serve(const struct lister *lister, struct wire *wire, size_t size)
+static void hear(const struct caller *caller, unsigned count, size_t size)
 {
-    if (lister->services == NULL || !wire_is_service(octets, size))
-        return;
-    loop_must(pn_controller_frame(lister->services, &op, octets, size), "pn_controller_frame");
-    for (;;) {
-        loop_must(pn_controller_next(lister->services, &op), "pn_controller_next");
-        if (op.work != PN_SEND)
-            return;
-        if (wire_is_service(op.octets, op.length))
-            wire_send(wire, op.octets, op.length);
-    }
-}
-
-static void hear(const struct lister *lister, unsigned count, size_t size)
-{
+    struct access_answer answer;
     for (unsigned i = 0; i < count; i++)
-        if (stations[i].is_waiting && pn_tool_record_in(&lister->tool, stations[i].activity, &op, octets, size) == PN_OK) {
-            note(&stations[i]);
+        if (stations[i].is_waiting && caller_hear(caller, stations[i].activity, octets, size, &answer)) {
+            note(&stations[i], &answer);
             return;
         }
 }
@@ -158,7 +103,7 @@ static unsigned waiting(unsigned count)
 }
 
 /* Asks each station whose ports are not known, twice in a second. */
-static void read_all(const struct lister *lister, struct wire *wire, unsigned count, uint16_t subslot, uint16_t index)
+static void read_all(const struct caller *caller, struct wire *wire, unsigned count, const struct access *access)
 {
     size_t size;
     for (unsigned i = 0; i < count; i++)
@@ -167,10 +112,10 @@ static void read_all(const struct lister *lister, struct wire *wire, unsigned co
         uint64_t until = ticker_now() + SECOND / 2;
         for (unsigned i = 0; i < count; i++)
             if (!stations[i].is_done && has_address(&stations[i].target) && (times == 0 || stations[i].is_waiting))
-                ask(lister, wire, &stations[i], subslot, index);
+                ask(caller, wire, &stations[i], access);
         while (waiting(count) != 0 && wire_wait(wire, until, octets, &size)) {
-            serve(lister, wire, size);
-            hear(lister, count, size);
+            caller_serve(caller, wire, octets, size);
+            hear(caller, count, size);
         }
     }
     for (unsigned i = 0; i < count; i++)
@@ -178,12 +123,13 @@ static void read_all(const struct lister *lister, struct wire *wire, unsigned co
             strcpy(stations[i].words, "  ports unknown: no answer to the read");
 }
 
-unsigned listing_print(const struct lister *lister, struct wire *wire)
+unsigned listing_print(const struct caller *caller, struct wire *wire)
 {
+    static const struct access all = {.index = INDEX_ALL}, port = {.subslot = SUBSLOT_PORT, .index = INDEX_PORT};
     unsigned found = find_all(wire), count = found < STATIONS ? found : STATIONS;
-    if (lister->has_address) {
-        read_all(lister, wire, count, 0, INDEX_ALL);
-        read_all(lister, wire, count, SUBSLOT_PORT, INDEX_PORT);
+    if (caller->has_address) {
+        read_all(caller, wire, count, &all);
+        read_all(caller, wire, count, &port);
     }
     for (unsigned i = 0; i < count; i++)
         printf("%s%s\n", stations[i].line, stations[i].words);

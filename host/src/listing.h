@@ -3,20 +3,9 @@
 #ifndef HOST_LISTING_H
 #define HOST_LISTING_H
 
-#include "nandutable_controller.h"
-#include "wire.h"
-
-/* Who asks. */
-struct lister {
-    pn_tool tool;
-    int has_address;          /* the tool has an address from which it can read records */
-    pn_controller *services;  /* answers ARP for that address, or NULL: the kernel does */
-};
-
-/* Takes the address of the interface as the tool's, if the interface has one. */
-void listing_take_address(struct lister *lister, const struct wire *wire);
+#include "caller.h"
 
 /* Prints a line for each station that answers. Returns their number. */
-unsigned listing_print(const struct lister *lister, struct wire *wire);
+unsigned listing_print(const struct caller *caller, struct wire *wire);
 
 #endif

@@ -82,6 +82,9 @@ static void read_station(const uint8_t *octets, size_t length, struct naming_sta
     const uint8_t *ids = value_of(octets, length, 2, 3, &ids_size), *suite = value_of(octets, length, 1, 2, &suite_size), *mac = octets + 6;
     memset(station, 0, sizeof *station);
     memcpy(station->mac, mac, sizeof station->mac);
+    station->name_length = name_size < sizeof station->name ? name_size : sizeof station->name;
+    if (name_at != NULL)
+        memcpy(station->name, name_at, station->name_length);
     words_show_text(name, sizeof name, name_at, name_size);
     words_show_text(type, sizeof type, type_at, type_size);
     append(station->line, "%02x:%02x:%02x:%02x:%02x:%02x  name '%s'  type '%s'", mac[0], mac[1], mac[2], mac[3], mac[4], mac[5], name, type);
@@ -110,6 +113,19 @@ void naming_ask_all(struct wire *wire)
 {
     static const uint8_t all[] = {0xFF, 0xFF, 0, 0};
     send_identify(wire, wire->hardware, all, sizeof all);
+}
+
+/* Sends an Identify for this name. */
+static void ask_named(struct wire *wire, const uint8_t source[6], const uint8_t *name, size_t length)
+{
+    uint8_t block[4 + 240] = {2, 2, 0, (uint8_t)length};
+    memcpy(block + 4, name, length);
+    send_identify(wire, source, block, 4 + length + length % 2);
+}
+
+void naming_ask_named(struct wire *wire, const uint8_t *name, size_t length)
+{
+    ask_named(wire, wire->hardware, name, length);
 }
 
 int naming_next_station(struct wire *wire, uint64_t until, struct naming_station *station)
@@ -170,14 +186,12 @@ int naming_is_another(struct holders *holders, const uint8_t *octets)
 int naming_find(struct wire *wire, const uint8_t source[6], const uint8_t *name, size_t length, const uint8_t except[6], uint8_t found[6])
 {
     static uint8_t octets[WIRE_FRAME];
-    uint8_t block[4 + 240] = {2, 2, 0, (uint8_t)length};
     size_t size;
     if (length > 240)
         return 0;
-    memcpy(block + 4, name, length);
     for (int times = 0; times < 2; times++) {
         uint64_t until = ticker_now() + SECOND / 2;
-        send_identify(wire, source, block, 4 + length + length % 2);
+        ask_named(wire, source, name, length);
         while (next_answer(wire, FRAME_IDENTIFIED, SERVICE_IDENTIFY, until, octets, &size))
             if (naming_has_name(octets, size, name, length) && memcmp(octets + 6, except, 6) != 0) {
                 memcpy(found, octets + 6, 6);

@@ -10,6 +10,8 @@
 struct naming_station {
     char line[NAMING_LINE]; /* what it says of itself, for --list */
     uint8_t mac[6];
+    uint8_t name[240]; /* NameOfStation */
+    size_t name_length;
     uint8_t address[4]; /* zeros if it has none */
     uint16_t vendor_id;
     uint16_t device_id;
@@ -17,6 +19,9 @@ struct naming_station {
 
 /* Asks all stations who they are. */
 void naming_ask_all(struct wire *wire);
+
+/* Asks the stations with this name, at most 240 octets, who they are. */
+void naming_ask_named(struct wire *wire, const uint8_t *name, size_t length);
 
 /* Waits until a time of the clock for the next one that answers. Returns whether one did. */
 int naming_next_station(struct wire *wire, uint64_t until, struct naming_station *station);

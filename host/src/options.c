@@ -36,7 +36,7 @@ static void take_shared(struct shared_options *shared, int option, const char *w
     case 'g': shared->socket_group = word; return;
     case 'p': take_period(shared, word); return;
     case 'r': take_realtime(shared, word); return;
-    default: fail(STATUS_SOFTWARE, "an option is listed, and nobody takes it");
+    default: fail(STATUS_SOFTWARE, "an option is listed and not handled");
     }
 }
 

@@ -6,6 +6,9 @@
 #include "nandutable_controller.h"
 #include "wire.h"
 
+/* The longest such name, in octets. */
+#define PLACE_LONGEST 511
+
 /* Asks for a second which stations answer to this name by the place. */
 void place_find(struct wire *wire, const pn_tool *tool, const char *place, pn_search *search);
 

@@ -11,7 +11,7 @@
 #define PORT 12u     /* header, padding, slot and subslot */
 
 /* After the names of a neighbour: LineDelay, its MAC address, and padding. */
-#define BEHIND_NAMES 12u
+#define AFTER_NAMES 12u
 
 /* Words that are written one after another. */
 struct words {
@@ -33,7 +33,7 @@ static void append(struct words *words, const char *more)
         strcpy(words->text + length, more);
 }
 
-/* Reads a name at a place of a block, and moves the place behind it. Returns whether it is whole. */
+/* Reads a name at a place of a block, and moves the place to the octet after it. Returns whether it is whole. */
 static int read_name(const uint8_t *block, size_t size, size_t *at, struct name *name)
 {
     if (*at >= size || block[*at] >= size - *at)
@@ -68,7 +68,7 @@ static int read_peers(const uint8_t *block, size_t size, size_t at, const struct
     for (; count > 0; count--) {
         if (!read_name(block, size, &at, &peer_port) || !read_name(block, size, &at, &peer))
             return 0;
-        at = aligned(at) + BEHIND_NAMES;
+        at = aligned(at) + AFTER_NAMES;
         if (at > size)
             return 0;
         show_peer(words, port, &peer_port, &peer);

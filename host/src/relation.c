@@ -212,14 +212,8 @@ static void look_at_alarm(struct relation *relation, int is_low)
     alarms_line(&alarm, text, sizeof text);
     lines_tell(&relation->loop->lines, "%s", text);
     if (alarms_wants_parameters(alarm.type))
-        lines_tell(&relation->loop->lines, "warning slot %u subslot %u: it gets its parameters again when the relation is started again: line restart",
+        lines_tell(&relation->loop->lines, "warning: slot %u subslot %u: it gets its parameters again when the relation is started again: line restart",
                    alarm.slot, alarm.subslot);
-}
-
-static void spell_status(uint8_t status[4], uint32_t value)
-{
-    for (int i = 0; i < 4; i++)
-        status[i] = (uint8_t)(value >> (24 - 8 * i));
 }
 
 /* Whether the device refused a record of a list, and the start-up ended by that: then the response itself has no error. */
@@ -229,7 +223,7 @@ static int is_of_list(struct relation *relation, uint32_t *place, uint8_t status
     if (relation->plan.multiple_write == 0 || pn_controller_refused_record(&relation->room, &relation->op, place, &value) != PN_OK ||
         *place + 1 == relation->refused || *place >= relation->plan.record_count)
         return 0;
-    spell_status(status, value);
+    access_spell(status, value);
     return 1;
 }
 
@@ -294,7 +288,7 @@ static void look_at_names(struct relation *relation, const uint8_t *octets, size
     const pn_plan *plan = &relation->plan;
     char first[WORDS_MAC], other[WORDS_MAC];
     if (naming_has_name(octets, length, plan->name, plan->name_length) && naming_is_another(&relation->holders, octets))
-        lines_tell(&relation->loop->lines, "warning two stations '%.*s': %s, %s", (int)plan->name_length, (const char *)plan->name,
+        lines_tell(&relation->loop->lines, "warning: two stations '%.*s': %s, %s", (int)plan->name_length, (const char *)plan->name,
                    words_show_mac(first, relation->holders.list[0]), words_show_mac(other, octets + 6));
 }
 
@@ -318,7 +312,7 @@ static void look_at_refused(struct relation *relation)
         return;
     relation->refused = place + 1;
     record = &relation->plan.records[place];
-    spell_status(status, value);
+    access_spell(status, value);
     reasons_record(&relation->plan, place, call, sizeof call);
     reasons_status(status, words, sizeof words);
     lines_tell(&relation->loop->lines, "refused record %u %u %u: %s, %s", record->slot, record->subslot, record->index, call, words);
@@ -433,14 +427,14 @@ int relation_is_changed(struct relation *relation)
     return 1;
 }
 
-/* Reports what the device says of modules that are not as the plan expects them, and that it accepts all the same. */
+/* Reports what the device says of modules that are not as the plan expects them, but that it accepts. */
 static void tell_differences(struct relation *relation)
 {
     struct differences *differences = &relation->reasons.differences;
     char words[DIFFERENCES_LONGEST];
     for (unsigned i = 0; i < differences->count; i++) {
         differences_words(&differences->list[i], &relation->plan, words, sizeof words);
-        lines_tell(&relation->loop->lines, "warning %s", words);
+        lines_tell(&relation->loop->lines, "warning: %s", words);
     }
     differences->count = 0;
 }
@@ -510,13 +504,13 @@ int relation_request(struct relation *relation, const struct access *access, con
     return answer == PN_OK;
 }
 
-int relation_answer(struct relation *relation, struct relation_answer *answer)
+int relation_answer(struct relation *relation, struct access_answer *answer)
 {
     pn_op *op = &relation->op;
     uint32_t status = 0;
     if (pn_controller_answer(&relation->room, op, &status) != PN_OK)
         return 0;
-    spell_status(answer->status, status);
+    access_spell(answer->status, status);
     answer->is_refused = status != 0;
     answer->octets = op->octets;
     answer->length = op->length;

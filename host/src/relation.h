@@ -111,16 +111,8 @@ const char *relation_state(const struct relation *relation);
 /* Hands in the request of the application. Returns 0 if the relation has ended in the time before it. */
 int relation_request(struct relation *relation, const struct access *access, const uint8_t *octets, size_t length);
 
-/* The answer to such a request. */
-struct relation_answer {
-    int is_refused;
-    uint8_t status[4]; /* if it is: the PNIOStatus, or the status of a reject or a fault */
-    const uint8_t *octets;
-    size_t length;
-};
-
 /* Fills in the answer to the last request. Returns whether there is one. */
-int relation_answer(struct relation *relation, struct relation_answer *answer);
+int relation_answer(struct relation *relation, struct access_answer *answer);
 
 /* The line `restart`: ends the relation, after which the program starts it again. */
 void relation_restart(struct relation *relation, char *words[]);

@@ -7,6 +7,7 @@ enum {
     STATUS_USAGE = 64,     /* invalid options */
     STATUS_DATA = 65,      /* a file that is not what it should be */
     STATUS_NO_INPUT = 66,  /* no such interface, no such file */
+    STATUS_SILENT = 69,    /* a station does not answer a call, or has no address for it */
     STATUS_SOFTWARE = 70,  /* the library and the program do not fit */
     STATUS_SYSTEM = 71,    /* the system refuses a timer or a socket */
     STATUS_CREATE = 73,    /* a file cannot be made */

@@ -15,7 +15,7 @@ void sets_limit(struct sets *sets, uint32_t limit, uint64_t now)
     sets->filled = now;
 }
 
-static int is_set(const uint8_t *octets, size_t length, const uint8_t mac[6])
+int sets_is_set(const uint8_t *octets, size_t length, const uint8_t mac[6])
 {
     size_t at = wire_frame_id_at(octets, length);
     return at != 0 && length >= at + 4 && wire_frame_id(octets, length) == FRAME_SET && octets[at + 2] == SERVICE_SET && octets[at + 3] == REQUEST &&
@@ -35,7 +35,7 @@ static void fill(struct sets *sets, uint64_t now)
 
 int sets_let_in(struct sets *sets, const uint8_t *octets, size_t length, const uint8_t mac[6], uint64_t now)
 {
-    if (sets->limit == 0 || !is_set(octets, length, mac))
+    if (sets->limit == 0 || !sets_is_set(octets, length, mac))
         return 1;
     fill(sets, now);
     if (sets->room < SETS_PART) {

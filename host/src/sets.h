@@ -18,6 +18,9 @@ struct sets {
 /* Sets a limit, 0 for no limit. At first there is room for the Sets of one second. */
 void sets_limit(struct sets *sets, uint32_t limit, uint64_t now);
 
+/* Whether a frame is a Set to this MAC address. */
+int sets_is_set(const uint8_t *octets, size_t length, const uint8_t mac[6]);
+
 /* Whether to hand a received frame to the device. Every frame is handed in except a Set to this MAC address beyond the limit; that one is
  * counted and dropped as if the network had lost it. */
 int sets_let_in(struct sets *sets, const uint8_t *octets, size_t length, const uint8_t mac[6], uint64_t now);

@@ -63,8 +63,8 @@ int words_mac(const char *word, uint8_t mac[6])
         return 0;
     for (int i = 0; i < 6; i++) {
         int high = digit(word[3 * i]), low = digit(word[3 * i + 1]);
-        char behind = word[3 * i + 2];
-        if (high < 0 || low < 0 || (i < 5 && behind != ':' && behind != '-'))
+        char next = word[3 * i + 2];
+        if (high < 0 || low < 0 || (i < 5 && next != ':' && next != '-'))
             return 0;
         mac[i] = (uint8_t)(high << 4 | low);
     }

@@ -283,6 +283,31 @@ static void misuse(void)
     sends("another Identify", 0, "\x01\x0E\xCF\x00\x00\x00", NULL);
 }
 
+/* Its neighbour, by the octets of IEEE 802.1AB: the controller tells the texts and the MAC address of the chassis, until the neighbour says that its
+ * time is over. */
+static void hears_neighbour(void)
+{
+    static const uint8_t head[] = {0x01, 0x80, 0xC2, 0, 0, 0x0E, 2, 0, 0, 0, 0, 0x44, 0x88, 0xCC, 0x02, 9, 7, 's', 'w', 'i', 't', 'c', 'h', '-', 'a',
+                                   0x04, 7, 7, 'p', 'o', 'r', 't', '-', '3', 0x06, 2, 0};
+    static const uint8_t rest[] = {0xFE, 10, 0, 0x0E, 0xCF, 5, 2, 0, 0, 0, 0, 0x55, 0, 0};
+    static const uint8_t mac[] = {2, 0, 0, 0, 0, 0x55};
+    memcpy(octets, head, sizeof head);
+    octets[sizeof head] = 20;
+    memcpy(octets + sizeof head + 1, rest, sizeof rest);
+    keep("a frame of LLDP", pn_controller_frame(&controller, &op, octets, sizeof head + 1 + sizeof rest));
+    memset(&neighbour, 0xEE, sizeof neighbour);
+    wants("a neighbour", pn_controller_neighbour(&controller, &op, &neighbour), PN_OK);
+    if (memcmp(neighbour.mac, mac, sizeof mac) != 0 || neighbour.port_length != 6 || memcmp(neighbour.port, "port-3", 6) != 0 ||
+        neighbour.chassis_length != 8 || memcmp(neighbour.chassis, "switch-a", 8) != 0) {
+        printf("the neighbour is port '%.*s' of '%.*s'\n", (int)neighbour.port_length, (const char *)neighbour.port, (int)neighbour.chassis_length,
+               (const char *)neighbour.chassis);
+        exit(1);
+    }
+    octets[sizeof head] = 0;
+    keep("its last frame", pn_controller_frame(&controller, &op, octets, sizeof head + 1 + sizeof rest));
+    wants("no neighbour after that", pn_controller_neighbour(&controller, &op, &neighbour), PN_NO_SLOT);
+}
+
 /* The calls of a tool without what they need, and with what they refuse. */
 static void misuse_tool(void)
 {
@@ -565,6 +590,7 @@ int main(int words_count, char *words[])
     wants("another plan", pn_plan_make(text, length, sizeof plan - 4, &plan), PN_BAD_ABI);
     wants("the catalogue", pn_plan_read(&plan, text, length), PN_OK);
     misuse();
+    hears_neighbour();
     misuse_tool();
     bend_both(strtoul(words[2], NULL, 10));
     bend_catalogues(length, strtoul(words[2], NULL, 10));

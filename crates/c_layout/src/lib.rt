@@ -11,5 +11,8 @@ pub use number::{
     BAD_STATION, BAD_SUBSLOT, HAS_WORK, NO_FRAME, NO_RECORD, NO_SLOT, PLAN_FAULT, SMALL_ROOM,
     UNKNOWN,
 };
-pub use op::{Op, place_of, put, put_more};
-pub use plugged::{Module, Parameter, Submodule, are_modules, are_parameters, modules};
+pub use op::{Op, pair_of, place_of, put, put_more};
+pub use plugged::{
+    Module, Parameter, Submodule, are_modules, are_parameters, modules, parameters_in,
+    submodules_in,
+};

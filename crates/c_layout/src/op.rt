@@ -37,8 +37,15 @@ pub struct Op {
 pub fn place_of(op: &Op) -> Option<(u16, u16)>
     ensures { result ≡ place_in op.now.slot op.now.subslot }
 {
-    if op.slot < 65536 && op.subslot < 65536 {
-        Some((op.slot as u16, op.subslot as u16))
+    pair_of(op.slot, op.subslot)
+}
+
+/// Two numbers, if both have 16 bits.
+pub fn pair_of(first: u32, second: u32) -> Option<(u16, u16)>
+    ensures { result ≡ place_in first second }
+{
+    if first < 65536 && second < 65536 {
+        Some((first as u16, second as u16))
     } else {
         None
     }

@@ -1,7 +1,7 @@
 //! The modules that are plugged in a station, as they lie in the memory of the host.
 ghost use Rattle.std.specs.Prelude.{◌≡◌, ◌≤◌, true, length, map};
 ghost use Rattle.std.specs.List.{list_all};
-ghost use Rattle.c_layout.specs.Modules.{are_parameters, has_index, is_module, is_parameter, is_submodule, module_of, parameter_of, submodule_of};
+ghost use Rattle.c_layout.specs.Modules.{are_parameters, has_index, is_module, is_parameter, is_submodule, module_of, parameter_of, parameters_in, submodule_of};
 ghost use Rattle.c_layout.specs.Modules.{submodules_in};
 
 use arrayvec::ArrayVec;
@@ -37,34 +37,40 @@ pub struct Module {
     pub submodules: [Submodule; 4],
 }
 
+/// The submodules of a module that are counted.
+pub fn submodules_in(entry: &Module) -> &[Submodule]
+    ensures { result.now ≡ submodules_in entry.now }
+{
+    // A count that is greater than the list can hold counts all of it.
+    &entry.submodules[..usize::from(entry.submodule_count).min(4)]
+}
+
+/// The parameter records of a submodule that are counted.
+pub fn parameters_in(submodule: &Submodule) -> &[Parameter]
+    ensures { result.now ≡ parameters_in submodule.now }
+{
+    &submodule.parameters[..usize::from(submodule.parameter_count).min(2)]
+}
+
 /// Whether no count of these modules is greater than its list can hold.
 pub fn are_modules(modules: &[Module]) -> bool
     ensures { result ≡ list_all is_module modules.now }
 {
-    for entry in modules {
-        if !is_small(entry) {
-            return false;
-        }
-    }
-    true
+    modules.iter().all(|entry| is_small(entry))
 }
 
 fn is_small(entry: &Module) -> bool
     ensures { result ≡ is_module entry.now }
 {
-    entry.submodule_count <= 4
-        && are_submodules(&entry.submodules[..entry.submodule_count as usize])
+    entry.submodule_count <= 4 && are_submodules(submodules_in(entry))
 }
 
 fn are_submodules(submodules: &[Submodule]) -> bool
     ensures { result ≡ list_all is_submodule submodules.now }
 {
-    for submodule in submodules {
-        if submodule.parameter_count > 2 {
-            return false;
-        }
-    }
-    true
+    submodules
+        .iter()
+        .all(|submodule| submodule.parameter_count <= 2)
 }
 
 /// Whether parameter records are in their ranges, each with an index of its own.
@@ -111,7 +117,7 @@ fn plugged(entry: &Module) -> RealModule
     RealModule {
         slot: entry.slot,
         ident: entry.ident,
-        submodules: submodules(&entry.submodules[..entry.submodule_count as usize]),
+        submodules: submodules(submodules_in(entry)),
     }
 }
 
@@ -136,7 +142,7 @@ fn plugged_in(submodule: &Submodule) -> RealSubmodule
         ident: submodule.ident,
         input: submodule.input,
         output: submodule.output,
-        parameters: parameters(&submodule.parameters[..submodule.parameter_count as usize]),
+        parameters: parameters(parameters_in(submodule)),
     }
 }
 

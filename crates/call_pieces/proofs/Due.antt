@@ -3,7 +3,7 @@ use Rattle.std.proofs.Common.{◌≡◌, ◌≢◌, ◌-◌, ◌≤◌, ◌<◌,
 use Rattle.std.specs.Prelude.{min, nat_lt, if◌then◌else◌}
 use Rattle.std.proofs.lemmas.Bool.{cases_lt, eqb-true}
 use Rattle.std.proofs.lemmas.Bool.Decides.{nat_tests}
-use Rattle.services.specs.declared.call.Head.{Head}
+use Rattle.call_headers.specs.declared.call.Head.{Head}
 use Rattle.call_pieces.specs.Piece.{is_same}
 use Rattle.call_pieces.specs.State.{State, Unfinished, holds, is_live, older}
 use Rattle.call_pieces.specs.Leaps.{due_in, soonest, ticks_of}

@@ -6,7 +6,7 @@ use Rattle.std.specs.Option.{option_map}
 use Rattle.std.proofs.lemmas.Bool.{eqb-true}
 use Rattle.std.proofs.lemmas.Bool.Decides.{nat_tests}
 use Rattle.std.proofs.lemmas.List.Elements.{All-map, All-set}
-use Rattle.services.specs.declared.call.Head.{Head}
+use Rattle.call_headers.specs.declared.call.Head.{Head}
 use Rattle.call_pieces.specs.declared.piece.Kind.{Kind}
 use Rattle.call_pieces.specs.Piece.{Piece, is_last, is_same, number_of, piece_of}
 use Rattle.call_pieces.specs.State.{Joined, Waits, State, Unfinished, acknowledged, after_piece, at_place, begun, blank, completes, continued, fack_bytes, fresh, heard, heard_as, holds, is_live, is_next, older, outcome_by, outcome_of, place_of, started, taken, whole_bytes}

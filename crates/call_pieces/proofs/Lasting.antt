@@ -5,7 +5,7 @@ use Rattle.std.specs.List.{All, list_any}
 use Rattle.std.proofs.lemmas.Bool.Decides.{nat_tests}
 use Rattle.std.proofs.lemmas.List.Elements.{All-map, All-set}
 use Rattle.std.proofs.lemmas.List.Folds.{list_any_none}
-use Rattle.services.specs.declared.call.Head.{Head}
+use Rattle.call_headers.specs.declared.call.Head.{Head}
 use Rattle.call_pieces.specs.declared.piece.Kind.{Kind}
 use Rattle.call_pieces.specs.Piece.{Piece, is_last, is_same, number_of, piece_of}
 use Rattle.call_pieces.specs.State.{State, Unfinished, after_piece, at_place, begun, blank, continued, fresh, heard, holds, is_live, is_next, older, place_of, taken, ticked}

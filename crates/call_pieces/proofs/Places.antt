@@ -5,7 +5,7 @@ use Rattle.std.specs.List.{All, position_or_len}
 use Rattle.std.proofs.lemmas.Bool.{ltb-true, ltb-false}
 use Rattle.std.proofs.lemmas.List.{length-set, length-map}
 use Rattle.std.proofs.lemmas.List.Sums.{position_or_len_is}
-use Rattle.services.specs.declared.call.Head.{Head}
+use Rattle.call_headers.specs.declared.call.Head.{Head}
 use Rattle.call_pieces.specs.Piece.{Piece, is_last, number_of}
 use Rattle.call_pieces.specs.State.{State, Unfinished, after_piece, begun, blank, continued, fresh, holds, is_next, is_of, oldest, oldest_from, older, place_of, ticked}
 

@@ -2,12 +2,12 @@
 use Rattle.std.proofs.Common.{◌≡◌, ◌+◌, ◌*◌, ◌/◌, ◌<◌, ◌≤◌, ◌&&◌, ℕ, Bool, true, false, List, [], ◌++◌, length, take, drop, Some, Ok, refl, sym, ap, subst, ◌∙◌, arith}
 use Rattle.std.proofs.lemmas.Bool.{eq-eqb, le-leb, lt-ltb, ne_eqb}
 use Rattle.std.proofs.lemmas.List.{length-take, length-drop, take_all}
-use Rattle.services.specs.declared.call.Head.{Head}
-use Rattle.services.specs.declared.call.Opening.{Opening}
-use Rattle.services.specs.declared.call.Names.{Names}
-use Rattle.services.specs.declared.call.Turn.{Turn}
-use Rattle.services.specs.declared.call.Extent.{Extent}
-use Rattle.services.specs.Call.{extent, head, in_order, is_little, names, opening, turn}
+use Rattle.call_headers.specs.declared.call.Head.{Head}
+use Rattle.call_headers.specs.declared.call.Opening.{Opening}
+use Rattle.call_headers.specs.declared.call.Names.{Names}
+use Rattle.call_headers.specs.declared.call.Turn.{Turn}
+use Rattle.call_headers.specs.declared.call.Extent.{Extent}
+use Rattle.call_headers.specs.Call.{extent, head, in_order, is_little, names, opening, turn}
 use Rattle.call_pieces.specs.declared.piece.Kind.{Kind}
 use Rattle.call_pieces.specs.declared.piece.Kind.TheVariants.{Calls, Answers}
 use Rattle.call_pieces.specs.Piece.{is_concerned, is_fragment, is_last, is_piece, packet_type_of, piece_by, piece_of}

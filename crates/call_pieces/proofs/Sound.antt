@@ -11,8 +11,8 @@ use Rattle.wire.proofs.Handled.{fixed_sound}
 use Rattle.rpc_core.specs.declared.fault.RpcFault.{RpcFault}
 use Rattle.rpc_core.specs.declared.fault.RpcFault.TheVariants.{Short, Version}
 use Rattle.rpc_core.specs.Fields.{one, little, any}
-use Rattle.services.specs.declared.call.Opening.{Opening}
-use Rattle.services.specs.Call.{is_little, in_order, opening, names, turn, extent, head}
+use Rattle.call_headers.specs.declared.call.Opening.{Opening}
+use Rattle.call_headers.specs.Call.{is_little, in_order, opening, names, turn, extent, head}
 
 little_sound : (size : ℕ) → IsSound (little size)
 little_sound size = let sound = raw_sound Short size in record {

@@ -9,8 +9,8 @@ use Rattle.std.proofs.lemmas.Bool.{eq-eqb, eqb-true, le-leb, lt-ltb, ltb-true, l
 use Rattle.std.proofs.lemmas.List.{get_or-map, get_or-set_other, get_or-set_same, length-set, length-take, set-get_or, take_all}
 use Rattle.std.proofs.lemmas.List.Folds.{list_any_at}
 use Rattle.std.proofs.lemmas.List.Sums.{fails_before_first, position_or_len_is}
-use Rattle.services.specs.declared.call.Head.{Head}
-use Rattle.services.specs.Call.{head}
+use Rattle.call_headers.specs.declared.call.Head.{Head}
+use Rattle.call_headers.specs.Call.{head}
 use Rattle.call_pieces.specs.Piece.{Piece, is_activity, is_last, is_same, piece_of}
 use Rattle.call_pieces.specs.State.{Joined, State, Unfinished, Waits, acknowledged, after_piece, at_place, begun, blank, completes, continued, fack_bytes, fresh, heard, heard_as, holds, is_live, is_next, is_of, oldest, older, outcome_by, outcome_of, place_of, taken, ticked, whole_bytes}
 use Rattle.call_pieces.specs.Split.{IsSendable, carried, is_final, piece_bytes, piece_head, piece_in, pieces_in, whole_of}

@@ -4,9 +4,9 @@ use Rattle.std.specs.Cmp.Lexicographic.{pointwise}
 use Rattle.rpc_core.specs.declared.fault.RpcFault.{RpcFault}
 use Rattle.rpc_core.specs.declared.interface.Interface.TheVariants.{Device}
 use Rattle.rpc_core.specs.Interface.{interface_uuid}
-use Rattle.services.specs.declared.call.Head.{Head}
-use Rattle.services.specs.Call.{head}
-use Rattle.services.specs.Unserved.{names_interface}
+use Rattle.call_headers.specs.declared.call.Head.{Head}
+use Rattle.call_headers.specs.Call.{head}
+use Rattle.call_headers.specs.Unserved.{names_interface}
 use Rattle.call_pieces.specs.declared.piece.Kind.{Kind}
 use Rattle.call_pieces.specs.declared.piece.Kind.TheVariants.{Calls, Answers}
 

@@ -1,7 +1,7 @@
 -- The joiner over any list of events.
 use Rattle.std.specs.Prelude.{◌≡◌, ◌+◌, ◌==◌, ◌&&◌, ◌<◌, ◌≤◌, not, ℕ, zero, suc, Bool, true, false, List, [], ◌∷◌, ◌++◌, ◌⊎◌, length, Option, Some, None, if◌then◌else◌}
 use Rattle.std.specs.List.{list_any}
-use Rattle.services.specs.declared.call.Head.{Head}
+use Rattle.call_headers.specs.declared.call.Head.{Head}
 use Rattle.call_pieces.specs.declared.piece.Kind.{Kind}
 use Rattle.call_pieces.specs.Piece.{Piece, is_last, is_same, number_of, piece_of}
 use Rattle.call_pieces.specs.State.{State, heard, holds, started, ticked, whole_bytes}

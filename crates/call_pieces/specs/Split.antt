@@ -1,7 +1,7 @@
 -- The fragments of a call or an answer (C706, 12.5.2.3).
 use Rattle.std.specs.Prelude.{◌+◌, ◌*◌, ◌/◌, ◌<◌, ◌≡◌, ◌==◌, ℕ, Bool, true, false, List, [], ◌++◌, length, take, drop}
-use Rattle.services.specs.declared.call.Head.{Head}
-use Rattle.services.specs.Call.{head}
+use Rattle.call_headers.specs.declared.call.Head.{Head}
+use Rattle.call_headers.specs.Call.{head}
 use Rattle.call_pieces.specs.declared.piece.Kind.{Kind}
 use Rattle.call_pieces.specs.Piece.{Piece, is_concerned, packet_type_of, serial_of}
 

@@ -2,9 +2,9 @@
 use Rattle.std.specs.Prelude.{◌/◌, ◌*◌, ◌+◌, ◌-◌, ◌==◌, ◌&&◌, not, ℕ, Bool, nat_le, nat_lt, List, [], ◌∷◌, ◌++◌, length, map, replicate, Option, Some, None, get_or, slice_set, if◌then◌else◌}
 use Rattle.std.specs.List.{position_or_len}
 use Rattle.std.specs.Option.{option_map}
-use Rattle.services.specs.declared.call.Head.{Head}
-use Rattle.services.specs.Call.{head, in_order, is_little}
-use Rattle.services.specs.Unserved.{answer_head}
+use Rattle.call_headers.specs.declared.call.Head.{Head}
+use Rattle.call_headers.specs.Call.{head, in_order, is_little}
+use Rattle.call_headers.specs.Unserved.{answer_head}
 use Rattle.call_pieces.specs.declared.piece.Kind.{Kind}
 use Rattle.call_pieces.specs.Piece.{Piece, asks, is_activity, is_last, is_same, number_of, piece_of}
 

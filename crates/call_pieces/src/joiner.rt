@@ -7,7 +7,7 @@ use crate::acknowledgement::{Acknowledgement, acknowledgement};
 use crate::piece::{Kind, Piece};
 use crate::unfinished::{LIFETIME, Unfinished};
 use arrayvec::ArrayVec;
-use services::Head;
+use call_headers::Head;
 use std::marker::Model;
 
 /// The longest body of a call or of an answer that is joined: five words, a header of 64 octets, and a record of 4,068 octets.

@@ -2,8 +2,8 @@
 ghost use Rattle.std.specs.Prelude.{◌≡◌, ◌≢◌, ◌+◌, ◌<◌, ◌≤◌, ℕ, Bool, List, length, map, Some, false};
 ghost use Rattle.std.specs.List.{All, list_any};
 ghost use Rattle.wire.specs.Codec.{IsSound};
-ghost use Rattle.services.specs.declared.call.Head.{Head};
-ghost use Rattle.services.specs.Call.{head};
+ghost use Rattle.call_headers.specs.declared.call.Head.{Head};
+ghost use Rattle.call_headers.specs.Call.{head};
 ghost use Rattle.call_pieces.specs.declared.piece.Kind.{Kind};
 ghost use Rattle.call_pieces.specs.Piece.{piece_of};
 ghost use Rattle.call_pieces.specs.State.{Joined, State, heard_as, holds, is_live};

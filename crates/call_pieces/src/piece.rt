@@ -4,8 +4,8 @@ ghost use Rattle.std.specs.Option.{option_map};
 ghost use Rattle.call_pieces.specs.Piece.{asks as asks_by, is_activity as is_activity_by, is_concerned as is_concerned_by, is_fragment as is_fragment_by, is_last as is_last_by, is_piece as is_piece_by, is_same as is_same_by, packet_type_of, piece_of, serial_of};
 ghost use Rattle.call_pieces.specs.Views.{piece_as};
 
+use call_headers::{Head, head_at, is_little, sent_uuid};
 use rpc_core::Interface;
-use services::{Head, head_at, is_little, sent_uuid};
 use wire::at_most;
 
 /// What is joined of fragments.

@@ -2,8 +2,8 @@
 ghost use Rattle.std.specs.Prelude.{◌≡◌, ◌+◌, ◌-◌, ◌*◌, ◌<◌, ◌≤◌, ◌==◌, [], length};
 ghost use Rattle.call_pieces.specs.Split.{carried as carried_by, flags_asking as flags_asking_by, flags_with as flags_with_by, piece_bytes, piece_head as piece_head_by, pieces_in as pieces_by};
 
+use call_headers::{Extent, Head, Opening, put_head};
 use rpc_core::Datagram;
-use services::{Extent, Head, Opening, put_head};
 use wire::{append, at_most, skip};
 
 /// How many octets of a body each fragment but the last one carries. It is a multiple of 8, as C706 wants it of each but the last.

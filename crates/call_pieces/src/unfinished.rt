@@ -6,7 +6,7 @@ ghost use Rattle.call_pieces.specs.Views.{piece_as};
 use crate::joiner::{LONGEST, WholeCall};
 use crate::piece::{Piece, is_activity, is_same};
 use arrayvec::ArrayVec;
-use services::{Extent, Head, Names, Opening, Turn, put_head};
+use call_headers::{Extent, Head, Names, Opening, Turn, put_head};
 use std::marker::Model;
 use wire::append;
 

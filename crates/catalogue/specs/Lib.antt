@@ -1,10 +1,7 @@
 pub mod AccessPoints
 pub mod Catalogues
 pub mod Kept
-pub mod Keys
 pub mod Modules
-pub mod Placed
 pub mod Projects
-pub mod Reader
 pub mod Slots
 pub mod Submodules

@@ -1,14 +1,14 @@
 //! The device access point: what the device is, and which modules may be in which slots.
 ghost use Rattle.std.specs.Prelude.{◌≡◌, List, string_bytes};
 ghost use Rattle.serde_json.specs.View.{view, items_view};
-ghost use Rattle.catalogue.specs.Placed.{bare};
-ghost use Rattle.catalogue.specs.Reader.{Reads, number, whole};
+ghost use Rattle.catalogue_keys.specs.Reader.{Reads};
 ghost use Rattle.catalogue.specs.AccessPoints.{AccessPoint, Reference, slots_in, slots_at, reference, access_point};
 
-use crate::entry::{Entry, each_of, list};
+use crate::SubmoduleTable;
 use crate::submodules::submodules_at;
-use crate::tree::{flag_at, items_at, long_at, number_in, string, whole};
-use crate::{Key, PlacedFault, Step, SubmoduleTable};
+use catalogue_keys::{
+    Entry, Key, PlacedFault, Step, each_of, flag_at, items_at, list, long_at, string,
+};
 use serde_json::Value;
 use std::alloc::Global;
 use std::marker::Model;
@@ -60,38 +60,6 @@ impl Model for AccessPoint {
       references = item.references.items;
       multiple_write = item.multiple_write;
     } };
-}
-
-impl Entry<()> for u16 {
-    ghost reader = { λ _ _ tree. bare (number 0 32767 tree) };
-
-    fn read(
-        _alloc: Global,
-        _context: &(),
-        _before: &[u16],
-        tree: &Value,
-    ) -> Result<u16, PlacedFault> {
-        match number_in(tree, 0, 32_767) {
-            Ok(slot) => Ok(slot as u16),
-            Err(fault) => Err(PlacedFault::here(fault)),
-        }
-    }
-}
-
-impl Entry<()> for u64 {
-    ghost reader = { λ _ _ tree. bare (whole tree) };
-
-    fn read(
-        _alloc: Global,
-        _context: &(),
-        _before: &[u64],
-        tree: &Value,
-    ) -> Result<u64, PlacedFault> {
-        match whole(tree) {
-            Ok(slot) => Ok(slot),
-            Err(fault) => Err(PlacedFault::here(fault)),
-        }
-    }
 }
 
 /// The slot numbers that these values are. An entry that is not a whole number is reported before one that is out of its range.

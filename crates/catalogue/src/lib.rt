@@ -3,21 +3,16 @@
 
 mod access_point;
 mod catalogue;
-mod entry;
-mod fault;
-mod key;
 mod module;
 mod parameters;
 mod project;
 mod slot;
 mod submodule;
 mod submodules;
-mod tree;
 
 pub use access_point::{AccessPoint, ModuleReference};
 pub use catalogue::{Catalogue, DeviceIdentity, read, read_tree};
-pub use fault::{CatalogueFault, PlacedFault, Step};
-pub use key::Key;
+pub use catalogue_keys::{CatalogueFault, Key, PlacedFault, Step};
 pub use module::ModuleItem;
 pub use parameters::ParameterTable;
 pub use project::{ControllerItem, Project, StationItem};

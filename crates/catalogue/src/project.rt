@@ -2,14 +2,15 @@
 ghost use Rattle.std.specs.Prelude.{◌≡◌, List, string_bytes};
 ghost use Rattle.wire.specs.Codec.{Gives};
 ghost use Rattle.serde_json.specs.View.{view};
-ghost use Rattle.catalogue.specs.Reader.{Reads};
+ghost use Rattle.catalogue_keys.specs.Reader.{Reads};
 ghost use Rattle.catalogue.specs.Modules.{Module};
 ghost use Rattle.catalogue.specs.Projects.{Station, Controller, Project, station, controller, controller_in, reduction, project};
 
-use crate::entry::list;
+use crate::SlotItem;
 use crate::module::ModuleTable;
-use crate::tree::{flag_at, member_at, string, word_at};
-use crate::{CatalogueFault, Key, PlacedFault, SlotItem, Step};
+use catalogue_keys::{
+    CatalogueFault, Key, PlacedFault, Step, flag_at, list, member_at, string, word_at,
+};
 use serde_json::Value;
 use std::alloc::Global;
 use std::marker::Model;

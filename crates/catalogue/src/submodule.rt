@@ -5,8 +5,8 @@ ghost use Rattle.serde_json.specs.View.{view, items_view};
 ghost use Rattle.catalogue.specs.Submodules.{Submodule, is_octet_type, is_word_type, is_long_type, size_of_type, item_of_type, data_item, octets_in};
 ghost use Rattle.catalogue.specs.Submodules.{octets_at, io_in, io_of};
 
-use crate::tree::{items_at, text, word_at};
-use crate::{CatalogueFault, Key, ParameterTable, PlacedFault, Step};
+use crate::ParameterTable;
+use catalogue_keys::{CatalogueFault, Key, PlacedFault, Step, items_at, text, word_at};
 use serde_json::Value;
 use std::marker::Model;
 

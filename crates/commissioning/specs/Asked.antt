@@ -5,6 +5,7 @@ use Rattle.dcp_core.specs.declared.kind.Kind.TheVariants.{AliasName, NameOfStati
 use Rattle.dcp_core.specs.declared.request.Service.TheVariants.{Identify, Set}
 use Rattle.dcp_core.specs.Format.{frame_id_of}
 use Rattle.dcp_core.specs.Reading.{request_of}
+use Rattle.dcp_core.specs.Writing.{request_bytes}
 use Rattle.dcp_core.specs.Request.{Asked}
 use Rattle.frame_codec.specs.Frame.{frame_of}
 use Rattle.frame_codec.specs.Meaning.{RealTime}
@@ -30,8 +31,11 @@ pub record IsCarried (source destination : Mac) (frame_id : ℕ) (octets frame :
   pub behind : List ℕ
   pub read : frame_of frame ≡ Ok (record { destination = destination; source = source; tag = None; content = RealTime frame_id (octets ++ behind) })
 
--- A station reads this frame as this request of that station to this one.
+-- A station reads this frame as this request of that station to this one. Its octets are those of the request, among them
+-- ResponseDelay: 1 in an Identify, and 0 in a Set.
 pub record IsHeardAs (frame : List ℕ) (source destination : Mac) (asked : Asked) : Type 0 where
   pub body : List ℕ
+  pub behind : List ℕ
+  pub octets : body ≡ request_bytes asked ++ behind
   pub read : frame_of frame ≡ Ok (record { destination = destination; source = source; tag = None; content = RealTime (frame_id_of asked.service) body })
   pub asks : request_of (frame_id_of asked.service) body ≡ Ok asked

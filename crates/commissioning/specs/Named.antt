@@ -40,17 +40,17 @@ is_set Identify = false
 abbrev pub is_renamed : Answered → Bool
 is_renamed answer = is_set answer.service && answer.xid == xid
 
--- The BlockError that a block tells; a block with a value tells none.
+-- The BlockError that a block reports. A block with a value reports none.
 abbrev pub error_of_block : AnsweredBlock → Option ℕ
 error_of_block (reported kind info value) = None
 error_of_block (came_out kind outcome) = Some (number_of outcome)
 
--- What a block tells, else what those behind it tell.
+-- The BlockError of a block, or that of the blocks after it if it reports none.
 abbrev pub told_first : Option ℕ → ℕ → ℕ
-told_first (Some error) behind = error
-told_first None behind = behind
+told_first (Some error) rest = error
+told_first None rest = rest
 
--- The first BlockError; 1, as for an option that is not supported, if no block tells one.
+-- The first BlockError; 1, as for an option that is not supported, if no block reports one.
 abbrev pub error_in : List AnsweredBlock → ℕ
 error_in [] = 1
 error_in (block ∷ blocks) = told_first (error_of_block block) (error_in blocks)

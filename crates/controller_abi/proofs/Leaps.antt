@@ -4,12 +4,12 @@ use Rattle.std.specs.Prelude.{◌||◌, ◌&&◌, not}
 use Rattle.cyclic_exchange.specs.Units.{Brought}
 use Rattle.pn_alarms.specs.declared.repeats.Due.{Due}
 use Rattle.pn_alarms.specs.Sending.{due}
-use Rattle.controller_core.specs.declared.event.Event.TheVariants.{Tick}
-use Rattle.controller_core.specs.declared.state.State as phase
+use Rattle.controller_state.specs.declared.event.Event.TheVariants.{Tick}
+use Rattle.controller_state.specs.declared.state.State as phase
 use Rattle.controller_core.specs.Leaps.{ticks_of}
 use Rattle.controller_core.specs.Machine.{Turn, brought, exchange_later, flowed, gone_on, is_again, later, requests_of, step_of, where_due}
 use Rattle.controller_core.specs.Machine as machine
-use Rattle.controller_core.specs.State.{Controlling, Live}
+use Rattle.controller_state.specs.State.{Controlling, Live}
 use Rattle.controller_station.specs.Beside as services
 use Rattle.controller_station.specs.Beside.{Beside, sent_by_tick, ticked}
 use Rattle.controller_station.specs.Served.{Frames, Served}

@@ -4,7 +4,7 @@
 -- controller nor in the operation.
 use Rattle.std.specs.Prelude.{◌≡◌, ◌+◌, ◌*◌, ◌==◌, ◌++◌, nat_lt, ℕ, Bool, true, false, not, if◌then◌else◌, List, [], ◌∷◌, length, min, slice_get, take, Option, Some, None, option_map}
 use Rattle.record_blocks.specs.declared.alarm_notification.AlarmNotification.{AlarmNotification}
-use Rattle.controller_core.specs.Cause.{number_of}
+use Rattle.controller_state.specs.Cause.{number_of}
 use Rattle.cyclic_exchange.specs.Process.{value_at}
 use Rattle.lldp.specs.Peer.{Peer}
 use Rattle.lldp.specs.State.{Known}
@@ -18,11 +18,11 @@ use Rattle.diagnosis.specs.declared.diagnosis.Diagnosis.{Diagnosis}
 use Rattle.reported_diagnosis.specs.Reported.{Reported}
 use Rattle.controller_core.specs.Machine.{can_request, end_of, provider_of, report_in}
 use Rattle.record_access.specs.declared.access.Answer.{Answer}
-use Rattle.controller_core.specs.declared.state.RefusedRecord.{RefusedRecord}
-use Rattle.controller_core.specs.declared.event.Event.{Event}
-use Rattle.controller_core.specs.declared.event.Event.TheVariants as event
-use Rattle.controller_core.specs.declared.state.State as phase
-use Rattle.controller_core.specs.declared.state.State.TheVariants.{Looking, Addressing, Connecting, Writing, Ending, Waiting, Exchanging, Ended}
+use Rattle.controller_state.specs.declared.state.RefusedRecord.{RefusedRecord}
+use Rattle.controller_state.specs.declared.event.Event.{Event}
+use Rattle.controller_state.specs.declared.event.Event.TheVariants as event
+use Rattle.controller_state.specs.declared.state.State as phase
+use Rattle.controller_state.specs.declared.state.State.TheVariants.{Looking, Addressing, Connecting, Writing, Ending, Waiting, Exchanging, Ended}
 use Rattle.c_layout.specs.declared.op.Op.{Op}
 use Rattle.c_layout.specs.Places.{place_in}
 use Rattle.c_layout.specs.Reported.{with_octets}

@@ -21,10 +21,10 @@ use Rattle.cyclic_exchange.specs.Units.{Brought, cyclic_later, ending_by, is_sil
 use Rattle.controller_frames.specs.declared.record_request.RecordRequest.{RecordRequest}
 use Rattle.controller_frames.specs.declared.request.Request.{Request}
 use Rattle.controller_frames.specs.Sent.{Sent, bytes_of}
-use Rattle.controller_core.specs.declared.event.Event.TheVariants.{Tick}
+use Rattle.controller_state.specs.declared.event.Event.TheVariants.{Tick}
 use Rattle.controller_core.specs.Leaps.{LeapsAreTicks, NoneSends, OnlyTheLastSends, access_due_in, and_then, exchange_due_in, request_due_in, ticks_of}
 use Rattle.controller_core.specs.Machine.{Stepped, Turn, accesses_by, exchange_later, flowed, gone_on, is_again, later, pending_by, pending_of, requests_of, step_of, stepped, ticked, where_due}
-use Rattle.controller_core.specs.State.{Controlling, Live, with_live}
+use Rattle.controller_state.specs.State.{Controlling, Live, with_live}
 
 pub below_left : (number one other : ℕ) → number < min one other → number < one
 below_left number one other below = omega (arith, below)

@@ -1,4 +1,3 @@
-pub mod Answering
 pub mod Leaping
 pub mod Quiet
 pub mod OutputsGiven

@@ -8,8 +8,8 @@ use Rattle.cyclic_data.specs.Layout.{is_of}
 use Rattle.cyclic_exchange.specs.Cyclic.{Cyclic}
 use Rattle.cyclic_exchange.specs.Process.{given_at}
 use Rattle.controller_core.specs.Machine.{given, has_output, iops_with, marks_with, remarked, with_output}
-use Rattle.controller_core.specs.Outputs.{awaits}
-use Rattle.controller_core.specs.State.{Live}
+use Rattle.controller_state.specs.Outputs.{awaits}
+use Rattle.controller_state.specs.State.{Live}
 
 -- A cell that gets a value and then its status gets both.
 both : (slot subslot iops : ℕ) (value : List ℕ) (cells : List Cell)

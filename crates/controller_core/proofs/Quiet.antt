@@ -11,7 +11,7 @@ use Rattle.cyclic_exchange.specs.Cyclic.{Cyclic}
 use Rattle.cyclic_exchange.specs.Units.{Brought, ending_by, ending_of, is_silent, tick_by, tick_of}
 use Rattle.controller_frames.specs.Sent.{Sent}
 use Rattle.controller_core.specs.Machine.{Turn, brought, flowed, outputs_of, where_due}
-use Rattle.controller_core.specs.State.{Live}
+use Rattle.controller_state.specs.State.{Live}
 
 abbrev only_cyclic : Bool → Brought
 only_cyclic is_cyclic = record { ending = None; is_alarm = false; is_cyclic = is_cyclic }

@@ -1,5 +1,5 @@
 -- What an event does to a controller, and what is then sent (IEC 61158-6-10, 5.2; protocol machine CMCTL).
-use Rattle.std.specs.Prelude.{◌+◌, ◌*◌, ◌%◌, ◌==◌, ◌&&◌, ◌++◌, ℕ, Bool, true, false, not, List, [], ◌∷◌, length, map, nat_lt, unwrap_or, if◌then◌else◌, is_some, option_map, replicate, Option, Some, None, Result, Ok, Err}
+use Rattle.std.specs.Prelude.{◌+◌, ◌%◌, ◌==◌, ◌&&◌, ◌++◌, ℕ, Bool, true, false, not, List, [], ◌∷◌, length, map, nat_lt, if◌then◌else◌, is_some, option_map, Option, Some, None}
 use Rattle.pn_values.specs.declared.mac.Mac.{Mac}
 use Rattle.frame_codec.specs.declared.udp.Caller.{Caller}
 use Rattle.dcp_core.specs.Response.{Answered}
@@ -8,18 +8,12 @@ use Rattle.rpc_core.specs.declared.response.Status.{Status}
 use Rattle.rpc_core.specs.Call.{Asked as Call}
 use Rattle.rpc_core.specs.Response.{Answered as Response, is_done}
 use Rattle.connect_blocks.specs.declared.control.ControlBlock.{ControlBlock}
-use Rattle.connect_blocks.specs.declared.iocr.IocrType.TheVariants.{Input, Output}
-use Rattle.block_fields.specs.declared.fault.BlockFault.{BlockFault}
-use Rattle.block_codec.specs.declared.block.Block.{Block}
-use Rattle.block_codec.specs.Block.{block_of, in_application_ready}
+use Rattle.block_codec.specs.Block.{block_of}
 use Rattle.record_blocks.specs.declared.alarm_ack.AlarmAck.{AlarmAck}
 use Rattle.record_blocks.specs.declared.alarm_notification.AlarmNotification.{AlarmNotification}
-use Rattle.cyclic_data.specs.declared.place.PlaceKind.{PlaceKind}
-use Rattle.cyclic_data.specs.declared.place.PlaceKind.TheVariants.{Data as at_data, Iocs as at_iocs}
-use Rattle.cyclic_data.specs.Image.{Cell, cell_at, changed_in, good, has_size}
-use Rattle.cyclic_data.specs.Timing.{Sending, Hearing}
+use Rattle.cyclic_data.specs.declared.place.PlaceKind.TheVariants.{Data as at_data}
+use Rattle.cyclic_data.specs.Image.{Cell, cell_at, changed_in, has_size}
 use Rattle.pn_alarms.specs.declared.abort.Abort.{Abort}
-use Rattle.pn_alarms.specs.declared.abort.Abort.TheVariants as reason
 use Rattle.pn_alarms.specs.declared.message.Notice.TheVariants as notice
 use Rattle.pn_alarms.specs.declared.pdu.Header.{Header}
 use Rattle.alarm_reports.specs.declared.priority.Priority.{Priority}
@@ -36,18 +30,13 @@ use Rattle.pn_alarms.specs.Receiver.{taken_as}
 use Rattle.pn_alarms.specs.Ends.{ControllerEnd}
 use Rattle.pn_alarms.specs.Sending.{due, either_due}
 use Rattle.pn_alarms.specs.Sending.{is_again as is_repeated}
-use Rattle.cyclic_exchange.specs.declared.route.Route.{Route}
-use Rattle.cyclic_exchange.specs.Cyclic.{Cyclic}
-use Rattle.cyclic_exchange.specs.Opening.{begun_of, ended_of, opened, related}
+use Rattle.cyclic_exchange.specs.Opening.{begun_of, ended_of, related}
 use Rattle.cyclic_exchange.specs.declared.exchange.ProviderStatus.{ProviderStatus}
 use Rattle.cyclic_exchange.specs.Process.{provider_at, stated_at}
 use Rattle.cyclic_exchange.specs.Received.{behind_frame}
 use Rattle.cyclic_exchange.specs.Units.{Brought, cyclic_later, tick_of}
 use Rattle.plans.specs.declared.parts.Parts.{Parts}
-use Rattle.plans.specs.declared.parts.Times.{Times}
-use Rattle.plans.specs.Numbers.{alarm_factor, alarm_retries, high_tag, input_frame_id}
-use Rattle.plans.specs.Packed.{layout_in}
-use Rattle.plans.specs.Parts.{data_of}
+use Rattle.plans.specs.Numbers.{alarm_factor, alarm_retries}
 use Rattle.controller_frames.specs.declared.record_request.RecordRequest.{RecordRequest}
 use Rattle.controller_frames.specs.declared.record_request.RecordService.{RecordService}
 use Rattle.controller_frames.specs.declared.record_request.RecordService.TheVariants as service
@@ -63,23 +52,26 @@ use Rattle.controller_frames.specs.Sent.{Sent, Requests, Accesses, Agrees, Cycle
 use Rattle.controller_frames.specs.Sent.{done as no_error}
 use Rattle.connect_answers.specs.declared.connect.Found.{Found}
 use Rattle.reported_diagnosis.specs.Reported.{after_report, nothing_reported}
-use Rattle.controller_core.specs.declared.outputs.OutputMark.{OutputMark}
-use Rattle.controller_core.specs.declared.state.Cause.{Cause}
-use Rattle.controller_core.specs.declared.state.Cause.TheVariants as cause
-use Rattle.controller_core.specs.declared.state.State.{State}
-use Rattle.controller_core.specs.declared.state.State.TheVariants.{Looking, Addressing, Connecting, Writing, Ending, Waiting, Exchanging, Ended}
-use Rattle.controller_core.specs.declared.event.Event.{Event}
-use Rattle.controller_core.specs.declared.event.Event.TheVariants.{Frame, Tick as Ticks, Give, Status as Rate, Read, Write, Stop}
-use Rattle.record_access.specs.Access.{Accessing, answered_with, call_number, dropped, is_rejected, is_reply, made, no_access, record_in}
-use Rattle.controller_core.specs.Outputs.{awaits, change_by, first_mark, iops_of, mark_at, marked}
-use Rattle.controller_core.specs.State.{Controlling, Live, with_live}
-use Rattle.controller_core.specs.Answers.{is_addressed, is_answer, is_found, is_ready, is_refused, is_right, is_set_answer}
+use Rattle.controller_state.specs.declared.outputs.OutputMark.{OutputMark}
+use Rattle.controller_state.specs.declared.state.Cause.{Cause}
+use Rattle.controller_state.specs.declared.state.Cause.TheVariants as cause
+use Rattle.controller_state.specs.declared.state.State.{State}
+use Rattle.controller_state.specs.declared.state.State.TheVariants.{Looking, Addressing, Connecting, Ending, Waiting, Exchanging, Ended}
+use Rattle.controller_state.specs.declared.event.Event.{Event}
+use Rattle.controller_state.specs.declared.event.Event.TheVariants.{Frame, Tick as Ticks, Give, Status as Rate, Read, Write, Stop}
+use Rattle.record_access.specs.Access.{answered_with, call_number, dropped, is_rejected, is_reply, made, no_access, record_in}
+use Rattle.controller_state.specs.Outputs.{awaits, change_by, iops_of, mark_at, marked}
+use Rattle.controller_state.specs.State.{Controlling, Live, with_live, phase_for}
+use Rattle.startup_answers.specs.Answers.{is_addressed, is_answer, is_found, is_ready, is_refused, is_right, is_set_answer, ready_in}
 use Rattle.connect_answers.specs.Connect.{Chosen, chosen_of, found_in, is_whole, nothing}
-use Rattle.controller_core.specs.declared.outcomes.Outcomes.{Outcomes}
-use Rattle.controller_core.specs.declared.outcomes.Outcomes.TheVariants.{AllWritten, Unreadable}
-use Rattle.controller_core.specs.declared.outcomes.Outcomes.TheVariants.{Refused as Denied}
-use Rattle.controller_core.specs.Outcomes.{outcomes_of}
-use Rattle.controller_core.specs.Alarms.{ack_of, header_of, is_alarm, kept_alarm}
+use Rattle.startup_answers.specs.declared.outcomes.Outcomes.{Outcomes}
+use Rattle.startup_answers.specs.declared.outcomes.Outcomes.TheVariants.{AllWritten, Unreadable}
+use Rattle.startup_answers.specs.declared.outcomes.Outcomes.TheVariants.{Refused as Denied}
+use Rattle.startup_answers.specs.Outcomes.{outcomes_of}
+use Rattle.controller_state.specs.Alarms.{ack_of, header_of, is_alarm, kept_alarm}
+use Rattle.controller_state.specs.Opening.{route_of, sending_of, nobody, first_cyclic, first_outputs}
+use Rattle.controller_state.specs.Cause.{cause_of}
+use Rattle.startup_answers.specs.Requests.{next_sequence}
 
 -- The next state, and the messages.
 pub record Turn : Type 0 where
@@ -106,12 +98,6 @@ over cause live = record live { phase = Ended cause; asked = None; waited = 0; s
 -- The device refuses a call with this status: the controller has ended.
 abbrev pub denied : Status → Live → Live
 denied status live = over cause.Refused (record live { refusal = Some status })
-
--- The number of the call after the last one: after this many requests of the application, which follow PrmEnd.
-abbrev pub next_sequence : Parts → ℕ → Option Request → ℕ
-next_sequence plan calls (Some asks.Connect) = 1
-next_sequence plan calls (Some (asks.Write number)) = number + 2
-next_sequence plan calls request = call_number plan calls
 
 -- The controller has ended, and the device is informed by a Release.
 abbrev pub released : Setup → Cause → Live → Turn
@@ -146,30 +132,8 @@ answered setup live source answer phase = stays live
 
 -- ---- responses
 
--- A record is written, or the parameters are ended.
-abbrev pub phase_for : Request → State
-phase_for (asks.Write number) = Writing
-phase_for request = Ending
-
 abbrev pub writing : Request → Live → Turn
 writing request live = asking (phase_for request) request live
-
--- The partner, and the numbers of the frames, with the FrameID of outputs and the alarm endpoint that the device chose.
-abbrev pub route_of : Mac → ℕ → ℕ → Route
-route_of device frame_id reference = record {
-  partner = device;
-  sent_id = frame_id;
-  sent_tag = high_tag;
-  taken_id = input_frame_id;
-  alarm_tag = high_tag;
-  reference = reference;
-}
-
-abbrev pub interval_of : Times → ℕ
-interval_of times = times.send_clock_factor * times.reduction_ratio
-
-abbrev pub sending_of : Times → Sending
-sending_of times = record { interval = interval_of times; elapsed = 0 }
 
 -- The relation is established.
 abbrev pub standing : Setup → Live → Chosen → Live
@@ -277,14 +241,6 @@ refused setup live refusal (Some request) = if is_refused setup request refusal 
 refused setup live refusal None = stays (rejected setup live refusal live.access.waiting)
 
 -- ---- ApplicationReady
-
--- The block, if it is one of ApplicationReady.
-abbrev pub ready_block : Result (Block × List ℕ) BlockFault → Option ControlBlock
-ready_block (Ok x) = in_application_ready x.0
-ready_block (Err fault) = None
-
-abbrev pub ready_in : Call → Option ControlBlock
-ready_in call = if call.header.operation == 4 then ready_block (block_of (unwrap_or call.blocks [])) else None
 
 -- It is answered, and data is exchanged from then on. While data is exchanged it is answered again.
 abbrev pub readied : Live → Caller → Call → ControlBlock → State → Turn
@@ -450,12 +406,6 @@ exchange_later live = record live {
 abbrev pub flow_later : Live → Live
 flow_later live = exchange_later (later live)
 
--- Why the controller ends with the relation.
-abbrev pub cause_of : Abort → Cause
-cause_of reason.DataHold = cause.DataHold
-cause_of reason.Activity = cause.AlarmRetries
-cause_of reason.Other = cause.AlarmRetries
-
 -- The relation ends, the device is informed of the reason, and nothing else is sent. An ERR has the numbers of high
 -- priority.
 abbrev pub ended_by : Live → Abort → Turn
@@ -576,28 +526,6 @@ turn_of setup live (Write slot subslot index octets) = written setup live slot s
 turn_of setup live Stop = stopped setup live live.phase
 
 -- ---- the beginning
-
--- IOPS is bad until a value is set, and IOCS is good.
-abbrev pub first_status : PlaceKind → ℕ → ℕ → ℕ
-first_status at_data slot subslot = 0
-first_status at_iocs slot subslot = good
-
--- The address of no station.
-abbrev pub nobody : Mac
-nobody = record { octets = replicate 6 0 }
-
--- The data hold time is DataHoldFactor times the interval.
-abbrev pub hearing_of : Times → Hearing
-hearing_of times = record { last = None; held = 0; limit = times.data_hold_factor * interval_of times }
-
-abbrev pub first_cyclic : Parts → Cyclic
-first_cyclic plan =
-    opened (route_of nobody 0xFFFF 1) (sending_of plan.times) (hearing_of plan.times) first_status
-    (layout_in Output (data_of plan.real.modules.items)) (layout_in Input (data_of plan.real.modules.items))
-
--- No output was given, and the application says nothing against one.
-abbrev pub first_outputs : Parts → List OutputMark
-first_outputs plan = map first_mark (layout_in Output (data_of plan.real.modules.items)).places
 
 -- It looks for the station: the Identify counts as sent.
 abbrev pub first : Parts → Live

@@ -2,39 +2,20 @@
 ghost use Rattle.std.specs.Prelude.{◌≡◌, ◌<◌, ◌+◌, ◌++◌, ◌∷◌, [], map, true};
 ghost use Rattle.arrayvec.specs.ArrayVec.{array_vec_len};
 ghost use Rattle.controller_frames.specs.Sent.{bytes_of};
-ghost use Rattle.controller_core.specs.Alarms.{ack_of, header_of, is_alarm};
-ghost use Rattle.controller_core.specs.State.{with_live};
+ghost use Rattle.controller_state.specs.Alarms.{ack_of};
+ghost use Rattle.controller_state.specs.State.{with_live};
 ghost use Rattle.controller_core.specs.Machine.{ack_now, acked_under, behind_ack, behind_data, confirming, end_of, noticed, over, reply_of, taken};
 ghost use Rattle.pn_alarms.specs.Format.{is_long};
 ghost use Rattle.pn_alarms.specs.Receiver.{taken_as};
 ghost use Rattle.frame_codec.specs.Outbox.{boxed};
 
-use crate::kept::{KeptAlarm, ack_of};
 use crate::{Cause, Controller, State};
 use alarm_reports::{Priority, Report};
 use block_codec::AlarmAck;
 use controller_frames::{send_alarm_ack, send_alarm_reply};
-use cyclic_exchange::Route;
+use controller_state::{KeptAlarm, ack_of, header_of};
 use frame_codec::Outbox;
-use plans::ALARM_REFERENCE;
-use pn_alarms::{ControllerAlarms, Header, Notice, PduType, Taken};
-use pn_values::Mac;
-
-/// Whether an alarm frame of this station, with these endpoints, belongs to the relation.
-pub(crate) fn is_alarm(route: &Route, source: Mac, header: &Header) -> bool
-    ensures { result ≡ is_alarm route.now source header.now }
-{
-    source.is(&route.partner)
-        && header.destination == ALARM_REFERENCE
-        && header.source == route.reference
-}
-
-/// The header of a PDU that is sent now.
-pub(crate) fn header_of(alarms: &ControllerAlarms, route: &Route, kind: PduType) -> Header
-    ensures { result ≡ header_of alarms.now route.now kind }
-{
-    alarms.header(kind, route.reference, ALARM_REFERENCE)
-}
+use pn_alarms::{ControllerAlarms, Notice, PduType, Taken};
 
 impl Controller {
     /// The end of the alarms of a priority.

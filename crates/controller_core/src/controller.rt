@@ -3,34 +3,23 @@ ghost use Rattle.std.specs.Prelude.{◌≡◌, ◌≤◌, IfSome, [], ◌∷◌,
 ghost use Rattle.cyclic_exchange.specs.Process.{value_at};
 ghost use Rattle.frame_codec.specs.Outbox.{boxed};
 ghost use Rattle.record_access.specs.Access.{record_of};
-ghost use Rattle.controller_core.specs.Machine.{can_request, end_of, first_cyclic, first_outputs, fresh, interval_of, opening_of, provider_of, report_in, route_of};
+ghost use Rattle.controller_core.specs.Machine.{can_request, end_of, fresh, opening_of, provider_of, report_in};
 
-use crate::kept::KeptAlarm;
-use crate::outputs::{OutputMark, begin};
 use crate::{RefusedRecord, State};
 use alarm_reports::{Priority, Report};
 use arrayvec::ArrayVec;
-use block_codec::{AlarmNotification, IocrType};
+use block_codec::AlarmNotification;
 use controller_frames::{RecordRequest, Request, Setup, send_request};
-use cyclic_data::{Consumer, PlaceKind, Provider};
-use cyclic_exchange::{CyclicExchange, ProviderStatus, Route, Statuses};
+use controller_state::{KeptAlarm, OutputMark, open};
+use cyclic_exchange::{CyclicExchange, ProviderStatus};
 use frame_codec::{Frame, Outbox};
-use plans::{INPUT_FRAME_ID, Plan, RTA_RETRIES, RTA_TIMEOUT_FACTOR, TAG_HIGH, Times};
+use plans::{Plan, RTA_RETRIES, RTA_TIMEOUT_FACTOR};
 use pn_alarms::ControllerAlarms;
 use pn_values::Mac;
 use record_access::{Access, Answer};
 use reported_diagnosis::{Diagnosis, ReportedDiagnoses};
 use rpc_core::{Status, Uuid};
 use std::marker::Model;
-
-/// The status of good data (IEC 61158-6-10, 4.7.2.1.1).
-const GOOD: u8 = 0x80;
-
-/// The alarm endpoint of the device before it has chosen one.
-const REFERENCE: u16 = 1;
-
-/// FrameID of outputs before the device has chosen one.
-const NO_ID: u16 = 0xFFFF;
 
 /// The controller of a station. In clauses it is its configuration, and the state that changes from event to event.
 #[derive(Drop)]
@@ -71,8 +60,8 @@ pub struct Controller {
 
 impl Model for Controller {
     ghost use Rattle.std.specs.Prelude.{◌<◌, option_map};
-    ghost use Rattle.controller_core.specs.State.{Controlling};
-    ghost use Rattle.controller_core.specs.Alarms.{alarm_in, structure_in};
+    ghost use Rattle.controller_state.specs.State.{Controlling};
+    ghost use Rattle.controller_state.specs.Alarms.{alarm_in, structure_in};
 
     ghost Value = { Controlling };
 
@@ -102,70 +91,6 @@ impl Model for Controller {
     } };
 
     ghost invariant = { λ controller. controller.waited < 32000 };
-}
-
-/// The statuses of a controller before any output is set: IOPS is bad, and IOCS is good.
-#[derive(Clone, Copy)]
-pub(crate) struct NothingGiven;
-
-impl Statuses for NothingGiven {
-    ghost use Rattle.controller_core.specs.Machine.{first_status};
-
-    ghost status_of = { λ given. first_status };
-
-    fn status(&self, kind: PlaceKind, _slot: u16, _subslot: u16) -> u8 {
-        match kind {
-            // An output that was never set is not a value that anybody chose: it is marked bad until the application
-            // sets it.
-            PlaceKind::Data => 0,
-            PlaceKind::Iocs => GOOD,
-        }
-    }
-}
-
-/// The partner, and the numbers of the frames.
-pub(crate) fn route_of(device: Mac, frame_id: u16, reference: u16) -> Route
-    ensures { result ≡ route_of device frame_id reference }
-{
-    Route {
-        partner: device,
-        sent_id: frame_id,
-        sent_tag: TAG_HIGH,
-        taken_id: INPUT_FRAME_ID,
-        alarm_tag: TAG_HIGH,
-        reference,
-    }
-}
-
-/// The interval, in units of 31.25 microseconds.
-fn interval_of(times: Times) -> u32
-    requires clock { times.send_clock_factor ≤ 128 }
-    requires ratio { times.reduction_ratio ≤ 512 }
-    ensures value { result ≡ interval_of times }
-    ensures most { result ≤ 65536 }
-{
-    u32::from(times.send_clock_factor) * u32::from(times.reduction_ratio)
-}
-
-/// Opens the exchange of a plan: no output was set, and the device is not known yet. It is a function of its own so
-/// that both layouts are only in its stack frame.
-#[inline(never)]
-fn open(exchange: &mut CyclicExchange, outputs: &mut ArrayVec<OutputMark, 128>, plan: &Plan)
-    ensures exchange { exchange.new ≡ first_cyclic plan.now }
-    ensures outputs { outputs.new.items ≡ first_outputs plan.now }
-{
-    let times = plan.times();
-    let output = plan.layout(IocrType::Output);
-    let input = plan.layout(IocrType::Input);
-    exchange.open(
-        route_of(Mac { octets: [0; 6] }, NO_ID, REFERENCE),
-        Provider::start(times.send_clock_factor, times.reduction_ratio),
-        Consumer::new(times.data_hold_factor, interval_of(times)),
-        &output,
-        &input,
-        &NothingGiven,
-    );
-    begin(outputs, output.places());
 }
 
 impl Controller {

@@ -1,10 +1,10 @@
 //! Several units of time at once.
-ghost use Rattle.std.specs.Prelude.{◌≡◌, ◌<◌, ◌≤◌, ◌+◌, ◌%◌};
+ghost use Rattle.std.specs.Prelude.{◌≡◌, ◌<◌, ◌≤◌};
 ghost use Rattle.frame_codec.specs.Outbox.{boxed};
 ghost use Rattle.controller_core.specs.Leaps.{LeapsAreTicks, NoneSends, OnlyTheLastSends, access_due_in, exchange_due_in, live_due_in, request_due_in, ticks_of};
 
 use crate::Controller;
-use crate::step::SECOND;
+use controller_state::{SECOND, counter_later, waited_later};
 use frame_codec::Outbox;
 use pn_alarms::NEVER;
 
@@ -91,23 +91,6 @@ impl Controller {
         self.alarms.pass(units);
         self.low_alarms.pass(units);
     }
-}
-
-// CycleCounter some units later: it counts modulo 65,536.
-fn counter_later(counter: u16, units: u32) -> u16
-    ensures value { result ≡ (counter + units) % 65536 }
-    ensures fits { counter < 65536 }
-{
-    counter.wrapping_add((units % 65_536) as u16)
-}
-
-// The units since the request was sent, some units later. They are counted also while no request is active.
-fn waited_later(waited: u32, units: u32) -> u32
-    requires { waited < 32000 }
-    ensures value { result ≡ (waited + units) % 32000 }
-    ensures few { result < 32000 }
-{
-    (waited + units % SECOND) % SECOND
 }
 
 /// However a number of units is divided into leaps, the controller and the frames, in order, are those of that many Tick

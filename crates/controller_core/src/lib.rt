@@ -7,23 +7,16 @@
 #![tactic(auto)]
 
 mod alarms;
-mod answers;
 mod controller;
-mod event;
-mod kept;
 mod leaps;
-mod outcomes;
-mod outputs;
-mod state;
 mod step;
 
 pub use alarm_reports::{Priority, Report};
 pub use controller::Controller;
 pub use controller_frames::{MOST_RECORD_OCTETS, RecordRequest, RecordService};
+pub use controller_state::{Cause, Event, RefusedRecord, State};
 pub use cyclic_exchange::ProviderStatus;
-pub use event::Event;
 pub use leaps::leaps_are_ticks;
-pub use outcomes::Outcomes;
 pub use record_access::Answer;
 pub use reported_diagnosis::Diagnosis;
-pub use state::{Cause, RefusedRecord, State};
+pub use startup_answers::Outcomes;

@@ -7,27 +7,19 @@ ghost use Rattle.rpc_core.specs.Response.{answered as responded_as};
 ghost use Rattle.controller_frames.specs.Heard.{heard_of, heard_real_time as heard_as};
 ghost use Rattle.controller_frames.specs.Sent.{bytes_of};
 ghost use Rattle.controller_frames.specs.Reported.{reported};
-ghost use Rattle.controller_core.specs.Answers.{is_answer, is_ready, is_refused};
 ghost use Rattle.connect_answers.specs.Connect.{chosen_by, nothing, found_in as all_found};
-ghost use Rattle.controller_core.specs.State.{with_live};
+ghost use Rattle.controller_state.specs.State.{with_live};
 ghost use Rattle.controller_core.specs.Machine.{accesses_of, accessing, failed, granted, pending_of, rejected, replied, replied_by, requested, written};
 ghost use Rattle.controller_core.specs.Machine.{acks_of, addressed, alarmed, answered, asking, called, come, connected, connected_by};
 ghost use Rattle.controller_core.specs.Machine.{brought, decided, denied, done, due_frames, ended_by, exchange_later, flowed, found, given};
 ghost use Rattle.controller_core.specs.Machine.{after_write, gone_on, is_again, handled, later, noted, outputs_of, past_record};
-ghost use Rattle.controller_core.specs.Machine.{rated, readied, ready_in as block_of_ready, refused, refused_by, related_by, released, remarked, requests_of, responded, step_of};
+ghost use Rattle.controller_core.specs.Machine.{rated, readied, refused, refused_by, related_by, released, remarked, requests_of, responded, step_of};
+ghost use Rattle.startup_answers.specs.Answers.{ready_in as block_of_ready};
 ghost use Rattle.controller_core.specs.Machine.{stopped, ticked, turned, undone, where_due, writing};
 ghost use Rattle.frame_codec.specs.Outbox.{boxed};
 ghost use Rattle.pn_alarms.specs.Sending.{due};
 ghost use Rattle.pn_alarms.specs.Sending.{is_again as is_repeated};
 
-use crate::alarms::{header_of, is_alarm};
-use crate::answers::{
-    cause_of, is_addressed, is_found, is_right, is_set_answer, next_sequence, phase_for, ready_in,
-    request_behind,
-};
-use crate::controller::route_of;
-use crate::outcomes::{Outcomes, outcomes_of};
-use crate::outputs::{awaits, change, iops_in};
 use crate::{Cause, Controller, Event, RefusedRecord, State};
 use alarm_reports::{Priority, Report};
 use block_codec::ControlBlock;
@@ -37,14 +29,20 @@ use controller_frames::{
     heard_real_time, real_time_in, send_alarm_end, send_outputs, send_ready_answer,
     send_record_request, send_request,
 };
+use controller_state::{
+    SECOND, awaits, cause_of, change, header_of, iops_in, is_alarm, phase_for, route_of,
+};
 use cyclic_data::Provider;
 use cyclic_exchange::Tick;
 use frame_codec::{Bytes, Caller, Outbox, is_cyclic};
-use plans::SESSION_KEY;
 use pn_alarms::{Abort, Due, Header, Notice, PduType};
 use pn_values::Mac;
 use record_access::{call_number, is_rejected, is_reply, record_in};
 use rpc_core::{Call, Response, Status};
+use startup_answers::{
+    Outcomes, is_addressed, is_answer, is_found, is_ready, is_refused, is_right, is_set_answer,
+    next_sequence, outcomes_of, ready_in, request_behind,
+};
 
 /// The maximum number of blocks in the answer to a Connect: more than a frame holds.
 const MOST_BLOCKS: usize = 400;
@@ -56,9 +54,6 @@ const NO_ERROR: Status = Status {
     code1: 0,
     code2: 0,
 };
-
-/// One second, in units of 31.25 microseconds: an unanswered request is sent again after this time.
-pub(crate) const SECOND: u32 = 32_000;
 
 impl Controller {
     /// Handles one event: clears the outbox, and appends the frames that the event sends.
@@ -355,20 +350,6 @@ impl Controller {
         }
     }
 
-    // Whether a response is the one to the call for this request.
-    fn is_answer(&self, request: Request, response: &Response<'_>) -> bool
-        ensures { result ≡ is_answer self.now.setup request response.now.header }
-    {
-        match request {
-            Request::Identify | Request::Address => false,
-            Request::Connect | Request::Write(_) | Request::PrmEnd | Request::Release(_) => {
-                // The activity alone is not enough: a late response to the previous request has it too.
-                response.header.activity == self.setup.activity
-                    && response.header.sequence == request.sequence(&self.setup.plan)
-            }
-        }
-    }
-
     // A response.
     fn hear_response(&mut self, response: &Response<'_>, outbox: &mut Outbox)
         requires empty { outbox.old.items ≡ [] }
@@ -379,7 +360,7 @@ impl Controller {
     {
         match self.asked {
             Some(request) => {
-                if self.is_answer(request, response) {
+                if is_answer(&self.setup, request, response) {
                     self.decide(request, response, outbox);
                 }
             }
@@ -528,7 +509,7 @@ impl Controller {
     {
         match self.asked {
             Some(request) => {
-                if self.is_refused(request, refusal) {
+                if is_refused(&self.setup, request, refusal) {
                     self.refuse(request, refusal);
                 }
             }
@@ -545,19 +526,6 @@ impl Controller {
         };
         if is_rejected(&self.setup, &request, refusal) {
             self.fail(request, refusal.status);
-        }
-    }
-
-    // Whether a refusal is the one of the call for this request.
-    fn is_refused(&self, request: Request, refusal: &Refusal) -> bool
-        ensures { result ≡ is_refused self.now.setup request refusal.now }
-    {
-        match request {
-            Request::Identify | Request::Address => false,
-            Request::Connect | Request::Write(_) | Request::PrmEnd | Request::Release(_) => {
-                refusal.activity == self.setup.activity
-                    && refusal.sequence == request.sequence(&self.setup.plan)
-            }
         }
     }
 
@@ -693,17 +661,9 @@ impl Controller {
         let Some(block) = ready_in(call) else {
             return;
         };
-        if self.is_ready(&block) {
+        if is_ready(&self.setup, &block) {
             self.answer_ready(caller, call, &block, outbox);
         }
-    }
-
-    // Whether an ApplicationReady belongs to the relation.
-    fn is_ready(&self, block: &ControlBlock) -> bool
-        ensures { result ≡ is_ready self.now.setup block.now }
-    {
-        // An ApplicationReady of an earlier relation may still arrive.
-        block.ar_uuid == self.setup.ar && block.session_key == SESSION_KEY
     }
 
     // ApplicationReady: data is exchanged from now on.

@@ -58,7 +58,7 @@ pub fn group_of(plan: &Plan, number: u16) -> &[PlanRecord]
     ensures value { result.now ≡ group_of plan.now number }
     // There are at most ten.
     ensures few { length result.now ≤ 10 }
-    // There are none from the last Write on.
+    // If there is one, the number of the Write is less than 32.
     ensures within { 0 < length result.now → number < 32 }
 {
     let records = plan.records();

@@ -18,7 +18,7 @@ other_content (RealTime frame_id body) other = absurd other
 other_content (ArpPacket packet) other = refl
 other_content (UdpDatagram from to body) other = refl
 
--- What is no real-time data is none.
+-- Octets that are not a frame, or a frame with other content, are not real-time data.
 pub not_real_time : (read : Result Meaning FrameFault) → IsNoRealTime read → is_real_time read ≡ false
 not_real_time (Ok meaning) other = other_content meaning.content other
 not_real_time (Err fault) other = refl

@@ -8,10 +8,10 @@ use Rattle.services.specs.State.{broadcast, frames_in}
 use Rattle.services.specs.Answer.{answer_to, is_request}
 use Rattle.plans.specs.declared.parts.Controller.{Controller}
 use Rattle.plans.specs.declared.parts.Parts.{Parts}
-use Rattle.controller_core.specs.declared.event.Event.{Event}
-use Rattle.controller_core.specs.declared.event.Event.TheVariants.{Frame, Tick, Give, Status, Read, Write, Stop}
+use Rattle.controller_state.specs.declared.event.Event.{Event}
+use Rattle.controller_state.specs.declared.event.Event.TheVariants.{Frame, Tick, Give, Status, Read, Write, Stop}
 use Rattle.controller_core.specs.Machine.{fresh}
-use Rattle.controller_core.specs.State.{Controlling}
+use Rattle.controller_state.specs.State.{Controlling}
 use Rattle.controller_station.specs.Beside.{Beside, beside_at, heard, sent_by_tick, ticked}
 
 -- The controller, and what is beside it: the services of its IP address and its neighbour.

@@ -9,7 +9,7 @@ ghost use Rattle.lldp.specs.Views.{peer_as};
 ghost use Rattle.services.specs.Answer.{answer_to, arp_reply_of};
 ghost use Rattle.controller_frames.specs.Heard.{Nothing, heard_of};
 ghost use Rattle.controller_core.specs.Machine.{opening_of, step_of};
-ghost use Rattle.controller_core.specs.declared.event.Event.TheVariants.{Frame as Framed};
+ghost use Rattle.controller_state.specs.declared.event.Event.TheVariants.{Frame as Framed};
 ghost use Rattle.controller_station.specs.Beside.{beside_at, due_in, ticks_of};
 ghost use Rattle.controller_station.specs.Served.{after_frame, begun, beside, beside_frame, by_services, is_sought, no_frames, only, services_after};
 ghost use Rattle.controller_station.specs.Leaps.{OnlyTheLastSends, sent_beside, sent_by, served_due_in, ticked_by};

@@ -24,9 +24,9 @@ use Rattle.pn_alarms.specs.declared.device.PduFate.{PduFate}
 use Rattle.pn_alarms.specs.declared.device.PduFate.TheVariants as fate
 use Rattle.cyclic_exchange.specs.declared.received.Received.{Received}
 use Rattle.cyclic_exchange.specs.declared.received.Received.TheVariants as received
-use Rattle.relations.specs.declared.statuses.InputStatus.{InputStatus}
-use Rattle.relations.specs.Statuses.{statuses_at}
-use Rattle.relations.specs.exchange.Flow.{Flow}
+use Rattle.device_exchange.specs.declared.statuses.InputStatus.{InputStatus}
+use Rattle.device_exchange.specs.Statuses.{statuses_at}
+use Rattle.device_exchange.specs.Flow.{Flow}
 use Rattle.relations.specs.Exchanged.{given_to, heard_by, hearing, raised_to, received_by, receiving}
 use Rattle.relations.specs.declared.hearing.ReadyAnswer.{ReadyAnswer}
 use Rattle.relations.specs.declared.hearing.ReadyAnswer.TheVariants as to_ready

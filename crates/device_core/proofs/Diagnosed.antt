@@ -14,7 +14,7 @@ use Rattle.device_core.specs.Handled.{Refuses, handled_change, handled_diagnosed
 use Rattle.device_core.specs.Machine.{end_of}
 
 module _ (station : Station) (live : Live) (change : Change) where
-  -- One that is refused changes nothing, and one that is taken is reported.
+  -- One that is refused changes nothing, and one that is accepted is reported.
   pub change_refused : (diagnoses : Option (List Diagnosis)) → is_some diagnoses ≡ false
       → end_of station live (handled_change station live change diagnoses) ≡ record { rest = live.rest; sent = []; note = Refused }
   change_refused (Some diagnoses) none = cc

@@ -1,6 +1,6 @@
 -- An outcome that asks nothing of the settings.
 use Rattle.std.proofs.lemmas.Bool.{cond_both}
-use Rattle.relations.specs.declared.statuses.InputStatus.{InputStatus}
+use Rattle.device_exchange.specs.declared.statuses.InputStatus.{InputStatus}
 use Rattle.std.proofs.Common.{◌≡◌, ◌&&◌, ℕ, Bool, false, not, is_some, List, [], Option, Some, None, refl}
 use Rattle.pn_values.specs.declared.mac.Mac.{Mac}
 use Rattle.frame_codec.specs.declared.arp.Arp.{Arp}
@@ -10,7 +10,7 @@ use Rattle.pn_alarms.specs.declared.device.PduFate.{PduFate}
 use Rattle.pn_alarms.specs.declared.device.PduFate.TheVariants as fate
 use Rattle.cyclic_exchange.specs.declared.received.Received.{Received}
 use Rattle.cyclic_exchange.specs.declared.received.Received.TheVariants as received
-use Rattle.relations.specs.exchange.Flow.{Flow}
+use Rattle.device_exchange.specs.Flow.{Flow}
 use Rattle.relations.specs.RelationState.{RelationState, is_alarm_of, is_preparing, phase_of}
 use Rattle.relations.specs.Phases.{updated}
 use Rattle.module_diff.specs.Plugged.{submodule_ident}
@@ -22,7 +22,7 @@ use Rattle.relations.specs.Exchanged.{heard_by, hearing, received_by, receiving}
 use Rattle.relations.specs.declared.hearing.ReadyAnswer.{ReadyAnswer}
 use Rattle.relations.specs.declared.hearing.ReadyAnswer.TheVariants as to_ready
 use Rattle.device_core.specs.State.{Station, Live}
-use Rattle.device_core.specs.Handled.{is_running, is_request, handled_arp, handled_answer, handled_alarm, handled_pdu, handled_received, handled_cyclic, handled_input, handled_notice, handled_ready, handled_change, handled_diagnosed, handled_low, handled_low_confirm, handled_low_pdu, handled_low_reply, kept_status}
+use Rattle.device_core.specs.Handled.{is_running, is_request, handled_arp, handled_answer, handled_alarm, handled_pdu, handled_received, handled_cyclic, handled_input, handled_notice, handled_ready, handled_change, handled_diagnosed, handled_low, handled_low_pdu, handled_low_reply, kept_status}
 use Rattle.device_core.specs.Machine.{end_of}
 use Rattle.device_core.proofs.Machine.{is_asking}
 
@@ -108,7 +108,7 @@ low_pdu_asks_nothing station live fate.Done link = refl
 low_pdu_asks_nothing station live fate.Ignored link = refl
 low_pdu_asks_nothing station live (fate.Aborted status) link = refl
 
-low_asks_nothing : (station : Station) (live : Live) (source : Mac) (header : Header) (message : ToDevice) → is_asking (handled_low station live source header message) ≡ false
+pub low_asks_nothing : (station : Station) (live : Live) (source : Mac) (header : Header) (message : ToDevice) → is_asking (handled_low station live source header message) ≡ false
 low_asks_nothing station live source header message =
     cond_both (is_alarm_of source header.destination header.source live.rest.link) _ _ (λ what. is_asking what ≡ false)
     (λ _. low_pdu_asks_nothing station live (heard_low message live.rest.link) (updated (hearing_low message live.rest.link) live.rest.link)) (λ _. refl)
@@ -117,10 +117,6 @@ pub low_reply_asks_nothing : (station : Station) (live : Live) (source : Mac) (h
 low_reply_asks_nothing station live source header message =
     cond_both (has_sent_low live.rest.link) _ _ (λ what. is_asking what ≡ false) (λ _. low_asks_nothing station live source header message)
     (λ _. alarm_asks_nothing live source header message)
-
-pub low_confirm_asks_nothing : (station : Station) (live : Live) (source : Mac) (header : Header) (message : ToDevice) → is_asking (handled_low_confirm station live source header message) ≡ false
-low_confirm_asks_nothing station live source header message =
-    cond_both (has_sent_low live.rest.link) _ _ (λ what. is_asking what ≡ false) (λ _. low_asks_nothing station live source header message) (λ _. refl)
 
 change_asks_nothing : (station : Station) (live : Live) (change : Change) (diagnoses : Option (List Diagnosis)) → is_asking (handled_change station live change diagnoses) ≡ false
 change_asks_nothing station live change (Some diagnoses) = refl

@@ -61,7 +61,7 @@ unfoldable pub snoc : List (List Outcome) → List Event → List Outcome → Li
 snoc front [] last = last ∷ []
 snoc front (event ∷ events) last = first_step front ∷ snoc (later_steps front) events last
 
--- The same, none if there are none.
+-- The same, and an empty list if no event has an outcome.
 unfoldable pub joined : List (List Outcome) → List Event → List Outcome → List (List Outcome)
 joined [] events [] = []
 joined [] events (outcome ∷ outcomes) = snoc [] events (outcome ∷ outcomes)

@@ -17,7 +17,7 @@ use Rattle.pn_alarms.specs.declared.message.Notice.TheVariants as message
 use Rattle.pn_alarms.specs.Message.{ToDevice}
 use Rattle.alarm_reports.specs.declared.priority.Priority.{Priority}
 use Rattle.alarm_reports.specs.declared.priority.Priority.TheVariants.{High, Low}
-use Rattle.relations.specs.declared.exchange.cyclic.Repeated.{Repeated}
+use Rattle.device_exchange.specs.declared.cyclic.Repeated.{Repeated}
 use Rattle.relations.specs.Diagnosed.{report_one, reporting}
 use Rattle.relations.specs.Phases.{updated}
 use Rattle.relations.specs.RelationState.{flow_of}

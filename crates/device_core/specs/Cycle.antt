@@ -17,7 +17,7 @@ use Rattle.relations.specs.Outputs.{output_of, zero_output}
 use Rattle.device_core.specs.Steps.{EventByEvent, AnswersBy}
 
 -- A device as it starts: the stored settings are the running settings, no commit failed, there is power, and nothing
--- else is left of an earlier cycle.
+-- else remains of an earlier cycle.
 abbrev pub started : Settings → ℕ → Live
 started settings room = record {
   values = record { running = settings; stored = settings; room = room; has_failed = false; is_lost = false };
@@ -57,7 +57,7 @@ pub record IsStarted {F : Type 0} {S : ℕ} (as_flash : Flash F S) (station : St
   pub shows : (slot subslot : ℕ) → output_of station.real slot subslot (output_in slot subslot device.live.rest.link) ≡ zero_output station.real slot subslot
 
 -- A device was started from this flash, and changed nothing in it: it has the given identity and modules, its settings are
--- those that the content is read as, and nothing else is left of an earlier cycle.
+-- those that the content is read as, and nothing else remains of an earlier cycle.
 pub record IsStartedFrom {F : Type 0} {S : ℕ} (as_flash : Flash F S) (station : Station) (flash : F) (device : State F) : Type 0 where
   pub station_is : device.station ≡ station
   pub known : (settings : Settings) (room : ℕ) → StartsWith (as_flash.image flash) settings room → device.live ≡ started settings room

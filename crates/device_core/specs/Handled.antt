@@ -39,10 +39,10 @@ use Rattle.pn_alarms.specs.declared.device.PduFate.TheVariants as fate
 use Rattle.pn_alarms.specs.declared.pdu.Header.{Header}
 use Rattle.cyclic_exchange.specs.declared.received.Received.{Received}
 use Rattle.cyclic_exchange.specs.declared.received.Received.TheVariants as received
-use Rattle.relations.specs.exchange.Flow.{Flow}
-use Rattle.relations.specs.declared.statuses.InputStatus.{InputStatus}
-use Rattle.relations.specs.Statuses.{statuses_at}
-use Rattle.relations.specs.exchange.Marks.{Starting}
+use Rattle.device_exchange.specs.Flow.{Flow}
+use Rattle.device_exchange.specs.declared.statuses.InputStatus.{InputStatus}
+use Rattle.device_exchange.specs.Statuses.{statuses_at}
+use Rattle.device_exchange.specs.Marks.{Starting}
 use Rattle.module_diff.specs.Plugged.{submodule_ident}
 use Rattle.diagnosis.specs.Existing.{changed}
 use Rattle.diagnosis.specs.declared.diagnosis.Change.{Change}

@@ -11,7 +11,7 @@ use Rattle.lldp.specs.Peer.{Peer, alias_of}
 use Rattle.device_log.specs.declared.entry.LogEntry.{LogEntry}
 use Rattle.relations.specs.declared.options.DeviceOptions.{DeviceOptions}
 use Rattle.relations.specs.Options.{default_options}
-use Rattle.relations.specs.declared.statuses.InputStatus.{InputStatus}
+use Rattle.device_exchange.specs.declared.statuses.InputStatus.{InputStatus}
 use Rattle.relations.specs.RelationState.{RelationState}
 
 -- The fixed properties of a device: its identity, the modules that are plugged, and its options.

@@ -14,13 +14,14 @@ ghost use Rattle.device_core.specs.State.{plain};
 
 use crate::calls::Answering;
 use arrayvec::ArrayVec;
+use device_exchange::InputStatus;
 use device_log::Log;
 use diagnosis::Diagnoses;
 use flash_model::{Flash, Order};
 use lldp::Neighbour;
 use pn_values::{Identity, Real, SetItem, Settings};
 use records::TakenRecord;
-use relations::{DeviceOptions, InputStatus, Phase, ProviderStatus, Relation};
+use relations::{DeviceOptions, Phase, ProviderStatus, Relation};
 use rpc_core::Uuid;
 use settings_journal::BootFault;
 use settings_store::Store;

@@ -10,19 +10,19 @@ ghost use Rattle.device_frames.specs.Sendable.{AreSendable};
 ghost use Rattle.device_frames.specs.Sent.{bytes_of};
 ghost use Rattle.device_core.specs.Behind.{CanSend, behind, confirmed_with, frames_of};
 ghost use Rattle.device_core.specs.State.{with_rest};
-ghost use Rattle.device_core.specs.Handled.{handled_diagnosed, handled_low, handled_low_confirm, handled_low_message, handled_low_reply, may_be_diagnosed};
+ghost use Rattle.device_core.specs.Handled.{handled_diagnosed, handled_low, handled_low_message, handled_low_reply, may_be_diagnosed};
 ghost use Rattle.device_core.specs.Machine.{end_of};
 ghost use Rattle.device_core.specs.Steps.{StaysReliable, Steps};
 
 use crate::{Device, Note};
 use alarm_reports::read_low_message;
+use device_exchange::is_plugged;
 use device_frames::{send_low_alarm, send_low_reply};
 use diagnosis::{Change, Diagnosis};
 use flash_model::Flash;
 use frame_codec::Outbox;
 use pn_alarms::{Header, Message, PduFate, Taken};
 use pn_values::Mac;
-use relations::is_plugged;
 
 impl<F: Flash<S>, const S: usize> Device<F, S> {
     /// The diagnoses that exist, in the order in which they appeared.
@@ -70,30 +70,15 @@ impl<F: Flash<S>, const S: usize> Device<F, S> {
         ensures reliable { StaysReliable F.Flash self.old self.new }
     {
         match read_low_message(body) {
-            Ok((header, message)) => self.hear_low_confirm(source, &header, &message, outbox),
+            Ok((header, message)) => {
+                // It can be read once an alarm of low priority was sent in the relation.
+                if !self.relation.has_sent_low() {
+                    return Note::Fault;
+                }
+                self.hear_low(source, &header, &message, outbox)
+            }
             Err(_) => Note::Fault,
         }
-    }
-
-    // Data that carries an AlarmAck of low priority. It can be read once an alarm of low priority was sent in the relation.
-    fn hear_low_confirm(
-        &mut self,
-        source: Mac,
-        header: &Header,
-        message: &Message,
-        outbox: &mut Outbox,
-    ) -> Note
-        requires { outbox.old.items ≡ [] }
-        ensures state { self.new ≡ behind self.old (handled_low_confirm self.old.station self.old.live source header.now message.now) }
-        ensures frames { boxed outbox.new ≡ frames_of self.old (handled_low_confirm self.old.station self.old.live source header.now message.now) }
-        ensures sendable { CanSend self.old (handled_low_confirm self.old.station self.old.live source header.now message.now) }
-        ensures note { result ≡ (end_of self.old.station self.old.live
-            (handled_low_confirm self.old.station self.old.live source header.now message.now)).note }
-    {
-        if !self.relation.has_sent_low() {
-            return Note::Fault;
-        }
-        self.hear_low(source, header, message, outbox)
     }
 
     // An ACK under the FrameID of low priority. It is one of high priority until an alarm of low priority was sent.
@@ -159,7 +144,7 @@ impl<F: Flash<S>, const S: usize> Device<F, S> {
         }
     }
 
-    // Data of low priority is answered with the numbers of now, and after that the next change is reported.
+    // Data of low priority is answered with the current numbers, and then the next change is reported.
     fn confirm(&mut self, taken: Taken, outbox: &mut Outbox) -> Note
         requires { outbox.old.items ≡ [] }
         ensures state { self.new ≡ with_rest self.old (record self.old.live.rest {

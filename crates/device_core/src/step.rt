@@ -29,7 +29,9 @@ ghost use Rattle.frame_codec.specs.Outbox.{boxed};
 use crate::logging::{log_err, log_fate, uuid_of};
 use crate::{Device, Event, Note};
 use alarm_reports::Priority;
+use cyclic_exchange::Received;
 use dcp_core::Service;
+use device_exchange::{DataExchange, InputStatus, Repeated, put_status};
 use device_frames::{
     Caller, RealTimeKind, is_asked, is_called, kind_of, open_frame, real_time_in, send_alarm,
     send_alarm_again, send_alarm_reply, send_farewell, send_inputs, send_inputs_of, send_low_alarm,
@@ -40,7 +42,7 @@ use flash_model::Flash;
 use frame_codec::{ContentKind, OpenFrame, Outbox, RealTimeFrame, datagram_at, packet_at};
 use pn_alarms::{Abort, Header, Message, PduFate, read_message};
 use pn_values::Mac;
-use relations::{DataExchange, Elapsed, InputStatus, Received, Repeated, put_status};
+use relations::Elapsed;
 
 impl<F: Flash<S>, const S: usize> Device<F, S> {
     /// Handles an event, and replaces the content of the outbox by the frames to be sent.
@@ -345,7 +347,7 @@ impl<F: Flash<S>, const S: usize> Device<F, S> {
         match elapsed.tick.ending() {
             Some(reason) => self.end(reason, outbox),
             None => self.send_each(
-                repeated_with(elapsed),
+                repeated_with(elapsed, self.relation.repeated()),
                 elapsed.is_ready,
                 elapsed.tick.is_cyclic(),
                 outbox,
@@ -553,13 +555,13 @@ fn is_low_reply(priority: Priority, message: &Message) -> bool
 }
 
 // The alarms that a unit of time brings again, which it does not if it ends the relation.
-fn repeated_with(elapsed: &Elapsed) -> Repeated
-    ensures { result ≡ record { high = elapsed.now.tick.is_alarm && elapsed.now.repeated.high; low = elapsed.now.tick.is_alarm && elapsed.now.repeated.low } }
+fn repeated_with(elapsed: &Elapsed, repeated: Repeated) -> Repeated
+    ensures { result ≡ record { high = elapsed.now.tick.is_alarm && repeated.high; low = elapsed.now.tick.is_alarm && repeated.low } }
 {
     let is_alarm = elapsed.tick.is_alarm();
     Repeated {
-        high: is_alarm && elapsed.repeated.high,
-        low: is_alarm && elapsed.repeated.low,
+        high: is_alarm && repeated.high,
+        low: is_alarm && repeated.low,
     }
 }
 

@@ -24,7 +24,7 @@ use Rattle.relations.specs.declared.farewell.Farewell.{Farewell}
 use Rattle.relations.specs.declared.ready.Ready.{Ready}
 use Rattle.relations.specs.Farewells.{said_by}
 use Rattle.cyclic_exchange.specs.declared.route.Route.{Route}
-use Rattle.relations.specs.exchange.Frames.{Frame, tag_of, id_of, body_of}
+use Rattle.device_exchange.specs.Frames.{Frame, tag_of, id_of, body_of}
 use Rattle.frame_codec.specs.declared.udp.Caller.{Caller}
 
 -- A message and its destination: the answer to an Identify request, to a Get of a station with this name by its place, or to a Set with the result of each of

@@ -9,7 +9,7 @@ ghost use Rattle.codec_laws.specs.frames.Sendable.{CanBeSent, carrying};
 ghost use Rattle.frame_codec.specs.Outbox.{boxed};
 
 use crate::Caller;
-use crate::sizes::can_be_sent;
+use crate::sizes::{can_be_answered, can_be_sent};
 use dcp_core::Answer;
 use frame_codec::{Arp, ArpOperation, Endpoint, Holder, Layered, Outbox, Payload, Udp};
 use pn_values::{Identity, Mac};
@@ -87,6 +87,7 @@ pub fn send_response(
 {
     let mut datagram = Datagram::new();
     write_response(response, &mut datagram);
+    can_be_answered(response);
     let layered = Layered {
         // To the station that the call came from, without looking up who has that address: a wrong address table
         // misleads nobody.

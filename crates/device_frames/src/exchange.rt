@@ -12,10 +12,11 @@ use crate::relation::send_ready;
 use crate::sizes::{can_be_sent_in, cyclic_can_be_sent};
 use alarm_reports::Priority;
 use cyclic_exchange::send_cyclic;
+use device_exchange::DataExchange;
 use frame_codec::{Outbox, Pieces};
 use pn_alarms::{PduType, Taken};
 use pn_values::Identity;
-use relations::{DataExchange, Relation};
+use relations::Relation;
 
 /// Appends the inputs of this exchange at this CycleCounter to the outbox.
 #[inline(always)]

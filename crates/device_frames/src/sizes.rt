@@ -3,10 +3,13 @@ ghost use Rattle.std.specs.Prelude.{◌≤◌, ◌<◌, List, Some, length, ℕ}
 ghost use Rattle.frame_codec.specs.Frame.{FitsFrame, content_size};
 ghost use Rattle.frame_codec.specs.Meaning.{RealTime, content_of, meaning_in, meaning_of};
 ghost use Rattle.codec_laws.specs.frames.Sendable.{CanBeSent, IsContent, IsEndpoint, IsHolder, IsMac, IsTag, carrying};
+ghost use Rattle.rpc_core.specs.Response.{answered};
+ghost use Rattle.rpc_core.specs.Sendable.{CanBeAnswered, IsHeader, IsStatus, IsUuid};
 
 use cyclic_exchange::Route;
 use frame_codec::{Endpoint, Holder, Layered, Payload, Pieces};
 use pn_values::Mac;
+use rpc_core::{CallHeader, Response, Status, Uuid};
 
 // Layers whose content fits can be sent.
 #[inline(always)]
@@ -42,6 +45,48 @@ pub(crate) fn cyclic_can_be_sent(source: &Mac, route: &Route)
     has_six(source);
     let _tag = route.sent_tag;
     let _frame_id = route.sent_id;
+}
+
+// A response with at most 1,372 octets of blocks can be sent.
+#[inline(always)]
+pub(crate) fn can_be_answered(response: &Response<'_>)
+    requires { length response.now.blocks.now ≤ 1372 }
+    ensures { CanBeAnswered (answered response.now) }
+{
+    has_sizes(&response.header);
+    has_four(response.status);
+    let _maximum = response.maximum_count;
+}
+
+// The fields of the header of a call have their sizes.
+#[inline(always)]
+fn has_sizes(header: &CallHeader)
+    ensures { IsHeader header.now }
+{
+    has_sixteen(&header.object);
+    has_sixteen(&header.interface);
+    has_sixteen(&header.activity);
+    let _sequence = header.sequence;
+    let _operation = header.operation;
+}
+
+// An identifier has 16 octets.
+#[inline(always)]
+fn has_sixteen(uuid: &Uuid)
+    ensures { IsUuid uuid.now }
+{
+    let _octets: &[u8] = uuid.as_bytes();
+}
+
+// A status has four octets.
+#[inline(always)]
+fn has_four(status: Status)
+    ensures { IsStatus status }
+{
+    let _code = status.code;
+    let _decode = status.decode;
+    let _code1 = status.code1;
+    let _code2 = status.code2;
 }
 
 // The content of a frame has the sizes of its fields.

@@ -3,7 +3,7 @@ ghost use Rattle.std.specs.Prelude.{◌≡◌, ◌<◌, ◌≤◌, ◌++◌, IfS
 ghost use Rattle.pn_alarms.specs.declared.pdu.PduType.TheVariants.{Data};
 ghost use Rattle.pn_alarms.specs.Device.{end_later, header_now, heard_as};
 ghost use Rattle.pn_alarms.specs.Leaps.{NothingDue, after, data_due_in, device_due};
-ghost use Rattle.pn_alarms.specs.Sending.{due};
+ghost use Rattle.pn_alarms.specs.Sending.{due, is_again, is_repeated};
 ghost use Rattle.diagnosis_alarms.specs.Own.{is_own};
 ghost use Rattle.diagnosis_alarms.specs.Alarms.{after_next, alarm_bytes, begun, behind, changed, closed, is_full, is_next, is_sent, later, noted, opened, reported};
 
@@ -182,8 +182,16 @@ impl DiagnosisAlarms {
     pub fn tick(&mut self) -> Due
         ensures due { result ≡ due self.old.alarms.sender.sending }
         ensures state { self.new ≡ later self.old }
+        ensures repeated { is_repeated self.new.alarms.sender.sending ≡ is_again result }
     {
         self.alarms.tick()
+    }
+
+    /// Whether the active alarm is sent again after the unit that passed last.
+    pub fn is_repeated(&self) -> bool
+        ensures { result ≡ is_repeated self.now.alarms.sender.sending }
+    {
+        self.alarms.is_repeated()
     }
 
     /// The number of units up to and with the next one with which the alarm is sent again or given up, `NEVER` if no

@@ -29,16 +29,17 @@ use Rattle.controller_frames.specs.declared.request.Request.TheVariants as asks
 use Rattle.controller_frames.specs.Heard.{Heard, Responds, heard_of}
 use Rattle.controller_frames.specs.Requests.{sequence_of, write_count, writing_from}
 use Rattle.controller_frames.specs.Sent.{Sent}
-use Rattle.controller_core.specs.declared.state.Cause.{Cause}
-use Rattle.controller_core.specs.declared.state.State.{State}
-use Rattle.controller_core.specs.declared.state.State.TheVariants.{Looking, Addressing, Connecting, Writing, Ending, Waiting, Exchanging, Ended}
-use Rattle.controller_core.specs.declared.event.Event.{Event}
-use Rattle.controller_core.specs.declared.event.Event.TheVariants.{Frame}
-use Rattle.controller_core.specs.State.{Live}
-use Rattle.controller_core.specs.Alarms.{ack_of, kept_alarm}
-use Rattle.controller_core.specs.Answers.{is_answer, is_call}
-use Rattle.controller_core.specs.Outcomes.{are_written}
-use Rattle.controller_core.specs.Machine.{Turn, stays, next_sequence, noted, released, writing, standing, end_of, with_end, keeping, acking, behind_data, behind_ack, diagnosing, confirming, taken, is_again, later, where_due, requests_of, accesses_by, pending_by, pending_of, acks_in, acks_of, outputs_of, flow_later, due_frames, brought, turn_of}
+use Rattle.controller_state.specs.declared.state.Cause.{Cause}
+use Rattle.controller_state.specs.declared.state.State.{State}
+use Rattle.controller_state.specs.declared.state.State.TheVariants.{Looking, Addressing, Connecting, Writing, Ending, Waiting, Exchanging, Ended}
+use Rattle.controller_state.specs.declared.event.Event.{Event}
+use Rattle.controller_state.specs.declared.event.Event.TheVariants.{Frame}
+use Rattle.controller_state.specs.State.{Live}
+use Rattle.controller_state.specs.Alarms.{ack_of, kept_alarm}
+use Rattle.startup_answers.specs.Answers.{is_answer, is_call}
+use Rattle.startup_answers.specs.Outcomes.{are_written}
+use Rattle.controller_core.specs.Machine.{Turn, stays, noted, released, writing, standing, end_of, with_end, keeping, acking, behind_data, behind_ack, diagnosing, confirming, taken, is_again, later, where_due, requests_of, accesses_by, pending_by, pending_of, acks_in, acks_of, outputs_of, flow_later, due_frames, brought, turn_of}
+use Rattle.startup_answers.specs.Requests.{next_sequence}
 use Rattle.end_laws.specs.turns.Ended.{IsReleased}
 use Rattle.end_laws.specs.turns.Turns.{Came, Hears, IsGranted, IsKind, IsReadied, IsSkipped, IsTurn, Kind, Rests, Connects, Addresses, Ends, Releases, Relates, Writes, Skips, Waits, Forgets, Begins, Repeats, Takes, IsAcked, Asks, IsReplied, Flows, Breaks, Idles, came_by, turn_by}
 use Rattle.end_laws.specs.both.Small as small

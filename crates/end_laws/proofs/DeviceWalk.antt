@@ -41,9 +41,9 @@ use Rattle.pn_alarms.specs.Message.{ToDevice as Message}
 use Rattle.cyclic_exchange.specs.declared.received.Received.{Received}
 use Rattle.cyclic_exchange.specs.declared.received.Received.TheVariants as received
 use Rattle.cyclic_exchange.specs.declared.route.Route.{Route}
-use Rattle.relations.specs.exchange.Flow.{Flow}
-use Rattle.relations.specs.exchange.Diagnosis.{begins_with_one, behind_low, diagnoses_begun, next_reported}
-use Rattle.relations.specs.exchange.Frames.{Frame, alarm_frame, low_alarm_frame}
+use Rattle.device_exchange.specs.Flow.{Flow}
+use Rattle.device_exchange.specs.Diagnosis.{begins_with_one, behind_low, diagnoses_begun, next_reported}
+use Rattle.device_exchange.specs.Frames.{Frame, alarm_frame, low_alarm_frame}
 use Rattle.relations.specs.declared.hearing.ReadyAnswer.{ReadyAnswer}
 use Rattle.relations.specs.declared.hearing.ReadyAnswer.TheVariants as to_ready
 use Rattle.relations.specs.RelationState.{RelationState, flow_of, is_alarm_of, uuid_of, is_started, is_awaiting, is_exchanging, is_preparing, phase_of}
@@ -72,13 +72,13 @@ use Rattle.end_laws.proofs.DeviceConnects.{unlimited}
 use Rattle.end_laws.proofs.DeviceOwing.{IsPlainIn, connect_plain, keeping_plain, outcome_sized, prm_plain, read_plain, release_plain, stored_plain, writing_plain, IsPlain, bind_ok}
 use Rattle.rpc_core.specs.Response.{Answered as Response, answer_to, is_done}
 use Rattle.relations.specs.Farewells.{farewell_of}
-use Rattle.relations.specs.exchange.Notices.{behind_message}
-use Rattle.relations.specs.exchange.Process.{with_input}
-use Rattle.relations.specs.exchange.Marks.{awaits}
-use Rattle.relations.specs.Statuses.{statuses_at}
-use Rattle.relations.specs.declared.statuses.InputStatus.{InputStatus}
-use Rattle.relations.specs.exchange.Received.{behind_frame, received_as}
-use Rattle.relations.specs.exchange.Units.{flow_later, repeated_of, tick_of}
+use Rattle.device_exchange.specs.Notices.{behind_message}
+use Rattle.device_exchange.specs.Process.{with_input}
+use Rattle.device_exchange.specs.Marks.{awaits}
+use Rattle.device_exchange.specs.Statuses.{statuses_at}
+use Rattle.device_exchange.specs.declared.statuses.InputStatus.{InputStatus}
+use Rattle.device_exchange.specs.Received.{behind_frame, received_as}
+use Rattle.device_exchange.specs.Units.{flow_later, repeated_of, tick_of}
 use Rattle.cyclic_data.specs.Image.{Shown as Image, cell_at, changed, has_size, with_value}
 use Rattle.cyclic_data.specs.declared.place.PlaceKind.TheVariants.{Data as at_data}
 use Rattle.pn_alarms.specs.declared.abort.Abort.TheVariants.{Other}

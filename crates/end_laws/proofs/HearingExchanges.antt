@@ -18,7 +18,7 @@ use Rattle.record_blocks.specs.declared.alarm_ack.AlarmAck.{AlarmAck}
 use Rattle.alarm_reports.specs.Priority.{frame_id_at, priority_of}
 use Rattle.cyclic_exchange.specs.declared.route.Route.{Route}
 use Rattle.cyclic_exchange.specs.Frames.{body_at, tagged_frame}
-use Rattle.relations.specs.exchange.Frames.{Inputs}
+use Rattle.device_exchange.specs.Frames.{Inputs}
 use Rattle.plans.specs.declared.parts.Controller.{Controller}
 use Rattle.device_frames.specs.Heard.{Alarms, Cyclic, LowConfirms, heard_alarm, heard_low, heard_of as device_hears, heard_reply}
 use Rattle.device_frames.specs.Sent.{Exchanges, bytes_of as device_bytes}

@@ -25,17 +25,19 @@ use Rattle.controller_frames.specs.declared.setup.Setup.{Setup}
 use Rattle.controller_frames.specs.Heard.{Answers, Calls}
 use Rattle.controller_frames.specs.Requests.{writing_from}
 use Rattle.controller_frames.specs.Sent.{Agrees, ready_answer}
-use Rattle.controller_core.specs.declared.event.Event.{Event}
-use Rattle.controller_core.specs.declared.event.Event.TheVariants.{Frame, Give, Read, Status, Stop, Tick, Write}
-use Rattle.controller_core.specs.declared.state.Cause.{Cause}
-use Rattle.controller_core.specs.declared.state.State.{State}
-use Rattle.controller_core.specs.declared.state.State.TheVariants.{Addressing, Connecting, Ended, Exchanging, Waiting}
-use Rattle.controller_core.specs.State.{Live}
+use Rattle.controller_state.specs.declared.event.Event.{Event}
+use Rattle.controller_state.specs.declared.event.Event.TheVariants.{Frame, Give, Read, Status, Stop, Tick, Write}
+use Rattle.controller_state.specs.declared.state.Cause.{Cause}
+use Rattle.controller_state.specs.declared.state.State.{State}
+use Rattle.controller_state.specs.declared.state.State.TheVariants.{Addressing, Connecting, Ended, Exchanging, Waiting}
+use Rattle.controller_state.specs.State.{Live}
 use Rattle.end_laws.specs.turns.Turns.{Came, Hears, IsKind, IsReadied, IsTurn, Kind, Rests, Connects, Addresses, Ends, Releases, Relates, Writes, Skips, Waits, Forgets, Begins, Repeats, Follows, Takes, IsAcked, Asks, IsReplied, Gives, GivesStatus, Flows, Breaks, Idles, came_by, turn_by}
 use Rattle.codec_laws.specs.frames.Sendable.{IsMac}
 use Rattle.connect_answers.specs.Connect.{Chosen}
-use Rattle.controller_core.specs.Machine.{Turn, accesses_by, acking, acks_in, acks_of, asking, behind_data, brought, confirming, diagnosing, due_frames, end_of, first, flow_later, is_again, keeping, next_sequence, noted, over, pending_by, pending_of, phase_for, released, requests_of, standing, stays, taken, turn_of, where_due, with_end, writing}
-use Rattle.controller_core.specs.Alarms.{ack_of}
+use Rattle.controller_core.specs.Machine.{Turn, accesses_by, acking, acks_in, acks_of, asking, behind_data, brought, confirming, diagnosing, due_frames, end_of, first, flow_later, is_again, keeping, noted, over, pending_by, pending_of, released, requests_of, standing, stays, taken, turn_of, where_due, with_end, writing}
+use Rattle.startup_answers.specs.Requests.{next_sequence}
+use Rattle.controller_state.specs.State.{phase_for}
+use Rattle.controller_state.specs.Alarms.{ack_of}
 use Rattle.end_laws.specs.hearing.Stations.{IsRecordCall, IsSetup}
 use Rattle.end_laws.specs.sending.Addressed.{IsAimed, IsAimedAt, IsDirection, IsEventFrom, IsHeardFrom}
 use Rattle.end_laws.specs.sending.Sized.{AreFew, IsFew, IsWaiting}

@@ -31,7 +31,8 @@ use Rattle.controller_frames.specs.Heard.{Heard}
 use Rattle.controller_frames.specs.Requests.{write_count, writing_from}
 use Rattle.controller_frames.specs.Sent.{Sent, ready_answer, ready_done}
 use Rattle.record_access.specs.Access.{call_number}
-use Rattle.controller_core.specs.Machine.{next_sequence, where_due}
+use Rattle.startup_answers.specs.Requests.{next_sequence}
+use Rattle.controller_core.specs.Machine.{where_due}
 use Rattle.end_laws.specs.turns.Turns.{Came, Hears, Passes, Gets, GetsStatus, AsksRead, AsksWrite, Halts}
 use Rattle.rpc_core.specs.Sendable.{CanBeAnswered, IsHeader}
 use Rattle.end_laws.specs.hearing.Stations.{IsNumbered}

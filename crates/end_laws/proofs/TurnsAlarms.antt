@@ -1,5 +1,5 @@
 -- The alarms of one priority of a controller and of a device's end are those of an exchange: each move makes some moves of it.
-use Rattle.std.proofs.Common.{◌≡◌, ◌<◌, ◌≤◌, ◌+◌, ◌++◌, ◌==◌, ℕ, zero, suc, Bool, true, false, List, [], ◌∷◌, length, Option, Some, None, refl, sym, ap, subst, ◌∙◌, arith}
+use Rattle.std.proofs.Common.{◌≡◌, ◌<◌, ◌≤◌, ◌+◌, ◌++◌, ℕ, zero, suc, Bool, true, false, List, [], ◌∷◌, length, Option, Some, None, refl, sym, ap, subst, ◌∙◌, arith}
 use Rattle.std.specs.Prelude.{if◌then◌else◌, nat_lt, slice_get}
 use Rattle.std.specs.List.{AllByRecursion}
 use Rattle.std.proofs.lemmas.Bool.Decides.{nat_tests}
@@ -24,7 +24,6 @@ use Rattle.pn_alarms.specs.Numbers.{send_number}
 use Rattle.pn_alarms.specs.Receiver.{taken_as}
 use Rattle.pn_alarms.specs.Sending.{due, either_due}
 use Rattle.pn_alarms.specs.Sending.{is_again as is_again_due}
-use Rattle.cyclic_exchange.specs.declared.route.Route.{Route}
 use Rattle.cyclic_exchange.specs.Units.{ending_of, tick_by}
 use Rattle.codec_laws.specs.alarms.World.{Move as Happening}
 use Rattle.codec_laws.specs.alarms.World as happening
@@ -36,9 +35,10 @@ use Rattle.controller_frames.specs.declared.record_request.RecordService.TheVari
 use Rattle.controller_frames.specs.declared.setup.Setup.{Setup}
 use Rattle.controller_frames.specs.Heard.{Heard, Alarms}
 use Rattle.controller_frames.specs.Sent.{Sent, Confirms}
-use Rattle.controller_core.specs.Alarms.{ack_of, kept_alarm}
-use Rattle.controller_core.specs.Machine.{Turn, acked_under, acks_in, acks_of, behind_ack, behind_data, brought, cause_of, due_frames, end_of, flow_later, flowed, given, is_again, later, noticed, outputs_of, over, pending_by, rated, requested, requests_of, stays, stopped, taken, turned, where_due, written}
-use Rattle.controller_core.specs.State.{Live}
+use Rattle.controller_state.specs.Alarms.{ack_of, kept_alarm}
+use Rattle.controller_core.specs.Machine.{Turn, acked_under, acks_in, acks_of, behind_ack, behind_data, brought, due_frames, end_of, flow_later, flowed, given, is_again, later, noticed, outputs_of, over, pending_by, rated, requested, requests_of, stays, stopped, taken, turned, where_due, written}
+use Rattle.controller_state.specs.Cause.{cause_of}
+use Rattle.controller_state.specs.State.{Live}
 use Rattle.end_laws.specs.turns.Alarms.{AreAllTaken, AreTakenInOrder, LackAtMostTheLast, Move, Relation, Raises, PassesAtDevice, ComesToDevice, AckComesToDevice, AlarmComes, Hears, PassesAtController, Gives, GivesStatus, Reads, Writes, Stops, ShowsTheLast, acked_at_device, alarm_comes, behind, behind_one, comes_to_device, hears, is_looked_at, is_priority, last_of, passed_at_device, raised_by, report_as, shown_of, start, turns}
 use Rattle.end_laws.specs.turns.Turns as came
 use Rattle.end_laws.proofs.TurnsInactive.{IsInactive, IsInactiveAt, IsNoAck, IsOneOf, IsThere, at_priority, inactive_stays, no_acks_there, outputs_no_ack, pending_no_ack, requests_no_ack, turn_inactive}

@@ -14,12 +14,12 @@ use Rattle.controller_frames.specs.Heard.{Heard, heard_of}
 use Rattle.controller_frames.specs.RecordRequests.{most_record_octets}
 use Rattle.controller_frames.specs.Sent.{bytes_of}
 use Rattle.pn_alarms.specs.Sending.{due}
-use Rattle.controller_core.specs.declared.event.Event.{Event}
-use Rattle.controller_core.specs.declared.event.Event.TheVariants.{Frame, Tick, Give, Status, Read, Write, Stop}
-use Rattle.controller_core.specs.declared.state.Cause.{Cause}
-use Rattle.controller_core.specs.declared.state.State.{State}
-use Rattle.controller_core.specs.declared.state.State.TheVariants.{Looking, Addressing, Ending, Waiting, Exchanging, Ended}
-use Rattle.controller_core.specs.State.{Controlling, Live, with_live}
+use Rattle.controller_state.specs.declared.event.Event.{Event}
+use Rattle.controller_state.specs.declared.event.Event.TheVariants.{Frame, Tick, Give, Status, Read, Write, Stop}
+use Rattle.controller_state.specs.declared.state.Cause.{Cause}
+use Rattle.controller_state.specs.declared.state.State.{State}
+use Rattle.controller_state.specs.declared.state.State.TheVariants.{Looking, Addressing, Ending, Waiting, Exchanging, Ended}
+use Rattle.controller_state.specs.State.{Controlling, Live, with_live}
 use Rattle.controller_core.specs.Machine.{Turn, accessing, flow_later, flowed, brought, is_again, is_exchanging, later, request_for, requested, requests_of, stays, step_of, stopped, ticked, turned, written}
 use Rattle.controller_core.specs.Machine.{where_due as sent_where_due}
 use Rattle.end_laws.specs.turns.Runs.{frames_of}

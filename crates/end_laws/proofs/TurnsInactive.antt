@@ -13,7 +13,7 @@ use Rattle.controller_frames.specs.declared.setup.Setup.{Setup}
 use Rattle.controller_frames.specs.declared.request.Request.{Request}
 use Rattle.controller_frames.specs.Heard.{Alarms}
 use Rattle.controller_frames.specs.Sent.{Sent, Confirms}
-use Rattle.controller_core.specs.State.{Live}
+use Rattle.controller_state.specs.State.{Live}
 use Rattle.controller_core.specs.Machine.{Turn, accesses_by, end_of, outputs_of, pending_by, requests_of, stays, where_due}
 use Rattle.end_laws.specs.turns.Alarms.{is_priority, shown_of}
 use Rattle.end_laws.specs.turns.Turns.{Came, Hears, Passes, IsKind, Kind, Rests, Connects, Addresses, Ends, Releases, Relates, Writes, Skips, Waits, Forgets, Begins, Repeats, Follows, Takes, IsAcked, Gives, GivesStatus, Asks, IsReplied, Flows, Breaks, Idles, turn_by, turn_for}

@@ -1,5 +1,5 @@
 -- The list of diagnoses of a controller is what the changes that it accepted report.
-use Rattle.std.proofs.Common.{◌≡◌, ◌⊎◌, inl, inr, ◌++◌, ◌&&◌, ◌==◌, ◌+◌, ℕ, Bool, true, false, cond, List, [], ◌∷◌, length, Option, Some, None, refl, sym, ap, subst, ◌∙◌}
+use Rattle.std.proofs.Common.{◌≡◌, ◌⊎◌, inl, inr, ◌++◌, ◌+◌, ℕ, Bool, true, false, cond, List, [], ◌∷◌, Option, Some, None, refl, sym, ap, subst, ◌∙◌}
 use Rattle.std.specs.Prelude.{if◌then◌else◌, nat_lt, slice_get}
 use Rattle.std.specs.List.{AllByRecursion}
 use Rattle.std.proofs.lemmas.Bool.{and_parts, false≢true}
@@ -25,11 +25,12 @@ use Rattle.controller_frames.specs.declared.setup.Setup.{Setup}
 use Rattle.controller_frames.specs.Requests.{write_count}
 use Rattle.controller_frames.specs.Heard.{Heard, Alarms}
 use Rattle.controller_frames.specs.Sent.{Sent, Confirms}
-use Rattle.controller_core.specs.Alarms.{is_alarm}
-use Rattle.controller_core.specs.declared.state.State.{State}
-use Rattle.controller_core.specs.declared.state.State.TheVariants.{Looking, Addressing, Connecting, Ended, Exchanging, Waiting}
-use Rattle.controller_core.specs.Machine.{Turn, alarmed, behind_data, end_of, noticed, phase_for, stays, taken}
-use Rattle.controller_core.specs.State.{Live}
+use Rattle.controller_state.specs.Alarms.{is_alarm}
+use Rattle.controller_state.specs.declared.state.State.{State}
+use Rattle.controller_state.specs.declared.state.State.TheVariants.{Looking, Addressing, Connecting}
+use Rattle.controller_core.specs.Machine.{Turn, alarmed, behind_data, end_of, noticed, stays, taken}
+use Rattle.controller_state.specs.State.{phase_for}
+use Rattle.controller_state.specs.State.{Live}
 use Rattle.end_laws.specs.turns.Alarms.{IsQuiet, ListsWhatIsReported, Move, Relation, Raises, PassesAtDevice, ComesToDevice, AckComesToDevice, AlarmComes, Hears, PassesAtController, Gives, GivesStatus, Reads, Writes, Stops, after_reports, alarm_comes, behind, behind_one, comes_to_device, hears, is_looked_at, is_priority, raised_by, report_as, start, turns}
 use Rattle.end_laws.specs.turns.Turns as came
 use Rattle.end_laws.specs.turns.Turns.{Came, IsKind, Kind, turn_by, turn_for}

@@ -16,12 +16,14 @@ use Rattle.controller_frames.specs.declared.request.Request.{Request}
 use Rattle.controller_frames.specs.declared.request.Request.TheVariants as asks
 use Rattle.controller_frames.specs.Requests.{writing_from}
 use Rattle.controller_frames.specs.Sent.{Sent}
-use Rattle.controller_core.specs.declared.event.Event.{Event}
-use Rattle.controller_core.specs.declared.state.Cause.{Cause}
-use Rattle.controller_core.specs.declared.state.State.TheVariants.{Ended}
-use Rattle.controller_core.specs.State.{Controlling, Live}
-use Rattle.controller_core.specs.Alarms.{ack_of, kept_alarm}
-use Rattle.controller_core.specs.Machine.{Turn, acking, behind_ack, behind_data, cause_of, confirming, diagnosing, end_of, first, flow_later, fresh, keeping, noted, over, phase_for, released, standing, stays, step_of, taken, turn_of, with_end, writing}
+use Rattle.controller_state.specs.declared.event.Event.{Event}
+use Rattle.controller_state.specs.declared.state.Cause.{Cause}
+use Rattle.controller_state.specs.declared.state.State.TheVariants.{Ended}
+use Rattle.controller_state.specs.State.{Controlling, Live}
+use Rattle.controller_state.specs.Alarms.{ack_of, kept_alarm}
+use Rattle.controller_core.specs.Machine.{Turn, acking, behind_ack, behind_data, confirming, diagnosing, end_of, first, flow_later, fresh, keeping, noted, over, released, standing, stays, step_of, taken, turn_of, with_end, writing}
+use Rattle.controller_state.specs.Cause.{cause_of}
+use Rattle.controller_state.specs.State.{phase_for}
 use Rattle.end_laws.specs.turns.Ended.{HasEnded, may_release}
 use Rattle.end_laws.specs.turns.Runs.{IsReached, behind_all}
 use Rattle.end_laws.specs.turns.Turns.{Came, IsEnd, IsKind, IsReported, Kind, Rests, Connects, Addresses, Ends, Releases, Relates, Writes, Skips, Waits, Forgets, Begins, Repeats, Follows, Takes, IsAcked, Gives, GivesStatus, Asks, IsReplied, Flows, Breaks, Idles, came_by, turn_by}

@@ -3,7 +3,7 @@ use Rattle.std.proofs.Common.{◌≡◌, ◌&&◌, ◌==◌, ℕ, Bool, true, fa
 use Rattle.std.specs.Prelude.{not, nat_eq}
 use Rattle.std.specs.Cmp.Lexicographic.{pointwise}
 use Rattle.pn_values.specs.declared.identity.Identity.{Identity}
-use Rattle.services.specs.Call.{in_order}
+use Rattle.call_headers.specs.Call.{in_order}
 use Rattle.endpoint_mapper.specs.declared.lookup.Lookup.{Lookup}
 use Rattle.endpoint_mapper.specs.Entry.{object_of, told_handle}
 use Rattle.endpoint_mapper.specs.Lookup.{gets_entry, no_handle}

@@ -2,8 +2,8 @@
 use Rattle.std.specs.Prelude.{ℕ, Bool, List, [], ◌∷◌, ◌++◌}
 use Rattle.std.specs.Int.{w16, to_be_bytes}
 use Rattle.pn_values.specs.declared.identity.Identity.{Identity}
-use Rattle.services.specs.Call.{in_order}
-use Rattle.services.specs.Unserved.{sent_uuid}
+use Rattle.call_headers.specs.Call.{in_order}
+use Rattle.call_headers.specs.Unserved.{sent_uuid}
 use Rattle.endpoint_mapper.specs.Annotation.{annotation}
 use Rattle.endpoint_mapper.specs.Lookup.{no_handle}
 

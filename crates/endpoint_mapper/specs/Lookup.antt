@@ -6,10 +6,10 @@ use Rattle.wire.specs.Formats.{raw, then_by, ◌⨾◌, seen, when}
 use Rattle.rpc_core.specs.declared.fault.RpcFault.{RpcFault}
 use Rattle.rpc_core.specs.declared.fault.RpcFault.TheVariants.{Short}
 use Rattle.rpc_core.specs.Fields.{any}
-use Rattle.services.specs.Call.{in_order}
+use Rattle.call_headers.specs.Call.{in_order}
 use Rattle.endpoint_mapper.specs.declared.lookup.Lookup.{Lookup}
 
--- a reference, and behind it this many octets, unless it is 0; they are ignored, and written as the reference 0
+-- a reference, followed by this many octets unless it is 0; they are ignored, and written as the reference 0
 unfoldable pub reference : Bool → ℕ → Codec RpcFault (Unit {0})
 reference little size = seen (λ _. tt) (λ _. (0, None)) (then_by (in_order little 4) (λ number. when (not (number == 0)) (raw Short size)))
 

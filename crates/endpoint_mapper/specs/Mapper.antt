@@ -4,13 +4,13 @@ use Rattle.std.specs.Option.{option_map}
 use Rattle.pn_values.specs.declared.identity.Identity.{Identity}
 use Rattle.rpc_core.specs.declared.fault.RpcFault.{RpcFault}
 use Rattle.frame_codec.specs.Frame.{frame_bytes}
-use Rattle.services.specs.declared.call.Head.{Head}
-use Rattle.services.specs.declared.unserved.Rejection.TheVariants.{Operation}
-use Rattle.services.specs.declared.unserved.Refusal.TheVariants.{Reject}
-use Rattle.services.specs.Call.{head, is_little}
+use Rattle.call_headers.specs.declared.call.Head.{Head}
+use Rattle.call_headers.specs.declared.unserved.Rejection.TheVariants.{Operation}
+use Rattle.call_headers.specs.declared.unserved.Refusal.TheVariants.{Reject}
+use Rattle.call_headers.specs.Call.{head, is_little}
 use Rattle.services.specs.State.{State}
 use Rattle.services.specs.Answer.{Call, call_in, call_reply_of}
-use Rattle.services.specs.Unserved.{answer_bytes, answer_head, is_read, mapper_uuid, names_interface}
+use Rattle.call_headers.specs.Unserved.{answer_bytes, answer_head, is_read, mapper_uuid, names_interface}
 use Rattle.endpoint_mapper.specs.declared.lookup.Lookup.{Lookup}
 use Rattle.endpoint_mapper.specs.Lookup.{gets_entry, lookup}
 use Rattle.endpoint_mapper.specs.Entry.{ended, found, freed}
@@ -48,7 +48,7 @@ operation_answer identity address h body =
 abbrev pub is_mapped : Head → List ℕ → Bool
 is_mapped h body = is_read h body && h.opening.packet_type == 0 && names_interface h mapper_uuid
 
--- The answer to what was read of a datagram's body. The octets behind the length of the call are ignored.
+-- The answer to what was read of a datagram's body. The octets after the length of the call are ignored.
 abbrev pub mapped_by : Identity → List ℕ → Result (Head × List ℕ) RpcFault → Option (List ℕ)
 mapped_by identity address (Ok call) =
     if is_mapped call.0 call.1 then operation_answer identity address call.0 (take call.0.extent.length call.1) else None

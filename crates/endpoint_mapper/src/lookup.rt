@@ -1,7 +1,7 @@
 //! What a lookup asks.
 ghost use Rattle.std.specs.Prelude.{◌≡◌};
 ghost use Rattle.wire.specs.Codec.{Gives};
-ghost use Rattle.services.specs.Call.{in_order};
+ghost use Rattle.call_headers.specs.Call.{in_order};
 ghost use Rattle.endpoint_mapper.specs.Lookup.{gets_entry, lookup, reference};
 
 use byteorder::{ByteOrder, LittleEndian};
@@ -20,7 +20,7 @@ pub struct Lookup {
 }
 
 /// A number of four octets in this byte order, and the octets after it.
-#[tactic(auto, unfolding(services::specs::Call::in_order))]
+#[tactic(auto, unfolding(call_headers::specs::Call::in_order))]
 fn long_at(little: bool, bytes: &[u8]) -> Result<(u32, &[u8]), RpcFault>
     ensures { Gives (λ x. (x.0, x.1.now)) result ((in_order little 4).read bytes.now) }
 {

@@ -1,9 +1,9 @@
 //! The answers of the endpoint mapper to the bodies of datagrams.
 ghost use Rattle.std.specs.Prelude.{◌≡◌, Some, IfSome, ◌≤◌, length};
 ghost use Rattle.services.specs.Answer.{frame_in};
-ghost use Rattle.services.specs.Unserved.{answer_bytes};
-ghost use Rattle.services.specs.declared.unserved.Rejection.TheVariants.{Operation};
-ghost use Rattle.services.specs.declared.unserved.Refusal.TheVariants.{Reject};
+ghost use Rattle.call_headers.specs.Unserved.{answer_bytes};
+ghost use Rattle.call_headers.specs.declared.unserved.Rejection.TheVariants.{Operation};
+ghost use Rattle.call_headers.specs.declared.unserved.Refusal.TheVariants.{Reject};
 ghost use Rattle.endpoint_mapper.specs.Entry.{freed};
 ghost use Rattle.endpoint_mapper.specs.Mapper.{is_mapped as is_mapped_by, lookup_answer, lookup_bytes, low_first, mapped, operation_answer, response, response_head};
 ghost use Rattle.endpoint_mapper.specs.Lookup.{lookup};
@@ -12,11 +12,11 @@ use crate::Lookup;
 use crate::lookup::{has_entry, lookup_at};
 use crate::writing::{put_ended, put_found, put_freed};
 use arrayvec::ArrayVec;
-use pn_values::Identity;
-use services::{
+use call_headers::{
     Head, Opening, Refusal, Rejection, answer_head, head_at, is_little, is_read, names_mapper,
     put_head, refusal_bytes,
 };
+use pn_values::Identity;
 use wire::{append, at_most};
 
 /// The answer of the endpoint mapper, as the body of a datagram.

@@ -5,9 +5,9 @@ ghost use Rattle.endpoint_mapper.specs.Entry.{counts, ended, entry, found, freed
 
 use crate::MapperAnswer;
 use crate::annotation::put_annotation;
+use call_headers::{put_long, sent_uuid};
 use pn_values::Identity;
 use rpc_core::Uuid;
-use services::{put_long, sent_uuid};
 use wire::append;
 
 /// The floors of the tower, up to the address: the device interface in version 1, the transfer syntax NDR

@@ -10,7 +10,7 @@ use Rattle.relations.specs.RelationState.{RelationState, is_exchanging}
 use Rattle.relations.specs.declared.phase.Phase.TheVariants.{Exchanging as in_exchange}
 use Rattle.device_core.specs.State.{State}
 use Rattle.controller_frames.specs.declared.setup.Setup.{Setup}
-use Rattle.controller_core.specs.declared.state.State.TheVariants.{Exchanging}
+use Rattle.controller_state.specs.declared.state.State.TheVariants.{Exchanging}
 use Rattle.alarm_reports.specs.declared.priority.Priority.TheVariants.{High, Low}
 use Rattle.end_laws.specs.turns.Alarms.{last_of}
 use Rattle.codec_laws.specs.alarms.World.{IsPrefixOf}

@@ -23,14 +23,16 @@ use Rattle.controller_frames.specs.declared.setup.Setup.{Setup}
 use Rattle.controller_frames.specs.Heard.{Calls, heard_of}
 use Rattle.controller_frames.specs.Requests.{writing_from}
 use Rattle.controller_frames.specs.Sent as said
-use Rattle.controller_core.specs.declared.event.Event.{Event}
-use Rattle.controller_core.specs.declared.event.Event.TheVariants as event
-use Rattle.controller_core.specs.declared.state.State.{State}
-use Rattle.controller_core.specs.declared.state.State.TheVariants.{Exchanging}
-use Rattle.controller_core.specs.Alarms.{ack_of}
-use Rattle.controller_core.specs.Machine.{Turn, accesses_by, acking, diagnosing, acks_in, acks_of, asking, behind_data, brought, due_frames, end_of, flow_later, is_again, is_exchanging, keeping, pending_by, pending_of, phase_for, ready_in, requests_of, taken, turn_of, where_due, with_end}
-use Rattle.controller_core.specs.State.{Live}
-use Rattle.controller_core.specs.Answers.{is_ready}
+use Rattle.controller_state.specs.declared.event.Event.{Event}
+use Rattle.controller_state.specs.declared.event.Event.TheVariants as event
+use Rattle.controller_state.specs.declared.state.State.{State}
+use Rattle.controller_state.specs.declared.state.State.TheVariants.{Exchanging}
+use Rattle.controller_state.specs.Alarms.{ack_of}
+use Rattle.controller_core.specs.Machine.{Turn, accesses_by, acking, diagnosing, acks_in, acks_of, asking, behind_data, brought, due_frames, end_of, flow_later, is_again, is_exchanging, keeping, pending_by, pending_of, requests_of, taken, turn_of, where_due, with_end}
+use Rattle.controller_state.specs.State.{phase_for}
+use Rattle.startup_answers.specs.Answers.{ready_in}
+use Rattle.controller_state.specs.State.{Live}
+use Rattle.startup_answers.specs.Answers.{is_ready}
 use Rattle.end_laws.specs.both.Small as small
 use Rattle.end_laws.specs.both.Small.{ToDevice}
 use Rattle.end_laws.specs.controller.Small.{readied_by, said_to}

@@ -47,10 +47,10 @@ use Rattle.controller_frames.specs.declared.setup.Setup.{Setup}
 use Rattle.controller_frames.specs.Heard as controller
 use Rattle.controller_frames.specs.Heard.{heard_of as heard_by}
 use Rattle.controller_frames.specs.Sent as said
-use Rattle.controller_core.specs.declared.event.Event.{Event}
-use Rattle.controller_core.specs.declared.event.Event.TheVariants as event
+use Rattle.controller_state.specs.declared.event.Event.{Event}
+use Rattle.controller_state.specs.declared.event.Event.TheVariants as event
 use Rattle.controller_core.specs.Machine.{Turn, alarmed, end_of, turn_of, turned}
-use Rattle.controller_core.specs.State.{Live as ControllerLive}
+use Rattle.controller_state.specs.State.{Live as ControllerLive}
 use Rattle.end_laws.specs.turns.Alarms.{IsQuiet, Relation, Move, AlarmComes, Hears, PassesAtController, Gives, GivesStatus, Reads, Stops, Writes, alarm_comes, behind, behind_one, is_looked_at, is_priority, report_as, start, turns}
 use Rattle.end_laws.specs.both.Small as small
 use Rattle.end_laws.specs.both.Small.{Rules, ToDevice}

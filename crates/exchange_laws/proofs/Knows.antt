@@ -17,8 +17,8 @@ use Rattle.diagnosis_alarms.specs.declared.own.Place.{Place}
 use Rattle.pn_alarms.specs.declared.message.Notice.TheVariants as notice
 use Rattle.pn_alarms.specs.Device.{end_with}
 use Rattle.alarm_reports.specs.declared.report.Report.{Report}
-use Rattle.relations.specs.exchange.Diagnosis.{behind_low, diagnosed, diagnoses_begun, next_reported, with_low}
-use Rattle.relations.specs.exchange.Flow.{Flow}
+use Rattle.device_exchange.specs.Diagnosis.{behind_low, diagnosed, diagnoses_begun, next_reported, with_low}
+use Rattle.device_exchange.specs.Flow.{Flow}
 use Rattle.relations.specs.Diagnosed.{diagnosing, is_full_in}
 use Rattle.relations.specs.RelationState.{RelationState, is_exchanging}
 use Rattle.relations.specs.Phases.{exchanging_from, made_of, updated, with_flow}

@@ -48,9 +48,9 @@ use Rattle.controller_frames.specs.Requests.{identify_asked}
 use Rattle.controller_frames.specs.Sent as said
 use Rattle.end_laws.specs.hearing.Hearing.{comes}
 use Rattle.end_laws.specs.hearing.Stations.{IsSetup}
-use Rattle.controller_core.specs.declared.event.Event.{Event}
-use Rattle.controller_core.specs.declared.event.Event.TheVariants as event
-use Rattle.controller_core.specs.State.{Controlling, Live as ControllerLive, with_live}
+use Rattle.controller_state.specs.declared.event.Event.{Event}
+use Rattle.controller_state.specs.declared.event.Event.TheVariants as event
+use Rattle.controller_state.specs.State.{Controlling, Live as ControllerLive, with_live}
 use Rattle.controller_core.specs.Machine.{first as first_live, opening_of, step_of, turn_of, turned}
 use Rattle.end_laws.specs.turns.Alarms.{AreAllTaken, AreTakenInOrder, LackAtMostTheLast, ListsWhatIsReported, Relation, ShowsTheLast, after_reports, last_of, shown_of, start}
 use Rattle.codec_laws.specs.alarms.World.{IsPrefixOf}

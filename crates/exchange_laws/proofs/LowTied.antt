@@ -19,10 +19,10 @@ use Rattle.pn_alarms.specs.Numbers.{is_last, next_number}
 use Rattle.pn_alarms.specs.Receiver.{answer_to, taken_as}
 use Rattle.pn_alarms.specs.Sender.{is_end}
 use Rattle.pn_alarms.specs.Sending.{Sending, due, rested}
-use Rattle.relations.specs.exchange.Diagnosis.{behind_low, diagnosed, is_diagnosed, low_header_of, next_reported, with_low}
-use Rattle.relations.specs.exchange.Flow.{Flow}
-use Rattle.relations.specs.exchange.Notices.{behind_message, header_of}
-use Rattle.relations.specs.exchange.Units.{flow_later, repeated_of, tick_of}
+use Rattle.device_exchange.specs.Diagnosis.{behind_low, diagnosed, is_diagnosed, low_header_of, next_reported, with_low}
+use Rattle.device_exchange.specs.Flow.{Flow}
+use Rattle.device_exchange.specs.Notices.{behind_message, header_of}
+use Rattle.device_exchange.specs.Units.{flow_later, repeated_of, tick_of}
 use Rattle.relations.specs.Diagnosed.{diagnose_one, diagnosing}
 use Rattle.relations.specs.RelationState.{RelationState, flow_of}
 use Rattle.relations.specs.Phases.{exchanging_from, made_of, updated, with_flow}

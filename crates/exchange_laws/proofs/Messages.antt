@@ -39,7 +39,7 @@ use Rattle.alarm_reports.specs.Report.{diagnosed, ours}
 use Rattle.pn_alarms.specs.declared.message.Notice.{Notice}
 use Rattle.cyclic_exchange.specs.declared.route.Route.{Route}
 use Rattle.cyclic_exchange.specs.Frames.{body_at, cyclic_body}
-use Rattle.relations.specs.exchange.Frames.{Frame, Inputs, Notifies, Replies as Answers, Reports, RepliesLow, body_of}
+use Rattle.device_exchange.specs.Frames.{Frame, Inputs, Notifies, Replies as Answers, Reports, RepliesLow, body_of}
 use Rattle.plans.specs.declared.parts.Controller.{Controller}
 use Rattle.startup_law.specs.request.Request.{request_for}
 use Rattle.relations.specs.declared.ready.Ready.{Ready}
@@ -371,7 +371,7 @@ module _ (so : HearsSo) (setup : Setup) (identity : Identity) where
       let reads = so.packet_read asker identity.mac None _ can in
       (inl (packet_unnoted mine _ _ reads tt), packet_unreported identity _ _ reads tt, packet_good mine identity.mac _ asker identity.mac None _ reads)
   message_noted (sent.CallAnswer caller address answer) can sized ready_so =
-      let reads = so.datagram_read caller.mac identity.mac None _ _ _ can in
+      let reads = so.datagram_read caller.mac identity.mac None _ _ _ can.0 in
       let none : IsErr (call_of controllers (response_bytes answer)) =
       subst (λ (octets : List ℕ). IsErr (call_of controllers octets)) (append-nil (response_bytes answer)) (so.response_no_call controllers answer []) in
       (inl (packet_unnoted mine _ _ reads tt), packet_unreported identity _ _ reads tt, datagram_good mine identity.mac _ caller.mac identity.mac None _ _ (response_bytes answer) reads none)

@@ -40,7 +40,7 @@ use Rattle.rpc_core.specs.Response.{response_bytes}
 use Rattle.pn_alarms.specs.declared.pdu.PduType.{PduType}
 use Rattle.pn_alarms.specs.declared.pdu.PduType.TheVariants as pdu
 use Rattle.pn_alarms.specs.Format.{Said, frame_id_of, pdu_bytes}
-use Rattle.relations.specs.exchange.Frames.{tag_of}
+use Rattle.device_exchange.specs.Frames.{tag_of}
 use Rattle.plans.specs.Connect.{alarm_block}
 use Rattle.device_frames.specs.Sent.{Sent, IdentifyAnswer, GetAnswer, SetAnswer, ArpReply, CallAnswer, Again, ReadyCall, Ends, Exchanges, bytes_of, exchange_content, farewell_content, ready_content, reply_content, response_content}
 use Rattle.device_frames.specs.Sendable.{IsSendable}
@@ -290,7 +290,7 @@ module _ (setup : Setup) (identity : Identity) where
     message_silent (GetAnswer asker running alias request) can known = own_silent asker None (RealTime 65277 (get_bytes identity running alias request)) can
     message_silent (SetAnswer asker request answers) can known = own_silent asker None (RealTime 65277 (set_bytes request answers)) can
     message_silent (ArpReply asker address target) can known = own_silent asker None (reply_content identity address target) can
-    message_silent (CallAnswer caller address answer) can known = own_silent caller.mac None (response_content caller address answer) can
+    message_silent (CallAnswer caller address answer) can known = own_silent caller.mac None (response_content caller address answer) can.0
     message_silent (Again frame) can known = known
     message_silent (ReadyCall address ready) can known = own_silent ready.partner.mac None (ready_content address ready) can
     message_silent (Ends farewell) can known = own_silent farewell.initiator (Some farewell.tag) (farewell_content farewell) can

@@ -10,10 +10,10 @@ use Rattle.cyclic_data.specs.declared.place.PlaceKind.TheVariants.{Data, Iocs}
 use Rattle.cyclic_data.specs.Layout.{AreAllApart, IsInside, IsSolid, times_listed}
 use Rattle.cyclic_data.specs.Image.{Cell, Shown as Image, cell_at, cell_of, changed, changed_in, has_size, octets_of, with_frame, with_status, zero_cell}
 use Rattle.controller_frames.specs.declared.setup.Setup.{Setup}
-use Rattle.controller_core.specs.declared.outputs.OutputMark.{OutputMark}
+use Rattle.controller_state.specs.declared.outputs.OutputMark.{OutputMark}
 use Rattle.controller_core.specs.Machine.{first as first_live, given, rated, with_output}
-use Rattle.controller_core.specs.Outputs.{awaits, change_by, iops_of, mark_at, marked}
-use Rattle.controller_core.specs.State.{Live}
+use Rattle.controller_state.specs.Outputs.{awaits, change_by, iops_of, mark_at, marked}
+use Rattle.controller_state.specs.State.{Live}
 use Rattle.network_world.specs.declared.moves.Move.{Move}
 use Rattle.network_world.specs.declared.moves.Move.TheVariants as move
 use Rattle.exchange_laws.specs.Shown.{zeros_for}

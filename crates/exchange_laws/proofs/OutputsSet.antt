@@ -7,9 +7,9 @@ use Rattle.cyclic_data.specs.declared.place.PlaceKind.{PlaceKind}
 use Rattle.cyclic_data.specs.declared.place.PlaceKind.TheVariants.{Data, Iocs}
 use Rattle.cyclic_data.specs.Layout.{is_same_kind, times_listed}
 use Rattle.cyclic_data.specs.Image.{Cell, cell_at, changed_in, has_size, place_at, with_status}
-use Rattle.controller_core.specs.declared.outputs.OutputMark.{OutputMark}
+use Rattle.controller_state.specs.declared.outputs.OutputMark.{OutputMark}
 use Rattle.controller_core.specs.Machine.{with_output}
-use Rattle.controller_core.specs.Outputs.{awaits, change_by, iops_by, iops_of, is_awaited_in, mark_at, marked}
+use Rattle.controller_state.specs.Outputs.{awaits, change_by, iops_by, iops_of, is_awaited_in, mark_at, marked}
 use Rattle.exchange_laws.specs.Given.{cell_of_kind}
 use Rattle.exchange_laws.proofs.OutputsValues.{Values, awaited_as, cell_found, cell_place, cell_with, cells_of, is_there, mark_found, mark_of_kind, mark_with, marked_found, marks_of, only_one}
 

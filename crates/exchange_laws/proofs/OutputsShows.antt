@@ -20,8 +20,8 @@ use Rattle.cyclic_exchange.specs.declared.received.Received.TheVariants as recei
 use Rattle.cyclic_exchange.specs.declared.route.Route.{Route}
 use Rattle.cyclic_exchange.specs.Cyclic.{Cyclic}
 use Rattle.cyclic_exchange.specs.Received.{behind_read, is_new, is_of_partner, received_in}
-use Rattle.relations.specs.exchange.Flow.{Flow}
-use Rattle.relations.specs.exchange.Notices.{may_raise, raised_by}
+use Rattle.device_exchange.specs.Flow.{Flow}
+use Rattle.device_exchange.specs.Notices.{may_raise, raised_by}
 use Rattle.diagnosis.specs.declared.diagnosis.Diagnosis.{Diagnosis}
 use Rattle.relations.specs.Diagnosed.{diagnosing}
 use Rattle.relations.specs.RelationState.{RelationState}

@@ -35,17 +35,19 @@ use Rattle.controller_frames.specs.declared.request.Request.TheVariants as asks
 use Rattle.controller_frames.specs.declared.setup.Setup.{Setup}
 use Rattle.controller_frames.specs.Heard.{Answers, Calls, Heard, heard_of}
 use Rattle.controller_frames.specs.Sent.{Sent}
-use Rattle.controller_core.specs.declared.event.Event.{Event}
-use Rattle.controller_core.specs.declared.event.Event.TheVariants.{Frame, Give, Read, Status, Stop, Tick as Ticks, Write}
-use Rattle.controller_core.specs.declared.outputs.OutputMark.{OutputMark}
-use Rattle.controller_core.specs.declared.state.Cause.{Cause}
-use Rattle.controller_core.specs.declared.state.State.{State}
-use Rattle.controller_core.specs.declared.state.State.TheVariants.{Addressing, Connecting, Ended}
-use Rattle.controller_core.specs.Alarms.{ack_of, kept_alarm}
+use Rattle.controller_state.specs.declared.event.Event.{Event}
+use Rattle.controller_state.specs.declared.event.Event.TheVariants.{Frame, Give, Read, Status, Stop, Tick as Ticks, Write}
+use Rattle.controller_state.specs.declared.outputs.OutputMark.{OutputMark}
+use Rattle.controller_state.specs.declared.state.Cause.{Cause}
+use Rattle.controller_state.specs.declared.state.State.{State}
+use Rattle.controller_state.specs.declared.state.State.TheVariants.{Addressing, Connecting, Ended}
+use Rattle.controller_state.specs.Alarms.{ack_of, kept_alarm}
 use Rattle.connect_answers.specs.Connect.{Chosen}
 use Rattle.controller_frames.specs.Requests.{writing_from}
-use Rattle.controller_core.specs.Machine.{Turn, accesses_by, acking, acks_in, acks_of, asking, behind_ack, behind_data, brought, confirming, diagnosing, end_of, keeping, pending_by, pending_of, with_end, flow_later, flowed, given, is_again, next_sequence, noted, over, phase_for, rated, readied, standing, writing, released, requests_of, stays, taken, turn_of, where_due}
-use Rattle.controller_core.specs.State.{Live}
+use Rattle.controller_core.specs.Machine.{Turn, accesses_by, acking, acks_in, acks_of, asking, behind_ack, behind_data, brought, confirming, diagnosing, end_of, keeping, pending_by, pending_of, with_end, flow_later, flowed, given, is_again, noted, over, rated, readied, standing, writing, released, requests_of, stays, taken, turn_of, where_due}
+use Rattle.startup_answers.specs.Requests.{next_sequence}
+use Rattle.controller_state.specs.State.{phase_for}
+use Rattle.controller_state.specs.State.{Live}
 use Rattle.end_laws.specs.turns.Turns.{Came, Hears, Passes, Gets, GetsStatus, AsksRead, AsksWrite, Halts, IsKind, IsReadied, IsSought, IsTurn, Kind, Rests, Connects, Addresses, Releases, Relates, Writes, Skips, Waits, Forgets, Begins, Repeats, Follows, Takes, IsAcked, Asks, IsReplied, Gives, GivesStatus, Flows, Breaks, Idles, came_by, turn_by}
 use Rattle.end_laws.specs.turns.Turns as sort
 use Rattle.exchange_laws.proofs.OutputsBrings.{IsAddressed, IsNow, IsWay}

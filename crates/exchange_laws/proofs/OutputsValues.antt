@@ -10,9 +10,9 @@ use Rattle.cyclic_data.specs.declared.place.PlaceKind.TheVariants.{Data, Iocs}
 use Rattle.cyclic_data.specs.Layout.{is_of, is_same_kind, times_listed}
 use Rattle.cyclic_data.specs.Image.{Cell, cell_at, output_of, place_at, zero_cell}
 use Rattle.cyclic_exchange.specs.Opening.{first_cell}
-use Rattle.controller_core.specs.declared.outputs.OutputMark.{OutputMark}
-use Rattle.controller_core.specs.Machine.{first_status}
-use Rattle.controller_core.specs.Outputs.{change_by, first_mark, mark_at, marked}
+use Rattle.controller_state.specs.declared.outputs.OutputMark.{OutputMark}
+use Rattle.controller_state.specs.Opening.{first_status}
+use Rattle.controller_state.specs.Outputs.{change_by, first_mark, mark_at, marked}
 use Rattle.exchange_laws.specs.Given.{cell_of_kind, if_good, output_at, value_or_zeros, zeros_at}
 
 -- ---- cells and marks of values that were set, and of what the application says

@@ -45,21 +45,22 @@ use Rattle.controller_frames.specs.declared.request.Request.TheVariants as asks
 use Rattle.controller_frames.specs.Heard.{Heard, Nothing, Answers, Responds, Refuses, Calls, Alarms, heard_of}
 use Rattle.controller_frames.specs.Heard.{Cyclic as Comes}
 use Rattle.controller_frames.specs.Sent.{Sent}
-use Rattle.controller_core.specs.declared.event.Event.{Event}
-use Rattle.controller_core.specs.declared.event.Event.TheVariants as event
-use Rattle.controller_core.specs.declared.state.Cause.{Cause}
-use Rattle.controller_core.specs.declared.state.State.{State}
-use Rattle.controller_core.specs.declared.state.State.TheVariants.{Looking, Addressing, Ending, Waiting, Exchanging, Ended}
+use Rattle.controller_state.specs.declared.event.Event.{Event}
+use Rattle.controller_state.specs.declared.event.Event.TheVariants as event
+use Rattle.controller_state.specs.declared.state.Cause.{Cause}
+use Rattle.controller_state.specs.declared.state.State.{State}
+use Rattle.controller_state.specs.declared.state.State.TheVariants.{Looking, Addressing, Ending, Waiting, Exchanging, Ended}
 use Rattle.record_access.specs.Access.{Accessing, is_rejected, is_reply, record_in}
-use Rattle.controller_core.specs.Alarms.{ack_of, is_alarm as is_of_relation, kept_alarm}
-use Rattle.controller_core.specs.Answers.{is_addressed, is_answer, is_found, is_ready, is_refused, is_right, is_set_answer}
+use Rattle.controller_state.specs.Alarms.{ack_of, is_alarm as is_of_relation, kept_alarm}
+use Rattle.startup_answers.specs.Answers.{is_addressed, is_answer, is_found, is_ready, is_refused, is_right, is_set_answer}
 use Rattle.connect_answers.specs.Connect.{Chosen, chosen_of, found_in, is_whole, nothing}
-use Rattle.controller_core.specs.declared.outcomes.Outcomes.{Outcomes}
-use Rattle.controller_core.specs.declared.outcomes.Outcomes.TheVariants.{AllWritten, Unreadable}
-use Rattle.controller_core.specs.declared.outcomes.Outcomes.TheVariants.{Refused as Denied}
-use Rattle.controller_core.specs.Outcomes.{outcomes_of}
-use Rattle.controller_core.specs.Machine.{Turn, accesses_by, accessing, acked_under, after_write, past_record, acking, acks_in, acks_of, addressed, answered, behind_ack, behind_data, brings, brought, can_request, confirming, diagnosing, end_of, failed, granted, keeping, pending_by, pending_of, rejected, replied, replied_by, requested, with_end, called, come, connected, decided, denied, done, first, flow_later, flowed, found, given, is_again, handled, later, noted, noticed, outputs_of, over, rated, readied, ready_in, refused, refused_by, related_by, released, requests_of, responded, standing, stays, stopped, taken, turn_of, turned, undone, where_due, writing}
-use Rattle.controller_core.specs.State.{Live}
+use Rattle.startup_answers.specs.declared.outcomes.Outcomes.{Outcomes}
+use Rattle.startup_answers.specs.declared.outcomes.Outcomes.TheVariants.{AllWritten, Unreadable}
+use Rattle.startup_answers.specs.declared.outcomes.Outcomes.TheVariants.{Refused as Denied}
+use Rattle.startup_answers.specs.Outcomes.{outcomes_of}
+use Rattle.controller_core.specs.Machine.{Turn, accesses_by, accessing, acked_under, after_write, past_record, acking, acks_in, acks_of, addressed, answered, behind_ack, behind_data, brings, brought, can_request, confirming, diagnosing, end_of, failed, granted, keeping, pending_by, pending_of, rejected, replied, replied_by, requested, with_end, called, come, connected, decided, denied, done, first, flow_later, flowed, found, given, is_again, handled, later, noted, noticed, outputs_of, over, rated, readied, refused, refused_by, related_by, released, requests_of, responded, standing, stays, stopped, taken, turn_of, turned, undone, where_due, writing}
+use Rattle.startup_answers.specs.Answers.{ready_in}
+use Rattle.controller_state.specs.State.{Live}
 use Rattle.end_laws.specs.sending.Sized.{Found}
 use Rattle.exchange_laws.specs.Sized.{IsChosenWell}
 use Rattle.exchange_laws.proofs.Reported.{IsWell}

@@ -17,19 +17,21 @@ use Rattle.controller_frames.specs.declared.request.Request.TheVariants as asks
 use Rattle.controller_frames.specs.declared.setup.Setup.{Setup}
 use Rattle.controller_frames.specs.Heard.{Responds}
 use Rattle.controller_frames.specs.Requests.{first_of, write_count, writing_from}
-use Rattle.controller_core.specs.declared.state.Cause.{Cause}
-use Rattle.controller_core.specs.declared.state.Cause.TheVariants as cause
-use Rattle.controller_core.specs.declared.state.State.{State}
-use Rattle.controller_core.specs.declared.state.State.TheVariants.{Ended, Waiting}
+use Rattle.controller_state.specs.declared.state.Cause.{Cause}
+use Rattle.controller_state.specs.declared.state.Cause.TheVariants as cause
+use Rattle.controller_state.specs.declared.state.State.{State}
+use Rattle.controller_state.specs.declared.state.State.TheVariants.{Ended, Waiting}
 use Rattle.record_access.specs.Access.{Accessing, is_reply, record_in}
-use Rattle.controller_core.specs.Answers.{is_answer}
+use Rattle.startup_answers.specs.Answers.{is_answer}
 use Rattle.connect_answers.specs.Connect.{Chosen, chosen_of, found_in, is_whole, nothing}
-use Rattle.controller_core.specs.declared.outcomes.Outcomes.{Outcomes}
-use Rattle.controller_core.specs.declared.outcomes.Outcomes.TheVariants.{AllWritten, Unreadable}
-use Rattle.controller_core.specs.declared.outcomes.Outcomes.TheVariants.{Refused as Denied}
-use Rattle.controller_core.specs.Outcomes.{outcomes_of}
-use Rattle.controller_core.specs.Machine.{Turn, after_write, asking, past_record, brings, connected, decided, denied, done, failed, granted, handled, next_sequence, noted, over, phase_for, related_by, released, replied, replied_by, responded, standing, stays, undone, writing}
-use Rattle.controller_core.specs.State.{Live}
+use Rattle.startup_answers.specs.declared.outcomes.Outcomes.{Outcomes}
+use Rattle.startup_answers.specs.declared.outcomes.Outcomes.TheVariants.{AllWritten, Unreadable}
+use Rattle.startup_answers.specs.declared.outcomes.Outcomes.TheVariants.{Refused as Denied}
+use Rattle.startup_answers.specs.Outcomes.{outcomes_of}
+use Rattle.controller_core.specs.Machine.{Turn, after_write, asking, past_record, brings, connected, decided, denied, done, failed, granted, handled, noted, over, related_by, released, replied, replied_by, responded, standing, stays, undone, writing}
+use Rattle.startup_answers.specs.Requests.{next_sequence}
+use Rattle.controller_state.specs.State.{phase_for}
+use Rattle.controller_state.specs.State.{Live}
 use Rattle.end_laws.specs.hearing.Stations.{IsNumbered, IsSetup}
 use Rattle.end_laws.specs.sending.Messages.{CanBeSent}
 use Rattle.end_laws.specs.sending.Sized.{AreFew, Found, IsFew, IsLive, IsWaiting}

@@ -14,7 +14,7 @@ use Rattle.alarm_reports.specs.declared.report.Report.{Report}
 use Rattle.alarm_reports.specs.Message.{ToController}
 use Rattle.alarm_reports.specs.Report.{diagnosed, ours}
 use Rattle.pn_alarms.specs.declared.pdu.PduType.TheVariants as pdu
-use Rattle.relations.specs.exchange.Frames.{Frame, Inputs, Notifies, Replies as Answers, Reports, RepliesLow}
+use Rattle.device_exchange.specs.Frames.{Frame, Inputs, Notifies, Replies as Answers, Reports, RepliesLow}
 use Rattle.device_frames.specs.declared.event.Event.TheVariants.{Frame as comes_in}
 use Rattle.device_frames.specs.Heard as device
 use Rattle.device_frames.specs.Heard.{heard_of}
@@ -30,7 +30,7 @@ use Rattle.rpc_core.specs.Call.{Asked as Call}
 use Rattle.rpc_core.specs.Response.{is_done}
 use Rattle.rpc_core.specs.Sendable.{IsHeader}
 use Rattle.controller_frames.specs.declared.request.Request.TheVariants as asks
-use Rattle.controller_core.specs.Answers.{is_answer}
+use Rattle.startup_answers.specs.Answers.{is_answer}
 use Rattle.end_laws.specs.both.Small as small
 use Rattle.end_laws.specs.device.Small.{heard_as}
 use Rattle.end_laws.specs.hearing.Stations.{IsCaller}

@@ -28,13 +28,13 @@ use Rattle.pn_alarms.specs.Receiver.{answer_to, last_behind, taken_as}
 use Rattle.pn_alarms.specs.Sender.{is_end, notice_of}
 use Rattle.pn_alarms.specs.Sending.{Sending, acked, rested}
 use Rattle.cyclic_exchange.specs.declared.route.Route.{Route}
-use Rattle.relations.specs.exchange.Flow.{Flow}
-use Rattle.relations.specs.exchange.Diagnosis.{begins_with_one, behind_low, diagnosed, low_header_of, next_reported, with_low}
-use Rattle.relations.specs.exchange.Frames.{Frame, Inputs, Notifies, Replies as Answers, Reports, RepliesLow}
-use Rattle.relations.specs.exchange.Notices.{behind_message, header_of}
+use Rattle.device_exchange.specs.Flow.{Flow}
+use Rattle.device_exchange.specs.Diagnosis.{begins_with_one, behind_low, diagnosed, low_header_of, next_reported, with_low}
+use Rattle.device_exchange.specs.Frames.{Frame, Inputs, Notifies, Replies as Answers, Reports, RepliesLow}
+use Rattle.device_exchange.specs.Notices.{behind_message, header_of}
 use Rattle.relations.specs.Diagnosed.{diagnose_one, diagnosing}
-use Rattle.relations.specs.exchange.Opening.{route_of}
-use Rattle.relations.specs.exchange.Units.{flow_later, repeated_of, tick_of}
+use Rattle.device_exchange.specs.Opening.{route_of}
+use Rattle.device_exchange.specs.Units.{flow_later, repeated_of, tick_of}
 use Rattle.plans.specs.declared.parts.Parts.{Parts}
 use Rattle.startup_law.specs.request.Request.{request_for}
 use Rattle.relations.specs.declared.farewell.Farewell.{Farewell}

@@ -23,11 +23,11 @@ use Rattle.pn_alarms.specs.Receiver.{answer_to, taken_as}
 use Rattle.pn_alarms.specs.Sender.{notice_of}
 use Rattle.pn_alarms.specs.Sending.{due, is_again}
 use Rattle.cyclic_exchange.specs.declared.route.Route.{Route}
-use Rattle.relations.specs.exchange.Diagnosis.{behind_low, diagnosed, diagnoses_begun, low_header_of, next_reported}
-use Rattle.relations.specs.exchange.Flow.{Flow}
-use Rattle.relations.specs.exchange.Frames.{Notifies, Replies as Answers, Reports, RepliesLow}
-use Rattle.relations.specs.exchange.Notices.{behind_message, header_of, may_raise, raised_at, raised_by as raised_from}
-use Rattle.relations.specs.exchange.Units.{flow_later, repeated_of, tick_of}
+use Rattle.device_exchange.specs.Diagnosis.{behind_low, diagnosed, diagnoses_begun, low_header_of, next_reported}
+use Rattle.device_exchange.specs.Flow.{Flow}
+use Rattle.device_exchange.specs.Frames.{Notifies, Replies as Answers, Reports, RepliesLow}
+use Rattle.device_exchange.specs.Notices.{behind_message, header_of, may_raise, raised_at, raised_by as raised_from}
+use Rattle.device_exchange.specs.Units.{flow_later, repeated_of, tick_of}
 use Rattle.relations.specs.Diagnosed.{diagnosing}
 use Rattle.relations.specs.Exchanged.{raised_to}
 use Rattle.relations.specs.RelationState.{RelationState, flow_of}

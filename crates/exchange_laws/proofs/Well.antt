@@ -31,7 +31,7 @@ use Rattle.controller_frames.specs.RecordRequests.{record_call}
 use Rattle.controller_frames.specs.Requests.{call_for}
 use Rattle.controller_frames.specs.Sent as said
 use Rattle.controller_frames.specs.Sent.{call_frame, calls_at}
-use Rattle.controller_core.specs.Answers.{is_answer}
+use Rattle.startup_answers.specs.Answers.{is_answer}
 use Rattle.end_laws.specs.hearing.Hearing.{comes}
 use Rattle.end_laws.specs.hearing.Stations.{IsCalled, IsCaller, IsNumbered, IsSetup}
 use Rattle.end_laws.specs.both.Small as small
@@ -119,7 +119,7 @@ module _ (so : HearsSo) (setup : Setup) (station : Station) (good : IsSetup setu
       sized = sized_call caller owed.address owed.call owed.is
 
       calls : IsCaller caller
-      calls = record { mac = can.destination; endpoint = can.content.1 }
+      calls = record { mac = can.0.destination; endpoint = can.0.content.1 }
 
       by_length : (b : Bool) → nat_le (length answer.blocks) 1372 ≡ b → IsWellBy setup (bytes_of station.identity (sent.CallAnswer caller address answer))
       by_length true e =
@@ -130,14 +130,14 @@ module _ (so : HearsSo) (setup : Setup) (station : Station) (good : IsSetup setu
             few = leb-true (length answer.blocks) 1372 e;
           } in
           let well : IsWell setup (controller.Responds answer) = λ is done.
-          served (so.chosen setup station.identity station.real good can.source) (zero_is setup answer is) done in
+          served (so.chosen setup station.identity station.real good can.0.source) (zero_is setup answer is) done in
           subst (λ (h : controller.Heard). IsWell setup h)
-          (sym (so.response_at_controller setup.plan.controller station.identity caller address answer can.source calls can.content.0.0 answers))
+          (sym (so.response_at_controller setup.plan.controller station.identity caller address answer can.0.source calls can.0.content.0.0 answers))
           (holds_if (IsWell setup) (pointwise nat_eq caller.mac.octets setup.plan.controller.mac.octets) (cond (is_to setup.plan.controller.address caller.endpoint) (controller.Responds answer) controller.Nothing)
           controller.Nothing (holds_if (IsWell setup) (is_to setup.plan.controller.address caller.endpoint) (controller.Responds answer) controller.Nothing well tt) tt)
       by_length false e =
           subst (λ (h : controller.Heard). IsWell setup h)
-          (sym (so.response_long setup.plan.controller station.identity caller address answer can.source calls can.content.0.0
+          (sym (so.response_long setup.plan.controller station.identity caller address answer can.0.source calls can.0.content.0.0
           (subst (λ h. IsHeader h) (sym owed.header) sized.header) (leb-false (length answer.blocks) 1372 e))) tt
 
   message_well : (message : sent.Sent) → IsSendable station.identity message → IsOwed heard live message → IsHeardAs (rules_of setup station) station.identity message

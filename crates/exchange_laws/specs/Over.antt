@@ -8,14 +8,14 @@ use Rattle.alarm_reports.specs.Message.{ToController}
 use Rattle.pn_values.specs.declared.mac.Mac.{Mac}
 use Rattle.pn_alarms.specs.Receiver.{taken_as}
 use Rattle.alarm_reports.specs.declared.priority.Priority.{Priority}
-use Rattle.relations.specs.exchange.Flow.{Flow}
+use Rattle.device_exchange.specs.Flow.{Flow}
 use Rattle.relations.specs.RelationState.{RelationState}
 use Rattle.relations.specs.Exchanged.{raised_to}
 use Rattle.codec_laws.specs.alarms.Line.{more_taken}
 use Rattle.controller_frames.specs.Heard.{Heard, Nothing, Answers, Responds, Refuses, Calls, Cyclic, Alarms, heard_of}
-use Rattle.controller_core.specs.Alarms.{is_alarm}
+use Rattle.controller_state.specs.Alarms.{is_alarm}
 use Rattle.controller_core.specs.Machine.{end_of}
-use Rattle.controller_core.specs.State.{Controlling, Live}
+use Rattle.controller_state.specs.State.{Controlling, Live}
 use Rattle.end_laws.specs.turns.Alarms.{is_priority, last_of}
 use Rattle.network_world.specs.declared.moves.End.TheVariants.{Device, Controller}
 use Rattle.network_world.specs.declared.moves.Move.{Move}

@@ -9,7 +9,7 @@ use Rattle.cyclic_data.specs.Tail.{cyclic_of}
 use Rattle.cyclic_exchange.specs.declared.route.Route.{Route}
 use Rattle.cyclic_exchange.specs.Opening.{first_taken}
 use Rattle.cyclic_exchange.specs.Received.{is_of_partner}
-use Rattle.relations.specs.exchange.Opening.{route_of}
+use Rattle.device_exchange.specs.Opening.{route_of}
 use Rattle.startup_law.specs.request.Request.{iocr_for, request_for}
 use Rattle.relations.specs.RelationState.{RelationState}
 use Rattle.device_frames.specs.declared.event.Event.TheVariants.{Frame}

@@ -9,16 +9,17 @@ ghost use Rattle.std.specs.Borrow.{full_share};
 ghost use base.Logic.{ex};
 ghost use types.Logic.{sem};
 ghost use denote.RawPtr.{lies_at, room_at};
-ghost use Rattle.station_abi.specs.contracts.served.ServedPort.{the_row as Row};
+ghost use Rattle.station_port.specs.contracts.served.ServedPort.{the_row as Row};
 ghost use Rattle.station_abi.specs.Made.{IsMade, why_not_made};
 ghost use Rattle.device_abi.specs.port.State.{closed};
-ghost use Rattle.station_abi.specs.State.{Served};
+ghost use Rattle.station_port.specs.State.{Served};
 ghost use Rattle.station_abi.specs.Serves.{HandsOut, Serves, operation_of};
 ghost use Rattle.station_abi.specs.Stations.{is_station};
 ghost use Rattle.nandutable.specs.Handed.{Lends};
 
 use c_layout::Op;
-use station_abi::{ServedPort, Station, hand_out, judge, port_of, serve};
+use station_abi::{Station, hand_out, judge, port_of, serve};
+use station_port::ServedPort;
 
 /// Returns why no device can be made from this station in a memory of `size` octets, or 0.
 #[unsafe(no_mangle)]

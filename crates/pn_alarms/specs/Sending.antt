@@ -1,5 +1,5 @@
 -- Data that is sent again until it is acknowledged, or until the repeats are used up (IEC 61158-6-10, 4.8).
-use Rattle.std.specs.Prelude.{◌+◌, ◌*◌, ◌%◌, ◌==◌, ℕ, Bool, true, false, Option, Some, None, if◌then◌else◌}
+use Rattle.std.specs.Prelude.{◌+◌, ◌*◌, ◌%◌, ◌==◌, ◌&&◌, ℕ, Bool, true, false, not, Option, Some, None, if◌then◌else◌}
 use Rattle.pn_alarms.specs.declared.repeats.Due.{Due}
 use Rattle.pn_alarms.specs.declared.repeats.Due.TheVariants.{Nothing, Again, Spent}
 use Rattle.pn_alarms.specs.Numbers.{next_number, is_last}
@@ -57,6 +57,14 @@ waiting_behind s (Some units) = if units + 1 == s.limit then None else Some (uni
 
 abbrev pub ticked : Sending → Sending
 ticked s = record { interval = s.interval; limit = s.limit; last = s.last; waiting = waiting_behind s s.waiting }
+
+-- Whether data is sent again after the unit that passed last: a whole number of intervals has passed since it was first sent.
+abbrev pub is_repeated_at : Sending → Option ℕ → Bool
+is_repeated_at s None = false
+is_repeated_at s (Some units) = not (units == 0) && (units % s.interval == 0)
+
+abbrev pub is_repeated : Sending → Bool
+is_repeated s = is_repeated_at s s.waiting
 
 -- The sender no longer waits for an ACK.
 abbrev pub rested : Sending → Sending

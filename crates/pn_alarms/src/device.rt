@@ -6,7 +6,7 @@ ghost use Rattle.pn_alarms.specs.declared.sender.Reply.TheVariants.{Ack};
 ghost use Rattle.pn_alarms.specs.Numbers.{is_last};
 ghost use Rattle.pn_alarms.specs.Receiver.{taken_as, last_behind};
 ghost use Rattle.pn_alarms.specs.Sender.{answered};
-ghost use Rattle.pn_alarms.specs.Sending.{due};
+ghost use Rattle.pn_alarms.specs.Sending.{due, is_again, is_repeated};
 ghost use Rattle.pn_alarms.specs.Leaps.{NothingDue, after, data_due_in, device_due};
 ghost use Rattle.pn_alarms.specs.Device.{idle, heard_as, sender_after, end_behind, header_now, end_raised, end_with, end_later};
 
@@ -122,8 +122,16 @@ impl DeviceAlarms {
     pub fn tick(&mut self) -> Due
         ensures due { result ≡ due self.old.sender.sending }
         ensures state { self.new ≡ end_later self.old }
+        ensures repeated { is_repeated self.new.sender.sending ≡ is_again result }
     {
         self.sender.tick()
+    }
+
+    /// Whether the active alarm is sent again after the unit that passed last.
+    pub fn is_repeated(&self) -> bool
+        ensures { result ≡ is_repeated self.now.sender.sending }
+    {
+        self.sender.is_repeated()
     }
 
     /// The number of units up to and with the next one with which the alarm is sent again or given up, `NEVER` if no

@@ -1,7 +1,7 @@
 //! Data that is sent again until it is acknowledged.
 ghost use Rattle.std.specs.Prelude.{◌≡◌, ◌<◌, ◌≤◌, is_some};
 ghost use Rattle.pn_alarms.specs.Numbers.{send_number, is_last};
-ghost use Rattle.pn_alarms.specs.Sending.{silent, sent, due, either_due, is_again, ticked, rested, acked};
+ghost use Rattle.pn_alarms.specs.Sending.{silent, sent, due, either_due, is_again, is_repeated, ticked, rested, acked};
 ghost use Rattle.pn_alarms.specs.Leaps.{NothingDue, after, data_due_in};
 
 use crate::numbers::next_number;
@@ -114,6 +114,7 @@ impl Repeats {
     pub fn tick(&mut self) -> Due
         ensures due { result ≡ due self.old }
         ensures state { self.new ≡ ticked self.old }
+        ensures repeated { is_repeated self.new ≡ is_again result }
     {
         let Some(units) = self.waiting else {
             return Due::Nothing;
@@ -130,6 +131,16 @@ impl Repeats {
             Due::Again
         } else {
             Due::Nothing
+        }
+    }
+
+    /// Whether the last data is sent again after the unit that passed last.
+    pub fn is_repeated(&self) -> bool
+        ensures { result ≡ is_repeated self.now }
+    {
+        match self.waiting {
+            Some(units) => units != 0 && units % self.interval == 0,
+            None => false,
         }
     }
 

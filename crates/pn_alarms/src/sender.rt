@@ -1,7 +1,7 @@
 //! The sender of alarms.
 ghost use Rattle.std.specs.Prelude.{◌≡◌, ◌<◌, ◌≤◌, [], length, is_ok, is_none, is_some, IfSome, OnOk, OnErr};
 ghost use Rattle.pn_alarms.specs.Numbers.{send_number};
-ghost use Rattle.pn_alarms.specs.Sending.{due};
+ghost use Rattle.pn_alarms.specs.Sending.{due, is_again, is_repeated};
 ghost use Rattle.pn_alarms.specs.Sender.{inactive, standing_with, raised, is_of, ended_by, counts, answered, later};
 ghost use Rattle.pn_alarms.specs.Standing.{emptied, kept_as};
 ghost use Rattle.pn_alarms.specs.Leaps.{NothingDue, after, alarm_due, data_due_in};
@@ -236,8 +236,16 @@ impl Sender {
     pub fn tick(&mut self) -> Due
         ensures due { result ≡ due self.old.sending }
         ensures state { self.new ≡ later self.old }
+        ensures repeated { is_repeated self.new.sending ≡ is_again result }
     {
         self.repeats.tick()
+    }
+
+    /// Whether the active alarm is sent again after the unit that passed last.
+    pub fn is_repeated(&self) -> bool
+        ensures { result ≡ is_repeated self.now.sending }
+    {
+        self.repeats.is_repeated()
     }
 
     /// The number of units up to and with the next one with which the alarm is sent again or given up, `NEVER` if no

@@ -10,7 +10,8 @@ use crate::own::Own;
 use block_codec::RtClass;
 use connect_requests::{ConnectRequest, Iocr};
 use cyclic_data::{CyclicTail, DataStatus};
-use relations::{OWN_REFERENCE, Relation, RelationParts};
+use device_exchange::OWN_REFERENCE;
+use relations::{Relation, RelationParts};
 use wire::{append, append_u16, append_u32};
 
 /// BlockType of ARData.

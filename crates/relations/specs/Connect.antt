@@ -14,7 +14,7 @@ use Rattle.connect_requests.specs.declared.parts.Iocr.{Iocr}
 use Rattle.connect_requests.specs.Request.{Request}
 use Rattle.connect_requests.specs.Handled.{request_of, request_within}
 use Rattle.relations.specs.declared.phase.Partner.{Partner}
-use Rattle.relations.specs.exchange.Marks.{Starting}
+use Rattle.device_exchange.specs.Marks.{Starting}
 use Rattle.relations.specs.RelationState.{RelationState, uuid_of}
 use Rattle.relations.specs.Phases.{Handled, Made, Unmoved, differing_octets}
 

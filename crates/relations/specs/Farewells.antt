@@ -5,7 +5,7 @@ use Rattle.pn_alarms.specs.Format.{Said}
 use Rattle.pn_alarms.specs.declared.pdu.Header.{Header}
 use Rattle.pn_alarms.specs.declared.pdu.PduType.TheVariants.{Error}
 use Rattle.connect_requests.specs.Request.{Request}
-use Rattle.relations.specs.exchange.Notices.{header_of}
+use Rattle.device_exchange.specs.Notices.{header_of}
 use Rattle.relations.specs.declared.farewell.Farewell.{Farewell}
 use Rattle.relations.specs.RelationState.{RelationState}
 

@@ -1,5 +1,4 @@
 pub mod Options
-pub mod Statuses
 pub mod RelationState
 pub mod Farewells
 pub mod Timers
@@ -12,4 +11,3 @@ pub mod Leaps
 pub mod Exchanged
 pub mod Diagnosed
 pub mod Outputs
-pub mod exchange

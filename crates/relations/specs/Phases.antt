@@ -11,9 +11,9 @@ use Rattle.records.specs.declared.status.call_fault.CallFault.TheVariants as fau
 use Rattle.records.specs.declared.writes.taken.TakenRecord.{TakenRecord}
 use Rattle.records.specs.writes.Taken.{keep_of}
 use Rattle.pn_alarms.specs.declared.abort.Abort.{Abort}
-use Rattle.relations.specs.exchange.Flow.{Flow}
-use Rattle.relations.specs.exchange.Marks.{Starting}
-use Rattle.relations.specs.exchange.Opening.{begun_of, opened}
+use Rattle.device_exchange.specs.Flow.{Flow}
+use Rattle.device_exchange.specs.Marks.{Starting}
+use Rattle.device_exchange.specs.Opening.{begun_of, opened}
 use Rattle.relations.specs.declared.phase.Phase.{Phase}
 use Rattle.relations.specs.declared.phase.Phase.TheVariants.{Started, Preparing, Awaiting, Exchanging}
 use Rattle.relations.specs.declared.phase.Partner.{Partner}

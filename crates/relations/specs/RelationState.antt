@@ -6,7 +6,7 @@ use Rattle.records.specs.calls.Naming.{is_relation}
 use Rattle.connect_requests.specs.Request.{Request}
 use Rattle.records.specs.declared.writes.taken.TakenRecord.{TakenRecord}
 use Rattle.cyclic_exchange.specs.Cyclic.{Cyclic}
-use Rattle.relations.specs.exchange.Flow.{Flow}
+use Rattle.device_exchange.specs.Flow.{Flow}
 use Rattle.relations.specs.declared.phase.Phase.{Phase}
 use Rattle.relations.specs.declared.phase.Phase.TheVariants.{Started, Preparing, Awaiting, Exchanging}
 use Rattle.relations.specs.declared.phase.Partner.{Partner}

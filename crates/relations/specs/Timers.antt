@@ -2,7 +2,8 @@
 use Rattle.std.specs.Prelude.{◌≡◌, ◌⊎◌, ◌==◌, ◌+◌, ◌*◌, ◌&&◌, ℕ, Bool, true, false, nat_le, not, Option, Some, None, is_none, option_map, if◌then◌else◌}
 use Rattle.relations.specs.declared.phase.Phase.{Phase}
 use Rattle.relations.specs.declared.phase.Phase.TheVariants.{Started, Preparing, Awaiting, Exchanging}
-use Rattle.relations.specs.exchange.Units.{flow_later, repeated_of, tick_of}
+use Rattle.device_exchange.specs.Units.{flow_later, repeated_in, repeated_of, tick_of}
+use Rattle.device_exchange.specs.declared.cyclic.Repeated.{Repeated}
 use Rattle.pn_alarms.specs.declared.abort.Abort.{Abort}
 use Rattle.pn_alarms.specs.declared.abort.Abort.TheVariants.{Activity, DataHold, Other}
 use Rattle.cyclic_data.specs.Timing.{held_on}
@@ -92,12 +93,17 @@ abbrev pub farewell_for : Option Abort → Option RelationState → Option Farew
 farewell_for (Some reason) link = option_map (farewell_of reason) link
 farewell_for None link = None
 
+-- Which alarms a relation sends again after the unit that passed last.
+abbrev pub repeated_by : Option RelationState → Repeated
+repeated_by None = record { high = false; low = false }
+repeated_by (Some link) = repeated_in link.flow
+
 -- What is due after a unit that brought this, for the relation that exists then.
 abbrev pub due_behind : Elapsed → Option RelationState → Due
 due_behind elapsed link = record {
   farewell = farewell_for elapsed.tick.ending link;
-  is_alarm = elapsed.tick.is_alarm && elapsed.repeated.high;
-  is_low = elapsed.tick.is_alarm && elapsed.repeated.low;
+  is_alarm = elapsed.tick.is_alarm && (repeated_by link).high;
+  is_low = elapsed.tick.is_alarm && (repeated_by link).low;
   is_ready = elapsed.is_ready;
   is_cyclic = elapsed.tick.is_cyclic;
 }

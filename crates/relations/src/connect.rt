@@ -4,12 +4,12 @@ ghost use Rattle.arrayvec.specs.ArrayVec.{array_vec_len};
 ghost use Rattle.relations.specs.Connect.{connect_answer, connect_blocks, connect_within, iocr_answer, iocrs_answer, making};
 ghost use Rattle.relations.specs.Phases.{differing_octets, updated};
 
-use crate::exchange::Starting;
 use crate::{Application, Partner, Phase, Relation};
 use arrayvec::ArrayVec;
 use block_codec::{AlarmCrBlockRes, ArBlockRes, Block, IocrBlockRes, write_block};
 use connect_blocks::{alarm_cr_block_res_len, ar_block_res_len, iocr_block_res_len};
 use connect_requests::{ConnectRequest, Iocr, refuse};
+use device_exchange::Starting;
 use module_blocks::module_diff_len;
 use module_diff::{DiffRows, diff};
 use pn_values::{Identity, Real};

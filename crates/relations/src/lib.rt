@@ -7,7 +7,6 @@
 
 mod calls;
 mod connect;
-mod exchange;
 mod exchanged;
 mod farewell;
 mod hearing;
@@ -17,13 +16,9 @@ mod output;
 mod phase;
 mod ready;
 mod relation;
-mod statuses;
 mod time;
 
 pub use cyclic_exchange::ProviderStatus;
-pub use exchange::{
-    DataExchange, OWN_REFERENCE, Received, Repeated, Route, Tick, exchange_is_kept,
-};
 pub use farewell::Farewell;
 pub use hearing::ReadyAnswer;
 pub use laws::{phases_are_kept, time_is_kept};
@@ -32,5 +27,4 @@ pub use phase::{Partner, Phase};
 pub use pn_alarms::Abort;
 pub use ready::Ready;
 pub use relation::{Relation, RelationParts};
-pub use statuses::{InputStatus, is_bad, is_plugged, put_status};
 pub use time::Elapsed;

@@ -4,11 +4,11 @@ ghost use Rattle.relations.specs.Phases.{Ended, Named, Unmoved, answered, keepin
 ghost use Rattle.relations.specs.Farewells.{farewell_of};
 ghost use Rattle.relations.specs.RelationState.{IsInStep, differing_in, is_alarm_of, is_named, is_parameterized, parts_of, phase_of, taken_of, uuid_of};
 
-use crate::exchange::{DataExchange, OWN_REFERENCE};
 use crate::{Farewell, Partner, Phase};
 use arrayvec::ArrayVec;
 use connect_requests::ConnectRequest;
 use cyclic_exchange::CyclicExchange;
+use device_exchange::{DataExchange, OWN_REFERENCE};
 use pn_alarms::{Abort, PduType};
 use pn_values::Mac;
 use records::{CallFault, TakenRecord, TakenRecords, is_relation};

@@ -7,16 +7,17 @@ ghost use Rattle.pn_alarms.specs.declared.abort.Abort.TheVariants.{Activity, Dat
 ghost use Rattle.relations.specs.declared.phase.Phase.TheVariants.{Exchanging};
 ghost use Rattle.relations.specs.Farewells.{farewell_of};
 ghost use Rattle.relations.specs.RelationState.{RelationState, is_awaiting, phase_of, taken_of};
-ghost use Rattle.relations.specs.Timers.{EndsIn, brings_inputs, brings_nothing, due_behind, due_of, farewell_for, is_timed, is_unheard};
+ghost use Rattle.relations.specs.Timers.{EndsIn, brings_inputs, brings_nothing, due_behind, due_of, farewell_for, is_timed, is_unheard, repeated_by};
 ghost use Rattle.relations.specs.Timers.{left_behind, nothing};
 ghost use Rattle.relations.specs.Phases.{updated, passing};
 ghost use Rattle.relations.specs.Ready.{ready_of};
 ghost use Rattle.relations.specs.Runs.{units_over};
 ghost use Rattle.relations.specs.Leaps.{NothingDueFor, due_within, inactive_by, inactive_in, ready_in, waited_by};
 
-use crate::exchange::{Repeated, Tick};
 use crate::{Phase, Relation};
 use connect_requests::ConnectRequest;
+use cyclic_exchange::Tick;
+use device_exchange::Repeated;
 use pn_alarms::{Abort, NEVER};
 
 /// 100 ms, in units of 31.25 microseconds: what CMInitiatorActivityTimeoutFactor counts.
@@ -28,13 +29,11 @@ const SECOND: u32 = 32_000;
 /// What is due with a unit of time, before it is sent.
 #[derive(Drop)]
 pub struct Elapsed {
-    /// What is due of the exchange: the active alarm again, or a frame of inputs. Or the relation must end, also
-    /// because of the activity timer, and nothing else is sent.
+    /// What is due of the exchange: an alarm again, which `Relation::repeated` names, or a frame of inputs. Or the
+    /// relation must end, also because of the activity timer, and nothing else is sent.
     pub tick: Tick,
     /// Whether ApplicationReady is due again.
     pub is_ready: bool,
-    /// Which alarms are due again.
-    pub repeated: Repeated,
 }
 
 impl Elapsed {
@@ -61,13 +60,12 @@ impl Elapsed {
 
     /// What is due of the exchange, and nothing else.
     #[inline(always)]
-    fn of(tick: Tick, repeated: Repeated) -> Elapsed
-        ensures { result ≡ record { tick = tick; is_ready = false; repeated = repeated } }
+    fn of(tick: Tick) -> Elapsed
+        ensures { result ≡ record { tick = tick; is_ready = false } }
     {
         Elapsed {
             tick,
             is_ready: false,
-            repeated,
         }
     }
 }
@@ -116,32 +114,49 @@ impl Relation {
         ensures same { (old new : RelationState) → self.old ≡ Some old → self.new ≡ Some new → ready_of new ≡ ready_of old }
     {
         let Some(phase) = self.phase else {
-            return Elapsed::of(Tick::nothing(), Repeated::none());
+            return Elapsed::of(Tick::nothing());
         };
         // This is done in each phase: inputs are sent from the answer to the Connect on.
-        let (tick, repeated) = self.exchange.tick();
+        let tick = self.exchange.tick();
         if !is_timed(phase) {
-            return Elapsed::of(tick, repeated);
+            return Elapsed::of(tick);
         }
         let limit = u32::from(self.request.ar().timeout_factor) * TENTH_OF_A_SECOND;
         if let Some(reason) = unit_inactive(&mut self.inactive, limit) {
-            return Elapsed::of(Tick::ends(reason), Repeated::none());
+            return Elapsed::of(Tick::ends(reason));
         }
         Elapsed {
             tick: tick.without_end(),
             is_ready: is_awaiting(phase) && unit_waited(&mut self.waited),
-            repeated,
+        }
+    }
+
+    /// Which alarms are sent again after the unit that passed last.
+    pub fn repeated(&self) -> Repeated
+        ensures { result ≡ repeated_by self.now }
+    {
+        match self.exchange() {
+            Some(exchange) => exchange.repeated(),
+            None => Repeated {
+                high: false,
+                low: false,
+            },
         }
     }
 
     /// The number of units up to and with the next one that brings something: a frame of inputs is due, an alarm or
     /// ApplicationReady is sent again, an alarm is given up, or a timeout ends the relation. `NEVER` if there is no
     /// relation.
+    #[inline(always)]
     pub fn due_in(&self) -> u32
         ensures value { result ≡ due_within self.now }
         ensures some { 0 < result }
         ensures few { IsSome self.now → result ≤ 8388608 }
     {
+        // While data is exchanged the relation has no timers of its own.
+        if matches!(self.phase, Some(Phase::Exchanging)) {
+            return self.exchange.due_in();
+        }
         let Some(phase) = self.phase else {
             return NEVER;
         };
@@ -160,9 +175,27 @@ impl Relation {
             return;
         };
         self.exchange.pass(units);
-        self.inactive = inactive_later(phase, limit_of(&self.request), self.inactive, units);
-        self.waited = waited_later(phase, self.waited, units);
+        let limit = limit_of(&self.request);
+        pass_timers(phase, limit, units, &mut self.inactive, &mut self.waited);
     }
+}
+
+/// Lets several units pass at the timers of a relation itself, with none of which either may be over: the activity timer,
+/// which has `limit` units, and the one of ApplicationReady.
+fn pass_timers(phase: Phase, limit: u32, units: u32, inactive: &mut u32, waited: &mut u32)
+    requires over { units < inactive_in phase limit inactive.old }
+    requires again { units < ready_in phase waited.old }
+    ensures inactive { inactive.new ≡ inactive_by phase units inactive.old }
+    ensures waited { waited.new ≡ waited_by phase units waited.old }
+    ensures most { inactive.old ≤ 209712000 → limit ≤ 209712000 → inactive.new ≤ 209712000 }
+    ensures few { waited.old < 32000 → waited.new < 32000 }
+{
+    // While data is exchanged neither runs.
+    if matches!(phase, Phase::Exchanging) {
+        return;
+    }
+    *inactive = inactive_later(phase, limit, *inactive, units);
+    *waited = waited_later(phase, *waited, units);
 }
 
 /// The units of the activity timer of a relation with this request.

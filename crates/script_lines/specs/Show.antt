@@ -13,11 +13,11 @@ use Rattle.relations.specs.Exchanged.{output_in}
 use Rattle.relations.specs.RelationState.{RelationState}
 use Rattle.relations.specs.declared.phase.Phase.{Phase}
 use Rattle.relations.specs.declared.phase.Phase.TheVariants.{Started, Preparing, Awaiting, Exchanging}
-use Rattle.controller_core.specs.declared.state.State.{State}
-use Rattle.controller_core.specs.declared.state.State.TheVariants.{Looking, Addressing, Connecting, Writing, Ending, Waiting, Ended}
-use Rattle.controller_core.specs.declared.state.State.TheVariants as controller
-use Rattle.controller_core.specs.State.{Controlling}
-use Rattle.controller_core.specs.Cause.{number_of}
+use Rattle.controller_state.specs.declared.state.State.{State}
+use Rattle.controller_state.specs.declared.state.State.TheVariants.{Looking, Addressing, Connecting, Writing, Ending, Waiting, Ended}
+use Rattle.controller_state.specs.declared.state.State.TheVariants as controller
+use Rattle.controller_state.specs.State.{Controlling}
+use Rattle.controller_state.specs.Cause.{number_of}
 use Rattle.diagnosis.specs.declared.diagnosis.Diagnosis.{Diagnosis}
 use Rattle.script_lines.specs.Text.{printed}
 

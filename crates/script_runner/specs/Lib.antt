@@ -3,4 +3,3 @@ pub mod Output
 pub mod Script
 pub mod Reported
 pub mod Planned
-pub mod session

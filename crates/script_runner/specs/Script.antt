@@ -5,9 +5,9 @@ use Rattle.std.specs.Str.Lines.{lines}
 use Rattle.plans.specs.declared.parts.Parts.{Parts}
 use Rattle.script_lines.specs.Line.{meaning_of}
 use Rattle.script_lines.specs.Text.{boot_line}
-use Rattle.script_runner.specs.session.Ends.{Network}
-use Rattle.script_runner.specs.session.Said.{Outcome, Answers, Refuses, HasNoPlan, alone, is_order, outcome_of}
-use Rattle.script_runner.specs.session.Session.{AreRightFor}
+use Rattle.script_session.specs.Ends.{Network}
+use Rattle.script_session.specs.Said.{Outcome, Answers, Refuses, HasNoPlan, alone, is_order, outcome_of}
+use Rattle.script_session.specs.Session.{AreRightFor}
 
 -- The text of a line, and then of the lines after it.
 abbrev pub then_reported : Outcome → (Network → List ℕ) → List ℕ

@@ -7,10 +7,8 @@ mod input;
 mod output;
 mod plan;
 mod play;
-mod session;
 mod whole;
 
 pub use fault::RunFault;
 pub use plan::plan_text;
-pub use session::{Session, plans_are_known};
 pub use whole::run;

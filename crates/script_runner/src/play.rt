@@ -6,9 +6,9 @@ ghost use Rattle.script_runner.specs.Reported.{IsPlayed, IsPlayFault};
 
 use crate::RunFault;
 use crate::output::put;
-use crate::session::Session;
 use flash_model::MemoryFlash;
 use script_lines::first_line;
+use script_session::Session;
 use std::alloc::Global;
 use std::io::Write;
 

@@ -2,7 +2,6 @@ pub mod Sound
 pub mod Lengths
 pub mod Requests
 pub mod Replies
-pub mod Calls
 pub mod Facts
 pub mod Runs
 pub mod Leaping

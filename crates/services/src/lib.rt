@@ -1,6 +1,6 @@
 //! What a station does beside its relation: it answers echo requests (RFC 792), announces its IP address and defends it
 //! (RFC 826, RFC 5227), and answers pings and calls that nobody serves (The Open Group C706). A controller has the same
-//! services, but for the calls. The headers of calls are read and written here for the endpoint mapper too.
+//! services, but for the calls.
 //!
 //! The services are a machine of their own. They hear only the frames that the device or controller dropped, and each
 //! frame of ARP. They know the MAC address and the running IP address, and nothing of the relation. They store nothing:
@@ -9,7 +9,6 @@
 
 mod address;
 mod announcement;
-mod call;
 mod called;
 mod echo;
 mod header;
@@ -19,10 +18,8 @@ mod link;
 mod machine;
 mod message;
 mod reply;
-mod unserved;
 
 pub use announcement::{Announcement, Role};
-pub use call::{Extent, Head, Names, Opening, Turn, head_at, is_little, put_head, put_long};
 pub use called::Called;
 pub use law::{
     addresses_are_announced_twice, defences_are_rare, echo_formats_are_sound,
@@ -30,6 +27,3 @@ pub use law::{
 };
 pub use leaps::NEVER;
 pub use machine::Services;
-pub use unserved::{
-    Refusal, Refused, Rejection, answer_head, is_read, names_mapper, refusal_bytes, sent_uuid,
-};

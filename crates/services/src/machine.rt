@@ -1,5 +1,5 @@
 //! The machine of the services.
-ghost use Rattle.std.specs.Prelude.{◌≡◌, ◌<◌, ◌≤◌, ◌++◌, ℕ, List, length, true, false};
+ghost use Rattle.std.specs.Prelude.{◌≡◌, ◌<◌, ◌≤◌, ◌+◌, ◌++◌, ℕ, List, length, true, false};
 ghost use Rattle.std.specs.Option.{option_map};
 ghost use Rattle.arrayvec.specs.ArrayVec.{array_vec_len};
 ghost use Rattle.frame_codec.specs.Outbox.{boxed};
@@ -16,8 +16,8 @@ ghost use Rattle.services.specs.Views.{asked_by, call_as};
 use crate::address::{BROADCAST, is_group, is_same, is_zero};
 use crate::echo::{EchoRequest, request_at};
 use crate::reply::{arp_reply, call_reply, echo_reply, put_announcement};
-use crate::unserved::unserved;
 use crate::{Announcement, Called, Role};
+use call_headers::unserved_answer;
 use frame_codec::{
     Arp, ArpOperation, Endpoint, Frame, Holder, Layered, Outbox, Payload, RPC_PORT, Udp, read,
 };
@@ -231,6 +231,8 @@ impl Services {
         ensures state { self.new ≡ ticked self.old }
         // The frame, if there is one, is that of the machine.
         ensures frame { boxed outbox.new ≡ boxed outbox.old ++ frames_in (sent_by_tick self.old) }
+        // There is at most one frame more.
+        ensures most { array_vec_len outbox.new ≤ array_vec_len outbox.old + 1 }
     {
         let announces = self.announces();
         let defends = self.is_defended();
@@ -324,7 +326,7 @@ impl Services {
         if !self.is_called(destination, &datagram.destination) {
             return None;
         }
-        match unserved(datagram.body) {
+        match unserved_answer(datagram.body) {
             Some(answer) => Some(call_reply(
                 self.mac,
                 self.address,

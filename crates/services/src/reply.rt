@@ -122,7 +122,8 @@ pub(crate) fn call_reply(
 #[inline(never)]
 pub(crate) fn put_announcement(mac: Mac, address: [u8; 4], outbox: &mut Outbox)
     requires { array_vec_len outbox.old < 4 }
-    ensures { boxed outbox.new ≡ boxed outbox.old ++ frame_bytes (announcement_by mac address) ∷ [] }
+    ensures len { array_vec_len outbox.new ≡ array_vec_len outbox.old + 1 }
+    ensures frames { boxed outbox.new ≡ boxed outbox.old ++ frame_bytes (announcement_by mac address) ∷ [] }
 {
     let sender = Holder { mac, address };
     let target = Holder {

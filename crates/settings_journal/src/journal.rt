@@ -63,10 +63,12 @@ impl CommitFault {
 /// there is room for, and whether a commit has failed.
 #[derive(Drop)]
 pub struct Journal<F: Flash<S>, const S: usize> {
-    flash: F,
     settings: Settings,
     position: Position,
     has_failed: bool,
+    // The size of a flash is not known here, so it is the last field: what the prover computes of a size doubles with
+    // each field after it.
+    flash: F,
 }
 
 impl<F: Flash<S>, const S: usize> Model for Journal<F, S> {
@@ -142,10 +144,10 @@ impl<F: Flash<S>, const S: usize> Journal<F, S> {
             return Err((BootFault::Foreign, flash));
         };
         Ok(Journal {
-            flash,
             settings: start.settings,
             position: start.position,
             has_failed: false,
+            flash,
         })
     }
 
@@ -157,7 +159,6 @@ impl<F: Flash<S>, const S: usize> Journal<F, S> {
         ensures has_failed { result.has_failed ≡ true }
     {
         Journal {
-            flash,
             settings: Settings::factory(),
             position: Position {
                 active: None,
@@ -165,6 +166,7 @@ impl<F: Flash<S>, const S: usize> Journal<F, S> {
                 free: 0,
             },
             has_failed: true,
+            flash,
         }
     }
 

@@ -17,8 +17,9 @@ use std::marker::Model;
 /// The settings of a station: the running ones, and those that a restart finds. Clauses see the flash and the values.
 #[derive(Drop)]
 pub struct Store<F: Flash<S>, const S: usize> {
-    journal: Journal<F, S>,
     running: Settings,
+    // The last field, for the reason that the flash is the last one of a journal.
+    journal: Journal<F, S>,
 }
 
 impl<F: Flash<S>, const S: usize> Model for Store<F, S> {
@@ -52,8 +53,8 @@ impl<F: Flash<S>, const S: usize> Store<F, S> {
         ensures has_failed { result.values.has_failed ≡ true }
     {
         Store {
-            journal: Journal::unstarted(flash),
             running: Settings::factory(),
+            journal: Journal::unstarted(flash),
         }
     }
 

@@ -32,9 +32,9 @@ use Rattle.controller_frames.specs.declared.request.Request.{Request as Asking}
 use Rattle.controller_frames.specs.declared.request.Request.TheVariants as asks
 use Rattle.controller_frames.specs.Heard.{Heard, Responds, heard_of}
 use Rattle.controller_frames.specs.Requests.{blocks_of, call_for, header_of, writing_from}
-use Rattle.controller_core.specs.declared.event.Event.TheVariants.{Frame}
-use Rattle.controller_core.specs.State.{Live as Controls}
-use Rattle.controller_core.specs.Answers.{is_answer}
+use Rattle.controller_state.specs.declared.event.Event.TheVariants.{Frame}
+use Rattle.controller_state.specs.State.{Live as Controls}
+use Rattle.startup_answers.specs.Answers.{is_answer}
 use Rattle.controller_core.specs.Machine.{connected, decided, responded, standing, stays, turn_of, turned, writing}
 use Rattle.startup_law.specs.answer.Answer.{AnswersSo, IsAllThere, answer_blocks, answer_frame, caller_of, chosen_with}
 

@@ -6,15 +6,15 @@ use Rattle.std.proofs.lemmas.Bool.{and_parts, leb-true}
 use Rattle.serde_json.specs.Data.{Data, Items, no_items, item}
 use Rattle.wire.proofs.Fields.{bind_ok, ok_is}
 use Rattle.plans.specs.declared.parts.Parts.{Parts}
-use Rattle.catalogue.specs.declared.key.Key.{Key}
-use Rattle.catalogue.specs.declared.key.Key.TheVariants as key
-use Rattle.catalogue.specs.declared.fault.CatalogueFault.{CatalogueFault}
-use Rattle.catalogue.specs.declared.fault.CatalogueFault.TheVariants.{Number}
-use Rattle.catalogue.specs.declared.fault.PlacedFault.{PlacedFault}
-use Rattle.catalogue.specs.declared.fault.Step.{Step}
-use Rattle.catalogue.specs.declared.fault.Step.TheVariants.{At, Entry}
-use Rattle.catalogue.specs.Placed.{at_key, behind, placed}
-use Rattle.catalogue.specs.Reader.{◌>>=◌, Reader, each, flag_at, items_of, list_at, member, number, number_at, text_at, whole, whole_at, within}
+use Rattle.catalogue_keys.specs.declared.key.Key.{Key}
+use Rattle.catalogue_keys.specs.declared.key.Key.TheVariants as key
+use Rattle.catalogue_keys.specs.declared.fault.CatalogueFault.{CatalogueFault}
+use Rattle.catalogue_keys.specs.declared.fault.CatalogueFault.TheVariants.{Number}
+use Rattle.catalogue_keys.specs.declared.fault.PlacedFault.{PlacedFault}
+use Rattle.catalogue_keys.specs.declared.fault.Step.{Step}
+use Rattle.catalogue_keys.specs.declared.fault.Step.TheVariants.{At, Entry}
+use Rattle.catalogue_keys.specs.Placed.{at_key, behind, placed}
+use Rattle.catalogue_keys.specs.Reader.{◌>>=◌, Reader, each, flag_at, items_of, list_at, member, number, number_at, text_at, whole, whole_at, within}
 use Rattle.catalogue.specs.Modules.{Module, module_item, submodules_of}
 use Rattle.catalogue.specs.Submodules.{Submodule}
 use Rattle.catalogue.specs.Slots.{Record, Slot, length_of, octets_at, of_length, parameters_of, record_item, records_of, slot_item}

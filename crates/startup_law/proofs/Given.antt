@@ -34,9 +34,9 @@ use Rattle.controller_frames.specs.declared.record_request.RecordRequest.{Record
 use Rattle.controller_frames.specs.RecordRequests.{record_call}
 use Rattle.controller_frames.specs.Requests.{call_for}
 use Rattle.controller_frames.specs.Sent.{answer_frame, call_frame, calls_at, bytes_of as controller_bytes}
-use Rattle.controller_core.specs.declared.event.Event.{Event}
+use Rattle.controller_state.specs.declared.event.Event.{Event}
 use Rattle.controller_core.specs.Machine.{first, step_of, turn_of}
-use Rattle.controller_core.specs.State.{Controlling, Live as ControllerLive}
+use Rattle.controller_state.specs.State.{Controlling, Live as ControllerLive}
 use Rattle.codec_laws.specs.frames.Sendable.{IsHolder, IsMac, IsTag, carrying}
 use Rattle.end_laws.specs.hearing.Hearing.{IsUncalled, IsUnreported, all_hears, comes, mine_reported, own_reported}
 use Rattle.end_laws.specs.hearing.Stations.{IsAddress, IsCalled, IsCaller, IsDevice, IsNumbered, IsRecordCall, IsSetup, ready_call}

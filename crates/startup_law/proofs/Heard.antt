@@ -59,8 +59,8 @@ use Rattle.controller_frames.specs.RecordRequests.{record_call}
 use Rattle.controller_frames.specs.Requests.{blocks_of, call_for, sequence_of, write_count, writing_blocks}
 use Rattle.controller_frames.specs.Sent as said
 use Rattle.controller_frames.specs.Sent.{answer_frame, call_frame, calls_at, identify_multicast, tag_of}
-use Rattle.controller_core.specs.Answers.{is_ready}
-use Rattle.controller_core.specs.Machine.{ready_in}
+use Rattle.startup_answers.specs.Answers.{is_ready}
+use Rattle.startup_answers.specs.Answers.{ready_in}
 use Rattle.codec_laws.specs.frames.Sendable.{IsHolder, IsMac, IsTag, carrying}
 use Rattle.end_laws.specs.hearing.Hearing.{IsUncalled, IsUnreported, all_hears, comes, mine_reported, own_reported}
 use Rattle.end_laws.specs.hearing.Stations.{IsAddress, IsCalled, IsCaller, IsDevice, IsNumbered, IsRecordCall, IsSetup, ready_call}
@@ -453,7 +453,7 @@ module _ (so : HeardSo) (setup : Setup) (station : Station) (good : IsSetup setu
   message_met heard live (GetAnswer asker running alias request) known plans owed can = data_met asker None _ _ can.destination tt
   message_met heard live (SetAnswer asker request answers) known plans owed can = data_met asker None _ _ can.destination tt
   message_met heard live (ArpReply asker address target) known plans owed can = packet_met asker address target can.destination can.content.0.1 can.content.1
-  message_met heard live (CallAnswer caller address answer) known plans owed can = answering_met heard caller address answer known owed can.content.0.0
+  message_met heard live (CallAnswer caller address answer) known plans owed can = answering_met heard caller address answer known owed can.0.content.0.0
   message_met heard live (ReadyCall address ready) known plans owed can =
       ready_met address ready can.destination can.content.1.0 can.content.0.0 (ready_can_be owed.link ready (plans owed.link owed.is) owed.header owed.block)
   message_met heard live (Ends farewell) known plans owed can = data_met farewell.initiator (Some farewell.tag) _ _ can.destination can.tag

@@ -27,8 +27,8 @@ use Rattle.plans.specs.declared.parts.PlanRecord.{PlanRecord}
 use Rattle.plans.specs.Plan.{AreShort}
 use Rattle.controller_frames.specs.declared.setup.Setup.{Setup}
 use Rattle.controller_frames.specs.Requests.{entries_bytes, entry_bytes, first_of, group_of, list_of, padding_of, per_call, write_blocks, write_count, write_of}
-use Rattle.controller_core.specs.declared.outcomes.Outcomes.TheVariants.{AllWritten, Refused}
-use Rattle.controller_core.specs.Outcomes.{are_written, is_all_written, outcome_at, outcome_in, outcomes_behind, outcomes_by, outcomes_from, status_in}
+use Rattle.startup_answers.specs.declared.outcomes.Outcomes.TheVariants.{AllWritten, Refused}
+use Rattle.startup_answers.specs.Outcomes.{are_written, is_all_written, outcome_at, outcome_in, outcomes_behind, outcomes_by, outcomes_from, status_in}
 use Rattle.device_core.specs.State.{Station}
 use Rattle.end_laws.specs.both.Steps.{records_before}
 use Rattle.end_laws.specs.controller.Small.{says_written}

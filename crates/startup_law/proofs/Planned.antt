@@ -58,7 +58,7 @@ use Rattle.controller_frames.specs.declared.setup.Setup.{Setup}
 use Rattle.controller_frames.specs.RecordRequests.{record_blocks, service_operation}
 use Rattle.controller_frames.specs.Requests.{blocks_of, call_for, entries_bytes, first_of, group_of, list_blocks, list_of as list_asked, per_call, write_blocks, write_count, write_of as write_asked, writing_blocks}
 use Rattle.codec_laws.specs.blocks.Writable.{CanBeWritten, IsRecord}
-use Rattle.controller_core.specs.Outcomes.{is_all_written, outcome_at, outcomes_behind}
+use Rattle.startup_answers.specs.Outcomes.{is_all_written, outcome_at, outcomes_behind}
 use Rattle.end_laws.specs.hearing.Stations.{IsCalled}
 use Rattle.end_laws.specs.both.Small.{Rules}
 use Rattle.end_laws.specs.controller.Small.{says_written}

@@ -15,11 +15,11 @@ use Rattle.controller_frames.specs.Requests.{write_count}
 use Rattle.controller_frames.specs.declared.setup.Setup.{Setup}
 use Rattle.controller_frames.specs.Heard.{heard_of as heard_by}
 use Rattle.controller_frames.specs.Sent.{Sent, Requests, Accesses, Agrees, Cycles, Confirms, Replies, Ends, bytes_of}
-use Rattle.controller_core.specs.declared.state.State.{State as Phase}
-use Rattle.controller_core.specs.declared.state.State.TheVariants.{Exchanging}
-use Rattle.controller_core.specs.declared.event.Event.{Event}
-use Rattle.controller_core.specs.declared.event.Event.TheVariants as controller
-use Rattle.controller_core.specs.State.{Controlling, Live as ControllerLive, with_live}
+use Rattle.controller_state.specs.declared.state.State.{State as Phase}
+use Rattle.controller_state.specs.declared.state.State.TheVariants.{Exchanging}
+use Rattle.controller_state.specs.declared.event.Event.{Event}
+use Rattle.controller_state.specs.declared.event.Event.TheVariants as controller
+use Rattle.controller_state.specs.State.{Controlling, Live as ControllerLive, with_live}
 use Rattle.controller_core.specs.Machine.{step_of, turn_of}
 use Rattle.network_world.specs.declared.moves.End.{End}
 use Rattle.network_world.specs.declared.moves.End.TheVariants.{Device, Controller}

@@ -3,7 +3,7 @@ ghost use Rattle.std.specs.Prelude.{◌≡◌, ◌<◌, List, Some};
 ghost use Rattle.startup_law.specs.request.Request.{request_for};
 ghost use Rattle.relations.specs.RelationState.{RelationState};
 ghost use Rattle.relations.specs.declared.phase.Phase.TheVariants.{Exchanging as in_exchange};
-ghost use Rattle.controller_core.specs.declared.state.State.TheVariants.{Exchanging};
+ghost use Rattle.controller_state.specs.declared.state.State.TheVariants.{Exchanging};
 ghost use Rattle.network_world.specs.declared.moves.Move.{Move};
 ghost use Rattle.network_world.specs.World.{World, Played};
 ghost use Rattle.end_laws.specs.both.StartUp.{WasExchanging, WasHanded};

@@ -259,7 +259,7 @@ parts_of_due units values state is_lost running lost runs due =
 lesser : (units one other : ℕ) → units ≤ min one other → units ≤ other
 lesser units one other few = omega (arith, few)
 
--- the same behind a leap of the device
+-- the same after a leap of the device
 pub due_behind : {F : Type 0} (old new : State F) (units : ℕ) (state : Serving) (is_lost : Bool) (running : Settings)
     → new ≡ record old { live = (device_ticks units old.station old.live).live } → is_lost ≡ new.live.values.is_lost → running ≡ new.live.values.running
     → units ≤ due_beside old.live state → units ≤ due_at is_lost running state

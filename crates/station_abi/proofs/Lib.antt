@@ -1,11 +1,2 @@
-pub mod Barring
-pub mod Composed
 pub mod Counts
-pub mod Fetching
-pub mod Hearing
-pub mod Left
-pub mod Pacing
 pub mod Reported
-pub mod Silent
-pub mod Telling
-pub mod Ticking

@@ -1,15 +1,16 @@
 -- What is reported of a port.
 use Rattle.std.proofs.Common.{◌≡◌, ℕ, List, [], ◌∷◌, Option, Some, None, refl, sym, ap, subst, ◌∙◌}
 use Rattle.flash_model.specs.Calls.{Call}
-use Rattle.std.specs.Prelude.{if◌then◌else◌, Result, Ok, Err}
-use Rattle.device_abi.specs.declared.port.device.Passed.{Passed}
+use Rattle.std.specs.Prelude.{if◌then◌else◌, min, Ok}
 use Rattle.device_abi.specs.port.State.{IsUnreported, has_some, waiting}
 use Rattle.device_abi.specs.port.Refusals.{refusal_number}
 use Rattle.device_abi.specs.declared.port.refusal.Refusal.{Refusal}
 use Rattle.c_layout.specs.declared.op.Op.{Op}
-use Rattle.station_abi.specs.State.{Served, barred_both, due_both, or_own, waiting_both}
-use Rattle.station_abi.specs.Steps.{PassesBoth}
-use Rattle.station_abi.specs.Serves.{IsHanded, IsTick, IsValue, IsValueOf, with_frame, with_nothing, with_passed}
+use Rattle.station_port.specs.State.{Served, barred_both, due_both, or_own, waiting_both}
+use Rattle.station_port.specs.Steps.{PassesBoth}
+use Rattle.pn_values.specs.declared.settings.Settings.{Settings}
+use Rattle.c_layout.specs.Reported.{with_octets}
+use Rattle.station_abi.specs.Serves.{IsConflicts, IsDue, IsHanded, IsLeft, IsNumber, IsSettings, IsTick, IsValue, IsValueOf, settings_octets, with_frame, with_nothing, with_passed}
 
 -- The next piece of work, as it is reported, is what is handed out.
 pub handed_nothing : (calls : List Call) (frames : List (List ℕ)) (asked : Op) (octets : List ℕ) (reported : Op) → calls ≡ [] → frames ≡ [] → octets ≡ [] → reported ≡ with_nothing asked
@@ -49,3 +50,32 @@ counted_all old between new asked reported answer free passes same done told =
 pub waiting_only : (calls : List Call) (frames own : List (List ℕ)) → calls ≡ [] → own ≡ [] → (if has_some frames then 3 else 0) ≡ or_own (waiting calls frames) (waiting [] own)
 waiting_only calls [] own none no_own = rw none (rw no_own refl)
 waiting_only calls (frame ∷ frames) own none no_own = rw none refl
+
+-- Settings that are reported, or not.
+pub settings_told : (why : Option Refusal) (known held : Settings) (asked : Op) (answer : ℕ) (reported : Op) → (why ≡ None) × (held ≡ known) → answer ≡ 0
+    → reported ≡ with_octets (settings_octets held) asked → IsSettings why known asked answer reported
+settings_told why known held asked answer reported is done told = rw is.0 (done, told ∙ ap (λ settings. with_octets (settings_octets settings) asked) is.1)
+
+pub settings_refused : (why : Option Refusal) (known : Settings) (refusal : Refusal) (asked : Op) (answer : ℕ) (reported : Op) → why ≡ Some refusal → answer ≡ refusal_number refusal
+    → reported ≡ asked → IsSettings why known asked answer reported
+settings_refused why known refusal asked answer reported is at same = rw is (at, same)
+
+-- A number in its place is reported with the whole operation.
+pub due_told : (why : Option Refusal) (due : ℕ) (asked : Op) (answer new : ℕ) → IsNumber why due asked.units answer new → IsDue why due asked answer (record asked { units = new })
+due_told (Some refusal) due asked answer new is = (is.0, ap (λ (n : ℕ). record asked { units = n }) is.1)
+due_told None due asked answer new is = (is.0, ap (λ (n : ℕ). record asked { units = n }) is.1)
+
+pub left_told : (why : Option Refusal) (left : ℕ) (asked : Op) (answer new : ℕ) → IsNumber why left asked.place answer new → IsLeft why left asked answer (record asked { place = new })
+left_told (Some refusal) left asked answer new is = (is.0, ap (λ (n : ℕ). record asked { place = n }) is.1)
+left_told None left asked answer new is = (is.0, ap (λ (n : ℕ). record asked { place = n }) is.1)
+
+pub conflicts_told : (why : Option Refusal) (conflicts : ℕ) (asked : Op) (answer new : ℕ) → IsNumber why (min conflicts 4294967295) asked.units answer new
+    → IsConflicts why conflicts asked answer (record asked { units = new })
+conflicts_told (Some refusal) conflicts asked answer new is = (is.0, ap (λ (n : ℕ). record asked { units = n }) is.1)
+conflicts_told None conflicts asked answer new is = (is.0, ap (λ (n : ℕ). record asked { units = n }) is.1)
+
+pub number_told : (why : Option Refusal) (known old answer new : ℕ) → (why ≡ None) × (new ≡ known) → answer ≡ 0 → IsNumber why known old answer new
+number_told why known old answer new is done = rw is.0 (done, is.1)
+
+pub number_refused : (why : Option Refusal) (known : ℕ) (refusal : Refusal) (old answer new : ℕ) → why ≡ Some refusal → answer ≡ refusal_number refusal → new ≡ old → IsNumber why known old answer new
+number_refused why known refusal old answer new is at same = rw is (at, same)

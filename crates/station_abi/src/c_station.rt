@@ -6,7 +6,6 @@ ghost use Rattle.station_abi.specs.Made.{IsMade, why_not_made};
 ghost use Rattle.station_abi.specs.Stations.{fault_of, has_interval, has_room as has_all_room, identity_of, is_single as has_own_mac, is_station};
 ghost use Rattle.station_abi.specs.Stations.{modules_in, options_of, real_of};
 
-use crate::ServedPort;
 use crate::plugged::{are_carried, are_described, are_parted, are_slots};
 use arrayvec::ArrayVec;
 use c_layout::{
@@ -15,6 +14,7 @@ use c_layout::{
 };
 use pn_values::{Identity, Mac, Real};
 use relations::DeviceOptions;
+use station_port::ServedPort;
 
 /// The version of the header.
 const ABI: u32 = 3;

@@ -1,11 +1,10 @@
 //! Whether the modules of a station, their submodules and the parameter records of these are in their ranges.
-ghost use Rattle.std.specs.Prelude.{◌≡◌, true};
+ghost use Rattle.std.specs.Prelude.{◌≡◌};
 ghost use Rattle.std.specs.List.{list_all};
-ghost use Rattle.c_layout.specs.Modules.{is_module, is_submodule};
 ghost use Rattle.station_abi.specs.Stations.{are_slots, are_subslots, fits, has_parameters, has_slot, has_subslot};
 ghost use Rattle.station_abi.specs.Stations.{is_carried, is_described, is_parted, is_subslot};
 
-use c_layout::{Module, Submodule, are_parameters};
+use c_layout::{Module, Submodule, are_parameters, parameters_in, submodules_in};
 
 /// The most octets of data that a cyclic frame carries for one submodule: its 1,440 octets without one IOPS.
 const MOST_DATA: u16 = 1439;
@@ -32,15 +31,11 @@ fn has_slot(modules: &[Module], slot: u16) -> bool
 
 // Whether the subslots of each module are in their range, each once.
 pub(crate) fn are_parted(modules: &[Module]) -> bool
-    requires { list_all is_module modules.now ≡ true }
     ensures { result ≡ list_all is_parted modules.now }
 {
-    for entry in modules {
-        if !are_subslots(&entry.submodules[..entry.submodule_count as usize]) {
-            return false;
-        }
-    }
-    true
+    modules
+        .iter()
+        .all(|entry| are_subslots(submodules_in(entry)))
 }
 
 fn are_subslots(submodules: &[Submodule]) -> bool
@@ -73,51 +68,34 @@ fn has_subslot(submodules: &[Submodule], subslot: u16) -> bool
 
 // Whether a cyclic frame can carry the data of each submodule.
 pub(crate) fn are_carried(modules: &[Module]) -> bool
-    requires { list_all is_module modules.now ≡ true }
     ensures { result ≡ list_all is_carried modules.now }
 {
-    for entry in modules {
-        if !do_fit(&entry.submodules[..entry.submodule_count as usize]) {
-            return false;
-        }
-    }
-    true
+    modules.iter().all(|entry| do_fit(submodules_in(entry)))
 }
 
 fn do_fit(submodules: &[Submodule]) -> bool
     ensures { result ≡ list_all fits submodules.now }
 {
-    for part in submodules {
-        if part.input > MOST_DATA || part.output > MOST_DATA {
-            return false;
-        }
-    }
-    true
+    submodules
+        .iter()
+        .all(|part| part.input <= MOST_DATA && part.output <= MOST_DATA)
 }
 
 // ---- parameter records
 
 // Whether the parameter records of each submodule are in their ranges, each with an index of its own.
 pub(crate) fn are_described(modules: &[Module]) -> bool
-    requires { list_all is_module modules.now ≡ true }
     ensures { result ≡ list_all is_described modules.now }
 {
-    for entry in modules {
-        if !have_parameters(&entry.submodules[..entry.submodule_count as usize]) {
-            return false;
-        }
-    }
-    true
+    modules
+        .iter()
+        .all(|entry| have_parameters(submodules_in(entry)))
 }
 
 fn have_parameters(submodules: &[Submodule]) -> bool
-    requires { list_all is_submodule submodules.now ≡ true }
     ensures { result ≡ list_all has_parameters submodules.now }
 {
-    for part in submodules {
-        if !are_parameters(&part.parameters[..part.parameter_count as usize]) {
-            return false;
-        }
-    }
-    true
+    submodules
+        .iter()
+        .all(|part| are_parameters(parameters_in(part)))
 }

@@ -1,5 +1,5 @@
 //! One operation of the host.
-ghost use Rattle.std.specs.Prelude.{◌≡◌, ◌≤◌, Ok, Some, [], slice_get, take, true};
+ghost use Rattle.std.specs.Prelude.{◌≡◌, ℕ, Ok, Option, Some, [], min, slice_get, take, true};
 ghost use Rattle.device_frames.specs.declared.event.Event.TheVariants.{Frame as Framed, Ready as IsReady};
 ghost use Rattle.device_abi.specs.recorded.Entry.{call_of};
 ghost use Rattle.relations.specs.Exchanged.{provider_in};
@@ -8,19 +8,20 @@ ghost use Rattle.std.specs.Prelude.{⊤};
 ghost use mathlib.Core.Option.{none};
 ghost use types.Logic.{sem};
 ghost use denote.Follow.{follows_so};
-ghost use Rattle.station_abi.specs.contracts.served.ServedPort.{the_row as Row};
+ghost use Rattle.station_port.specs.contracts.served.ServedPort.{the_row as Row};
 ghost use Rattle.device_abi.specs.port.State.{closed, has_some};
-ghost use Rattle.station_abi.specs.State.{advanced_both, conflicts_of, due_both, frames_of, waiting_both};
+ghost use Rattle.station_port.specs.State.{advanced_both, conflicts_of, due_both, frames_of, waiting_both};
 ghost use Rattle.c_layout.specs.Places.{place_in};
 ghost use Rattle.c_layout.specs.Reported.{with_octets};
-ghost use Rattle.station_abi.specs.Serves.{IsAlarm, IsBoot, IsCall, IsConflicts, IsDiagnosis, IsDue, IsEvent, IsInput, IsLeft, IsLink, IsLoss, HandsOut, IsHanded, IsOutput, with_frame, with_nothing};
-ghost use Rattle.station_abi.specs.Serves.{IsRecordAt, IsRecordOf, IsProvider, IsProviderAt, IsProviderOf, IsSector, IsSettings, IsState, IsStatus, IsTick, IsValueOf, Serves, answer_of, link_of};
+ghost use Rattle.station_abi.specs.Serves.{IsAlarm, IsBoot, IsCall, IsDiagnosis, IsEvent, IsInput, IsLink, IsLoss, HandsOut, IsHanded, IsOutput, with_frame, with_nothing};
+ghost use Rattle.station_abi.specs.Serves.{IsNumber, IsRead, IsRecordAt, IsRecordOf, IsProvider, IsProviderAt, IsProviderOf, IsSector, IsSettings, IsState, IsStatus, IsTick, IsValueOf, Serves, answer_of, link_of};
 ghost use Rattle.station_abi.specs.Serves.{noted as is_noted, operation_of as operation_in, with_passed, phase_number};
 ghost use Rattle.station_abi.specs.Serves.{sector_number as number_of, sector_of, settings_octets, value_of};
 
 use crate::operation::{Operation, operation_of};
-use crate::{Leap, ServedPort};
-use c_layout::{BAD_LENGTH, NO_FRAME, NO_RECORD, NO_SLOT, Op, UNKNOWN, place_of, put, put_more};
+use c_layout::{
+    BAD_LENGTH, NO_FRAME, NO_RECORD, NO_SLOT, Op, UNKNOWN, pair_of, place_of, put, put_more,
+};
 use device_abi::{Port, Recorded, Refusal};
 use device_core::Note;
 use flash_model::Sector;
@@ -29,6 +30,7 @@ use lldp::Link;
 use pn_values::Settings;
 use records::TakenRecord;
 use relations::{Phase, ProviderStatus};
+use station_port::{Leap, ServedPort};
 
 /// Carries out one operation, with the given octets. Returns 0, or why nothing changed.
 pub fn serve(port: &mut ServedPort, op: &mut Op, given: &[u8]) -> u32
@@ -73,17 +75,17 @@ fn perform(operation: Operation, port: &mut ServedPort, op: &mut Op, given: &[u8
         Operation::Alarm => alarm(port, op, given),
         Operation::Output => output(port.port(), op),
         Operation::State => state(port.port(), op),
-        Operation::Running => running(port.port(), op),
-        Operation::Stored => stored(port.port(), op),
+        Operation::Running => tell_settings(port.port().running(), op),
+        Operation::Stored => tell_settings(port.port().stored(), op),
         Operation::Lose => lose(port),
         Operation::Record => tell_taken(port.port(), op),
-        Operation::Left => left(port.port(), op),
-        Operation::Due => due(port, op),
+        Operation::Left => tell_number(port.port().left(), &mut op.place),
+        Operation::Due => tell_number(port.due(), &mut op.units),
         Operation::Status => status(port, op),
         Operation::Ready => ready(port, op),
         Operation::Provider => provider(port.port(), op),
         Operation::Diagnosis => diagnosis(port, op),
-        Operation::Conflicts => conflicts(port, op),
+        Operation::Conflicts => tell_number(conflicts(port), &mut op.units),
         Operation::Link => link(port, op, given),
     }
 }
@@ -202,24 +204,13 @@ fn diagnosis(port: &mut ServedPort, op: &mut Op) -> u32
 fn diagnose(port: &mut ServedPort, op: &mut Op, place: (u16, u16)) -> u32
     ensures { IsDiagnosis (Some place) (place_in op.old.units op.old.sector) port.old op.old result port.new op.new }
 {
-    match channel_of(op) {
+    match pair_of(op.units, op.sector) {
         Some(what) => {
             let appears = op.place != 0;
             let outcome = port.diagnosis(place.0, place.1, what.0, what.1, appears);
             noted(outcome, port, op)
         }
         None => NO_SLOT,
-    }
-}
-
-// The channel and the error of a diagnosis, if both are numbers of 16 bits.
-fn channel_of(op: &Op) -> Option<(u16, u16)>
-    ensures { result ≡ place_in op.now.units op.now.sector }
-{
-    if op.units < 65536 && op.sector < 65536 {
-        Some((op.units as u16, op.sector as u16))
-    } else {
-        None
     }
 }
 
@@ -523,24 +514,12 @@ fn number_of_phase(phase: Option<Phase>) -> u32
     }
 }
 
+// Settings, or why they are not reported.
 #[inline(never)]
-fn running(port: &Port, op: &mut Op) -> u32
-    ensures { IsSettings (closed port.now.stage) port.now.device.live.values.running op.old result op.new }
+fn tell_settings(settings: Result<&Settings, Refusal>, op: &mut Op) -> u32
+    ensures { (why : Option Refusal) (known : Settings) → IsRead why (λ held. held.now ≡ known) settings.entry → IsSettings why known op.old result op.new }
 {
-    match port.running() {
-        Ok(settings) => {
-            put_settings(settings, op);
-            0
-        }
-        Err(refusal) => refusal.number(),
-    }
-}
-
-#[inline(never)]
-fn stored(port: &Port, op: &mut Op) -> u32
-    ensures { IsSettings (closed port.now.stage) port.now.device.live.values.stored op.old result op.new }
-{
-    match port.stored() {
+    match settings {
         Ok(settings) => {
             put_settings(settings, op);
             0
@@ -563,32 +542,27 @@ fn put_settings(settings: &Settings, op: &mut Op)
     put_more(op, settings.name.as_bytes());
 }
 
-// The number of units up to and with the next one with which anything is due.
+// A number in its place of an operation, or why it is not reported.
 #[inline(never)]
-fn due(port: &mut ServedPort, op: &mut Op) -> u32
-    ensures same { port.new ≡ port.old }
-    ensures due { IsDue (closed port.old.port.stage) (due_both port.old) op.old result op.new }
+fn tell_number(number: Result<u32, Refusal>, place: &mut u32) -> u32
+    ensures { (why : Option Refusal) (known : ℕ) → IsRead why (λ held. held ≡ known) number → IsNumber why known place.old result place.new }
 {
-    match port.due() {
-        Ok(due) => {
-            op.units = due;
+    match number {
+        Ok(number) => {
+            *place = number;
             0
         }
         Err(refusal) => refusal.number(),
     }
 }
 
-// How many conflicts of the running IP address the services have counted.
-#[inline(never)]
-fn conflicts(port: &ServedPort, op: &mut Op) -> u32
-    ensures { IsConflicts (closed port.now.port.stage) (conflicts_of port.now.services) op.old result op.new }
+// How many conflicts of the running IP address the services have counted, at most the maximum of 32 bits.
+fn conflicts(port: &ServedPort) -> Result<u32, Refusal>
+    ensures { IsRead (closed port.now.port.stage) (λ held. held ≡ min (conflicts_of port.now.services) 4294967295) result }
 {
     match port.port().closed() {
-        Some(refusal) => refusal.number(),
-        None => {
-            op.units = port.conflicts().min(0xFFFF_FFFF) as u32;
-            0
-        }
+        Some(refusal) => Err(refusal),
+        None => Ok(port.conflicts().min(0xFFFF_FFFF) as u32),
     }
 }
 
@@ -649,20 +623,6 @@ fn tell_statuses(status: Option<ProviderStatus>, op: &mut Op) -> u32
             0
         }
         None => NO_FRAME,
-    }
-}
-
-// The number of commits that the flash still accepts.
-#[inline(never)]
-fn left(port: &Port, op: &mut Op) -> u32
-    ensures { IsLeft (closed port.now.stage) port.now.device.live.values.room op.old result op.new }
-{
-    match port.left() {
-        Ok(left) => {
-            op.place = left;
-            0
-        }
-        Err(refusal) => refusal.number(),
     }
 }
 

@@ -1,10 +1,8 @@
 //! Two worlds side by side: one plays four moves in a call, the other plays the same moves one by one. If an allocation
 //! fails, a call leaves the world of the moves before.
 use crate::ladder::Play;
-use crate::schedule::{Choice, Schedule};
-use crate::station::{Net, fresh_world};
-use crate::told::Told;
 use std::alloc::{AllocError, Global};
+use world_monitor::{Choice, Net, Schedule, Told, fresh_world};
 
 /// Both worlds, and the result of their comparison.
 #[derive(Drop)]

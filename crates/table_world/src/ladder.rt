@@ -1,13 +1,9 @@
 //! Schedules from a seed.
-use crate::law::Law;
-use crate::schedule::{Choice, Schedule};
-use crate::station::fresh_world;
-use crate::told::Told;
-use crate::watch::Watched;
 use controller_core::{Cause, State};
 use network_world::End;
 use relations::Phase;
 use std::alloc::{AllocError, Global};
+use world_monitor::{Choice, Law, Schedule, Told, Watched, fresh_world};
 
 fn phase_name(phase: Option<Phase>) -> &'static str {
     match phase {

@@ -20,7 +20,7 @@
 //! alarms MOVES           the same: an alarm is raised, or one of the last three comes
 //! ```
 //!
-//! After each move all laws of both ends are checked again (`test_worlds`). At the end of a schedule it is checked that
+//! After each move all laws of both ends are checked again (`world_monitor`). At the end of a schedule it is checked that
 //! each frame is as it was when it was sent. The first law that does not hold is printed with the number of the move.
 //!
 //! `growths` is for a run in which an allocation fails: if `play` has no memory, its world must be that of a prefix of
@@ -33,14 +33,8 @@
 #![tactic(auto)]
 
 mod growths;
-mod kind;
 mod ladder;
-mod law;
 mod rows;
-mod schedule;
-mod station;
-mod told;
-mod watch;
 mod worlds;
 
 use ladder::Play;

@@ -1,12 +1,8 @@
 //! Single schedules: a start-up, a Connect that comes twice, every frame again, and what is skipped after an end.
 use crate::ladder::{put_broken, put_rung, put_told};
-use crate::law::Law;
-use crate::schedule::Choice;
-use crate::station::{Net, fresh_world};
-use crate::told::Told;
-use crate::watch::Watched;
 use network_world::{End, Move};
 use std::alloc::{AllocError, Global};
+use world_monitor::{Choice, Law, Net, Told, Watched, fresh_world};
 
 /// A number of units that is longer than the interval of any plan that is played.
 const INTERVAL: u8 = 32;

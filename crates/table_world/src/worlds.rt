@@ -1,11 +1,8 @@
 //! Every schedule of a small world.
-use crate::law::Law;
 use crate::rows::{across, advance, start_up};
-use crate::schedule::Choice;
-use crate::station::fresh_world;
-use crate::watch::Watched;
 use network_world::End;
 use std::alloc::{AllocError, Global};
+use world_monitor::{Choice, Law, Watched, fresh_world};
 
 /// The most moves of a schedule.
 const MOST: usize = 8;

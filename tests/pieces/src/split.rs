@@ -2,9 +2,9 @@
 
 use super::writer::{DEVICE, Packet};
 use super::{Did, body_of, calls, did};
+use call_headers::{Extent, Head, Names, Opening, Turn};
 use call_pieces::{pieces_in, put_piece};
 use rpc_core::Datagram;
-use services::{Extent, Head, Names, Opening, Turn};
 
 /// A header of a call.
 fn head() -> Head {

@@ -1,7 +1,8 @@
 //! Operations as a host in C calls them: numbers, answers, and where the reported values are.
 use crate::served::{alone, booted, busy, lost, made};
 use c_layout::Op;
-use station_abi::{ServedPort, hand_out, serve};
+use station_abi::{hand_out, serve};
+use station_port::ServedPort;
 use test_stations::SET;
 
 /// An operation of this number, with nothing else in it.

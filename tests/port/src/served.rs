@@ -7,7 +7,8 @@ use flash_model::{MemoryFlash, Sector};
 use pn_values::demo_identity;
 use relations::DeviceOptions;
 use station::{IoStation, StationOutbox};
-use station_abi::{ServedPort, hand_out, serve};
+use station_abi::{hand_out, serve};
+use station_port::ServedPort;
 use test_stations::SET;
 
 /// A Set of the IP address 192.168.0.2, temporary.

@@ -1,5 +1,5 @@
 //! The IOPS of inputs: what the application says of them, and an option by which they begin bad. What the controller says of
-//! its outputs, and whether all parameters came. The octets were worked out by hand from IEC 61158-6-10.
+//! its outputs, whether all parameters came, and the problem bit of DataStatus. The octets were worked out by hand from IEC 61158-6-10.
 use crate::Tried;
 use crate::connects::{Blocks, INPUT_MOVED, OTHER, THREE, connect};
 use crate::exchange::outputs;
@@ -54,15 +54,26 @@ impl Tried {
         self.sends_none(&Event::Input(1, 1, octets(value)), note);
     }
 
-    // The next frame of inputs has these octets.
+    // A diagnosis appears or disappears: a submodule, a channel and a ChannelErrorType.
+    fn diagnoses(&mut self, (slot, subslot, channel, error): (u16, u16, u16, u16), appears: bool) {
+        let event = Event::Diagnosis(slot, subslot, channel, error, appears);
+        self.sends_none(&event, Note::Done);
+    }
+
+    // The next frame of inputs has these octets, and says that the station has no problem.
     fn shows(&mut self, inputs: &[u8]) {
+        self.shows_with(inputs, 0x35);
+    }
+
+    // The next frame of inputs has these octets and this DataStatus.
+    fn shows_with(&mut self, inputs: &[u8], data_status: u8) {
         self.passes(31, 0);
         self.notes(&Event::Tick, Note::Done);
         let [sent] = self.last.as_slice() else {
             panic!("sends one frame");
         };
         assert_eq!(sent.as_slice().get(20..20 + inputs.len()), Some(inputs));
-        assert_eq!(sent.as_slice().get(62..64), Some([0x35, 0].as_slice()));
+        assert_eq!(sent.as_slice().get(62..64), Some([data_status, 0].as_slice()));
     }
 
     // What the controller says of the output in slot 2: IOPS and DataStatus.
@@ -233,6 +244,43 @@ fn what_the_controller_says_of_its_output() {
     device.hears(None);
     device.serve(CONNECT, 3, &three());
     device.hears(None);
+}
+
+// Bit 5 of DataStatus, StationProblemIndicator, is 1 for no problem (IEC 61158-6-10, 4.7.2.1.3): 0x35, and 0x15 while a submodule of the relation
+// has a diagnosis.
+#[test]
+fn a_diagnosis_is_a_problem_of_the_station() {
+    let wire_break = (1, 1, 3, 6);
+    let short_circuit = (2, 1, 0x8000, 1);
+    let mut device = station(false);
+    device.diagnoses(wire_break, true);
+    device.serve(CONNECT, 0, &three());
+    device.shows_with(&ZEROS, 0x15);
+    device.diagnoses(short_circuit, true);
+    device.diagnoses(wire_break, false);
+    device.shows_with(&ZEROS, 0x15);
+    device.diagnoses(short_circuit, false);
+    device.shows(&ZEROS);
+    device.diagnoses((0, 0x8001, 0, 1), true);
+    device.shows_with(&ZEROS, 0x15);
+    device.serve(RELEASE, 1, &END);
+    device.serve(CONNECT, 2, &three());
+    device.shows_with(&ZEROS, 0x15);
+    device.station.load().expect("starts again");
+    device.is_at(None);
+    device.serve(CONNECT, 0, &three());
+    device.shows(&ZEROS);
+}
+
+// A diagnosis of a submodule that is not what the Connect expects is none of the relation.
+#[test]
+fn a_diagnosis_of_another_module_is_no_problem() {
+    let mut device = station(false);
+    device.serve(CONNECT, 0, &connect(0x11, 600, OTHER));
+    device.diagnoses((1, 1, 3, 6), true);
+    device.shows(&BAD_ZEROS);
+    device.diagnoses((2, 1, 3, 6), true);
+    device.shows_with(&BAD_ZEROS, 0x15);
 }
 
 #[test]

@@ -8,9 +8,9 @@ use network_world::{End, Move, World};
 use pn_values::demo_identity;
 use rattle_std::alloc::Global;
 use relations::Phase;
-use table_world::station::Net;
 use test_stations::octets;
 use uuid::Uuid;
+use world_monitor::Net;
 
 /// How many schedules are played, and how many moves each has after the start-up.
 const SEEDS: u64 = 40;

@@ -1,5 +1,5 @@
 //! Start-ups whose catalogue says that a Write can carry several records: the octets of a list, lists of each length, records of a list that
-//! the device refuses, and schedules from seeds in which the laws of both ends are computed after each move (`watch` of `table_world`).
+//! the device refuses, and schedules from seeds in which the laws of both ends are computed after each move (`world_monitor`).
 use crate::otherwise::{RECORDS, as_planned, make, never_exchanges, plugged, starts_up, station};
 use configurator::plan_from_json;
 use controller_core::{Cause, Controller, State};
@@ -7,11 +7,8 @@ use network_world::{End, Move, World};
 use pn_values::Real;
 use rattle_std::alloc::Global;
 use relations::Phase;
-use table_world::kind::Kind;
-use table_world::schedule::Schedule;
-use table_world::station::{Fresh, Net};
-use table_world::watch::Watched;
 use uuid::Uuid;
+use world_monitor::{Fresh, Kind, Net, Schedule, Watched};
 
 /// The records of that catalogue.
 const TWO: &str = r#"{"Subslot":1,"Index":1,"Data":"00000064"},{"Subslot":1,"Index":2,"Data":"000000c8"}"#;

@@ -1,6 +1,6 @@
 //! Worlds whose device is not what the plan says: a record of another length or of none, a module that is not plugged, another module. How
 //! a start-up ends was worked out by hand, each frame by its kind; in schedules the laws of both ends are computed after each move
-//! (`watch` of `table_world`), and in none of them is data exchanged.
+//! (`world_monitor`), and in none of them is data exchanged.
 use arrayvec::ArrayVec;
 use configurator::plan_from_json;
 use controller_core::{Cause, Controller, State};
@@ -11,12 +11,9 @@ use frame_codec::Outbox;
 use network_world::World;
 use rattle_std::alloc::Global;
 use relations::{DeviceOptions, Phase};
-use table_world::kind::Kind;
-use table_world::schedule::{Choice, Schedule};
-use table_world::station::Fresh;
-use table_world::watch::Watched;
 use test_stations::{Station, no_modules, set_pump, step};
 use uuid::Uuid;
+use world_monitor::{Choice, Fresh, Kind, Schedule, Watched};
 
 /// A station with an input in slot 1, which is given two records of four octets, and outputs in slots 2 and 3.
 pub(crate) const RECORDS: &str = r#"{"DeviceIdentity":{"VendorID":291,"DeviceID":1110},"DeviceAccessPointItem":{"ModuleIdentNumber":1,"PhysicalSlots":[0,1,2,3],"DNS_CompatibleName":"pn-demo","MinDeviceInterval":32,"VirtualSubmoduleItem":[{"Subslot":1,"SubmoduleIdentNumber":1},{"Subslot":32768,"SubmoduleIdentNumber":2},{"Subslot":32769,"SubmoduleIdentNumber":3}],"ModuleItemRef":[{"ModuleItemTarget":"IN2","AllowedInSlots":[1,2,3]},{"ModuleItemTarget":"OUT2","AllowedInSlots":[1,2,3]}]},"ModuleItem":[{"ID":"IN2","ModuleIdentNumber":16,"VirtualSubmoduleItem":[{"Subslot":1,"SubmoduleIdentNumber":16,"IOData":{"Input":[{"DataType":"Unsigned16"}]},"ParameterRecordDataItem":[{"Index":1,"Length":4},{"Index":2,"Length":4}]}]},{"ID":"OUT2","ModuleIdentNumber":32,"VirtualSubmoduleItem":[{"Subslot":1,"SubmoduleIdentNumber":32,"IOData":{"Output":[{"DataType":"Unsigned16"}]}}]}],"Project":{"NameOfStation":"pump-1","IPAddress":"192.168.0.2","SubnetMask":"255.255.255.0","Gateway":"0.0.0.0","Controller":{"NameOfStation":"plc","MAC":"02-00-00-00-00-02","IPAddress":"192.168.0.1"},"SendClockFactor":32,"ReductionRatio":1,"DataHoldFactor":3,"Slots":[{"Slot":1,"ModuleItemTarget":"IN2","Records":[{"Subslot":1,"Index":1,"Data":"00000064"},{"Subslot":1,"Index":2,"Data":"000000c8"}]},{"Slot":2,"ModuleItemTarget":"OUT2"},{"Slot":3,"ModuleItemTarget":"OUT2"}]}}"#;

@@ -9,11 +9,10 @@ use pn_values::{ParameterRecord, Real, demo_identity};
 use network_world::{End, Move};
 use rattle_std::alloc::Global;
 use relations::{DeviceOptions, Phase};
-use table_world::kind::Kind;
-use table_world::station::Net;
 use test_stations::{Station, octets};
 use uuid::Uuid;
 use startup_law::can_meet;
+use world_monitor::{Kind, Net};
 
 /// Units of time after which the controller sends a request again: one second.
 const AGAIN: usize = 32_000;

@@ -1,14 +1,13 @@
 //! Worlds in which the controller's application reads and writes records while data is exchanged: a row of moves that was worked out by
-//! hand, and schedules from seeds, in which the laws of both ends are computed after each move (`watch` of `table_world`).
+//! hand, and schedules from seeds, in which the laws of both ends are computed after each move (`world_monitor`).
 use crate::otherwise::{as_planned, make, world};
 use crate::played::{played, start_up, to_controller, to_device};
 use controller_core::State;
 use network_world::Move;
 use pn_values::demo_identity;
 use relations::Phase;
-use table_world::kind::Kind;
-use table_world::schedule::{Choice, Schedule};
 use test_stations::octets;
+use world_monitor::{Choice, Kind, Schedule};
 
 /// How many schedules are played, and how many moves each has after the start-up.
 const SEEDS: u64 = 200;

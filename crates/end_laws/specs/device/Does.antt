@@ -24,7 +24,7 @@ use Rattle.relations.specs.declared.ready.Ready.{Ready}
 use Rattle.relations.specs.Connect.{connect_blocks, connect_of, differing_of, rows_of}
 use Rattle.relations.specs.Phases.{Named, exchanging_from, made_of, parameterized_from, restarted, updated, with_taken}
 use Rattle.relations.specs.RelationState.{RelationState, uuid_of}
-use Rattle.relations.specs.exchange.Marks.{Starting}
+use Rattle.device_exchange.specs.Marks.{Starting}
 use Rattle.device_frames.specs.Heard.{Heard, Calls, Reported}
 use Rattle.device_frames.specs.Sent.{Sent, CallAnswer, Again, Exchanges, ReadyCall}
 use Rattle.pn_values.specs.declared.set_item.BlockError.{BlockError}

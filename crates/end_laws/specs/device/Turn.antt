@@ -29,13 +29,13 @@ use Rattle.diagnosis_alarms.specs.Alarms.{Low, is_next}
 use Rattle.cyclic_data.specs.Image.{Shown as Image}
 use Rattle.cyclic_exchange.specs.declared.received.Received.TheVariants as received
 use Rattle.cyclic_exchange.specs.declared.route.Route.{Route}
-use Rattle.relations.specs.exchange.Flow.{Flow}
-use Rattle.relations.specs.exchange.Diagnosis.{begins_with_one, behind_low, diagnoses_begun, next_reported}
-use Rattle.relations.specs.exchange.Frames.{Inputs, Notifies, Replies, Reports, RepliesLow}
-use Rattle.relations.specs.exchange.Marks.{Starting}
-use Rattle.relations.specs.exchange.Notices.{behind_message, raised_at}
-use Rattle.relations.specs.exchange.Received.{behind_frame, received_as}
-use Rattle.relations.specs.exchange.Units.{flow_later, repeated_of, tick_of}
+use Rattle.device_exchange.specs.Flow.{Flow}
+use Rattle.device_exchange.specs.Diagnosis.{begins_with_one, behind_low, diagnoses_begun, next_reported}
+use Rattle.device_exchange.specs.Frames.{Inputs, Notifies, Replies, Reports, RepliesLow}
+use Rattle.device_exchange.specs.Marks.{Starting}
+use Rattle.device_exchange.specs.Notices.{behind_message, raised_at}
+use Rattle.device_exchange.specs.Received.{behind_frame, received_as}
+use Rattle.device_exchange.specs.Units.{flow_later, repeated_of, tick_of}
 use Rattle.relations.specs.declared.phase.Partner.{Partner}
 use Rattle.relations.specs.declared.phase.Phase.TheVariants.{Awaiting}
 use Rattle.relations.specs.Connect.{connect_of}

@@ -21,9 +21,9 @@ use Rattle.controller_frames.specs.declared.record_request.RecordService.TheVari
 use Rattle.controller_frames.specs.declared.setup.Setup.{Setup}
 use Rattle.controller_frames.specs.Heard.{Heard, Alarms}
 use Rattle.controller_frames.specs.Sent.{Sent, Confirms}
-use Rattle.controller_core.specs.Alarms.{is_alarm, kept_alarm}
+use Rattle.controller_state.specs.Alarms.{is_alarm, kept_alarm}
 use Rattle.controller_core.specs.Machine.{Turn, alarmed, end_of, first, given, rated, requested, stays, stopped, ticked, turned, written}
-use Rattle.controller_core.specs.State.{Live}
+use Rattle.controller_state.specs.State.{Live}
 
 -- ---- priorities
 

@@ -9,13 +9,13 @@ use Rattle.controller_frames.specs.declared.request.Request.TheVariants as asks
 use Rattle.controller_frames.specs.declared.refusal.Refusal.{Refusal}
 use Rattle.controller_frames.specs.Heard.{Heard, Refuses, Responds, heard_of}
 use Rattle.controller_frames.specs.Sent.{Requests, bytes_of}
-use Rattle.controller_core.specs.declared.event.Event.{Event}
-use Rattle.controller_core.specs.declared.event.Event.TheVariants.{Frame, Tick, Give, Status, Read, Write, Stop}
-use Rattle.controller_core.specs.declared.state.Cause.{Cause}
-use Rattle.controller_core.specs.declared.state.Cause.TheVariants as why
-use Rattle.controller_core.specs.declared.state.State.TheVariants.{Ended}
-use Rattle.controller_core.specs.State.{Controlling, Live, with_live}
-use Rattle.controller_core.specs.Answers.{is_answer, is_refused}
+use Rattle.controller_state.specs.declared.event.Event.{Event}
+use Rattle.controller_state.specs.declared.event.Event.TheVariants.{Frame, Tick, Give, Status, Read, Write, Stop}
+use Rattle.controller_state.specs.declared.state.Cause.{Cause}
+use Rattle.controller_state.specs.declared.state.Cause.TheVariants as why
+use Rattle.controller_state.specs.declared.state.State.TheVariants.{Ended}
+use Rattle.controller_state.specs.State.{Controlling, Live, with_live}
+use Rattle.startup_answers.specs.Answers.{is_answer, is_refused}
 use Rattle.controller_core.specs.Machine.{is_again, later, step_of}
 use Rattle.end_laws.specs.turns.Runs.{IsReached, behind_all, frames_of}
 

@@ -1,8 +1,8 @@
 -- A controller over any events.
 use Rattle.std.specs.Prelude.{◌≡◌, ℕ, List, [], ◌∷◌, ◌++◌}
 use Rattle.plans.specs.declared.parts.Parts.{Parts}
-use Rattle.controller_core.specs.declared.event.Event.{Event}
-use Rattle.controller_core.specs.State.{Controlling}
+use Rattle.controller_state.specs.declared.event.Event.{Event}
+use Rattle.controller_state.specs.State.{Controlling}
 use Rattle.controller_core.specs.Machine.{fresh, step_of}
 
 -- The controller after events, one after the other.

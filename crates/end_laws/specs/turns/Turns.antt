@@ -26,17 +26,18 @@ use Rattle.controller_frames.specs.Heard.{Heard, Answers, Responds, Calls, Alarm
 use Rattle.controller_frames.specs.RecordRequests.{most_record_octets}
 use Rattle.controller_frames.specs.Requests.{writing_from}
 use Rattle.controller_frames.specs.Sent.{Agrees, ready_answer}
-use Rattle.controller_core.specs.declared.event.Event.{Event}
-use Rattle.controller_core.specs.declared.event.Event.TheVariants.{Frame, Tick, Give, Status as Rate, Read, Write, Stop}
-use Rattle.controller_core.specs.declared.state.Cause.{Cause}
-use Rattle.controller_core.specs.declared.state.State.TheVariants.{Looking, Addressing, Connecting, Ending, Waiting, Exchanging, Ended}
-use Rattle.controller_core.specs.declared.state.RefusedRecord.{RefusedRecord}
-use Rattle.controller_core.specs.State.{Live}
+use Rattle.controller_state.specs.declared.event.Event.{Event}
+use Rattle.controller_state.specs.declared.event.Event.TheVariants.{Frame, Tick, Give, Status as Rate, Read, Write, Stop}
+use Rattle.controller_state.specs.declared.state.Cause.{Cause}
+use Rattle.controller_state.specs.declared.state.State.TheVariants.{Looking, Addressing, Connecting, Ending, Waiting, Exchanging, Ended}
+use Rattle.controller_state.specs.declared.state.RefusedRecord.{RefusedRecord}
+use Rattle.controller_state.specs.State.{Live}
 use Rattle.record_access.specs.Access.{Accessing, call_number}
-use Rattle.controller_core.specs.Answers.{is_answer, is_ready}
-use Rattle.controller_core.specs.Outcomes.{are_written}
+use Rattle.startup_answers.specs.Answers.{is_answer, is_ready}
+use Rattle.startup_answers.specs.Outcomes.{are_written}
 use Rattle.connect_answers.specs.Connect.{Chosen, chosen_of, found_in, nothing}
-use Rattle.controller_core.specs.Machine.{Turn, accessing, acked_under, asking, behind_ack, behind_data, brought, due_frames, end_of, ended_by, flow_later, given, is_again, later, noted, over, rated, ready_in, released, requested, requests_of, standing, stays, stopped, taken, ticked, turned, where_due, writing, written}
+use Rattle.controller_core.specs.Machine.{Turn, accessing, acked_under, asking, behind_ack, behind_data, brought, due_frames, end_of, ended_by, flow_later, given, is_again, later, noted, over, rated, released, requested, requests_of, standing, stays, stopped, taken, ticked, turned, where_due, writing, written}
+use Rattle.startup_answers.specs.Answers.{ready_in}
 use Rattle.end_laws.specs.turns.Ended.{IsReleased, may_release}
 
 -- ---- what comes

@@ -13,7 +13,7 @@ ghost use Rattle.alarm_reports.specs.declared.priority.Priority.{Priority};
 ghost use Rattle.alarm_reports.specs.declared.priority.Priority.TheVariants.{High, Low};
 ghost use Rattle.alarm_reports.specs.Report.{diagnosed, ours};
 ghost use Rattle.cyclic_exchange.specs.declared.route.Route.{Route};
-ghost use Rattle.relations.specs.exchange.Frames.{Notifies, Replies as Answers, Reports, RepliesLow};
+ghost use Rattle.device_exchange.specs.Frames.{Notifies, Replies as Answers, Reports, RepliesLow};
 ghost use Rattle.plans.specs.declared.parts.Controller.{Controller};
 ghost use Rattle.relations.specs.declared.farewell.Farewell.{Farewell};
 ghost use Rattle.relations.specs.Farewells.{said_by};

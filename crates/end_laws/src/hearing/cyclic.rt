@@ -4,7 +4,7 @@ ghost use Rattle.pn_values.specs.declared.identity.Identity.{Identity};
 ghost use Rattle.cyclic_data.specs.Image.{Shown};
 ghost use Rattle.cyclic_exchange.specs.declared.route.Route.{Route};
 ghost use Rattle.cyclic_exchange.specs.Frames.{body_at};
-ghost use Rattle.relations.specs.exchange.Frames.{Inputs};
+ghost use Rattle.device_exchange.specs.Frames.{Inputs};
 ghost use Rattle.plans.specs.declared.parts.Controller.{Controller};
 ghost use Rattle.device_frames.specs.Heard.{Cyclic, heard_of as device_hears};
 ghost use Rattle.device_frames.specs.Sent.{Exchanges, bytes_of as device_bytes};

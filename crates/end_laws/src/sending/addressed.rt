@@ -2,9 +2,9 @@
 ghost use Rattle.std.specs.List.{AllByRecursion};
 ghost use Rattle.pn_values.specs.declared.mac.Mac.{Mac};
 ghost use Rattle.controller_frames.specs.declared.setup.Setup.{Setup};
-ghost use Rattle.controller_core.specs.declared.event.Event.{Event};
+ghost use Rattle.controller_state.specs.declared.event.Event.{Event};
 ghost use Rattle.controller_core.specs.Machine.{first, turn_of};
-ghost use Rattle.controller_core.specs.State.{Live};
+ghost use Rattle.controller_state.specs.State.{Live};
 ghost use Rattle.end_laws.specs.hearing.Stations.{IsSetup};
 ghost use Rattle.end_laws.specs.sending.Addressed.{IsAimed, IsAimedAt, IsEventFrom};
 

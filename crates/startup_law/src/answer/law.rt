@@ -6,9 +6,9 @@ ghost use Rattle.records.specs.status.Status.{done};
 ghost use Rattle.rpc_core.specs.Response.{answer_to};
 ghost use Rattle.controller_frames.specs.Heard.{Responds, heard_of};
 ghost use Rattle.controller_frames.specs.Requests.{call_for, writing_from};
-ghost use Rattle.controller_core.specs.declared.event.Event.TheVariants.{Frame};
+ghost use Rattle.controller_state.specs.declared.event.Event.TheVariants.{Frame};
 ghost use Rattle.controller_core.specs.Machine.{standing, turn_of, writing};
-ghost use Rattle.controller_core.specs.State.{Live};
+ghost use Rattle.controller_state.specs.State.{Live};
 ghost use Rattle.startup_law.specs.answer.Answer.{AnswersSo, IsAllThere, answer_blocks, answer_frame, chosen_with};
 
 use crate::answer::blocks::answer_blocks_are_read;

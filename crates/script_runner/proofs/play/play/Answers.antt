@@ -1,7 +1,7 @@
 use Rattle.std.proofs.Common.{◌≡◌, inl, inr, length, refl, arith}
 use Rattle.std.proofs.lemmas.Bool.Decides.{nat_tests}
 use Rattle.std.proofs.lemmas.Result.{err_from_is_err_and}
-use Rattle.script_runner.specs.session.Said.{alone}
+use Rattle.script_session.specs.Said.{alone}
 use Rattle.script_runner.specs.Script.{output_of, end_of}
 use Rattle.script_runner.proofs.Known.{so_far_on, so_far_none, lacking_longer}
 use Rattle.script_runner.proofs.Playing.{at_line, right_at, plays_on, playing_on, playing_broken, played_all, played_refused, played_failed, played_write, write_plays, fault_plays, front_grows, no_bytes}

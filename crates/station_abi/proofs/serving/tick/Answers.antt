@@ -1,8 +1,6 @@
 -- Units pass that bring nothing, or others.
-use Rattle.std.proofs.Common.{◌∙◌, ℕ, Ok, refl, sym, ap, subst}
-use Rattle.c_layout.specs.declared.op.Op.{Op}
-use Rattle.device_abi.specs.declared.port.device.Passed.{Passed}
-use Rattle.station_abi.specs.State.{Served, due_both}
+use Rattle.std.proofs.Common.{sym, subst}
+use Rattle.station_port.specs.State.{Served}
 use Rattle.station_abi.specs.Serves.{IsTick}
 use Rattle.station_abi.proofs.Reported.{counted_all, passed_all}
 use Rattle.station_abi.proofs.serving.tick.Goals as goal

@@ -1,27 +1,12 @@
--- The services of the IP address send at most one frame, and LLDP follows it.
-use Rattle.std.proofs.Common.{◌++◌, ◌∷◌, ℕ, Bool, List, [], map, length, ap, ◌∙◌, append_assoc, arith}
+-- The frame of the services of the IP address, and LLDP after it.
+use Rattle.std.proofs.Common.{◌++◌, ◌∷◌, ℕ, Bool, List, [], map, ap, ◌∙◌, append_assoc}
 use Rattle.std.specs.Prelude.{if◌then◌else◌}
-use Rattle.std.proofs.lemmas.List.{length-append, length-map}
 use Rattle.arrayvec.specs.ArrayVec.{ArrayVec}
 use Rattle.lldp.specs.Announcement.{announcement}
 use Rattle.lldp.specs.State.{is_sending}
 use Rattle.services.specs.State as ip
 use Rattle.controller_station.specs.Beside.{Beside, said_of}
-use Rattle.controller_station.proofs.Ticks.{few_in}
 use Rattle.controller_station.proofs.beside.ControllerServices.tick.Goals as goal
-
-pub announce_if-requires : goal.announce_if-requires
-announce_if-requires c =
-    let old = c.args.outbox.now.items in
-    let new = c.tick.new.outbox.items in
-    let octets : ArrayVec ℕ → List ℕ = λ frame. frame.items in
-    let sent = ip.frames_in (ip.sent_by_tick c.self.inside.ip) in
-    let one = few_in (ip.sent_by_tick c.self.inside.ip) in
-    let all = ap (λ (frames : List (List ℕ)). length frames) c.tick.ensures.frame in
-    let before = length-map old octets in
-    let after = length-map new octets in
-    let both = length-append (map octets old) sent in
-    omega (arith, c.requires.room, one, all, before, after, both)
 
 pub returns-clause-frames : goal.returns-clause-frames
 returns-clause-frames c =

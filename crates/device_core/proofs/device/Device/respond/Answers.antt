@@ -6,7 +6,7 @@ use Rattle.lldp.specs.Views.{peer_as}
 use Rattle.relations.specs.Exchanged.{given_to, raised_to}
 use Rattle.device_frames.specs.declared.event.Event.TheVariants.{Frame, Call as Joined}
 use Rattle.device_frames.specs.Heard.{Ticks, Given, Raised, Rated, Met, Diagnosed, Readied, heard_of}
-use Rattle.relations.specs.Statuses.{statuses_at}
+use Rattle.device_exchange.specs.Statuses.{statuses_at}
 use Rattle.diagnosis.specs.declared.diagnosis.Change.{Change}
 use Rattle.device_core.specs.Handled.{handled_diagnosed, handled_given, handled_raised, handled_rated, handled_ready}
 use Rattle.device_core.specs.Steps.{Steps}

@@ -1,5 +1,5 @@
 -- This follows from the laws of the crates below.
-use Rattle.std.proofs.Common.{◌∙◌, inl, inr, ap, arith}
+use Rattle.std.proofs.Common.{◌∙◌, inl, ap, arith}
 use Rattle.pn_alarms.specs.declared.message.Notice.TheVariants as notice
 use Rattle.alarm_reports.specs.declared.priority.Priority.{Priority}
 use Rattle.alarm_reports.specs.declared.priority.Priority.TheVariants.{High, Low}

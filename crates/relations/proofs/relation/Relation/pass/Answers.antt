@@ -29,7 +29,7 @@ returns-clause-state c =
     } in
     let below : c.args.units < link_due_in link = rw (← c.self.view_is, c.in-Some.is) at c.requires in
     rw (← c.self.view_is, c.in-Some.is) (rw (later_after link c.args.units below c.pass.ensures.nothing)
-    (rw (c.inactive_later-self-inside.ensures.value, c.waited_later-self-inside.ensures.value, c.pass.ensures.state) refl))
+    (rw (c.pass_timers.ensures.inactive, c.pass_timers.ensures.waited, c.pass.ensures.state) refl))
 
 pub returns-clause-nothing : goal.returns-clause-nothing
 returns-clause-nothing c =
@@ -47,16 +47,16 @@ returns-clause-nothing c =
     let below : c.args.units < link_due_in link = rw (← c.self.view_is, c.in-Some.is) at c.requires in
     rw (← c.self.view_is, c.in-Some.is) (nothing_after link c.args.units below c.pass.ensures.nothing)
 
-pub inactive_later-self-inside-requires : goal.inactive_later-self-inside-requires
-inactive_later-self-inside-requires c =
-    rw c.limit_of.ensures.value (below_left c.args.units _ _ (below_right c.args.units _ _ (rw (← c.self.view_is, c.in-Some.is) at c.requires)))
+pub pass_timers-requires-clause-over : goal.pass_timers-requires-clause-over
+pass_timers-requires-clause-over c =
+    rw c.limit_of-limit.ensures.value (below_left c.args.units _ _ (below_right c.args.units _ _ (rw (← c.self.view_is, c.in-Some.is) at c.requires)))
 
-pub waited_later-self-inside-requires : goal.waited_later-self-inside-requires
-waited_later-self-inside-requires c = below_right c.args.units _ _ (below_right c.args.units _ _ (rw (← c.self.view_is, c.in-Some.is) at c.requires))
+pub pass_timers-requires-clause-again : goal.pass_timers-requires-clause-again
+pass_timers-requires-clause-again c = below_right c.args.units _ _ (below_right c.args.units _ _ (rw (← c.self.view_is, c.in-Some.is) at c.requires))
 
 pub invariant_of-self : goal.invariant_of-self
 invariant_of-self c = (
-  c.inactive_later-self-inside.ensures.most c.self.invariant.0 c.limit_of.ensures.most,
-  c.waited_later-self-inside.ensures.few c.self.invariant.1,
+  c.pass_timers.ensures.most c.self.invariant.0 c.limit_of-limit.ensures.most,
+  c.pass_timers.ensures.few c.self.invariant.1,
   begun_kept c.self.inside.phase c.self.inside.exchange c.pass.new.self c.args.units c.pass.ensures.state c.self.invariant.2,
 )

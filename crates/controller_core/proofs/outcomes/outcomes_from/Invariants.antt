@@ -1,7 +1,0 @@
--- the records that are left decide as all do
-use Rattle.std.proofs.Common.{◌≡◌, ◌-◌}
-use Rattle.controller_core.specs.Outcomes.{outcomes_from}
-use Rattle.controller_core.proofs.outcomes.outcomes_from.Given as goal
-
-abbrev pub invariant-loop-place : goal.invariant-loop-place
-invariant-loop-place l = outcomes_from (l.count - l.place) l.place l.rest ≡ outcomes_from l.count 0 l.octets

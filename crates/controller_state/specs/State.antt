@@ -1,0 +1,58 @@
+-- The state of a controller.
+use Rattle.std.specs.Prelude.{ℕ, Bool, List, Option}
+use Rattle.pn_values.specs.declared.mac.Mac.{Mac}
+use Rattle.rpc_core.specs.declared.response.Status.{Status}
+use Rattle.record_blocks.specs.declared.alarm_notification.AlarmNotification.{AlarmNotification}
+use Rattle.pn_alarms.specs.Ends.{ControllerEnd}
+use Rattle.cyclic_exchange.specs.Cyclic.{Cyclic}
+use Rattle.controller_frames.specs.declared.setup.Setup.{Setup}
+use Rattle.controller_frames.specs.declared.request.Request.{Request}
+use Rattle.controller_state.specs.declared.outputs.OutputMark.{OutputMark}
+use Rattle.controller_state.specs.declared.state.RefusedRecord.{RefusedRecord}
+use Rattle.controller_state.specs.declared.state.State.{State}
+use Rattle.record_access.specs.Access.{Accessing}
+use Rattle.reported_diagnosis.specs.Reported.{Reported}
+use Rattle.controller_frames.specs.declared.request.Request.TheVariants as asks
+use Rattle.controller_state.specs.declared.state.State.TheVariants.{Writing, Ending}
+
+-- What changes from event to event: its phase; the MAC address of the station; the request that is active until it is
+-- answered, and the units since it was sent; the units since the controller was made, modulo 65,536; whether its
+-- relation is established; whether the device reported usable modules that deviate from the plan's; the last status with
+-- which a call was refused; the last record that was refused; its ends of cyclic data, of the alarms of high priority, and
+-- of those of low priority; why the IOPS of its outputs are not good, for each place; the last alarm of each priority that
+-- was accepted, with its UserStructureIdentifier; the requests of the application; and the diagnoses that the device reported
+-- in this relation.
+pub record Live : Type 0 where
+  pub phase : State
+  pub device : Mac
+  pub asked : Option Request
+  pub waited : ℕ
+  pub units : ℕ
+  pub stands : Bool
+  pub deviates : Bool
+  pub refusal : Option Status
+  pub refused_record : Option RefusedRecord
+  pub cyclic : Cyclic
+  pub alarms : ControllerEnd
+  pub low_alarms : ControllerEnd
+  pub outputs : List OutputMark
+  pub alarm : Option AlarmNotification
+  pub access : Accessing
+  pub user_structure : Option ℕ
+  pub low_alarm : Option AlarmNotification
+  pub low_user_structure : Option ℕ
+  pub diagnosis : Reported
+
+-- A controller: its configuration, and its state.
+pub record Controlling : Type 0 where
+  pub setup : Setup
+  pub live : Live
+
+-- The same controller with this state.
+abbrev pub with_live : Controlling → Live → Controlling
+with_live controlling live = record controlling { live = live }
+
+-- A record is written, or the parameters are ended.
+abbrev pub phase_for : Request → State
+phase_for (asks.Write number) = Writing
+phase_for request = Ending

@@ -1,0 +1,48 @@
+-- Several units of time at once, before the next one that brings something to an exchange.
+use Rattle.std.proofs.Common.{◌≡◌, ℕ, zero, suc, Bool, false, refl, ap, ◌∙◌, Option, Some, None, if◌then◌else◌}
+use Rattle.pn_alarms.specs.declared.abort.Abort.{Abort}
+use Rattle.pn_alarms.specs.declared.abort.Abort.TheVariants.{DataHold}
+use Rattle.pn_alarms.specs.declared.repeats.Due.{Due as AlarmDue}
+use Rattle.pn_alarms.specs.declared.repeats.Due.TheVariants.{Nothing}
+use Rattle.pn_alarms.specs.Device.{end_later}
+use Rattle.pn_alarms.specs.Ends.{DeviceEnd}
+use Rattle.pn_alarms.specs.Leaps.{NothingDue, after, device_due}
+use Rattle.pn_alarms.specs.Sending.{either_due}
+use Rattle.cyclic_data.specs.Timing.{is_due}
+use Rattle.cyclic_exchange.specs.Cyclic.{Cyclic}
+use Rattle.cyclic_exchange.specs.Leaps.{IsQuietFor}
+use Rattle.cyclic_exchange.specs.Units.{Brought, cyclic_later, ending_by, is_silent, tick_by}
+use Rattle.cyclic_exchange.specs.Units.{tick_of as cyclic_tick}
+use Rattle.device_exchange.specs.Flow.{Flow}
+use Rattle.device_exchange.specs.Leaps.{BringNothing, nothing_brought}
+use Rattle.device_exchange.specs.Units.{flow_later, tick_of}
+
+-- The exchange with these ends.
+abbrev with_ends : Flow → Cyclic → DeviceEnd → DeviceEnd → Flow
+with_ends flow cyclic alarms low = record flow { cyclic = cyclic; alarms = alarms; low = record flow.low { alarms = low } }
+
+pub flow_after : (flow : Flow) (units : ℕ)
+    → after flow_later units flow ≡ with_ends flow (after cyclic_later units flow.cyclic) (after end_later units flow.alarms) (after end_later units flow.low.alarms)
+flow_after flow zero = refl
+flow_after flow (suc units) = ap flow_later (flow_after flow units)
+
+abbrev only_cyclic : Bool → Brought
+only_cyclic is_cyclic = record { ending = None; is_alarm = false; is_cyclic = is_cyclic }
+
+tick_nothing : (cyclic : Cyclic) (alarm : AlarmDue) → is_silent cyclic ≡ false → is_due cyclic.sending ≡ false → alarm ≡ Nothing → cyclic_tick cyclic alarm ≡ nothing_brought
+tick_nothing cyclic alarm heard frame none =
+    ap (cyclic_tick cyclic) none
+    ∙ (ap (λ (b : Bool). tick_by cyclic Nothing (if b then Some DataHold else ending_by Nothing)) heard ∙ ap only_cyclic frame)
+
+both_nothing : (one other : AlarmDue) → one ≡ Nothing → other ≡ Nothing → either_due one other ≡ Nothing
+both_nothing one other a b = rw (a, b) refl
+
+pub brings_nothing : (flow : Flow) (units : ℕ) → IsQuietFor units flow.cyclic → NothingDue device_due end_later units flow.alarms
+    → NothingDue device_due end_later units flow.low.alarms → BringNothing units flow
+brings_nothing flow units quiet none low before earlier =
+    let heard = quiet before earlier in
+    let high_due = device_due (after end_later before flow.alarms) in
+    let low_due = device_due (after end_later before flow.low.alarms) in
+    ap tick_of (flow_after flow before)
+    ∙ tick_nothing (after cyclic_later before flow.cyclic) (either_due high_due low_due) heard.0 heard.1
+    (both_nothing high_due low_due (none before earlier) (low before earlier))

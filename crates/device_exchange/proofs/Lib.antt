@@ -1,0 +1,4 @@
+mod Awaited
+pub mod Kept
+pub mod Inputs
+pub mod Leaps

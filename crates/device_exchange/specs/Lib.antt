@@ -1,0 +1,12 @@
+pub mod Statuses
+pub mod Marks
+pub mod Flow
+pub mod Opening
+pub mod Units
+pub mod Leaps
+pub mod Received
+pub mod Process
+pub mod Notices
+pub mod Diagnosis
+pub mod Frames
+pub mod Runs

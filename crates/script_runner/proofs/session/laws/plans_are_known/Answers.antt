@@ -1,8 +1,0 @@
-use Rattle.script_runner.proofs.SessionOnePlan.{knows_the_plan, knows_the_refusal}
-use Rattle.script_runner.proofs.session.laws.plans_are_known.Goals as goal
-
-pub returns-clause-planned : goal.returns-clause-planned
-returns-clause-planned c = knows_the_plan
-
-pub returns-clause-refused : goal.returns-clause-refused
-returns-clause-refused c = knows_the_refusal

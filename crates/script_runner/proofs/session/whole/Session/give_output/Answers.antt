@@ -1,4 +1,0 @@
-use Rattle.script_runner.proofs.session.whole.Session.give_output.Goals as goal
-
-pub returns-clause-obeys : goal.returns-clause-obeys
-returns-clause-obeys c network are = rw c.output.ensures at (c.hear.ensures.obeys network are)

@@ -1,0 +1,222 @@
+-- The effect of a line: a command to the demo device, whose flash never fails, or to the other end.
+use Rattle.std.specs.Prelude.{ℕ, Bool, true, false, List, [], ◌++◌, codes, length, replicate, take, Option, Some, None}
+use Rattle.arrayvec.specs.ArrayVec.{ArrayVec}
+use Rattle.pn_values.specs.Settings.{factory_settings}
+use Rattle.pn_values.specs.declared.settings.Settings.{Settings}
+use Rattle.settings_journal.specs.Image.{capacity}
+use Rattle.relations.specs.Exchanged.{provider_in}
+use Rattle.relations.specs.Options.{default_options}
+use Rattle.relations.specs.RelationState.{phase_of}
+use Rattle.relations.specs.declared.options.DeviceOptions.{DeviceOptions}
+use Rattle.plans.specs.declared.parts.Parts.{Parts}
+use Rattle.device_frames.specs.declared.event.Event.{Event}
+use Rattle.device_frames.specs.declared.event.Event.TheVariants as event
+use Rattle.device_frames.specs.declared.note.Note.TheVariants.{Done}
+use Rattle.device_core.specs.Cycle.{started}
+use Rattle.controller_state.specs.declared.event.Event.{Event as ControllerEvent}
+use Rattle.controller_state.specs.declared.event.Event.TheVariants as heard
+use Rattle.controller_core.specs.Machine.{step_of as controller_step}
+use Rattle.controller_state.specs.State.{Controlling}
+use Rattle.script_session.specs.Demo.{demo_device}
+use Rattle.script_session.specs.Ends.{Station, Turned, due_of, serving, services_at, station_step, Other, Network, DeviceRun, with_ends, arrived_at, chosen, cleared, device_run, frames_for_device, nobody, printed_for, ticked_by, with_fresh, with_plan, with_run, with_sent}
+use Rattle.station.specs.Serving.{Serving}
+use Rattle.script_lines.specs.Line.{Command, Frame, Restart, Tick, Elapse, Show, Due, Choose, Ready, Arm, Input, Alarm, Status, Diagnosis, Provider, Config, Start, Give, OutputStatus, Stop, Stands, Deliver, Serve, Line, Unfit, Skipped, Asks, Unknown}
+use Rattle.script_lines.specs.declared.command.Choice.{Choice}
+use Rattle.script_lines.specs.Show.{shown, outputs_shown, controller_shown, diagnoses_shown, due_line, provider_line}
+use Rattle.script_lines.specs.Text.{boot_line, moved_line, note_line, printed}
+
+-- The demo device, started with these options from these settings, with services that begin with it or without any.
+abbrev pub demo_started : DeviceOptions → Bool → Settings → ℕ → Station
+demo_started options serves settings room = record { device = demo_device options; live = started settings room; services = services_at serves (demo_device options) settings }
+
+-- Services beside the device, if there are none yet.
+abbrev pub served : Option Serving → Station → Station
+served None station = record station { services = services_at true station.device station.live.values.running }
+served (Some state) station = station
+
+-- Both ends after a line, and the text that the line prints.
+pub record Answer : Type 0 where
+  pub network : Network
+  pub text : List ℕ
+
+-- The answer to a step of the station: a line for each frame that it sends, as long as there is no controller, and one
+-- for its note.
+abbrev pub step_answer : Network → Turned → Answer
+step_answer network step = record {
+  network = with_ends step.station (with_sent network.other step.frames);
+  text = printed_for network.other.controller step.frames ++ note_line step.note;
+}
+
+-- The part of some bytes that is handed in: the first 1,519 of them, because longer frames are refused alike.
+abbrev pub handed : List ℕ → ArrayVec ℕ
+handed bytes = record { items = take 1519 bytes }
+
+abbrev pub event_answer : Network → Event → Answer
+event_answer network event = step_answer network (station_step network.station event)
+
+-- A restart starts the device from what is stored, with the options that were set; no frame waits afterwards, and the
+-- controller is as it was. Services that are on begin again.
+abbrev pub restart_answer : Network → Answer
+restart_answer network = record {
+  network = with_ends (demo_started network.other.options network.other.serves network.station.live.values.stored network.station.live.values.room) (cleared network.other);
+  text = boot_line None;
+}
+
+-- Units of time at both ends, and then the note. Leaps do what as many single units do.
+abbrev pub tick_answer : Network → ℕ → Answer
+tick_answer network units =
+    let run = device_run network.station (replicate units event.Tick) in
+    record {
+      network = with_ends run.station (ticked_by network.other.controller (with_sent network.other run.frames) units);
+      text = printed_for network.other.controller run.frames ++ note_line Done;
+    }
+
+abbrev pub show_answer : Network → Answer
+show_answer network =
+    let live = network.station.live in
+    record {
+      network = network;
+      text = shown live.values.running live.values.stored (phase_of live.rest.link) live.rest.lamp
+          ++ (outputs_shown network.station.device.real live.rest.link ++ controller_shown network.other.controller);
+    }
+
+-- The number of units up to and with the next one with which something happens at the station.
+abbrev pub due_answer : Network → Answer
+due_answer network = record { network = network; text = due_line (due_of network.station) }
+
+-- What the controller says of the output of a submodule in its last accepted frame.
+abbrev pub provider_answer : Network → ℕ → ℕ → Answer
+provider_answer network slot subslot = record { network = network; text = provider_line slot subslot (provider_in slot subslot network.station.live.rest.link) }
+
+-- An option is set for the device's next start; nothing is printed.
+abbrev pub choose_answer : Network → Choice → Answer
+choose_answer network choice = record { network = with_ends network.station (chosen network.other choice); text = [] }
+
+-- An order to the flash changes nothing at either end.
+abbrev pub unchanged : Network → Answer
+unchanged network = record { network = network; text = [] }
+
+-- The services beside the device are on, also after a restart, and nothing is printed.
+abbrev pub serve_answer : Network → Answer
+serve_answer network = record { network = with_ends (served network.station.services network.station) (serving network.other); text = [] }
+
+-- ---- lines that are valid only at some times
+
+-- The outcome of a line: it is answered, it is not valid here, or its catalogue has no plan.
+pub data Outcome : Type 0 where
+  Answers : (answer : Answer) → Outcome
+  Refuses : Outcome
+  HasNoPlan : (catalogue : List ℕ) → Outcome
+
+-- The other end is now this one, and the line prints the state of the controller.
+abbrev pub at_other : Network → Other → Outcome
+at_other network other = Answers (record { network = with_ends network.station other; text = controller_shown other.controller })
+
+abbrev pub config_outcome : Network → List ℕ → Option Parts → Outcome
+config_outcome network catalogue (Some plan) = Answers (record { network = with_ends network.station (with_plan network.other plan); text = printed (codes "plan ok") })
+config_outcome network catalogue None = HasNoPlan catalogue
+
+abbrev pub start_outcome : Network → List ℕ → List ℕ → Option Parts → Outcome
+start_outcome network ar activity (Some plan) = at_other network (with_fresh network.other plan ar activity)
+start_outcome network ar activity None = Refuses
+
+abbrev pub heard_outcome : Network → ControllerEvent → Option Controlling → Outcome
+heard_outcome network event (Some controller) = at_other network (with_run network.other (controller_step controller event))
+heard_outcome network event None = Refuses
+
+-- The diagnoses that the controller knows of are shown.
+abbrev pub stands_outcome : Network → Option Controlling → Outcome
+stands_outcome network (Some controller) = Answers (record { network = network; text = diagnoses_shown controller.live.diagnosis.existing })
+stands_outcome network None = Refuses
+
+-- The frames that waited for the device were handed over: they wait no longer, and what the device sent waits for the
+-- controller.
+abbrev pub handed_over : Other → DeviceRun → Other
+handed_over other run = record other { to_device = []; to_controller = other.to_controller ++ run.frames }
+
+-- The frames that wait for the device are handed over, and then those that wait for the controller, with the ones that
+-- the device just sent.
+abbrev pub deliver_answer : Network → Answer
+deliver_answer network =
+    let run = device_run network.station (frames_for_device network.other.to_device) in
+    let between = handed_over network.other run in
+    let after = arrived_at network.other.controller between in
+    record {
+      network = with_ends run.station after;
+      text = moved_line (length network.other.to_device) (length between.to_controller) ++ controller_shown after.controller;
+    }
+
+abbrev pub deliver_outcome : Network → Option Controlling → Outcome
+deliver_outcome network (Some controller) = Answers (deliver_answer network)
+deliver_outcome network None = Refuses
+
+-- The outcome of a command, with the plans of catalogues.
+unfoldable pub said : (List ℕ → Option Parts) → Network → Command → Outcome
+said plans network (Frame bytes) = Answers (event_answer network (event.Frame (handed bytes)))
+said plans network Restart = Answers (restart_answer network)
+said plans network (Tick units) = Answers (tick_answer network units)
+said plans network (Elapse units) = Answers (tick_answer network units)
+said plans network Show = Answers (show_answer network)
+said plans network Due = Answers (due_answer network)
+said plans network (Choose choice) = Answers (choose_answer network choice)
+said plans network Ready = Answers (event_answer network event.Ready)
+said plans network (Arm order) = Answers (unchanged network)
+said plans network (Input slot subslot bytes) = Answers (event_answer network (event.Input slot subslot (handed bytes)))
+said plans network (Alarm slot subslot bytes) = Answers (event_answer network (event.Alarm slot subslot (handed bytes)))
+said plans network (Status slot subslot is_good) = Answers (event_answer network (event.Status slot subslot is_good))
+said plans network (Diagnosis slot subslot channel error appears) = Answers (event_answer network (event.Diagnosis slot subslot channel error appears))
+said plans network (Provider slot subslot) = Answers (provider_answer network slot subslot)
+said plans network (Config catalogue) = config_outcome network catalogue (plans catalogue)
+said plans network (Start ar activity) = start_outcome network ar activity network.other.plan
+said plans network (Give slot subslot bytes) = heard_outcome network (heard.Give slot subslot (handed bytes)) network.other.controller
+said plans network (OutputStatus slot subslot is_good) = heard_outcome network (heard.Status slot subslot is_good) network.other.controller
+said plans network Stands = stands_outcome network network.other.controller
+said plans network Stop = heard_outcome network heard.Stop network.other.controller
+said plans network Deliver = deliver_outcome network network.other.controller
+said plans network Serve = Answers (serve_answer network)
+
+-- The outcome of a line.
+abbrev pub outcome_of : (List ℕ → Option Parts) → Network → Line → Outcome
+outcome_of plans network Skipped = Answers (unchanged network)
+outcome_of plans network (Asks command) = said plans network command
+outcome_of plans network Unfit = Refuses
+outcome_of plans network Unknown = Refuses
+
+-- A command that orders a failure of the flash.
+abbrev pub arms : Command → Bool
+arms (Frame bytes) = false
+arms Restart = false
+arms (Tick units) = false
+arms (Elapse units) = false
+arms Show = false
+arms Due = false
+arms (Choose choice) = false
+arms Ready = false
+arms (Arm order) = true
+arms (Input slot subslot bytes) = false
+arms (Alarm slot subslot bytes) = false
+arms (Status slot subslot is_good) = false
+arms (Diagnosis slot subslot channel error appears) = false
+arms (Provider slot subslot) = false
+arms (Config catalogue) = false
+arms (Start ar activity) = false
+arms (Give slot subslot bytes) = false
+arms (OutputStatus slot subslot is_good) = false
+arms Stop = false
+arms Stands = false
+arms Deliver = false
+arms Serve = false
+
+-- A line that orders a failure of the flash.
+abbrev pub is_order : Line → Bool
+is_order Unfit = false
+is_order Skipped = false
+is_order (Asks command) = arms command
+is_order Unknown = false
+
+-- The demo device with the factory settings and all options at their defaults.
+abbrev pub factory_device : Station
+factory_device = demo_started default_options false factory_settings (capacity 4096)
+
+abbrev pub alone : Network
+alone = with_ends factory_device nobody

@@ -1,0 +1,352 @@
+// The other end of the wire: the controller, and the frames that wait between the two ends; and the options of the
+// device's next start.
+ghost use Rattle.std.specs.Prelude.{◌≡◌, ◌≤◌, ◌++◌, OnOk, IfOk, replicate};
+ghost use Rattle.controller_core.specs.Leaps.{live_due_in};
+ghost use Rattle.controller_core.specs.Machine.{step_of};
+ghost use Rattle.controller_state.specs.declared.event.Event.TheVariants as event;
+ghost use Rattle.script_session.specs.Ends.{IsRun, Station, controller_run, device_run, frames_for_controller, frames_for_device};
+ghost use Rattle.script_session.specs.Ends.{octets_of};
+ghost use Rattle.script_session.specs.Off.{Delivers};
+ghost use Rattle.script_session.specs.Power.{Runs};
+ghost use Rattle.script_session.specs.Session.{IsHandedOver};
+
+use crate::bytes::copied;
+use crate::copies::plan_copy;
+use crate::device::hand_over;
+use crate::power::DemoStation;
+use crate::waiting::append;
+use configurator::{PlanFault, plan_from_json};
+use controller_core::{Controller, Event};
+use frame_codec::{Frame, Outbox};
+use plans::Plan;
+use relations::DeviceOptions;
+use script_lines::{Choice, render, show};
+use station::StationOutbox;
+use std::alloc::{AllocError, Global};
+use std::marker::Model;
+use uuid::Uuid;
+
+/// What is kept besides the station: the options of its next start, whether services begin with that, and the other end of
+/// the wire: the plan of the next controller, the controller once there is one, and the frames that wait at either end. In
+/// clauses it is these six.
+#[derive(Drop)]
+pub(crate) struct OtherEnd {
+    alloc: Global,
+    options: DeviceOptions,
+    serves: bool,
+    plan: Option<Plan>,
+    controller: Option<Controller>,
+    to_device: Vec<Frame>,
+    to_controller: Vec<Frame>,
+    outbox: Outbox,
+}
+
+impl Model for OtherEnd {
+    ghost use Rattle.script_session.specs.Ends.{Other, octets_of};
+
+    ghost Value = { Other };
+
+    ghost view = { λ end. record {
+      options = end.options;
+      serves = end.serves;
+      plan = end.plan;
+      controller = end.controller;
+      to_device = octets_of end.to_device.items;
+      to_controller = octets_of end.to_controller.items;
+    } };
+}
+
+impl OtherEnd {
+    ghost use Rattle.std.specs.Prelude.{is_some, length};
+    ghost use Rattle.script_lines.specs.Show.{controller_shown, known_shown};
+    ghost use Rattle.station.specs.State.{in_order};
+    ghost use Rattle.script_session.specs.Ends.{Hears, Plans, Starts, arrived_at, chosen, cleared, nobody, printed_for, serving, ticked_by};
+    ghost use Rattle.script_session.specs.Ends.{with_sent};
+
+    /// The other end before a catalogue was read: no plan, no controller and no frames. All options have their defaults, and
+    /// there are no services.
+    pub(crate) fn new(alloc: Global) -> OtherEnd
+        ensures { result ≡ nobody }
+    {
+        OtherEnd {
+            alloc,
+            options: DeviceOptions::default(),
+            serves: false,
+            plan: None,
+            controller: None,
+            to_device: Vec::new(alloc),
+            to_controller: Vec::new(alloc),
+            outbox: Outbox::new(),
+        }
+    }
+
+    /// The options of the device's next start.
+    pub(crate) fn options(&self) -> DeviceOptions
+        ensures { result ≡ self.now.options }
+    {
+        self.options
+    }
+
+    /// Sets an option of the device's next start.
+    pub(crate) fn choose(&mut self, choice: Choice)
+        ensures { self.new ≡ chosen self.old choice }
+    {
+        match choice {
+            Choice::InputsBad(is_on) => self.options.inputs_begin_bad = is_on,
+            Choice::ReadyLater(is_on) => self.options.ready_by_application = is_on,
+            Choice::Interval(units) => self.options.smallest_interval = units,
+        }
+    }
+
+    /// Whether services begin with the device's next start.
+    pub(crate) fn serves(&self) -> bool
+        ensures { result ≡ self.now.serves }
+    {
+        self.serves
+    }
+
+    /// Lets services begin with each further start.
+    pub(crate) fn serve(&mut self)
+        ensures { self.new ≡ serving self.old }
+    {
+        self.serves = true;
+    }
+
+    /// Drops the frames that wait.
+    pub(crate) fn clear(&mut self)
+        ensures { self.new ≡ cleared self.old }
+    {
+        self.to_device.clear();
+        self.to_controller.clear();
+    }
+
+    /// Whether there is a controller.
+    pub(crate) fn is_started(&self) -> bool
+        ensures { result ≡ is_some self.now.controller }
+    {
+        self.controller.is_some()
+    }
+
+    /// Appends the state of the controller, if there is one.
+    pub(crate) fn show(&self, text: &mut Vec<u8>) -> Result<(), AllocError>
+        ensures { OnOk result (text.new.items ≡ text.old.items ++ controller_shown self.now.controller) }
+    {
+        match &self.controller {
+            Some(controller) => show::state(controller.state(), text),
+            None => Ok(()),
+        }
+    }
+
+    /// Appends the diagnoses that the controller knows of, if there is a controller.
+    pub(crate) fn show_diagnoses(&self, text: &mut Vec<u8>) -> Result<(), AllocError>
+        ensures { OnOk result (text.new.items ≡ text.old.items ++ known_shown self.now.controller) }
+    {
+        match &self.controller {
+            Some(controller) => show::diagnoses(controller.diagnoses(), text),
+            None => Ok(()),
+        }
+    }
+
+    /// Prints the frames that the device sends, or lets them wait once there is a controller.
+    pub(crate) fn send(&mut self, frames: &[Frame], text: &mut Vec<u8>) -> Result<(), AllocError>
+        ensures { OnOk result ((self.new ≡ with_sent self.old (octets_of frames.now))
+            × (text.new.items ≡ text.old.items ++ printed_for self.old.controller (octets_of frames.now))) }
+    {
+        match self.controller {
+            Some(_) => append(frames, &mut self.to_controller),
+            None => render::outs(frames, text),
+        }
+    }
+
+    /// Prints the frames of a step of the station, or lets them wait once there is a controller.
+    pub(crate) fn send_all(
+        &mut self,
+        outbox: &StationOutbox,
+        text: &mut Vec<u8>,
+    ) -> Result<(), AllocError>
+        ensures { OnOk result ((self.new ≡ with_sent self.old (in_order outbox.now))
+            × (text.new.items ≡ text.old.items ++ printed_for self.old.controller (in_order outbox.now))) }
+    {
+        self.send(outbox.device(), text)?;
+        self.send(outbox.services(), text)
+    }
+
+    /// Makes the plan of a catalogue, for the next controller.
+    pub(crate) fn plan(&mut self, catalogue: &[u8]) -> Result<(), PlanFault>
+        ensures { Plans catalogue.now self.old self.new result }
+    {
+        self.plan = Some(plan_from_json(self.alloc, catalogue)?);
+        Ok(())
+    }
+
+    /// Replaces the controller by a new one with the plan. Its first request waits after the frames that wait already.
+    /// Returns whether there is a plan.
+    pub(crate) fn start(&mut self, ar: Uuid, activity: Uuid) -> Result<bool, AllocError>
+        ensures { IfOk result (Starts self.old.plan self.old ar activity self.new) }
+    {
+        let Some(plan) = &self.plan else {
+            return Ok(false);
+        };
+        let controller = Controller::new(plan_copy(plan), ar, activity);
+        self.to_device.push(controller.opening())?;
+        self.controller = Some(controller);
+        Ok(true)
+    }
+
+    /// Hands an event to the controller. What it sends waits. Returns whether there is a controller.
+    pub(crate) fn take(&mut self, event: &Event) -> Result<bool, AllocError>
+        ensures { IfOk result (Hears self.old.controller self.old event.now self.new) }
+    {
+        let Some(controller) = &mut self.controller else {
+            return Ok(false);
+        };
+        step(controller, event, &mut self.outbox, &mut self.to_device)?;
+        Ok(true)
+    }
+
+    /// Hands the frames that wait for the device to it, in order, unless power is lost. What it sends waits for the
+    /// controller. Returns how many frames waited.
+    pub(crate) fn hand_over(
+        &mut self,
+        device: &mut DemoStation<'_>,
+        outbox: &mut StationOutbox,
+    ) -> Result<usize, AllocError>
+        ensures handed { (station : Station) → Runs station device.old →
+            IfOk result (λ delivered. IsHandedOver (device_run station (frames_for_device self.old.to_device)) device.new self.old self.new
+            delivered) }
+        ensures left { IfOk result (λ _. Delivers self.old self.new) }
+        ensures same { device.new.station ≡ device.old.station }
+    {
+        let delivered = self.to_device.len();
+        hand_over(
+            device,
+            self.to_device.as_slice(),
+            outbox,
+            &mut self.to_controller,
+        )?;
+        self.to_device.clear();
+        Ok(delivered)
+    }
+
+    /// Hands the frames that wait for the controller to it, in order, if there is one. What it sends waits. Returns how
+    /// many frames waited.
+    pub(crate) fn deliver(&mut self) -> Result<usize, AllocError>
+        ensures { IfOk result (λ delivered. (delivered ≡ length self.old.to_controller) × (self.new ≡ arrived_at self.old.controller self.old)) }
+    {
+        let delivered = self.to_controller.len();
+        let Some(controller) = &mut self.controller else {
+            return Ok(delivered);
+        };
+        hear(
+            controller,
+            self.to_controller.as_slice(),
+            &mut self.outbox,
+            &mut self.to_device,
+        )?;
+        self.to_controller.clear();
+        Ok(delivered)
+    }
+
+    /// Lets units of time pass at the controller, if there is one.
+    pub(crate) fn ticks(&mut self, units: u32) -> Result<(), AllocError>
+        ensures { OnOk result (self.new ≡ ticked_by self.old.controller self.old units) }
+    {
+        let Some(controller) = &mut self.controller else {
+            return Ok(());
+        };
+        ticks(controller, units, &mut self.outbox, &mut self.to_device)
+    }
+
+    /// Lets units of time pass at the controller, if there is one, by leaps.
+    pub(crate) fn leaps(&mut self, units: u32) -> Result<(), AllocError>
+        ensures { OnOk result (self.new ≡ ticked_by self.old.controller self.old units) }
+    {
+        let Some(controller) = &mut self.controller else {
+            return Ok(());
+        };
+        leaps(controller, units, &mut self.outbox, &mut self.to_device)
+    }
+}
+
+/// Lets several units of time pass at the controller at once, at most as many as are due. What it sends waits for the
+/// device.
+fn leap(
+    controller: &mut Controller,
+    units: u32,
+    outbox: &mut Outbox,
+    to_device: &mut Vec<Frame>,
+) -> Result<(), AllocError>
+    requires { units ≤ live_due_in controller.old.live }
+    ensures { OnOk result (IsRun (controller_run controller.old (replicate units event.Tick)) controller.new to_device.old.items
+        to_device.new.items) }
+{
+    controller.elapse(units, outbox);
+    append(outbox.as_slice(), to_device)
+}
+
+/// Lets units of time pass at the controller, by leaps.
+fn leaps(
+    controller: &mut Controller,
+    units: u32,
+    outbox: &mut Outbox,
+    to_device: &mut Vec<Frame>,
+) -> Result<(), AllocError>
+    ensures { OnOk result (IsRun (controller_run controller.old (replicate units event.Tick)) controller.new to_device.old.items
+        to_device.new.items) }
+{
+    let mut left = units;
+    while left > 0 {
+        let passing = left.min(controller.due());
+        leap(controller, passing, outbox, to_device)?;
+        left -= passing;
+    }
+    Ok(())
+}
+
+/// Makes a step of the controller. What it sends waits for the device.
+fn step(
+    controller: &mut Controller,
+    event: &Event,
+    outbox: &mut Outbox,
+    to_device: &mut Vec<Frame>,
+) -> Result<(), AllocError>
+    ensures { OnOk result (IsRun (step_of controller.old event.now) controller.new to_device.old.items to_device.new.items) }
+{
+    controller.step(event, outbox);
+    append(outbox.as_slice(), to_device)
+}
+
+/// Makes a step for each of `units` units of time.
+fn ticks(
+    controller: &mut Controller,
+    units: u32,
+    outbox: &mut Outbox,
+    to_device: &mut Vec<Frame>,
+) -> Result<(), AllocError>
+    ensures { OnOk result (IsRun (controller_run controller.old (replicate units event.Tick)) controller.new to_device.old.items
+        to_device.new.items) }
+{
+    let mut left = units;
+    while left > 0 {
+        step(controller, &Event::Tick, outbox, to_device)?;
+        left -= 1;
+    }
+    Ok(())
+}
+
+/// Hands frames to the controller.
+fn hear(
+    controller: &mut Controller,
+    frames: &[Frame],
+    outbox: &mut Outbox,
+    to_device: &mut Vec<Frame>,
+) -> Result<(), AllocError>
+    ensures { OnOk result (IsRun (controller_run controller.old (frames_for_controller (octets_of frames.now))) controller.new
+        to_device.old.items to_device.new.items) }
+{
+    for frame in frames {
+        let event = Event::Frame(copied(frame.as_slice()));
+        step(controller, &event, outbox, to_device)?;
+    }
+    Ok(())
+}

@@ -1,0 +1,116 @@
+-- Which steps of a device keep its settings.
+use Rattle.std.proofs.Common.{◌≡◌, ◌++◌, ℕ, Bool, true, false, List, [], ◌∷◌, Option, Some, None, map, refl, sym, ap, ◌∙◌}
+use Rattle.std.specs.Prelude.{if◌then◌else◌}
+use Rattle.settings_store.specs.Machine.{carried}
+use Rattle.diagnosis.specs.Existing.{changed}
+use Rattle.diagnosis.specs.declared.diagnosis.Change.{Change}
+use Rattle.diagnosis.specs.declared.diagnosis.Diagnosis.{Diagnosis as Channel}
+use Rattle.lldp.specs.declared.neighbour.Neighbour.{Neighbour as Peer}
+use Rattle.relations.specs.Exchanged.{given_to, raised_to}
+use Rattle.device_exchange.specs.Statuses.{statuses_at}
+use Rattle.relations.specs.RelationState.{is_preparing, phase_of}
+use Rattle.device_exchange.specs.Flow.{Flow}
+use Rattle.device_exchange.specs.declared.statuses.InputStatus.{InputStatus}
+use Rattle.device_frames.specs.Heard.{heard_of}
+use Rattle.device_frames.specs.Sent.{Sent, bytes_of}
+use Rattle.device_frames.specs.declared.event.Event.{Event}
+use Rattle.device_frames.specs.declared.event.Event.TheVariants.{Frame, Call, Tick, Input, Alarm, Status, Neighbour, Diagnosis, Ready}
+use Rattle.device_frames.specs.declared.note.Note.TheVariants.{Done}
+use Rattle.device_core.specs.Handled.{Handled, Refuses, Sets, Writes, WritesEach, Moves, handled, handled_change, handled_input, handled_notice, kept_status, may_be_diagnosed}
+use Rattle.device_core.specs.Machine.{handled_step, heard_step, items_in, step_of}
+use Rattle.device_core.specs.State.{Live, Station}
+use Rattle.station.specs.Beside.{has_any, is_dropped}
+use Rattle.station_port.specs.Steps.{IsOfApplication}
+
+-- ---- a step that sends nothing
+
+some_last : (f : Sent → List ℕ) (front : List Sent) (last : Sent) → has_any (map f (front ++ last ∷ [])) ≡ true
+some_last f [] last = refl
+some_last f (one ∷ front) last = refl
+
+silent_handled : (station : Station) (live : Live) (what : Handled) → has_any (handled_step [] station live what).frames ≡ false → (handled_step [] station live what).live.values ≡ live.values
+unfolding handled_step
+silent_handled station live (Refuses note) silent = refl
+silent_handled station live (Sets asker request in_operation) silent = cc (sym (some_last (bytes_of station.identity) _ _) ∙ silent)
+silent_handled station live (Writes caller address call header value) silent = cc silent
+silent_handled station live (WritesEach caller address call header judged) silent = cc silent
+silent_handled station live (Moves later sent) silent = refl
+
+pub silent_step : (station : Station) (live : Live) (event : Event) → has_any (step_of [] station live event).frames ≡ false → (step_of [] station live event).live.values ≡ live.values
+unfolding heard_step
+silent_step station live event silent = silent_handled station live (handled station live (heard_of station.identity event)) silent
+
+-- ---- a step that drops its event
+
+nothing_dropped : (station : Station) (live : Live) (what : Handled) → is_dropped (handled_step [] station live what).note ≡ true
+    → ((handled_step [] station live what).frames ≡ []) × ((handled_step [] station live what).accepted ≡ [])
+unfolding handled_step
+nothing_dropped station live (Refuses note) dropped = (refl, refl)
+nothing_dropped station live (Sets asker request in_operation) dropped = cc dropped
+nothing_dropped station live (Writes caller address call header value) dropped = cc dropped
+nothing_dropped station live (WritesEach caller address call header judged) dropped = cc dropped
+nothing_dropped station live (Moves later sent) dropped = cc dropped
+
+pub dropped_step : (station : Station) (live : Live) (event : Event) → is_dropped (step_of [] station live event).note ≡ true
+    → ((step_of [] station live event).frames ≡ []) × ((step_of [] station live event).accepted ≡ [])
+unfolding heard_step
+dropped_step station live event dropped = nothing_dropped station live (handled station live (heard_of station.identity event)) dropped
+
+-- ---- an event of the application
+
+no_items : (station : Station) (live : Live) (what : Handled) → items_in what ≡ [] → (handled_step [] station live what).live.values ≡ live.values
+unfolding handled_step
+no_items station live what none = ap (λ items. (carried [] live.values items).values) none
+
+input_items : (live : Live) (flow : Option Flow) → items_in (handled_input live flow) ≡ []
+input_items live (Some flow) = refl
+input_items live None = refl
+
+notice_items : (live : Live) (flow : Option Flow) → items_in (handled_notice live flow) ≡ []
+notice_items live (Some flow) = refl
+notice_items live None = refl
+
+status_items : (live : Live) (slot subslot : ℕ) (is_good : Bool) (statuses : Option (List InputStatus)) → items_in (kept_status live slot subslot is_good statuses) ≡ []
+status_items live slot subslot is_good (Some statuses) = refl
+status_items live slot subslot is_good None = refl
+
+change_items : (station : Station) (live : Live) (change : Change) (diagnoses : Option (List Channel)) → items_in (handled_change station live change diagnoses) ≡ []
+change_items station live change (Some diagnoses) = refl
+change_items station live change None = refl
+
+either_items : (b : Bool) (one other : Handled) → items_in one ≡ [] → items_in other ≡ [] → items_in (if b then one else other) ≡ []
+either_items true one other e f = e
+either_items false one other e f = f
+
+application_items : (station : Station) (live : Live) (event : Event) → IsOfApplication event → items_in (handled station live (heard_of station.identity event)) ≡ []
+unfolding heard_of
+application_items station live (Frame bytes) wrong = absurd wrong
+application_items station live (Call caller address octets) wrong = absurd wrong
+application_items station live Tick wrong = absurd wrong
+application_items station live (Input slot subslot value) is = input_items live (given_to slot subslot value.items live.rest.link)
+application_items station live (Alarm slot subslot octets) is = notice_items live (raised_to station.real.modules.items slot subslot octets.items live.rest.link)
+application_items station live (Status slot subslot is_good) is =
+    status_items live slot subslot is_good (statuses_at station.real.modules.items (record { slot = slot; subslot = subslot; is_good = is_good }) live.rest.statuses)
+application_items station live (Neighbour peer) is = refl
+application_items station live (Diagnosis slot subslot channel error appears) is =
+    let change : Change = record { diagnosis = record { slot = slot; subslot = subslot; channel = channel; error = error }; appears = appears } in
+    either_items (may_be_diagnosed station live change) _ _ (change_items station live change (changed change live.rest.diagnoses)) refl
+application_items station live Ready is = either_items (is_preparing (phase_of live.rest.link)) _ _ refl refl
+
+pub application_step : (station : Station) (live : Live) (event : Event) → IsOfApplication event → (step_of [] station live event).live.values ≡ live.values
+unfolding heard_step
+application_step station live event is = no_items station live (handled station live (heard_of station.identity event)) (application_items station live event is)
+
+-- ---- the event by which a device is told of its neighbour
+
+pub met_frames : (station : Station) (live : Live) (peer : Option Peer) → (step_of [] station live (Neighbour peer)).frames ≡ []
+unfolding heard_of heard_step handled_step
+met_frames station live peer = refl
+
+pub met_accepted : (station : Station) (live : Live) (peer : Option Peer) → (step_of [] station live (Neighbour peer)).accepted ≡ []
+unfolding heard_of heard_step handled_step
+met_accepted station live peer = refl
+
+pub met_note : (station : Station) (live : Live) (peer : Option Peer) → (step_of [] station live (Neighbour peer)).note ≡ Done
+unfolding heard_of heard_step handled_step
+met_note station live peer = refl

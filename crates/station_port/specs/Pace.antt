@@ -1,0 +1,70 @@
+-- Units of time that are counted for services, which are told of them later.
+use Rattle.std.specs.Prelude.{◌≡◌, ◌-◌, ◌<◌, ◌≤◌, ◌⊎◌, ⊤, ℕ, true, false, List, [], Option, Some, None}
+use Rattle.std.specs.Option.{option_map}
+use Rattle.settings_store.specs.State.{Values}
+use Rattle.device_core.specs.Leaps.{live_due_in}
+use Rattle.pn_values.specs.declared.identity.Identity.{Identity}
+use Rattle.station.specs.Leaps.{NoNewsBeside, NoneSendsBeside, beside_ticks, tick_beside}
+use Rattle.station.specs.Serving.{Serving, due_in, knows, serving_ticks}
+use Rattle.device_abi.specs.port.State.{State, barred}
+
+-- Services that have nothing to see or to tell beside a device with these settings: it has power, they know its running settings,
+-- and it knows its neighbour. Nothing is due of them in fewer units than this.
+pub record Calm (limit : ℕ) (values : Values) (state : Serving) : Type 0 where
+  pub power : values.is_lost ≡ false
+  pub seen : knows state values.running ≡ true
+  pub told : state.has_news ≡ false
+  pub due : limit ≤ due_in state
+
+abbrev pub AreCalm : ℕ → Values → Option Serving → Type 0
+AreCalm limit values None = ⊤
+AreCalm limit values (Some state) = Calm limit values state
+
+-- The services were not told of the last units, this limit less the rest: no frame of theirs remains, and nothing is due of them in
+-- fewer units than the limit.
+pub record Resting (rest limit : ℕ) (values : Values) (services : Option Serving) (frames : List (List ℕ)) : Type 0 where
+  pub some : 0 < rest
+  pub inside : rest ≤ limit
+  pub fetched : frames ≡ []
+  pub calm : AreCalm limit values services
+
+-- Either the services were told of all units, or this.
+abbrev pub IsPaced : ℕ → ℕ → Values → Option Serving → List (List ℕ) → Type 0
+IsPaced rest limit values services frames = ((rest ≡ 0) × (limit ≡ 0)) ⊎ Resting rest limit values services frames
+
+-- No work remains, and fewer units than this many bring nothing to the device and to the services.
+pub record Known (due rest : ℕ) (port : State) (frames : List (List ℕ)) : Type 0 where
+  pub free : barred port ≡ None
+  pub fetched : frames ≡ []
+  pub device : due ≤ live_due_in port.device.live
+  pub inside : due ≤ rest
+
+-- Either nothing is known, or this.
+abbrev pub IsKnown : ℕ → ℕ → State → List (List ℕ) → Type 0
+IsKnown due rest port frames = (due ≡ 0) ⊎ Known due rest port frames
+
+-- Fewer units than are due of the services, if there are any.
+abbrev pub IsBehind : ℕ → Option Serving → Type 0
+IsBehind behind None = ⊤
+IsBehind behind (Some state) = (behind ≡ 0) ⊎ (behind < due_in state)
+
+-- The services once they are told of units with which nothing is due of them.
+abbrev pub caught_up : ℕ → Option Serving → Option Serving
+caught_up behind services = option_map (serving_ticks behind) services
+
+-- The device knows its neighbour.
+abbrev pub HasNoNews : Option Serving → Type 0
+HasNoNews None = ⊤
+HasNoNews (Some state) = state.has_news ≡ false
+
+-- What services do beside this many units of time of a device with these settings: only the last may send or change the neighbour.
+pub record TicksBeside (units : ℕ) (identity : Identity) (values : Values) (old new : Serving) (sent : List (List ℕ)) : Type 0 where
+  pub is : new ≡ beside_ticks identity values units old
+  pub none : NoneSendsBeside (units - 1) identity values old
+  pub quiet : NoNewsBeside units identity values old
+  pub frames : sent ≡ (tick_beside identity values (beside_ticks identity values (units - 1) old)).sent
+
+-- The same if there are any.
+abbrev pub TicksBesideAny : ℕ → Identity → Values → Option Serving → Option Serving → List (List ℕ) → Type 0
+TicksBesideAny units identity values None new sent = (new ≡ None) × (sent ≡ [])
+TicksBesideAny units identity values (Some state) new sent = (after : Serving) × TicksBeside units identity values state after sent × (new ≡ Some after)

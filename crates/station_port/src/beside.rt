@@ -1,0 +1,261 @@
+//! The services beside the port of a device: what they do with what happens at it.
+ghost use Rattle.std.specs.Prelude.{◌≡◌, ◌<◌, ◌≤◌, [], None, Some, true};
+ghost use Rattle.frame_codec.specs.Outbox.{boxed};
+ghost use Rattle.device_frames.specs.declared.event.Event.TheVariants.{Frame as Framed};
+ghost use Rattle.device_abi.specs.port.State.{barred};
+ghost use Rattle.device_abi.specs.port.Steps.{Ticks};
+ghost use Rattle.station.specs.Beside.{beside, is_dropped, joined_beside};
+ghost use Rattle.station.specs.Views.{joined_in, note_in};
+ghost use Rattle.station.specs.declared.device_services.Attended.TheVariants.{Joined};
+ghost use Rattle.station_port.specs.Pace.{AreCalm, Calm, HasNoNews, IsBehind, TicksBeside, TicksBesideAny, caught_up};
+ghost use Rattle.station_port.specs.State.{due_with};
+ghost use Rattle.station_port.specs.Steps.{GivesAny, GivesPort, IsBeside, IsNoticed, TellsPort, TellsPortAny, seen_by, services_from};
+
+use device_abi::{Port, RecordedFlash};
+use device_core::{Device, Note};
+use frame_codec::Outbox;
+use services::NEVER;
+use station::{
+    Attended, DeviceServices, JoinedCall, due_beside, follow_frame, follow_units,
+    quiet_units_are_ticks, services_due,
+};
+
+// The services that begin beside a device that has started, if it is to have any.
+pub(crate) fn begun(serves: bool, port: &Port) -> Option<DeviceServices>
+    ensures { result ≡ services_from serves port.now }
+{
+    if serves {
+        let device = port.device();
+        Some(DeviceServices::new(device.identity(), device.running()))
+    } else {
+        None
+    }
+}
+
+// Tells services of the units that were only counted for them.
+pub(crate) fn catch_up(services: &mut Option<DeviceServices>, behind: u32)
+    requires { IsBehind behind services.old }
+    ensures { services.new ≡ caught_up behind services.old }
+{
+    if behind == 0 {
+        return;
+    }
+    if let Some(services) = services {
+        services.pass(behind);
+    }
+}
+
+// ---- frames, and events of the application
+
+// What services do with a frame that the device has handled: it gave the frame this note. Replaces the content of the outbox by
+// the frames that they send. The device is then given the call that the frame completed, if it did: a step of its own. Returns the
+// note of the station.
+#[inline(never)]
+pub(crate) fn follow(
+    port: &mut Port,
+    services: &mut Option<DeviceServices>,
+    behind: u32,
+    octets: &[u8],
+    note: Note,
+    outbox: &mut Outbox,
+    call: &mut JoinedCall,
+) -> Note
+    requires behind { IsBehind behind services.old }
+    requires known { IsNoticed port.old (caught_up behind services.old) octets.now note }
+    requires dropped { is_dropped note ≡ true → barred port.old ≡ None }
+    ensures beside { IsBeside (caught_up behind services.old) port.old.device.station.identity port.old.device.live.values note
+        (Framed (record { items = octets.now })) services.new (boxed outbox.new) result }
+    ensures gives { GivesAny (caught_up behind services.old) port.old.device.live.values note (Framed (record { items = octets.now }))
+        port.old port.new }
+{
+    catch_up(services, behind);
+    match services {
+        Some(services) => {
+            let attended = attend(port, services, octets, note, outbox, call);
+            give(port, call, attended)
+        }
+        None => {
+            outbox.clear();
+            note
+        }
+    }
+}
+
+// The services' part of it. A call that the frame completed is written into `call`.
+fn attend(
+    port: &Port,
+    services: &mut DeviceServices,
+    octets: &[u8],
+    note: Note,
+    outbox: &mut Outbox,
+    call: &mut JoinedCall,
+) -> Attended
+    requires known { IsNoticed port.now (Some services.old) octets.now note }
+    ensures beside { record { services = services.new; sent = boxed outbox.new; note = note_in result }
+        ≡ beside port.now.device.station.identity services.old port.now.device.live.values note (Framed (record { items = octets.now })) }
+    ensures call { joined_in result call.new
+        ≡ joined_beside services.old port.now.device.live.values note (Framed (record { items = octets.now })) }
+{
+    follow_frame(
+        port.device(),
+        services,
+        octets,
+        note,
+        port.has_frames(),
+        outbox,
+        call,
+    )
+}
+
+// The device is given the call that the services joined, if they did. Returns the note of the station.
+fn give(port: &mut Port, call: &JoinedCall, attended: Attended) -> Note
+    requires { attended ≡ Joined → barred port.old ≡ None }
+    ensures gives { GivesPort (joined_in attended call.now) port.old port.new }
+    ensures note { result ≡ note_in attended }
+{
+    match attended {
+        Attended::Noted(note) => note,
+        Attended::Joined => {
+            let (caller, address, octets) = call.parts();
+            let _ = port.call(&caller, address, octets);
+            Note::Done
+        }
+    }
+}
+
+// Services see the running settings of a device that has power.
+pub(crate) fn observe(port: &Port, services: &mut Option<DeviceServices>)
+    ensures { services.new ≡ seen_by port.now.device.live.values services.old }
+{
+    if port.device().is_lost() {
+        return;
+    }
+    if let Some(services) = services {
+        services.observe(port.device().running());
+    }
+}
+
+// ---- what is due
+
+// The number of units until something is due of a device or of the services beside it.
+pub(crate) fn due_of(port: &Port, services: &Option<DeviceServices>) -> u32
+    ensures { result ≡ due_with services.now port.now.device.live }
+{
+    match services {
+        Some(services) => due_beside(port.device(), services),
+        None => port.device().due(),
+    }
+}
+
+// Fewer units than this surely bring nothing to services that have no frames, and have nothing to see or to tell before; 0 if that
+// is not known.
+pub(crate) fn rest_of(port: &Port, services: &Option<DeviceServices>) -> u32
+    ensures { 0 < result → AreCalm result port.now.device.live.values services.now }
+{
+    match services {
+        Some(services) => rest_beside(port.device(), services),
+        None => NEVER,
+    }
+}
+
+// The same of services that there are.
+fn rest_beside(device: &Device<RecordedFlash<4096>, 4096>, services: &DeviceServices) -> u32
+    ensures { 0 < result → Calm result device.now.live.values services.now }
+{
+    if device.is_lost() || services.has_news() || !services.knows(device.running()) {
+        0
+    } else {
+        services.due_in()
+    }
+}
+
+// ---- the neighbour
+
+// The device is told of its neighbour, if that changed.
+pub(crate) fn tell_neighbour(port: &mut Port, services: &mut Option<DeviceServices>)
+    requires free { barred port.old ≡ None }
+    ensures tells { TellsPortAny services.old port.old port.new services.new }
+    ensures free { barred port.new ≡ None }
+    ensures told { HasNoNews services.new }
+{
+    if let Some(services) = services {
+        tell_of(port, services);
+    }
+}
+
+// The same of services that there are.
+fn tell_of(port: &mut Port, services: &mut DeviceServices)
+    requires free { barred port.old ≡ None }
+    ensures tells { TellsPort services.old.has_news port.old services.old port.new services.new }
+    ensures free { barred port.new ≡ None }
+{
+    if let Some(event) = services.news() {
+        let _ = port.offer(&event);
+        services.set_told();
+    }
+}
+
+// ---- units of time
+
+// Lets units of time pass at a port, at least one and at most as many as these, up to the first that sends something.
+// Returns how many passed.
+fn pass_alone(port: &mut Port, most: u32) -> u32
+    requires free { barred port.old ≡ None }
+    requires some { 0 < most }
+    ensures some { 0 < result }
+    ensures most { result ≤ most }
+    ensures ticks { Ticks result port.old port.new }
+    ensures quiet { port.new.calls ≡ [] }
+{
+    match port.tick(most) {
+        Ok(passed) => most - passed.left,
+        Err(_) => most,
+    }
+}
+
+// The same with the services beside the device, if there are any, up to the first that brings something to these.
+pub(crate) fn pass_both(
+    port: &mut Port,
+    services: &mut Option<DeviceServices>,
+    most: u32,
+    outbox: &mut Outbox,
+) -> u32
+    requires free { barred port.old ≡ None }
+    requires some { 0 < most }
+    ensures some { 0 < result }
+    ensures most { result ≤ most }
+    ensures ticks { Ticks result port.old port.new }
+    ensures quiet { port.new.calls ≡ [] }
+    ensures beside { TicksBesideAny result port.new.device.station.identity port.new.device.live.values services.old services.new (boxed outbox.new) }
+{
+    match services {
+        Some(services) => pass_beside(port, services, most, outbox),
+        None => {
+            outbox.clear();
+            pass_alone(port, most)
+        }
+    }
+}
+
+// The same with services that there are.
+fn pass_beside(
+    port: &mut Port,
+    services: &mut DeviceServices,
+    most: u32,
+    outbox: &mut Outbox,
+) -> u32
+    requires free { barred port.old ≡ None }
+    requires some { 0 < most }
+    ensures some { 0 < result }
+    ensures most { result ≤ most }
+    ensures ticks { Ticks result port.old port.new }
+    ensures quiet { port.new.calls ≡ [] }
+    ensures beside { TicksBeside result port.new.device.station.identity port.new.device.live.values services.old services.new (boxed outbox.new) }
+{
+    quiet_units_are_ticks();
+    let device = port.device();
+    let due = services_due(device.is_lost(), device.running(), services);
+    let passed = pass_alone(port, most.min(due));
+    follow_units(port.device(), services, passed, outbox);
+    passed
+}

@@ -1,0 +1,660 @@
+//! A port of a device with the services beside it, and the work of their last step that the host has not fetched yet.
+ghost use Rattle.std.specs.Prelude.{◌≡◌, ◌==◌, ◌<◌, ◌≤◌, [], None, Some, MatchResult, is_none, take, true};
+ghost use Rattle.std.specs.Option.{option_map};
+ghost use Rattle.device_abi.specs.port.State.{closed, has_some, has_work as is_left, waiting as waiting_in};
+ghost use Rattle.device_abi.specs.declared.port.stage.Stage.TheVariants.{Booted, Made};
+ghost use Rattle.device_frames.specs.declared.event.Event.TheVariants.{Alarm, Diagnosis, Frame as Framed, Input, Ready, Status};
+ghost use Rattle.station_port.specs.State.{IsFetched, barred_both, conflicts_of, due_both, frames_of, linked_both, lost_both, or_own as kind_or_own, waiting_both};
+ghost use Rattle.station_port.specs.Steps.{AnswersBoth, HearsBoth, KnowsBothOrNot, PassesBothOrNot, PassesOneOrNot, PreparesOrNot, Settles, SkipsOrNot};
+ghost use Rattle.station_port.specs.Steps.{StartsBothOrNot, StepsOrNot, TellsBoth, TicksBoth};
+
+use crate::beside::{begun, catch_up, due_of, follow, observe, pass_both, rest_of, tell_neighbour};
+use device_abi::{Passed, Port, Recorded, Refusal};
+use device_core::Note;
+use flash_model::Sector;
+use frame_codec::{Frame, Outbox};
+use lldp::Link;
+use pn_values::{Identity, Real};
+use relations::DeviceOptions;
+use services::only_conflicts_are_counted;
+use station::{DeviceServices, JoinedCall, conflicts_are_noticed, quiet_units_are_ticks};
+use std::marker::Model;
+use wire::at_most;
+
+/// A port of a device with the services beside it, and the work of their last step that the host has not fetched yet: that
+/// of the port, and then the frames of the services.
+///
+/// As long as nothing is due, units of time are only counted for the services. They are told of them all at once, before
+/// anything else concerns them.
+#[derive(Drop)]
+pub struct ServedPort {
+    port: Port,
+    /// Whether services begin when the device starts.
+    serves: bool,
+    services: Option<DeviceServices>,
+    /// Fewer units than this many surely bring nothing, and no work remains; 0 if that is not known.
+    due: u32,
+    /// Fewer units than this many surely bring nothing to the services, and they have nothing to see or to tell before; 0 if that is
+    /// not known.
+    rest: u32,
+    /// The same of the services as they were told of units last: that many less `rest` have passed since.
+    limit: u32,
+    /// The frames of the services.
+    outbox: Outbox,
+    /// The number of these that the host has fetched.
+    frames_past: usize,
+    /// The place of a call that the services join from its fragments.
+    call: JoinedCall,
+}
+
+/// What became of units of time that were to pass at once.
+#[derive(Clone, Copy, Debug, PartialEq, Eq)]
+pub enum Leap {
+    /// None passed: they may bring something, or work remains.
+    Refused,
+    /// All passed, and this is due then.
+    Due(u32),
+    /// All passed. What is due then is still to be counted.
+    Uncounted,
+}
+
+impl Model for ServedPort {
+    ghost use Rattle.std.specs.Prelude.{◌-◌, drop};
+    ghost use Rattle.frame_codec.specs.Outbox.{boxed};
+    ghost use Rattle.station_port.specs.Pace.{IsKnown, IsPaced, caught_up};
+    ghost use Rattle.station_port.specs.State.{Served};
+
+    ghost Value = { Served };
+
+    ghost view = { λ all. record {
+      port = all.port;
+      serves = all.serves;
+      services = caught_up (all.limit - all.rest) all.services;
+      frames = drop all.frames_past (boxed all.outbox);
+    } };
+
+    ghost invariant = { λ all. IsPaced all.rest all.limit all.port.device.live.values all.services (drop all.frames_past (boxed all.outbox))
+        × IsKnown all.due all.rest all.port (drop all.frames_past (boxed all.outbox)) };
+}
+
+impl ServedPort {
+    ghost use Rattle.std.specs.Prelude.{⊤};
+    ghost use mathlib.Core.Option.{none};
+    ghost use types.Logic.{sem};
+    ghost use denote.Follow.{follows_so};
+    ghost use Rattle.device_abi.specs.recorded.Entry.{call_of};
+    ghost use Rattle.station_port.specs.contracts.served.ServedPort.{the_row};
+    ghost use Rattle.station_port.specs.State.{FetchesBoth, FetchesCallBoth};
+
+    /// A device that did not start, over a chip whose content is not known yet, with services or alone.
+    #[inline(always)]
+    pub fn new(identity: Identity, real: Real, options: DeviceOptions, serves: bool) -> ServedPort
+        ensures station { result.port.device.station ≡ record { identity = identity; real = real; options = options } }
+        ensures stage { result.port.stage ≡ Made }
+        ensures fetched { IsFetched result }
+        ensures serves { result.serves ≡ serves }
+        ensures services { result.services ≡ None }
+    {
+        ServedPort {
+            port: Port::new(identity, real, options),
+            serves,
+            services: None,
+            due: 0,
+            rest: 0,
+            limit: 0,
+            outbox: Outbox::new(),
+            frames_past: 0,
+            call: JoinedCall::new(),
+        }
+    }
+
+    /// The port of the device.
+    pub fn port(&self) -> &Port
+        ensures { result.now ≡ self.now.port }
+    {
+        &self.port
+    }
+
+    /// How many frames of ARP came from another station that uses the running IP address; 0 without services.
+    pub fn conflicts(&self) -> u64
+        ensures { result ≡ conflicts_of self.now.services }
+    {
+        match &self.services {
+            Some(services) => services.conflicts(),
+            None => 0,
+        }
+    }
+
+    /// What the host says of the link: whether it is up, and which link it is, if that is known. Without this the link is up. Without
+    /// services nothing is sent that tells it.
+    pub fn set_link(&mut self, is_up: bool, link: Option<Link>) -> Result<(), Refusal>
+        ensures { MatchResult result (λ _. (closed self.old.port.stage ≡ None)
+            × (self.new ≡ linked_both is_up link self.old)) (λ refusal. (closed self.old.port.stage ≡ Some refusal) × (self.new ≡ self.old)) }
+    {
+        if let Some(refusal) = self.port.closed() {
+            return Err(refusal);
+        }
+        catch_up(&mut self.services, self.limit - self.rest);
+        self.due = 0;
+        self.rest = 0;
+        self.limit = 0;
+        if let Some(services) = &mut self.services {
+            services.set_link(is_up, link);
+        }
+        Ok(())
+    }
+
+    // ---- a start
+
+    /// Sets the content of a sector of the chip, before a start, as the port does.
+    pub fn fill(&mut self, sector: Sector, octets: &[u8]) -> Result<(), Refusal>
+        ensures { KnowsBothOrNot self.old sector octets.now result self.new }
+    {
+        catch_up(&mut self.services, self.limit - self.rest);
+        self.due = 0; // the port changes
+        self.rest = 0;
+        self.limit = 0;
+        self.port.fill(sector, octets)
+    }
+
+    /// Starts from the content of the chip, as the port does. Services begin with the device, if it is to have any.
+    pub fn boot(&mut self) -> Result<(), Refusal>
+        ensures { StartsBothOrNot self.old result self.new }
+    {
+        catch_up(&mut self.services, self.limit - self.rest);
+        self.due = 0; // the port changes
+        self.rest = 0;
+        self.limit = 0;
+        match self.port.boot() {
+            Ok(()) => {
+                self.frames_past = self.outbox.len();
+                self.services = begun(self.serves, &self.port);
+                Ok(())
+            }
+            Err(refusal) => Err(refusal),
+        }
+    }
+
+    // ---- events
+
+    /// Handles a received frame: its octets from the destination address on. Of a frame that is longer than any valid one only the
+    /// first 1,519 octets are read. Returns `None` if it was accepted in silence, as most frames are: the note is `Done`, and no work
+    /// remains.
+    #[inline(always)]
+    pub fn frame(&mut self, octets: &[u8]) -> Option<Result<Note, Refusal>>
+        ensures { HearsBoth self.old (Framed (record { items = take 1519 octets.now })) result self.new }
+    {
+        if self.rest == 0 {
+            return Some(self.hear(octets));
+        }
+        self.due = 0; // the frame may change it
+        quiet_units_are_ticks();
+        conflicts_are_noticed();
+        only_conflicts_are_counted();
+        match self.port.frame(octets) {
+            // Most frames are cyclic data: the services have no part in them.
+            Ok(Note::Done) if !self.port.has_work() => None,
+            Ok(note) => {
+                let said = follow(
+                    &mut self.port,
+                    &mut self.services,
+                    self.limit - self.rest,
+                    at_most(octets, 1519),
+                    note,
+                    &mut self.outbox,
+                    &mut self.call,
+                );
+                self.rest = 0;
+                self.limit = 0;
+                self.frames_past = 0;
+                Some(Ok(said))
+            }
+            Err(refusal) => Some(Err(refusal)),
+        }
+    }
+
+    // The same if the services may have something to see or to tell, or a frame of theirs may remain.
+    #[inline(never)]
+    fn hear(&mut self, octets: &[u8]) -> Result<Note, Refusal>
+        ensures { AnswersBoth self.old (Framed (record { items = take 1519 octets.now })) result self.new }
+    {
+        self.prepare()?;
+        self.take_frame(octets)
+    }
+
+    // The same once the device was told of its neighbour.
+    fn take_frame(&mut self, octets: &[u8]) -> Result<Note, Refusal>
+        requires { barred_both self.old ≡ None }
+        ensures { StepsOrNot self.old (Framed (record { items = take 1519 octets.now })) result self.new }
+    {
+        self.due = 0; // the frame may change it
+        conflicts_are_noticed();
+        match self.port.frame(octets) {
+            Ok(note) => {
+                let said = follow(
+                    &mut self.port,
+                    &mut self.services,
+                    self.limit - self.rest,
+                    at_most(octets, 1519),
+                    note,
+                    &mut self.outbox,
+                    &mut self.call,
+                );
+                self.rest = 0;
+                self.limit = 0;
+                self.frames_past = 0;
+                Ok(said)
+            }
+            Err(refusal) => Err(refusal),
+        }
+    }
+
+    /// Sets the input of a submodule.
+    #[inline(never)]
+    pub fn input(&mut self, slot: u16, subslot: u16, octets: &[u8]) -> Result<Note, Refusal>
+        ensures { AnswersBoth self.old (Input slot subslot (record { items = take 1519 octets.now })) result self.new }
+    {
+        self.prepare()?;
+        self.due = 0; // the event may change it
+        let outcome = self.port.input(slot, subslot, octets);
+        self.settle(outcome)
+    }
+
+    /// Raises an alarm of a submodule.
+    #[inline(never)]
+    pub fn alarm(&mut self, slot: u16, subslot: u16, octets: &[u8]) -> Result<Note, Refusal>
+        ensures { AnswersBoth self.old (Alarm slot subslot (record { items = take 1519 octets.now })) result self.new }
+    {
+        self.prepare()?;
+        self.due = 0; // the event may change it
+        let outcome = self.port.alarm(slot, subslot, octets);
+        self.settle(outcome)
+    }
+
+    /// Sets the status of the inputs of a submodule.
+    #[inline(never)]
+    pub fn status(&mut self, slot: u16, subslot: u16, is_good: bool) -> Result<Note, Refusal>
+        ensures { AnswersBoth self.old (Status slot subslot is_good) result self.new }
+    {
+        self.prepare()?;
+        self.due = 0; // the event may change it
+        let outcome = self.port.status(slot, subslot, is_good);
+        self.settle(outcome)
+    }
+
+    /// A diagnosis of a submodule appears or disappears: of this channel, and with this ChannelErrorType.
+    #[inline(never)]
+    pub fn diagnosis(
+        &mut self,
+        slot: u16,
+        subslot: u16,
+        channel: u16,
+        error: u16,
+        appears: bool,
+    ) -> Result<Note, Refusal>
+        ensures { AnswersBoth self.old (Diagnosis slot subslot channel error appears) result self.new }
+    {
+        self.prepare()?;
+        self.due = 0; // the event may change it
+        let outcome = self.port.diagnosis(slot, subslot, channel, error, appears);
+        self.settle(outcome)
+    }
+
+    /// The application is ready.
+    #[inline(never)]
+    pub fn ready(&mut self) -> Result<Note, Refusal>
+        ensures { AnswersBoth self.old Ready result self.new }
+    {
+        self.prepare()?;
+        self.due = 0; // the event may change it
+        let outcome = self.port.ready();
+        self.settle(outcome)
+    }
+
+    /// Whether so many units of time surely bring nothing, and no work remains.
+    pub fn is_quiet(&self, units: u32) -> bool
+        ensures { result ≡ true → barred_both self.now ≡ None }
+    {
+        units < self.due
+    }
+
+    /// Lets units of time pass if they surely bring nothing, as most do. No work remains then.
+    #[inline(always)]
+    pub fn skip(&mut self, units: u32) -> Leap
+        ensures { SkipsOrNot self.old units result self.new }
+    {
+        if units >= self.due {
+            return Leap::Refused;
+        }
+        quiet_units_are_ticks();
+        let due = self.port.skip(units);
+        // The services are not told of them yet.
+        self.rest -= units;
+        if due > self.rest {
+            self.due = 0;
+            return Leap::Uncounted;
+        }
+        self.due = due;
+        Leap::Due(due)
+    }
+
+    /// Lets one unit of time pass if no work remains and the services have no part in it. Only frames of the device are work
+    /// then.
+    #[inline(always)]
+    pub fn unit(&mut self) -> Leap
+        ensures { PassesOneOrNot self.old result self.new }
+    {
+        if self.rest <= 1 || !self.port.is_counted() {
+            return Leap::Refused;
+        }
+        quiet_units_are_ticks();
+        let due = self.port.unit();
+        // The services are not told of it yet.
+        self.rest -= 1;
+        if due > self.rest {
+            self.due = 0;
+            return Leap::Uncounted;
+        }
+        self.due = if self.port.has_frames() { 0 } else { due };
+        Leap::Due(due)
+    }
+
+    /// Lets units of time pass, up to the first that sends something. Returns how many remain, and what is due then.
+    #[inline(always)]
+    pub fn tick(&mut self, units: u32) -> Result<Passed, Refusal>
+        ensures { PassesBothOrNot self.old units result self.new }
+    {
+        if units >= self.rest {
+            return self.tick_both(units);
+        }
+        // The services have no part in them: they are only counted for these.
+        quiet_units_are_ticks();
+        let passed = self.port.tick(units)?;
+        self.rest -= units - passed.left;
+        if passed.due <= self.rest {
+            self.due = if self.port.has_frames() {
+                0
+            } else {
+                passed.due
+            };
+            return Ok(passed);
+        }
+        self.due = 0; // the units may change it
+        Ok(Passed {
+            left: passed.left,
+            due: self.count(),
+        })
+    }
+
+    /// Reports that a flash call failed on the host's side, which counts as lost power. The remaining work is dropped,
+    /// and nothing is handed out any more.
+    pub fn lose(&mut self) -> Result<(), Refusal>
+        ensures { MatchResult result (λ _. (closed self.old.port.stage ≡ None)
+            × (self.new ≡ lost_both self.old)) (λ refusal. (closed self.old.port.stage ≡ Some refusal) × (self.new ≡ self.old)) }
+    {
+        self.due = 0;
+        match self.port.lose() {
+            Ok(()) => {
+                self.frames_past = self.outbox.len();
+                Ok(())
+            }
+            Err(refusal) => Err(refusal),
+        }
+    }
+
+    // ---- work
+
+    /// Whether frames of the device remain.
+    pub fn has_frames(&self) -> bool
+        ensures { result ≡ has_some self.now.port.frames }
+    {
+        self.port.has_frames()
+    }
+
+    /// Whether flash calls of the last step remain.
+    pub fn has_calls(&self) -> bool
+        ensures { result ≡ has_some self.now.port.calls }
+    {
+        self.port.has_calls()
+    }
+
+    /// Whether it is known that the services have no frame.
+    pub fn is_calm(&self) -> bool
+        ensures { result ≡ true → self.now.frames ≡ [] }
+    {
+        self.rest != 0
+    }
+
+    /// The kind of the next piece of work, as of a port: 1 for a program call, 2 for an erase, 3 for a frame, 0 if no work
+    /// remains.
+    pub fn waiting(&self) -> u32
+        ensures { result ≡ waiting_both self.now }
+    {
+        or_own(self.port.waiting(), self.waiting_own())
+    }
+
+    // The kind of the next piece of work, if none of the port remains.
+    fn waiting_own(&self) -> u32
+        ensures { result ≡ waiting_in [] self.now.frames }
+    {
+        if self.has_own_frames() { 3 } else { 0 }
+    }
+
+    /// Takes the next flash call, which is then fetched, and says the kind of the piece of work after it.
+    pub fn fetch_call(&mut self, more: &mut u32) -> &Recorded
+        requires { has_some self.old.port.calls ≡ true }
+        ensures* { sem 𝓛 (follows_so the_row the_row self.entry.ghost_name none (λ _ _. ⊤) (λ new. FetchesCallBoth self.old (call_of result.now) more.new new)) }
+    {
+        let own = self.waiting_own();
+        let call = self.port.fetch_call(more);
+        *more = or_own(*more, own);
+        call
+    }
+
+    /// Takes the next frame of the device once no flash call remains. It is then fetched. Says the kind of the piece of work
+    /// after it.
+    pub fn fetch_frame(&mut self, more: &mut u32) -> Option<&Frame>
+        requires calls { self.old.port.calls ≡ [] }
+        requires frames { has_some self.old.port.frames ≡ true }
+        ensures* { sem 𝓛 (follows_so the_row the_row self.entry.ghost_name none (λ _ _. ⊤) (λ new. FetchesBoth self.old (option_map (λ frame. frame.now.items) result) more.new new)) }
+    {
+        let own = self.waiting_own();
+        let frame = self.port.fetch_frame(more);
+        *more = or_own(*more, own);
+        frame
+    }
+
+    /// The same if the services have no frame.
+    #[inline(always)]
+    pub fn fetch_only(&mut self, more: &mut u32) -> Option<&Frame>
+        requires calls { self.old.port.calls ≡ [] }
+        requires own { self.old.frames ≡ [] }
+        requires frames { has_some self.old.port.frames ≡ true }
+        ensures* { sem 𝓛 (follows_so the_row the_row self.entry.ghost_name none (λ _ _. ⊤) (λ new. FetchesBoth self.old (option_map (λ frame. frame.now.items) result) more.new new)) }
+    {
+        self.port.fetch_frame(more)
+    }
+
+    /// Takes the next frame of the services once no work of the port remains.
+    pub fn fetch_own(&mut self, more: &mut u32) -> Option<&Frame>
+        requires calls { self.old.port.calls ≡ [] }
+        requires frames { self.old.port.frames ≡ [] }
+        ensures* { sem 𝓛 (follows_so the_row the_row self.entry.ghost_name none (λ _ _. ⊤) (λ new. FetchesBoth self.old (option_map (λ frame. frame.now.items) result) more.new new)) }
+    {
+        let past = self.frames_past;
+        if past >= self.outbox.len() {
+            *more = 0;
+            return None;
+        }
+        self.frames_past = past + 1;
+        *more = self.waiting_own();
+        Some(&self.outbox.as_slice()[past])
+    }
+
+    // ---- what is due
+
+    /// The number of units up to and with the next one that brings something to the device, or to the services beside it.
+    pub fn due(&mut self) -> Result<u32, Refusal>
+        ensures same { self.new ≡ self.old }
+        ensures due { MatchResult result (λ due. (closed self.old.port.stage ≡ None)
+            × (due ≡ due_both self.old)) (λ refusal. closed self.old.port.stage ≡ Some refusal) }
+    {
+        match self.port.closed() {
+            Some(refusal) => Err(refusal),
+            None => Ok(self.count()),
+        }
+    }
+
+    // Counts the units until something is due, which then is known, if events are accepted.
+    #[inline(never)]
+    pub fn count(&mut self) -> u32
+        ensures same { self.new ≡ self.old }
+        ensures due { result ≡ due_both self.old }
+    {
+        let is_free = self.barred().is_none();
+        let has_own = self.has_own_frames();
+        catch_up(&mut self.services, self.limit - self.rest);
+        let due = due_of(&self.port, &self.services);
+        let rest = if has_own {
+            0
+        } else {
+            rest_of(&self.port, &self.services)
+        };
+        self.rest = rest;
+        self.limit = rest;
+        self.due = if is_free { due.min(rest) } else { 0 };
+        due
+    }
+
+    // ---- one step
+
+    // Why no event is accepted now.
+    fn barred(&self) -> Option<Refusal>
+        ensures { result ≡ barred_both self.now }
+    {
+        match self.port.closed() {
+            Some(refusal) => Some(refusal),
+            None if self.has_work() => Some(Refusal::HasWork),
+            None => None,
+        }
+    }
+
+    // Whether work of the last step remains.
+    fn has_work(&self) -> bool
+        ensures { result ≡ is_left self.now.port.calls (frames_of self.now) }
+    {
+        self.port.has_work() || self.has_own_frames()
+    }
+
+    // Whether frames of the services remain.
+    fn has_own_frames(&self) -> bool
+        ensures { result ≡ has_some self.now.frames }
+    {
+        self.frames_past < self.outbox.len()
+    }
+
+    // If events are accepted, the device is told of its neighbour, if that changed. Else it says why none is.
+    #[inline(always)]
+    fn prepare(&mut self) -> Result<(), Refusal>
+        ensures { PreparesOrNot self.old result self.new }
+    {
+        match self.barred() {
+            Some(refusal) => Err(refusal),
+            None => {
+                self.tell_if();
+                Ok(())
+            }
+        }
+    }
+
+    // The same if events are accepted.
+    #[inline(always)]
+    fn tell_if(&mut self)
+        requires free { barred_both self.old ≡ None }
+        ensures tells { TellsBoth self.old self.new }
+        ensures free { barred_both self.new ≡ None }
+    {
+        quiet_units_are_ticks();
+        if self.rest == 0 {
+            self.tell();
+        }
+    }
+
+    // The device is told of its neighbour, if that changed.
+    #[inline(never)]
+    fn tell(&mut self)
+        requires free { barred_both self.old ≡ None }
+        ensures tells { TellsBoth self.old self.new }
+        ensures free { barred_both self.new ≡ None }
+    {
+        catch_up(&mut self.services, self.limit - self.rest);
+        self.due = 0;
+        self.rest = 0;
+        self.limit = 0;
+        tell_neighbour(&mut self.port, &mut self.services);
+    }
+
+    // What the services do with an event of the application that the device has handled, if it was not refused: they see the
+    // running settings.
+    fn settle(&mut self, outcome: Result<Note, Refusal>) -> Result<Note, Refusal>
+        requires { self.old.frames ≡ [] }
+        ensures { Settles self.old outcome result self.new }
+    {
+        let note = outcome?;
+        // Else they know them.
+        if self.rest == 0 {
+            observe(&self.port, &mut self.services);
+        }
+        Ok(note)
+    }
+
+    // ---- units of time
+
+    // Lets units of time pass that may bring something to the services, up to the first that sends something.
+    #[inline(never)]
+    fn tick_both(&mut self, units: u32) -> Result<Passed, Refusal>
+        ensures { PassesBothOrNot self.old units result self.new }
+    {
+        if let Some(refusal) = self.barred() {
+            return Err(refusal);
+        }
+        let mut left = units;
+        while left > 0 {
+            left -= self.leap(left);
+            if self.has_work() {
+                break;
+            }
+        }
+        Ok(Passed {
+            left,
+            due: self.count(),
+        })
+    }
+
+    // Lets units of time pass, at least one and at most as many as these, up to the first that brings something to the services
+    // or sends something. Returns how many passed.
+    fn leap(&mut self, most: u32) -> u32
+        requires free { barred_both self.old ≡ None }
+        requires some { 0 < most }
+        ensures some { 0 < result }
+        ensures most { result ≤ most }
+        ensures ticks { TicksBoth result self.old self.new }
+        ensures stage { self.new.port.stage ≡ Booted }
+        ensures quiet { self.new.port.calls ≡ [] }
+    {
+        catch_up(&mut self.services, self.limit - self.rest);
+        self.due = 0;
+        self.rest = 0;
+        self.limit = 0;
+        self.frames_past = 0;
+        tell_neighbour(&mut self.port, &mut self.services);
+        pass_both(&mut self.port, &mut self.services, most, &mut self.outbox)
+    }
+}
+
+// The kind of the piece after one of a port, if this is the kind of the next one of the services.
+fn or_own(kind: u32, own: u32) -> u32
+    ensures { result ≡ kind_or_own kind own }
+{
+    if kind == 0 { own } else { kind }
+}
