@@ -1,7 +1,7 @@
 -- Sums of words with the carry at the low end.
-use Rattle.std.proofs.Common.{◌≡◌, ◌≢◌, ℕ, zero, suc, ◌+◌, ◌-◌, ◌*◌, ◌^◌, ◌%◌, ◌/◌, ◌<◌, ◌≤◌, Bool, true, false, cond, eqb, List, [], ◌∷◌, ◌++◌, length, drop, get_or, All, refl, sym, ap, ◌∙◌, arith}
+use Rattle.std.proofs.Common.{◌≡◌, ◌≢◌, ℕ, zero, suc, ◌+◌, ◌-◌, ◌*◌, ◌^◌, ◌%◌, ◌/◌, ◌<◌, ◌≤◌, Bool, true, false, cond, eqb, List, [], ◌∷◌, ◌++◌, length, take, drop, get_or, All, refl, sym, ap, ◌∙◌, arith}
 use Rattle.std.proofs.lemmas.Bool.{eqb-true, eq-eqb, ne_eqb}
-use Rattle.std.proofs.lemmas.List.{drop_more, drop_all}
+use Rattle.std.proofs.lemmas.List.{drop_more, drop_all, length-drop, take_all}
 use Rattle.std.proofs.lemmas.List.Elements.{All-cons, All-nil, All-head, All-tail}
 use Rattle.std.proofs.Math.Nat.{div-add-mod, mod-eq_of_lt, mod-lt, mul-add-mod_self_left}
 use Rattle.wire.specs.Formats.{big_bytes, big_number}
@@ -44,6 +44,32 @@ pub carried_once : (n : ℕ) → 65535 < n → n ≤ 131070 → n - 65535 ≡ ca
 carried_once n more most =
     let one : n ≡ 65535 * 1 + (n - 65535) = omega (arith, more) in
     sym (ap carried one ∙ carried_over 1 (n - 65535) (omega (arith, more)) ∙ carried_small (n - 65535) (omega (arith, most)))
+
+-- two numbers that are both 0 or both not, and that differ by a multiple of 65,535, have the same carried sum
+pub carried_same : (times n m : ℕ) → n ≡ 65535 * times + m → (m ≡ 0 → n ≡ 0) → carried n ≡ carried m
+carried_same times n zero e none = ap carried (none refl)
+carried_same times n (suc m) e none = ap carried e ∙ carried_over times (suc m) (omega arith)
+
+-- the carry of a number of eight octets is added at the low end
+pub carried_eight : (total number next : ℕ) → 2 ^ 64 ≤ total + number → total + number < 2 ^ 65 → next ≡ (total + number) % 2 ^ 64
+    → carried (next + 1) ≡ carried (total + number)
+carried_eight total number next over below e =
+    let cut = div-add-mod (total + number) (2 ^ 64) in
+    let one : (total + number) / 2 ^ 64 ≡ 1 = omega (arith, cut, over, below) in
+    let all : total + number ≡ 65535 * 281479271743489 + (next + 1) = omega (arith, cut, one, e) in
+    sym (carried_same 281479271743489 (total + number) (next + 1) all (λ z. absurd (omega (arith, z))))
+
+-- what is above 32 bits is added to the low half
+pub carried_halves : (total : ℕ) → carried (total / 4294967296 + total % 4294967296) ≡ carried total
+carried_halves total =
+    let cut = div-add-mod total 4294967296 in
+    sym (carried_same (65537 * (total / 4294967296)) total (total / 4294967296 + total % 4294967296) (omega (arith, cut)) (λ z. omega (arith, cut, z)))
+
+-- the same for 16 bits
+pub carried_quarters : (total : ℕ) → carried (total / 65536 + total % 65536) ≡ carried total
+carried_quarters total =
+    let cut = div-add-mod total 65536 in
+    sym (carried_same (total / 65536) total (total / 65536 + total % 65536) (omega (arith, cut)) (λ z. omega (arith, cut, z)))
 
 -- only 0 has the sum 0
 pub carried_zero : (n : ℕ) → carried n ≡ 0 → n ≡ 0
@@ -133,6 +159,30 @@ sum_ends_odd bytes index total next word whole high end h w n so_far =
     let parts : words_total (drop (2 * index) bytes) ≡ 256 * get_or bytes (2 * index) 0 =
     ap words_total (one ∙ ap (λ (xs : List ℕ). get_or bytes (2 * index) 0 ∷ xs) none) in
     n ∙ ap carried (omega (arith, parts, h, w)) ∙ so_far
+
+-- the octets after the first eight, as a slice up to the end
+pub behind_eight : (bytes : List ℕ) → take (length bytes - 8) (drop 8 bytes) ≡ drop 8 bytes
+behind_eight bytes = take_all (length bytes - 8) (drop 8 bytes) (let e = length-drop 8 bytes in omega (arith, e))
+
+-- eight octets are their four words
+pub eight_on : (bytes : List ℕ) (total next : ℕ) → 8 ≤ length bytes → carried next ≡ carried (total + big_number 8 bytes)
+    → carried (next + words_total (drop 8 bytes)) ≡ carried (total + words_total bytes)
+eight_on [] total next long e = absurd (omega (arith, long))
+eight_on (a ∷ []) total next long e = absurd (omega (arith, long))
+eight_on (a ∷ b ∷ []) total next long e = absurd (omega (arith, long))
+eight_on (a ∷ b ∷ c ∷ []) total next long e = absurd (omega (arith, long))
+eight_on (a ∷ b ∷ c ∷ d ∷ []) total next long e = absurd (omega (arith, long))
+eight_on (a ∷ b ∷ c ∷ d ∷ e1 ∷ []) total next long e = absurd (omega (arith, long))
+eight_on (a ∷ b ∷ c ∷ d ∷ e1 ∷ f ∷ []) total next long e = absurd (omega (arith, long))
+eight_on (a ∷ b ∷ c ∷ d ∷ e1 ∷ f ∷ g ∷ []) total next long e = absurd (omega (arith, long))
+eight_on (a ∷ b ∷ c ∷ d ∷ e1 ∷ f ∷ g ∷ h ∷ rest) total next long e =
+    let number : ℕ = big_number 8 (a ∷ b ∷ c ∷ d ∷ e1 ∷ f ∷ g ∷ h ∷ rest) in
+    let words : ℕ = words_total rest in
+    let times : ℕ = 4295032833 * (256 * a + b) + 65537 * (256 * c + d) + (256 * e1 + f) in
+    let sum : ℕ = total + (256 * a + b + (256 * c + d + (256 * e1 + f + (256 * g + h + words)))) in
+    let is : total + number + words ≡ 65535 * times + sum = omega arith in
+    sym (carried_on next words) ∙ ap (λ (n : ℕ). carried (n + words)) e ∙ carried_on (total + number) words
+    ∙ carried_same times (total + number + words) sum is (λ z. omega (arith, z))
 
 -- a sum that is continued after an even number of bytes
 pub sum_parts : (front body : List ℕ) (first sum pairs : ℕ) → length front ≡ 2 * pairs → first ≡ ones_sum_of front

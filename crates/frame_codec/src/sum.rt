@@ -2,6 +2,8 @@
 ghost use Rattle.std.specs.Prelude.{◌≡◌, ◌≤◌, ◌+◌, ◌*◌, ◌%◌, All};
 ghost use Rattle.frame_codec.specs.Sum.{words_total, carried, ones_sum_of};
 
+use byteorder::{BigEndian, ByteOrder};
+
 /// The word that two octets make, the high one first.
 fn word(high: u8, low: u8) -> u16
     ensures { result ≡ 256 * high + low }
@@ -21,8 +23,8 @@ fn plus(sum: u16, word: u16) -> u16
     }
 }
 
-/// The sum with the words of these octets added.
-pub(crate) fn sum_on(sum: u16, bytes: &[u8]) -> u16
+/// The sum with the words of these octets added, word by word.
+fn sum_words(sum: u16, bytes: &[u8]) -> u16
     ensures { result ≡ carried (sum + words_total bytes.now) }
 {
     let mut total = sum;
@@ -33,6 +35,37 @@ pub(crate) fn sum_on(sum: u16, bytes: &[u8]) -> u16
         0 => total,
         _ => plus(total, word(bytes[bytes.len() - 1], 0)),
     }
+}
+
+/// The total with one more number of eight octets, the carry added at the low end.
+fn plus_eight(total: u64, number: u64) -> u64
+    ensures { carried result ≡ carried (total + number) }
+{
+    let (next, carry) = total.overflowing_add(number);
+    if carry { next + 1 } else { next }
+}
+
+/// The total in 16 bits: what is above the low half is added to it, first that of 32 bits, then that of 16.
+fn folded(total: u64) -> u16
+    ensures { result ≡ carried total }
+{
+    let once = total / 0x1_0000_0000 + total % 0x1_0000_0000;
+    let twice = once / 0x1_0000 + once % 0x1_0000;
+    plus((twice % 0x1_0000) as u16, (twice / 0x1_0000) as u16)
+}
+
+/// The sum with the words of these octets added.
+pub(crate) fn sum_on(sum: u16, bytes: &[u8]) -> u16
+    ensures { result ≡ carried (sum + words_total bytes.now) }
+{
+    // A number of eight octets equals the sum of its four words modulo 65,535.
+    let mut total = sum as u64;
+    let mut rest = bytes;
+    while rest.len() >= 8 {
+        total = plus_eight(total, BigEndian::read_u64(rest));
+        rest = &rest[8..];
+    }
+    sum_words(folded(total), rest)
 }
 
 /// The ones' complement sum of the 16-bit words, the high octet first. An odd last octet is followed by 0.

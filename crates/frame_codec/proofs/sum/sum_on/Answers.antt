@@ -1,12 +1,13 @@
-use Rattle.std.proofs.Common.{◌≤◌, ◌+◌, ℕ, refl, subst, sym, arith}
-use Rattle.frame_codec.proofs.Sums.{carried_most, sum_goes_on, sum_ends}
+use Rattle.std.proofs.Common.{◌+◌, ℕ, List, ap, ◌∙◌, arith}
+use Rattle.frame_codec.specs.Sum.{words_total, carried}
+use Rattle.frame_codec.proofs.Sums.{behind_eight, eight_on}
 use Rattle.frame_codec.proofs.sum.sum_on.Goals as goal
 
-pub loop-index-preserved : goal.loop-index-preserved
-loop-index-preserved c = record {
-  most = subst (λ (n : ℕ). n ≤ 65535) (sym c.plus-total.ensures) (carried_most (c.loop-index.total + c.word.result));
-  whole = sum_goes_on c.args.bytes.now c.loop-index.index c.loop-index.total _ _ _ _ _ (omega arith) refl refl c.word.ensures c.plus-total.ensures c.loop-index.invariant.whole;
-}
-
-pub returns-in-0 : goal.returns-in-0
-returns-in-0 c = sum_ends c.args.bytes.now c.loop-index.index c.loop-index.total _ (omega arith) c.loop-index.invariant.most c.loop-index.invariant.whole
+-- eight octets more
+pub loop-rest-preserved : goal.loop-rest-preserved
+loop-rest-preserved c =
+    let rest = c.loop-rest.rest.now in
+    let next = c.plus_eight-total.result in
+    let number = ap (λ (n : ℕ). carried (c.loop-rest.total + n)) c.read_u64.ensures in
+    ap (λ (xs : List ℕ). carried (next + words_total xs)) (behind_eight rest)
+    ∙ (eight_on rest c.loop-rest.total next (omega arith) (c.plus_eight-total.ensures ∙ number) ∙ c.loop-rest.invariant)
