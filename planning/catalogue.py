@@ -189,8 +189,12 @@ def interval(word, value):
 
 
 def text_of(catalogue):
-    """The catalogue as JSON, with each list of numbers on one line."""
-    text = json.dumps(catalogue, indent=2)
+    """The catalogue as JSON, with each list of numbers on one line, and each signal."""
+    project = catalogue["Project"]
+    text = json.dumps({**catalogue, "Project": {**project, "Signals": []}}, indent=2)
+    entries = ",\n".join(f"      {json.dumps(entry, ensure_ascii=False)}" for entry in project["Signals"])
+    if entries:
+        text = text.replace('"Signals": []', f'"Signals": [\n{entries}\n    ]')
     return re.sub(r"\[\n\s*([0-9]+(?:,\n\s*[0-9]+)*)\n\s*\]", lambda found: "[" + re.sub(r",\s+", ", ", found[1]) + "]", text)
 
 

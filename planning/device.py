@@ -3,7 +3,8 @@
 import difflib
 
 from .elements import Refused
-from .values import OCTETS, OCTET_STRING, bits, ident, number, octets, parameter, shown, values
+from . import types
+from .values import bits, ident, number, octets, parameter, shown, values
 
 MOST_SUBSLOT = 36_863
 MOST_SLOT = 32_767
@@ -69,6 +70,38 @@ class Record:
         data[offset] = data[offset] & ~(((1 << length) - 1) << first) | value << first
 
 
+class DataItem:
+    """A value in the data of a submodule: its DataType, its number of octets, its text, and its bits that have one, each with its number."""
+
+    def __init__(self, file, element):
+        self.kind = element.text("DataType")
+        if not types.is_known(self.kind):
+            raise Refused(element.line, f"a DataItem of DataType {shown(self.kind)} is not one of GSDML with a length{meant(self.kind, [*types.LENGTHS, *types.SIZED])}")
+        self.length = self.length_of(element)
+        self.text = file.text(element)
+        self.bits = self.bits_of(file, element)
+
+    def length_of(self, element):
+        """Its octets, as its DataType says, or else its Length."""
+        if self.kind in types.SIZED:
+            return number(element, "Length", 1, MOST_DATA)
+        length = types.LENGTHS[self.kind]
+        if number(element, "Length", 0, 65_535, length) != length:
+            raise Refused(element.line, f"Length of {self.kind} is {length}, and '{shown(element.get('Length'))}' is not")
+        return length
+
+    def bits_of(self, file, element):
+        found = {}
+        for bit in element.all("BitDataItem"):
+            if not types.has_bits(self.kind):
+                raise Refused(bit.line, f"a DataItem of DataType {self.kind} has no bits")
+            place = number(bit, "BitOffset", 0, 8 * self.length - 1)
+            if place in found:
+                raise Refused(bit.line, f"the bit {place} is named twice")
+            found[place] = file.text(bit)
+        return sorted(found.items())
+
+
 class Submodule:
     """A submodule, built in or to be plugged."""
 
@@ -91,21 +124,16 @@ class Submodule:
             raise Refused(self.line, f"it is in {len(found):,} subslots, and {MOST_PARTS} is the most")
         return found
 
+    def items(self, way):
+        """The items of Input or of Output."""
+        return [DataItem(self.file, element) for element in self.element.all(f"IOData/{way}/DataItem")]
+
     def data(self, way):
-        """The items of Input or of Output, each with its DataType and, for an OctetString, its Length."""
-        found = []
-        for item in self.element.all(f"IOData/{way}/DataItem"):
-            kind = item.text("DataType")
-            if kind == OCTET_STRING:
-                found.append({"DataType": kind, "Length": number(item, "Length", 1, MOST_DATA)})
-            elif kind in OCTETS:
-                found.append({"DataType": kind})
-            else:
-                raise Refused(item.line, f"a DataItem of DataType {shown(kind)} is not one that a catalogue has ({', '.join(OCTETS)}, {OCTET_STRING})")
-        return found
+        """The same as a catalogue has them."""
+        return [types.in_catalogue(item.kind, item.length) for item in self.items(way)]
 
     def octets(self, way):
-        return sum(item["Length"] if item["DataType"] == OCTET_STRING else OCTETS[item["DataType"]] for item in self.data(way))
+        return sum(item.length for item in self.items(way))
 
     def judge(self):
         """Refuses what no catalogue can say: another API than 0, IOPS or IOCS of another length than 1, safe or isochronous data."""
@@ -258,6 +286,10 @@ class File:
         said = element.first("ModuleInfo/Name")
         text = said.get("TextId") if said is not None else element.get("TextId")
         return shown(self.texts.get(text, ""))
+
+    def text(self, element):
+        """The text that an element names by its TextId, or nothing."""
+        return shown(" ".join(self.texts.get(element.get("TextId"), "").split()))
 
     def errors(self):
         """The errors of channels that the maker names: each element, and those of its extended errors."""

@@ -367,7 +367,7 @@ def judge_lengths(plugged, controller):
 
 
 def judge(octets):
-    """Raises the first fault of a catalogue, if it has one."""
+    """The submodules in each slot. Raises the first fault of a catalogue, if it has one."""
     tree = tree_of(octets)
     at("DeviceIdentity", identity, member(tree, "DeviceIdentity"))
     point = at("DeviceAccessPointItem", access_point, member(tree, "DeviceAccessPointItem"))
@@ -375,7 +375,9 @@ def judge(octets):
     texts, slots = at("Project", project, member(tree, "Project"), point["least"], modules)
     judge_names(texts)
     judge_addresses(texts)
-    judge_lengths(Station(point, modules, slots).judge(), texts["Controller"])
+    plugged = Station(point, modules, slots).judge()
+    judge_lengths(plugged, texts["Controller"])
+    return plugged
 
 
 def fault_of(octets):

@@ -1,5 +1,6 @@
 """The catalogue of a station, of what a GSDML file says and what was chosen. What a catalogue cannot hold is refused with a line of the file."""
 
+from . import signals
 from .elements import Refused
 from .offer import MOST_OCTETS, milliseconds
 from .values import shown
@@ -11,6 +12,11 @@ MOST_ALL_RECORDS = 32
 MOST_DATA = 1_440
 MOST_CONNECT = 1_372
 MOST_SHOWN = 64  # options in a message
+
+
+def named(item):
+    """The name of a module or submodule for people, which the program ignores."""
+    return {"Name": item.name} if item.name else {}
 
 
 class Station:
@@ -239,13 +245,13 @@ class Station:
     def catalogue(self):
         """The catalogue, its keys in the order in which they are read."""
         point, names = self.point, self.module_names()
-        items = {names[slot]: {"ID": names[slot], "ModuleIdentNumber": item.ident, "VirtualSubmoduleItem": self.parts_said(slot)}
+        items = {names[slot]: {"ID": names[slot], **named(item), "ModuleIdentNumber": item.ident, "VirtualSubmoduleItem": self.parts_said(slot)}
                  for slot, item in self.modules.items()}
         references = {names[slot]: {"ModuleItemTarget": names[slot], **self.places_of(slot, names)} for slot in self.modules}
         return {
             "DeviceIdentity": {"VendorID": self.file.vendor, "DeviceID": self.file.device},
             "DeviceAccessPointItem": {
-                "ModuleIdentNumber": point.ident, "PhysicalSlots": list(point.physical()), "DNS_CompatibleName": point.station_type(),
+                **named(point), "ModuleIdentNumber": point.ident, "PhysicalSlots": list(point.physical()), "DNS_CompatibleName": point.station_type(),
                 "MinDeviceInterval": point.least_interval(), "VirtualSubmoduleItem": self.parts_said(0), "ModuleItemRef": list(references.values()),
                 **({"MultipleWriteSupported": True} if point.takes_lists() else {})},
             "ModuleItem": list(items.values()),
@@ -273,7 +279,7 @@ class Station:
     def parts_said(self, slot):
         said = []
         for subslot, part in self.parts[slot]:
-            entry = {"Subslot": subslot, "SubmoduleIdentNumber": part.ident}
+            entry = {"Subslot": subslot, **named(part), "SubmoduleIdentNumber": part.ident}
             data = {way: part.data(way) for way in ("Input", "Output") if part.data(way)}
             if data:
                 entry["IOData"] = data
@@ -295,4 +301,4 @@ class Station:
             "NameOfStation": choice.name, "IPAddress": choice.address, "SubnetMask": choice.mask, "Gateway": choice.gateway,
             "Controller": {"NameOfStation": choice.controller_name, "MAC": choice.controller_mac, "IPAddress": choice.controller_address},
             "SendClockFactor": self.send_clock, "ReductionRatio": self.ratio, "DataHoldFactor": choice.data_hold, "Slots": slots}
-        return {**said, "ContinueOnRefusedRecord": True} if choice.continues else said
+        return {**said, **({"ContinueOnRefusedRecord": True} if choice.continues else {}), "Signals": signals.of_station(self.parts, self.modules)}

@@ -6,10 +6,8 @@ import struct
 
 from .elements import Refused
 
-# Octets of the types of a DataItem that a catalogue has. An OctetString says its own length.
-OCTETS = {"Unsigned8": 1, "Integer8": 1, "Unsigned16": 2, "Integer16": 2, "Unsigned32": 4, "Integer32": 4, "Float32": 4}
 OCTET_STRING = "OctetString"
-# The same of a parameter (Ref), whose octets alone reach the device. A list says the form of struct.
+# The types of a parameter (Ref), whose octets alone reach the device. A list says the form of struct.
 NUMBERS = {"Unsigned8": ">B", "Unsigned16": ">H", "Unsigned32": ">I", "Unsigned64": ">Q",
            "Integer8": ">b", "Integer16": ">h", "Integer32": ">i", "Integer64": ">q"}
 FLOATS = {"Float32": ">f", "Float64": ">d"}

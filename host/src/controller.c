@@ -11,6 +11,7 @@
 #include "relation.h"
 #include "routing.h"
 #include "say.h"
+#include "signals.h"
 #include "streams.h"
 #include "warnings.h"
 #include "words.h"
@@ -41,6 +42,9 @@ struct options {
     char **words;     /* the whole command line, */
     int count;        /* and the number of its words */
     uint64_t pause; /* after which a controller that ended is started again, in nanoseconds; 0: it is not */
+    int has_signals;
+    int is_without_octets; /* --signals=only */
+    struct signals_options signals;
 };
 
 struct controller {
@@ -52,6 +56,7 @@ struct controller {
     uint64_t pause;
     int is_stopped; /* by a line or a signal: no controller is started again */
     uint64_t others; /* received frames that are for none of several relations */
+    struct signals signals;
 };
 
 /* --- Each relation --- */
@@ -377,6 +382,24 @@ static void take_stop(void *context, char *words[])
         stop(controller, controller->chosen);
 }
 
+static int take_signal(void *context, char *line)
+{
+    struct controller *controller = context;
+    return signals_take(&controller->signals, &controller->loop.lines, line);
+}
+
+static void write_signals(void *context)
+{
+    struct controller *controller = context;
+    signals_write(&controller->signals, &controller->loop.lines);
+}
+
+static uint32_t signals_wait(void *context)
+{
+    struct controller *controller = context;
+    return signals_due(&controller->signals, &controller->loop.lines);
+}
+
 static const struct command commands[] = {
     {"give", 4, take_give, "give SLOT SUBSLOT HEX   sets the output of a submodule"},
     {"status", 4, take_status, "status SLOT SUBSLOT good|bad   sets whether an output is good: its IOPS"},
@@ -407,6 +430,7 @@ static const struct command commands_of_several[] = {
 static void usage(void)
 {
     puts("Usage: nandutable-controller IFACE PLAN.json [PLAN.json ..] [--assign MAC [--force] | --replace PORT.STATION] [--retry SECONDS]\n"
+         "                             [--signals[=only] [--deadband NAME=NUMBER ..] [--every MS] [--times]]\n"
          "                             [--socket PATH] [--socket-group GROUP] [--period US] [--realtime N]\n"
          "       nandutable-controller IFACE [PLAN.json] --list\n"
          "       nandutable-controller IFACE [PLAN.json] --read SLOT SUBSLOT INDEX [--from STATION]\n"
@@ -430,6 +454,11 @@ static void usage(void)
          "                        name, or if another station has the plan's name or address. It takes one plan\n"
          "  --retry SECONDS       starts a controller again this long after its end, 1 to 3600, unless it was stopped. Otherwise the program\n"
          "                        ends when all controllers have ended\n"
+         "  --signals[=only]      prints and accepts data by the names that the plan has (Signals of Project): NAME = VALUE good|bad on each\n"
+         "                        change, and the lines set NAME VALUE, get NAME, names. With =only the data is not printed in octets too\n"
+         "  --deadband NAME=NUMBER  prints this signal only if it differs by at least NUMBER from what was printed last\n"
+         "  --every MS            prints a signal at most once in 1 to 60000 milliseconds\n"
+         "  --times               the time of the change follows each signal: seconds since 1970\n"
          "  --socket PATH         lines go in and out over this unix socket, and not over the standard streams\n"
          "  --socket-group GROUP  the members of this group may use the socket too, not only its owner\n"
          "  --period US           hands in time in this period, 31 to 10000 microseconds, and not only when something is due; choose at most the\n"
@@ -448,6 +477,7 @@ static void usage(void)
          "  nandutable-controller eth1 pump.json --replace port-002.switch-1\n"
          "  nandutable-controller eth1 pump.json\n"
          "  nandutable-controller eth1 pump.json valve.json --retry 5\n"
+         "  nandutable-controller eth1 pump.json --signals --deadband level=5 --every 100\n"
          "  echo 'give 2 1 00ff' | nandutable-controller eth1 pump.json\n"
          "\n"
          "Lines that it accepts: `give SLOT SUBSLOT HEX`, `status SLOT SUBSLOT good|bad`, `read SLOT SUBSLOT INDEX`,\n"
@@ -466,6 +496,23 @@ static void take_pause(struct options *options, const char *word)
     if (!words_number(word, 3600, &number) || number < 1)
         options_misused("--retry takes 1 to 3600 seconds: ", word);
     options->pause = number * SECOND;
+}
+
+/* `--signals`, or `--signals=only`. */
+static void take_signals(struct options *options, const char *word)
+{
+    if (word != NULL && strcmp(word, "only") != 0)
+        options_misused("it is --signals, or --signals=only: ", word);
+    options->has_signals = 1;
+    options->is_without_octets = word != NULL;
+}
+
+static void take_every(struct options *options, const char *word)
+{
+    unsigned long number;
+    if (!words_number(word, 60000, &number) || number < 1)
+        options_misused("--every takes 1 to 60000 milliseconds: ", word);
+    options->signals.every = number * (SECOND / 1000);
 }
 
 /* A name by a place has a dot between the port and the station. */
@@ -498,6 +545,10 @@ static int take_option(void *context, int option, const char *word)
     case 'm': options->from = word; return 1;
     case 'f': options->is_forced = 1; return 1;
     case 't': take_pause(options, word); return 1;
+    case 'n': take_signals(options, word); return 1;
+    case 'b': options->signals.deadbands[options->signals.deadband_count++] = optarg; return 1;
+    case 'e': take_every(options, word); return 1;
+    case 'T': options->signals.has_times = 1; return 1;
     case 'c': take_place(options, word); return 1;
     case 'a':
         if (!words_mac(word, options->assigned))
@@ -537,18 +588,29 @@ static void read_words(struct options *options, int count, char *words[])
                                           {"force", no_argument, NULL, 'f'},
                                           {"replace", required_argument, NULL, 'c'},
                                           {"retry", required_argument, NULL, 't'},
+                                          {"signals", optional_argument, NULL, 'n'},
+                                          {"deadband", required_argument, NULL, 'b'},
+                                          {"every", required_argument, NULL, 'e'},
+                                          {"times", no_argument, NULL, 'T'},
                                           SHARED_OPTIONS};
     const struct command_line line = {known, usage, take_option};
     int first;
     memset(options, 0, sizeof *options);
     options->words = words;
     options->count = count;
+    options->signals.deadbands = calloc((size_t)count + 1, sizeof *options->signals.deadbands);
+    if (options->signals.deadbands == NULL)
+        fail(STATUS_SYSTEM, "out of memory");
     first = options_read(&line, &options->shared, options, count, words);
     check_tool(options, count - first);
     if (options->shared.socket_group != NULL && options->shared.socket == NULL)
         options_misused("--socket-group takes --socket", "");
     if (options->is_forced && !options->has_assigned)
         options_misused("--force takes --assign", "");
+    if (!options->has_signals && (options->signals.deadband_count != 0 || options->signals.every != 0 || options->signals.has_times))
+        options_misused("--deadband, --every and --times take --signals", "");
+    if (options->has_signals && (options->is_list || options->is_read))
+        options_misused("--list and --read take no --signals", "");
     options->shared.interface = words[first];
     options->plans = words + first + 1;
     options->plan_count = (unsigned)(count - first - 1);
@@ -720,6 +782,7 @@ static void open_relations(struct controller *controller, const struct options *
     controller->relations[0].serves = 1;
     for (unsigned i = 0; i < controller->count; i++) {
         relation_open(&controller->relations[i], options->plans[i]);
+        controller->relations[i].has_octets = !options->is_without_octets;
         for (unsigned k = 0; k < i; k++) {
             check_stations(&controller->relations[k], &controller->relations[i]);
             check_controllers(&controller->relations[k], &controller->relations[i]);
@@ -789,9 +852,18 @@ static _Noreturn void read_one(struct controller *controller, const struct optio
     exit(0);
 }
 
+static void open_signals(struct controller *controller, const struct options *options)
+{
+    signals_open(&controller->signals, controller->relations, controller->count, &options->signals);
+    for (unsigned i = 0; i < controller->count; i++)
+        controller->relations[i].signals = &controller->signals;
+}
+
 static void open_all(struct controller *controller, const struct options *options)
 {
     open_relations(controller, options);
+    if (options->has_signals)
+        open_signals(controller, options);
     controller->pause = options->pause;
     controller->loop.period = options->shared.period;
     controller->loop.apart = controller->count > 1 ? APART : 1;
@@ -810,8 +882,24 @@ static void open_all(struct controller *controller, const struct options *option
 #define EVENTS .idle_most = IDLE_MOST, .look_each = STATUS_EACH, .is_over = is_over, .tick = tick, .due = due, .look = look_at_states, .take_frame = take_frame, \
                .statistics = statistics, .look_around = look_around
 
+static const char *const signal_lines[] = {"set NAME VALUE          sets an output by its name",
+                                           "get NAME                prints a signal; get * prints all",
+                                           "names                   lists the signals, with direction, type and place", NULL};
+
+#define SIGNALS .take_line = take_signal, .more_help = signal_lines, .write = write_signals, .write_due = signals_wait
+
 static const struct events events = {EVENTS, .commands = commands};
 static const struct events events_of_several = {EVENTS, .commands = commands_of_several, .choose = choose};
+static const struct events events_with_signals = {EVENTS, SIGNALS, .commands = commands};
+static const struct events events_of_several_with_signals = {EVENTS, SIGNALS, .commands = commands_of_several, .choose = choose};
+
+static const struct events *events_of(const struct controller *controller)
+{
+    int has_signals = controller->relations[0].signals != NULL;
+    if (controller->count == 1)
+        return has_signals ? &events_with_signals : &events;
+    return has_signals ? &events_of_several_with_signals : &events_of_several;
+}
 
 static void warn_of_plan(struct relation *relation)
 {
@@ -822,7 +910,7 @@ static void begin(struct controller *controller)
 {
     for (unsigned i = 0; i < controller->count; i++)
         relation_make(&controller->relations[i], &controller->loop);
-    loop_start(&controller->loop, controller->count == 1 ? &events : &events_of_several, controller);
+    loop_start(&controller->loop, events_of(controller), controller);
     for_each(controller, relation_introduce);
     look_at_kernel(controller);
     loop_tell_link(&controller->loop);

@@ -86,6 +86,7 @@ static void let_in(struct lines *lines)
         memset(talker, 0, sizeof *talker);
         talker->in = talker->out = fd;
         talker->is_socket = 1;
+        talker->turn = ++lines->turns;
         return;
     }
     close(fd); /* all places are in use */
@@ -222,6 +223,23 @@ void lines_answer(struct lines *lines, const char *format, ...)
     for (int i = 0; i < LINES_TALKERS; i++)
         if (lines->asking == NULL || lines->asking == &lines->talkers[i])
             put_line(lines, &lines->talkers[i], line);
+}
+
+void lines_send(struct lines *lines, unsigned talker, const char *line)
+{
+    put_line(lines, &lines->talkers[talker], line);
+}
+
+size_t lines_room(struct lines *lines, unsigned talker)
+{
+    struct talker *one = &lines->talkers[talker];
+    flush(one);
+    return one->out == NOBODY ? 0 : LINES_KEPT - one->kept_length;
+}
+
+int lines_asker(const struct lines *lines)
+{
+    return lines->asking == NULL ? -1 : (int)(lines->asking - lines->talkers);
 }
 
 void lines_status(struct lines *lines, const char *text)

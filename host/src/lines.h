@@ -24,6 +24,7 @@ struct talker {
     size_t kept_first;
     size_t kept_length;
     uint64_t lost;
+    uint64_t turn; /* which program it is, from 1 on; 0 for the standard streams */
 };
 
 struct lines {
@@ -34,6 +35,7 @@ struct lines {
     struct talker talkers[LINES_TALKERS];
     struct talker *asking; /* the sender of the line that is being answered, or NULL */
     const char *name;      /* the station whose lines these are, or NULL */
+    uint64_t turns;        /* programs that have opened the socket */
 };
 
 /* A function that sends a line: lines_tell or lines_answer. */
@@ -60,6 +62,15 @@ void lines_tell(struct lines *lines, const char *format, ...) __attribute__((for
 
 /* Sends a line to the sender of the line that is being answered. */
 void lines_answer(struct lines *lines, const char *format, ...) __attribute__((format(printf, 2, 3)));
+
+/* Sends a line to one reader, without the name of a station. */
+void lines_send(struct lines *lines, unsigned talker, const char *line);
+
+/* How many octets a reader has room for, after what waits for it is written as far as possible; 0 if there is none. */
+size_t lines_room(struct lines *lines, unsigned talker);
+
+/* Which reader sent the line that is being answered, or -1. */
+int lines_asker(const struct lines *lines);
 
 /* Sets the text below all lines on a terminal. */
 void lines_status(struct lines *lines, const char *text);

@@ -47,6 +47,8 @@ static void arm(struct loop *loop)
         return;
     loop->due = loop->events->due(loop->context);
     due = loop->due < loop->apart ? loop->apart : loop->due;
+    if (loop->events->write_due != NULL && loop->events->write_due(loop->context) < due)
+        due = loop->events->write_due(loop->context);
     ticker_arm(&loop->ticker, due < look ? due : look);
 }
 
@@ -114,6 +116,8 @@ static void help(struct loop *loop)
 {
     for (const struct command *command = loop->events->commands; command->word != NULL; command++)
         lines_answer(&loop->lines, "%s", command->help);
+    for (const char *const *more = loop->events->more_help; more != NULL && *more != NULL; more++)
+        lines_answer(&loop->lines, "%s", *more);
 }
 
 static void carry_out(struct loop *loop, const struct command *command, char *words[])
@@ -152,7 +156,10 @@ static void take_line(void *context, char *line)
     struct loop *loop = context;
     const struct events *events = loop->events;
     char *words[6]; /* the name of a station, and at most five others */
-    int count = words_part(line, words, 6), named = 0;
+    int count, named = 0;
+    if (events->take_line != NULL && events->take_line(loop->context, line))
+        return;
+    count = words_part(line, words, 6);
     if (count == 0)
         return;
     if (count > 1 && events->choose != NULL)
@@ -202,6 +209,8 @@ void loop_run(struct loop *loop)
             loop->wake.has_lines = 0;
             lines_take(&loop->lines, take_line, loop);
         }
+        if (events->write != NULL)
+            events->write(loop->context);
         if (loop->wake.is_asked) {
             loop->wake.is_asked = 0;
             events->statistics(loop->context, lines_tell);

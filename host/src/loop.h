@@ -33,6 +33,12 @@ struct events {
     /* Whether a word in front of a line is the name of a station; the line is then for this one. It is called with NULL after the line. NULL
      * if no line has a name. */
     int (*choose)(void *context, const char *name);
+    /* Takes a whole line before its words are parted. Returns whether it is one of its lines. NULL if there are none. */
+    int (*take_line)(void *context, char *line);
+    const char *const *more_help; /* the forms and effects of these lines, and NULL; NULL if there are none */
+    /* Writes what waits for readers, at the end of each turn, and the units after which it has more to write. NULL for nothing. */
+    void (*write)(void *context);
+    uint32_t (*write_due)(void *context);
     const struct command *commands; /* the last one has no word */
     void (*statistics)(void *context, lines_writer tell);
     void (*look_around)(void *context); /* now and then; NULL for nothing */

@@ -4,6 +4,7 @@
 #include "arp.h"
 #include "calls.h"
 #include "say.h"
+#include "signals.h"
 #include "statuses.h"
 #include "warnings.h"
 #include "words.h"
@@ -170,7 +171,7 @@ static void look_at_inputs(struct relation *relation)
         struct place *place = &relation->inputs.list[i];
         char text[STATION_LINE];
         loop_must(pn_controller_value(&relation->room, &relation->op, place->slot, place->subslot), "pn_controller_value");
-        if (!station_update(place, relation->op.octets, relation->op.length))
+        if (!station_update(place, relation->op.octets, relation->op.length) || !relation->has_octets)
             continue;
         station_line(text, "input", place);
         lines_tell(&relation->loop->lines, "%s", text);
@@ -185,12 +186,12 @@ static void look_at_providers(struct relation *relation)
         uint8_t iops = 0, data_status = 0;
         int now = -1;
         if (pn_controller_provider(&relation->room, &relation->op, place->slot, place->subslot, &iops, &data_status) == PN_OK)
-            now = iops | ((data_status & PN_PROVIDER_RUNS) != 0 ? 256 : 0);
+            now = iops | ((data_status & PN_PROVIDER_RUNS) != 0 ? RELATION_RUNS : 0);
         if (now == relation->providers[i])
             continue;
         relation->providers[i] = now;
-        if (now >= 0)
-            lines_tell(&relation->loop->lines, "provider %u %u %02x %s", place->slot, place->subslot, iops, now >= 256 ? "run" : "stop");
+        if (now >= 0 && relation->has_octets)
+            lines_tell(&relation->loop->lines, "provider %u %u %02x %s", place->slot, place->subslot, iops, now >= RELATION_RUNS ? "run" : "stop");
     }
 }
 
@@ -397,6 +398,8 @@ void relation_look_at_data(struct relation *relation, const uint8_t *octets, siz
     if (wire_is_cyclic(octets, length)) {
         look_at_inputs(relation);
         look_at_providers(relation);
+        if (relation->signals != NULL)
+            signals_look(relation->signals, relation);
     } else if (before == PN_WRITING && relation->state == PN_WRITING) {
         look_at_refused(relation);
     } else if (before == PN_DATA_EXCHANGE) {
@@ -458,6 +461,8 @@ void relation_tell_state(struct relation *relation)
         return;
     }
     tell_end(relation);
+    if (relation->signals != NULL)
+        signals_end(relation->signals, relation);
     access_drop(relation);
     look_at_inputs(relation);
     /* For these two causes the controller sends a Release; the program waits for its answer. */
@@ -547,6 +552,13 @@ void relation_show(struct relation *relation)
     loop_answer_places(relation->loop, "give", &relation->outputs);
 }
 
+void relation_put(struct relation *relation, struct place *place)
+{
+    place->is_given = 1;
+    place->is_changed = 1;
+    put_output(relation, place);
+}
+
 static void give(struct relation *relation, const struct words_place *given, const uint8_t *octets)
 {
     struct place *place = station_place(&relation->outputs, given->slot, given->subslot);
@@ -557,9 +569,10 @@ static void give(struct relation *relation, const struct words_place *given, con
         lines_answer(lines, "wrong: the output of slot %u subslot %u has %u octets", given->slot, given->subslot, place->length);
     else {
         memcpy(place->octets, octets, given->length);
-        place->is_given = 1;
-        put_output(relation, place);
+        relation_put(relation, place);
         lines_answer(lines, "state %s", states[relation->state]);
+        if (relation->signals != NULL)
+            signals_look(relation->signals, relation);
     }
 }
 
@@ -591,4 +604,6 @@ void relation_rate(struct relation *relation, char *words[])
     place->is_bad = !is_good;
     loop_must(put_status(relation, place), "pn_controller_status");
     lines_answer(lines, "state %s", states[relation->state]);
+    if (relation->signals != NULL)
+        signals_look(relation->signals, relation);
 }

@@ -12,6 +12,11 @@
 #include "station.h"
 #include "waiting.h"
 
+/* In `providers`: the device runs. */
+#define RELATION_RUNS 256
+
+struct signals;
+
 struct relation {
     /* What is read for each frame of any station. */
     uint64_t ends_at; /* 0 before the end */
@@ -45,6 +50,8 @@ struct relation {
     uint64_t interval; /* of cyclic frames, in nanoseconds */
     int alarms[2];     /* of each priority, the number of the last alarm that was reported; -1: none yet */
     struct access access;
+    struct signals *signals; /* of all relations; NULL: data is printed in octets alone */
+    int has_octets;   /* data is printed in octets: the lines `input` and `provider` */
     int is_stopped;   /* by a line: it is not started again by itself */
     int is_wanted;    /* by a line: it is started again once it has ended */
     uint32_t refused; /* the number of the last refused record that was reported, from 1 on */
@@ -116,6 +123,9 @@ int relation_answer(struct relation *relation, struct access_answer *answer);
 
 /* The line `restart`: ends the relation, after which the program starts it again. */
 void relation_restart(struct relation *relation, char *words[]);
+
+/* Hands in an output, whose octets were changed. */
+void relation_put(struct relation *relation, struct place *place);
 
 /* The line `give`, with its words. */
 void relation_give(struct relation *relation, char *words[]);

@@ -120,6 +120,7 @@ int station_update(struct place *place, const uint8_t *octets, size_t length)
     if (length != place->length || memcmp(octets, place->octets, length) == 0)
         return 0;
     memcpy(place->octets, octets, length);
+    place->is_changed = 1;
     return 1;
 }
 

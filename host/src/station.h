@@ -14,6 +14,7 @@ struct place {
     uint16_t length;
     int is_given;
     int is_bad; /* by a line `status` of a controller */
+    int is_changed; /* since the signals of the place were looked at */
     uint8_t octets[STATION_DATA];
 };
 
