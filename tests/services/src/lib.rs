@@ -10,6 +10,7 @@ mod arp;
 mod calls;
 mod echo;
 mod mapper;
+mod readme;
 mod stations;
 mod times;
 

@@ -9,15 +9,15 @@ use pn_values::{demo_identity, demo_modules};
 use station::{IoStation, StationOutbox, cycle};
 
 /// A Set of the IP address 192.168.0.2, permanent.
-const SET_ADDRESS: &str =
+pub const SET_ADDRESS: &str =
     "0200000000010200000000028892fefd040000000002000000120102000e0001c0a80002ffffff0000000000";
 
 /// An echo request to it, and the reply.
-const PING: &str = "0200000000010200000000020800450000240005400080017980c0a80001c0a800020800542f12340007616263646566676800000000000000000000";
+pub const PING: &str = "0200000000010200000000020800450000240005400080017980c0a80001c0a800020800542f12340007616263646566676800000000000000000000";
 /// The station's LLDP, without a name, up to its port.
 const LLDP: &str = "0180c200000e02000000000188cc0207040200000000010409";
 
-const PINGED: &str = "020000000002020000000001080045000024000040004001b985c0a80002c0a8000100005c2f12340007616263646566676800000000000000000000";
+pub const PINGED: &str = "020000000002020000000001080045000024000040004001b985c0a80002c0a8000100005c2f12340007616263646566676800000000000000000000";
 
 /// What is handed on, kept in memory.
 struct Taken(Vec<Vec<u8>>);
@@ -29,7 +29,7 @@ impl Sink for Taken {
 }
 
 /// A frame that arrives.
-fn frame(digits: &str) -> Event {
+pub fn frame(digits: &str) -> Event {
     let mut bytes = frame_codec::Bytes::new();
     bytes.try_extend_from_slice(&octets(digits)).expect("room");
     Event::Frame(bytes)
