@@ -14,9 +14,27 @@
 #define ACTIVITY_AT 40u
 #define AR_AT (HEADER + 28u)
 
+/* From the header of DCE/RPC on: its first flags, the operation, and the block of a Write, after the sizes of the arguments. */
+#define FLAGS_AT 2u
+#define OPERATION_AT 68u
+#define WRITE_AT (HEADER + 20u)
+#define FLAG_FRAGMENT 4u
+#define OPERATION_WRITE 3u
+
+/* In the header of a Write, of this many octets: the index of its record, and the number of octets that follow the header. */
+#define WRITE_HEADER 64u
+#define INDEX_AT 34u
+#define LENGTH_AT 36u
+#define INDEX_LIST 0xE040u
+
 int calls_is(const uint8_t *octets, size_t length, unsigned type)
 {
     return length >= STATUS_AT + 4 && octets[12] == 0x08 && octets[13] == 0x00 && octets[23] == 17 && octets[RPC_AT] == 4 && octets[RPC_AT + 1] == type;
+}
+
+int calls_is_release(const uint8_t *octets, size_t length)
+{
+    return calls_is(octets, length, CALLS_REQUEST) && length >= BLOCKS_AT + 2 && octets[BLOCKS_AT] == 0x01 && octets[BLOCKS_AT + 1] == 0x14;
 }
 
 /* Four octets at a place, with the most significant one first, whatever the order of the datagram is. */
@@ -77,4 +95,45 @@ int calls_read(const uint8_t *octets, size_t length, struct calls_numbers *numbe
         return 0;
     memcpy(numbers->ar, octets + at + AR_AT, 16);
     return 1;
+}
+
+/* Whether the record of an index is stored: I&M data. */
+static int is_stored(unsigned index)
+{
+    return index >= 0xAFF0u && index <= 0xAFFFu;
+}
+
+/* Whether a list of records has one that is stored, or is not understood. `list` are the headers and records of a Write with the index of
+ * lists; each record is padded to a multiple of four octets. */
+static int lists_stored(const uint8_t *list, size_t length)
+{
+    while (length >= WRITE_HEADER) {
+        size_t size = (size_t)list[LENGTH_AT] << 24 | (size_t)list[LENGTH_AT + 1] << 16 | (size_t)list[LENGTH_AT + 2] << 8 | list[LENGTH_AT + 3];
+        size_t each = WRITE_HEADER + (size + 3) / 4 * 4;
+        if (is_stored((unsigned)(list[INDEX_AT] << 8 | list[INDEX_AT + 1])))
+            return 1;
+        if (each >= length)
+            return 0;
+        list += each;
+        length -= each;
+    }
+    return 0;
+}
+
+int calls_may_store(const uint8_t *octets, size_t length)
+{
+    size_t at = header_at(octets, length);
+    const uint8_t *header = octets + at, *write;
+    unsigned operation, index;
+    if (at == 0 || header[1] != CALLS_REQUEST)
+        return 0;
+    operation = header[4] >> 4 == 1 ? header[OPERATION_AT] | (unsigned)header[OPERATION_AT + 1] << 8
+                                    : (unsigned)header[OPERATION_AT] << 8 | header[OPERATION_AT + 1];
+    if (operation != OPERATION_WRITE)
+        return 0;
+    if ((header[FLAGS_AT] & FLAG_FRAGMENT) != 0 || length < at + WRITE_AT + WRITE_HEADER)
+        return 1;
+    write = header + WRITE_AT;
+    index = (unsigned)(write[INDEX_AT] << 8 | write[INDEX_AT + 1]);
+    return is_stored(index) || (index == INDEX_LIST && lists_stored(write + WRITE_HEADER, length - at - WRITE_AT - WRITE_HEADER));
 }

@@ -52,6 +52,12 @@ static int read_at(int fd, uint8_t *octets, size_t length, off_t place)
     return 0;
 }
 
+/* Why a call failed. */
+static const char *why_not(int number)
+{
+    return number == EFBIG ? "the greatest length of a file is less than that of a flash file (`ulimit -f`, LimitFSIZE=)" : strerror(number);
+}
+
 /* Locks the file of a descriptor for this process. */
 static void lock(int fd, const char *path)
 {
@@ -87,7 +93,7 @@ static _Noreturn void not_made(const char *path, const char *made)
     int why = errno;
     if (made != NULL)
         unlink(made);
-    fail(STATUS_CREATE, "the flash file '%s' cannot be made: %s", path, strerror(why));
+    fail(STATUS_CREATE, "the flash file '%s' cannot be made: %s", path, why_not(why));
 }
 
 /* A file with the other name may be the flash of another device. One that an interrupted start left is shorter than a flash, or erased. */
@@ -112,6 +118,7 @@ static int make(const char *path)
 {
     static uint8_t erased[2 * PN_SECTOR_SIZE];
     char made[PATH_MAX];
+    struct stat there;
     int fd;
     if (snprintf(made, sizeof made, "%s.new", path) >= (int)sizeof made)
         fail(STATUS_CREATE, "the name of the flash file is too long");
@@ -125,7 +132,7 @@ static int make(const char *path)
         return -1;
     }
     judge_left(fd, made, path);
-    if (access(path, F_OK) == 0) {
+    if (lstat(path, &there) == 0) { /* also a link that leads nowhere: it is not replaced */
         unlink(made);
         close(fd);
         return -1;
@@ -138,10 +145,24 @@ static int make(const char *path)
     return fd;
 }
 
+/* Ends the program if a path is a symbolic link to a file that does not exist: the device whose flash is there would be started without its
+ * settings. */
+static void judge_link(const char *path)
+{
+    char target[PATH_MAX];
+    ssize_t length = readlink(path, target, sizeof target);
+    if (length >= 0)
+        fail(STATUS_INPUT, "the flash file '%s' is a symbolic link to '%.*s', which does not exist: make its folder available (is a volume not mounted yet?) and start again, or remove the link to start with a new file",
+             path, (int)length, target);
+}
+
 /* Opens an existing file. */
 static int open_old(const char *path)
 {
-    int fd = open(path, O_RDWR | O_CLOEXEC);
+    int fd = open(path, O_RDWR | O_CLOEXEC), why = errno;
+    if (fd < 0 && why == ENOENT)
+        judge_link(path);
+    errno = why;
     if (fd < 0 && errno != ENOENT)
         fail(STATUS_INPUT, "the flash file '%s' cannot be opened to be read and written: %s", path, strerror(errno));
     if (fd >= 0)
@@ -231,7 +252,7 @@ static int store(struct chip *chip, uint32_t sector, uint32_t place, uint32_t le
 {
     if (write_durably(chip->fd, chip->sectors[sector] + place, length, (off_t)sector * PN_SECTOR_SIZE + place) == 0)
         return 0;
-    chip->why = strerror(errno);
+    chip->why = why_not(errno);
     return 1;
 }
 

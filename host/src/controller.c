@@ -241,7 +241,7 @@ static int is_wanted_again(const struct controller *controller, const struct rel
 static int is_due_again(const struct controller *controller, const struct relation *relation)
 {
     return is_wanted_again(controller, relation) && relation_is_over(relation) &&
-           (relation->is_wanted || ticker_now() >= relation->ends_at + controller->pause);
+           (relation->is_wanted || ticker_now() >= relation->ended_at + controller->pause);
 }
 
 static void look_around(void *context)
@@ -310,6 +310,8 @@ static void statistics(void *context, lines_writer tell)
     if (controller->chosen == NULL)
         loop_tell_time(&controller->loop, tell);
     tell_each(controller, tell, relation_tell_times);
+    if (controller->chosen == NULL)
+        tell(lines, "neighbours not reported %" PRIu64, controller->relations[0].neighbours_left_out);
     if (controller->chosen == NULL)
         tell(lines, "lines lost %" PRIu64, lines_lost(lines));
 }

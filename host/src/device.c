@@ -34,6 +34,9 @@ struct options {
     int is_without_services;
 };
 
+/* From this many commits that the flash still takes on, the device reports that they are few, and again at each tenth of that. */
+#define FEW_COMMITS 100000u
+
 /* A status that was given by a line. */
 struct status {
     uint16_t slot;
@@ -369,19 +372,58 @@ static uint32_t due(void *context)
     return device->due;
 }
 
+/* How few commits are left: 0 for more than a few, and one more for each tenth; 7 for none. */
+static unsigned how_few(uint32_t left)
+{
+    unsigned few = 0;
+    for (uint32_t bound = FEW_COMMITS; bound >= left && bound != 0; bound /= 10)
+        few++;
+    return few + (left == 0);
+}
+
+static void tell_few(struct device *device, uint32_t left)
+{
+    if (left == 0)
+        lines_tell(&device->loop.lines, "warning: the flash takes no more commits: each Set and each Write of an I&M record is refused from now on, and no controller can set the address again. Start with a new flash file, and set the name again");
+    else
+        lines_tell(&device->loop.lines, "warning: the flash takes %" PRIu32 " more commits; then nothing more is stored. Who sends Sets or Writes of I&M records so often? (--sets-per-second)", left);
+}
+
+/* How many commits the flash still takes. */
+static uint32_t commits_left(struct device *device)
+{
+    uint32_t left = 0;
+    loop_must(pn_left(&device->room, &device->op, &left), "pn_left");
+    return left;
+}
+
+/* Counts what a frame stored, and reports a flash that takes few more commits. `before` is how many it took before the frame. */
+static void look_at_wear(struct device *device, uint32_t before, int is_set)
+{
+    uint32_t left = commits_left(device);
+    if (left >= before)
+        return;
+    sets_stored(&device->sets, before - left, is_set);
+    if (how_few(before) != how_few(left))
+        tell_few(device, left);
+}
+
 static void take_frame(void *context, const uint8_t *octets, size_t length)
 {
     struct device *device = context;
     int is_cyclic = wire_is_cyclic(octets, length);
-    uint32_t note;
+    uint32_t note, before;
     if (!sets_let_in(&device->sets, octets, length, device->station.mac, ticker_now()))
         return;
+    before = is_cyclic ? 0 : commits_left(device);
     pn_watch_frame(&device->watch, octets, length);
     loop_must(pn_frame(&device->room, &device->op, octets, length), "pn_frame");
     note = device->op.note;
     if (note < sizeof device->notes / sizeof device->notes[0])
         device->notes[note]++;
     carry_out(device);
+    if (!is_cyclic)
+        look_at_wear(device, before, sets_is_set(octets, length, device->station.mac));
     if (note != PN_DONE)
         return;
     if (!is_cyclic) {
@@ -437,6 +479,7 @@ static void statistics(void *context, lines_writer tell)
     for (unsigned i = 0; i < sizeof notes / sizeof notes[0]; i++)
         tell(lines, "note %s %" PRIu64, notes[i], device->notes[i]);
     tell(lines, "sets dropped %" PRIu64, device->sets.dropped);
+    tell(lines, "writes dropped %" PRIu64, device->sets.writes_dropped);
     tell(lines, "address conflicts %" PRIu32, conflicts);
     tell(lines, "flash programs %" PRIu64 " erases %" PRIu64 " faults %" PRIu64 " commits-left %" PRIu32, device->chip.programs, device->chip.erases,
          device->chip.faults, left);
@@ -663,7 +706,8 @@ static void usage(void)
          "  --period US           hands in time in this period during a relation, 31 to 10000 microseconds, and not only when something is\n"
          "                        due; choose at most the controller's interval (default: when something is due)\n"
          "  --realtime N          runs with this priority, 1 to 99, of the first-in first-out scheduler\n"
-         "  --sets-per-second N   accepts at most N DCP Sets a second, 1 to 1000000, and drops the others (default: no limit)\n"
+         "  --sets-per-second N   stores at most N settings a second, 1 to 1000000: drops the DCP Sets and the Writes of I&M records beyond that\n"
+         "                        (default: no limit)\n"
          "  --smallest-interval N  refuses a relation with a shorter interval, in units of 31.25 microseconds, 1 to 65536 (default: 32, 1 ms)\n"
          "  --inputs-begin-bad    the IOPS of an input is bad until its first `input` in a relation\n"
          "  --ready-by-application  the device is ready at the line `ready` after `parameters end`, and not by itself\n"
@@ -830,6 +874,8 @@ static void begin(struct device *device)
     loop_tell_link(&device->loop);
     look_at_link(device);
     look(device, 1);
+    if (how_few(commits_left(device)) != 0)
+        tell_few(device, commits_left(device));
 }
 
 int main(int count, char *words[])

@@ -2,13 +2,15 @@
 #include "naming.h"
 #include "ports.h"
 #include "reasons.h"
+#include "say.h"
 #include "statuses.h"
 #include "ticker.h"
 #include <stdio.h>
 #include <string.h>
 
-/* The most stations whose ports are read. */
+/* The most stations whose ports are read, and the most that are listed. */
 #define STATIONS 512u
+#define LISTED 4096u
 
 /* The records that are read, the second one from stations that do not have the first: PDRealData of the station, and PDPortDataReal of the
  * port that stations with one port have. */
@@ -26,10 +28,21 @@ struct station {
 };
 
 static struct station stations[STATIONS];
+static uint8_t known[LISTED][6]; /* the MAC address of each station that answered */
 static uint8_t octets[WIRE_FRAME];
 
 /* --- Who is there --- */
 
+/* Whether one of these stations has this MAC address. */
+static int is_known(unsigned count, const uint8_t mac[6])
+{
+    for (unsigned i = 0; i < count; i++)
+        if (memcmp(known[i], mac, sizeof known[i]) == 0)
+            return 1;
+    return 0;
+}
+
+/* Each station once, by its MAC address: the first of its answers. */
 static unsigned find_all(struct wire *wire)
 {
     struct naming_station found;
@@ -37,6 +50,13 @@ static unsigned find_all(struct wire *wire)
     unsigned count = 0;
     naming_ask_all(wire);
     while (naming_next_station(wire, until, &found)) {
+        if (is_known(count, found.mac))
+            continue;
+        if (count == LISTED) {
+            say("more than %u stations answer; the others are not listed", LISTED);
+            return count;
+        }
+        memcpy(known[count], found.mac, sizeof known[count]);
         if (count < STATIONS) {
             struct station *station = &stations[count];
             memset(station, 0, sizeof *station);

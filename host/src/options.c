@@ -40,11 +40,28 @@ static void take_shared(struct shared_options *shared, int option, const char *w
     }
 }
 
+/* Refuses an abbreviation, which getopt_long would take for the one option that begins with it: `--real` is no `--realtime`. */
+static void check_whole(const struct option *option, const char *word)
+{
+    size_t length = strlen(option->name);
+    if (strncmp(word, "--", 2) != 0 || strncmp(word + 2, option->name, length) != 0 || (word[2 + length] != '\0' && word[2 + length] != '='))
+        options_misused("there is no such option: ", word);
+}
+
+/* The word of the option that was read last: its argument is in the same word, or in the one after it. */
+static const char *option_word(char *words[])
+{
+    return words[optarg != NULL && optarg == words[optind - 1] ? optind - 2 : optind - 1];
+}
+
 /* Ends the program because of an option that is unknown, that takes no argument, or whose argument is missing. */
-static _Noreturn void refuse(int answer, char *words[])
+static _Noreturn void refuse(const struct option *known, int answer, char *words[])
 {
     const char *word = words[optind - 1];
     const char letter[] = {'-', (char)optopt, '\0'};
+    for (const struct option *option = known; optopt != 0 && option->name != NULL; option++)
+        if (option->val == optopt)
+            check_whole(option, word);
     if (answer == ':')
         options_misused("its argument is missing: ", word);
     if (optopt == 0 || strncmp(word, "--", 2) == 0)
@@ -54,9 +71,14 @@ static _Noreturn void refuse(int answer, char *words[])
 
 int options_read(const struct command_line *line, struct shared_options *shared, void *options, int count, char *words[])
 {
-    int option;
+    int option, place = -1;
     opterr = 0;
-    while ((option = getopt_long(count, words, ":h", line->known, NULL)) != -1) {
+    while ((option = getopt_long(count, words, ":h", line->known, &place)) != -1) {
+        if (option == '?' || option == ':')
+            refuse(line->known, option, words);
+        if (place >= 0)
+            check_whole(&line->known[place], option_word(words));
+        place = -1;
         if (option == 'h') {
             line->usage();
             exit(0);
@@ -65,8 +87,6 @@ int options_read(const struct command_line *line, struct shared_options *shared,
             printf("%s %s\n", say_name(), VERSION);
             exit(0);
         }
-        if (option == '?' || option == ':')
-            refuse(option, words);
         if (!line->take(options, option, optarg))
             take_shared(shared, option, optarg);
     }

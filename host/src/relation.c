@@ -18,8 +18,11 @@
 #define FRAME_INPUT 0xC001u
 /* The shortest time between two reports of a station that uses the controller's address. */
 #define CONFLICT_PAUSE (10 * SECOND)
-/* How long to wait for the answer to a Release. */
-#define RELEASE_WAITS (SECOND / 5)
+/* The shortest time between two lines about the neighbour. */
+#define NEIGHBOUR_PAUSE (10 * SECOND)
+/* A Release is repeated each second. After this many the controller waits this long for the answer, and then no more. */
+#define RELEASES 3
+#define RELEASE_WAITS (SECOND / 2)
 
 static const char *const states[] = {"", "looking", "addressing", "connecting", "writing", "ending", "waiting", "exchanging", "ended"};
 static const char *const causes[] = {
@@ -33,6 +36,26 @@ static const char *const causes[] = {
     "stopped",
 };
 
+/* Notes a Release that is sent. */
+static void note_release(struct relation *relation, const uint8_t *octets, size_t length)
+{
+    if (!calls_is_release(octets, length))
+        return;
+    relation->release = calls_sequence(octets);
+    relation->releases++;
+    if (relation->releases >= RELEASES && relation->ends_at != 0)
+        relation->ends_at = ticker_now() + RELEASE_WAITS;
+}
+
+/* Whether a frame is the answer to the Release: a response of any status, a reject or a fault. */
+static int is_released(const struct relation *relation, const uint8_t *octets, size_t length)
+{
+    struct calls_numbers numbers;
+    int is_answer = calls_is(octets, length, CALLS_RESPONSE) || calls_is(octets, length, CALLS_REJECT) || calls_is(octets, length, CALLS_FAULT);
+    return is_answer && relation->releases != 0 && calls_sequence(octets) == relation->release && calls_read(octets, length, &numbers) &&
+           memcmp(numbers.activity, relation->activity, sizeof numbers.activity) == 0;
+}
+
 static int transmit(void *context, const uint8_t *octets, uint32_t length)
 {
     struct relation *relation = context;
@@ -42,6 +65,7 @@ static int transmit(void *context, const uint8_t *octets, uint32_t length)
         memcpy(relation->device, octets, sizeof relation->device);
         relation->has_device = 1;
     } else {
+        note_release(relation, octets, length);
         waiting_sent(&relation->waiting, octets, length);
         duplicate_sent(&relation->duplicate, &relation->loop->wire, octets, length);
     }
@@ -66,6 +90,7 @@ void relation_open(struct relation *relation, const char *file)
     station_plan(&relation->plan, file);
     memcpy(relation->station, plan->name, plan->name_length);
     strcpy(relation->neighbour, "-");
+    strcpy(relation->neighbour_seen, "-");
     station_places(&relation->inputs, plan->modules, plan->module_count, OF_INPUT);
     station_places(&relation->outputs, plan->modules, plan->module_count, OF_OUTPUT);
     relation->interval = (uint64_t)plan->send_clock_factor * plan->reduction_ratio * PN_UNIT_NS;
@@ -136,6 +161,7 @@ void relation_make(struct relation *relation, struct loop *loop)
     relation->has_device = 0;
     relation->last_cyclic = 0;
     relation->ends_at = 0;
+    relation->releases = 0;
     relation->conflicts = 0;
     relation->alarms[0] = relation->alarms[1] = -1;
     relation->access.is_waiting = 0;
@@ -376,9 +402,18 @@ void relation_look_at_neighbour(struct relation *relation)
                  words_show_text(chassis, sizeof chassis, neighbour.chassis, neighbour.chassis_length));
     else
         strcpy(text, "-");
-    if (strcmp(text, relation->neighbour) == 0)
+    if (strcmp(text, relation->neighbour) == 0) {
+        strcpy(relation->neighbour_seen, text);
         return;
+    }
+    if (relation->neighbour_told != 0 && ticker_now() < relation->neighbour_told + NEIGHBOUR_PAUSE) {
+        relation->neighbours_left_out += strcmp(text, relation->neighbour_seen) != 0;
+        strcpy(relation->neighbour_seen, text);
+        return;
+    }
+    relation->neighbour_told = ticker_now();
     strcpy(relation->neighbour, text);
+    strcpy(relation->neighbour_seen, text);
     lines_tell(&relation->loop->lines, "neighbour %s", text);
 }
 
@@ -407,7 +442,7 @@ void relation_look_at_data(struct relation *relation, const uint8_t *octets, siz
         look_at_alarm(relation, 1);
         access_look(relation);
     }
-    if (before == PN_ENDED && calls_is(octets, length, CALLS_RESPONSE))
+    if (before == PN_ENDED && is_released(relation, octets, length))
         relation->ends_at = ticker_now();
 }
 
@@ -465,8 +500,9 @@ void relation_tell_state(struct relation *relation)
         signals_end(relation->signals, relation);
     access_drop(relation);
     look_at_inputs(relation);
-    /* For these two causes the controller sends a Release; the program waits for its answer. */
-    relation->ends_at = ticker_now() + (relation->cause == PN_STOPPED || relation->cause == PN_MODULE_DIFF ? RELEASE_WAITS : 0);
+    /* If the controller has sent a Release it goes on until this is answered, and repeats it. */
+    relation->ended_at = ticker_now();
+    relation->ends_at = relation->releases == 0 ? relation->ended_at : UINT64_MAX;
 }
 
 void relation_tell_waiting(struct relation *relation)

@@ -19,7 +19,8 @@ struct signals;
 
 struct relation {
     /* What is read for each frame of any station. */
-    uint64_t ends_at; /* 0 before the end */
+    uint64_t ends_at; /* when the controller is over: 0 before its end, the highest number while it waits for the answer to its Release */
+    uint64_t ended_at; /* when it ended */
     uint32_t state;   /* as it was reported last */
     uint32_t cause;
     uint64_t units;  /* of the loop's time that were handed in */
@@ -40,6 +41,9 @@ struct relation {
     uint32_t conflicts;     /* that were seen */
     uint64_t conflict_told; /* when the last one was reported; 0: none yet */
     char neighbour[600];    /* by LLDP, as it was reported last; at the relation that answers for the address */
+    char neighbour_seen[600];      /* as it was seen last */
+    uint64_t neighbour_told;       /* when it was reported last; 0: not yet */
+    uint64_t neighbours_left_out;  /* changes that came too soon after a report to be reported themselves */
     struct places inputs;
     struct places outputs;
     int providers[STATION_PLACES]; /* of each input, what was reported last: its IOPS, and 256 if the device runs; -1: nothing yet */
@@ -47,6 +51,8 @@ struct relation {
     struct holders holders; /* of the plan's name */
     uint8_t device[6];      /* the other end of the relation, to which the cyclic frames go */
     int has_device;
+    uint32_t release;  /* the sequence number of the Release */
+    unsigned releases; /* that were sent */
     uint64_t interval; /* of cyclic frames, in nanoseconds */
     int alarms[2];     /* of each priority, the number of the last alarm that was reported; -1: none yet */
     struct access access;

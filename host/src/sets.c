@@ -1,9 +1,10 @@
 #include "sets.h"
+#include "calls.h"
 #include "wire.h"
 #include <string.h>
 
-/* A Set uses this many parts of the room. Each nanosecond adds as many parts as the limit has Sets. */
-#define SETS_PART 1000000000ull
+/* A commit uses this many parts of the room. Each nanosecond adds as many parts as the limit has commits. */
+#define SETS_PART 1000000000ll
 
 enum { FRAME_SET = 0xFEFD, SERVICE_SET = 4, REQUEST = 0 };
 
@@ -22,26 +23,40 @@ int sets_is_set(const uint8_t *octets, size_t length, const uint8_t mac[6])
            memcmp(octets, mac, 6) == 0;
 }
 
-/* Adds the parts for the elapsed time, up to the room for the Sets of one second. */
+/* Adds the parts for the elapsed time, up to the room for the commits of one second. */
 static void fill(struct sets *sets, uint64_t now)
 {
-    uint64_t most = sets->limit * SETS_PART, passed = now - sets->filled;
+    int64_t most = sets->limit * SETS_PART, missing = most - sets->room;
+    uint64_t passed = now - sets->filled;
     sets->filled = now;
-    if (passed >= SETS_PART || passed * sets->limit >= most - sets->room)
+    if (passed >= (uint64_t)missing / sets->limit + 1)
         sets->room = most;
     else
-        sets->room += passed * sets->limit;
+        sets->room += (int64_t)passed * sets->limit;
 }
 
 int sets_let_in(struct sets *sets, const uint8_t *octets, size_t length, const uint8_t mac[6], uint64_t now)
 {
-    if (sets->limit == 0 || !sets_is_set(octets, length, mac))
+    int is_set;
+    if (sets->limit == 0)
+        return 1;
+    is_set = sets_is_set(octets, length, mac);
+    if (!is_set && !calls_may_store(octets, length))
         return 1;
     fill(sets, now);
     if (sets->room < SETS_PART) {
-        sets->dropped++;
+        sets->dropped += (uint64_t)is_set;
+        sets->writes_dropped += (uint64_t)!is_set;
         return 0;
     }
-    sets->room -= SETS_PART;
+    if (is_set)
+        sets->room -= SETS_PART;
     return 1;
+}
+
+void sets_stored(struct sets *sets, uint32_t commits, int is_set)
+{
+    uint32_t more = is_set && commits != 0 ? commits - 1 : commits; /* sets_let_in took the room for one */
+    if (sets->limit != 0)
+        sets->room -= more * SETS_PART;
 }

@@ -3,6 +3,7 @@
 #include "say.h"
 #include <errno.h>
 #include <fcntl.h>
+#include <signal.h>
 #include <string.h>
 #include <unistd.h>
 
@@ -13,6 +14,8 @@ static int open_null(void)
 
 void streams_secure(void)
 {
+    /* A write beyond the greatest length of a file (RLIMIT_FSIZE) fails with EFBIG, and does not kill the program without a word. */
+    signal(SIGXFSZ, SIG_IGN);
     /* A new descriptor is the lowest free one, and those below are open by then. */
     for (int fd = STDIN_FILENO; fd <= STDERR_FILENO; fd++)
         if (fcntl(fd, F_GETFD) < 0 && open_null() != fd)

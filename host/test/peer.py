@@ -1,10 +1,12 @@
-"""Stations at the end d0 of a wire that answer what a test tells them to answer, and nothing else; a partner also exchanges data. Their frames are made here."""
+"""Stations at the end d0 of a wire that answer what a test tells them to answer, and nothing else; a partner also exchanges data. An opener at the
+end c0 calls a device as a controller does. Their frames are made here."""
 
+import os
 import struct
 import threading
 import time
 
-from wire import block
+from wire import DEVICE, TOP, block, drain
 
 ZEROS = bytes(4)
 CONNECT, WRITE, READ, PRM_END, RELEASE, READY = 0x0101, 0x0008, 0x0009, 0x0110, 0x0114, 0x0112
@@ -55,6 +57,7 @@ def block_of(kind, fields):
 class Station(threading.Thread):
     """A station. What it answers may be changed while it runs.
 
+    `silences`: how many calls of a kind it does not answer, before it answers them.
     `identifies`: how often it answers an Identify for its name; `is_careless`: for another name too. `sets`: the BlockError of its answer to a
     Set, None for no answer. `arp`: the address for which it answers ARP, or None. `calls`: the PNIOStatus of its answer to a call, by the type of
     the first block, or for a Write by that type and the index; no answer if there is none. `rejects`: a packet type (FAULT, REJECT) and the octets
@@ -69,6 +72,7 @@ class Station(threading.Thread):
         self.identifies, self.is_careless, self.sets, self.arp, self.calls = identifies, is_careless, sets, arp, calls or {}
         self.rejects, self.differs, self.reference = rejects or {}, differs, reference
         self.place, self.is_coy = place.encode() if place else None, is_coy
+        self.silences = {}
         self.named = []  # each name that came in a Set
         self.is_over = False
         self.start()
@@ -135,7 +139,9 @@ class Station(threading.Thread):
         kind = struct.unpack_from(">H", came, BLOCKS_AT)[0]
         index = int.from_bytes(came[BLOCKS_AT + 34:BLOCKS_AT + 36], "big")  # of a Write
         status = self.calls.get((kind, index), self.calls.get(kind))
-        if kind in self.rejects:
+        if self.silences.get(kind):
+            self.silences[kind] -= 1
+        elif kind in self.rejects:
             self.respond(came, *self.rejects[kind])
         elif status is not None:
             blocks = self.blocks_to(kind, came) if status == ZEROS else b""
@@ -219,7 +225,7 @@ class Partner(Station):
             self.calls[READ] = ZEROS if place_of(came) in self.records else b"\xde\x80\xb0\0"
         elif kind == CONNECT:
             self.connect(came)
-        elif kind == RELEASE:
+        elif kind == RELEASE and not self.silences.get(kind):
             self.ar = None
         super().call(came)
         if kind == PRM_END:
@@ -278,3 +284,91 @@ class Partner(Station):
                 end.acknowledged.append((block, alarm_type, slot, subslot, specifier, status))
             end.taken = number
             self.pdu(end, 3)
+
+
+# ---- who calls a device
+
+def scapys_connect():
+    """The blocks of the Connect that Scapy built for the demo station."""
+    with open(os.path.join(TOP, "examples", "exchange.txt"), encoding="ascii") as script:
+        frames = [line.split()[1] for line in script if line.startswith("frame ")]
+    return next(bytes.fromhex(frame)[RPC_AT + 100:] for frame in frames if frame[24:28] == "0800")
+
+
+def texts(number, count):
+    """So many records of I&M2 and I&M3 in turn, each with a text of its own: slot, subslot, index and octets."""
+    return [(0, 1, 0xAFF2 + at % 2, block_of(0x22 + at % 2, f"{number} {at}".encode().ljust((16, 54)[at % 2]))) for at in range(count)]
+
+
+def arguments(blocks, most=None):
+    """Blocks after the sizes of the arguments of a call."""
+    return struct.pack(">5I", most or len(blocks), len(blocks), most or len(blocks), 0, len(blocks)) + blocks
+
+
+class Opener:
+    """Calls the demo station at d0 from c0, as a controller does: from this MAC address and this IP address, with the CMInitiatorMacAdd `initiator`,
+    which is that MAC address if there is none. `seconds`: the activity timeout of its relation."""
+
+    # In the first block of a Connect: the ARUUID, CMInitiatorMacAdd, CMInitiatorActivityTimeoutFactor.
+    AR_AT, INITIATOR_AT, TIMEOUT_AT = 8, 26, 52
+
+    def __init__(self, wire, mac, address="192.168.0.1", initiator=None, seconds=60):
+        self.link, self.mac, self.address = wire.socket(), mac, address_of(address)
+        self.initiator, self.seconds = initiator or mac, seconds
+        self.ar, self.activity, self.sequence = os.urandom(16), os.urandom(16), 0
+
+    def close(self):
+        self.link.close()
+
+    def send(self, operation, body, pieces=1):
+        """Sends a call, in that many fragments."""
+        size = -(-len(body) // pieces)
+        for number in range(pieces):
+            part = body[number * size:(number + 1) * size]
+            flags = 0x20 | (0 if pieces == 1 else 0x0E if number == pieces - 1 else 0x0C)
+            head = bytes((4, 0, flags, 0, 0, 0, 0, 0)) + bytes.fromhex("dea000006c97 11d1 8271 00010456 0123 dea000016c97 11d1 8271 00a02442df7d") + self.activity
+            head += struct.pack(">IIIHHHHHBB", 0, 1, self.sequence, operation, 0xFFFF, 0xFFFF, len(part), number, 0, 0)
+            self.link.send((DEVICE + self.mac + b"\x08\0" + internet(self.address, address_of("192.168.0.2"), head + part)).ljust(60, b"\0"))
+        self.sequence += 1
+
+    def call(self, operation, body, pieces=1, seconds=1.0):
+        """The PNIOStatus of the response and its blocks; None without a response."""
+        drain(self.link)
+        self.send(operation, body, pieces)
+        ends = time.monotonic() + seconds
+        while (left := ends - time.monotonic()) > 0:
+            self.link.settimeout(left)
+            try:
+                came = self.link.recv(2048)
+            except TimeoutError:
+                return None
+            if came[:6] == self.mac and came[12:14] == b"\x08\0" and came[RPC_AT + 1] == 2 and came[RPC_AT + 40:RPC_AT + 56] == self.activity:
+                return came[RPC_AT + 80:RPC_AT + 84], came[BLOCKS_AT:]
+        return None
+
+    def connect(self):
+        blocks = bytearray(scapys_connect())
+        blocks[self.AR_AT:self.AR_AT + 16] = self.ar
+        blocks[self.INITIATOR_AT:self.INITIATOR_AT + 6] = self.initiator
+        blocks[self.TIMEOUT_AT:self.TIMEOUT_AT + 2] = struct.pack(">H", self.seconds * 10)
+        return self.call(0, arguments(bytes(blocks), 4096))
+
+    def header(self, slot, subslot, index, length, api=0):
+        return block_of(8, struct.pack(">H16sIHHHHI24s", self.sequence, self.ar, api, slot, subslot, 0, index, length, bytes(24)))
+
+    def write(self, records, pieces=1, seconds=1.0):
+        """Writes one record, or several as a list: each is its slot, subslot, index and octets."""
+        blocks = b"".join(self.header(slot, subslot, index, len(octets)) + octets.ljust(-(-len(octets) // 4) * 4, b"\0")
+                          for slot, subslot, index, octets in records)
+        if len(records) == 1:
+            blocks = blocks[:64 + len(records[0][3])]
+        else:
+            blocks = self.header(0xFFFF, 0xFFFF, 0xE040, len(blocks), 0xFFFFFFFF) + blocks
+        return self.call(3, arguments(blocks), pieces, seconds)
+
+    def read_implicit(self, index):
+        """Sends a Read Implicit at slot 0, subslot 1, and waits for no answer."""
+        self.send(5, arguments(block_of(9, struct.pack(">H16sIHHHHI24s", 1, bytes(16), 0, 0, 1, 0, index, 4096, bytes(24))), 4096))
+
+    def release(self):
+        return self.call(1, arguments(block_of(RELEASE, bytes(2) + self.ar + struct.pack(">4H", 1, 0, 4, 0))))

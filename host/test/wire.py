@@ -32,7 +32,10 @@ class NoWire(Exception):
 
 
 def command(*words, environment=None):
-    ran = subprocess.run(words, capture_output=True, text=True, env=environment)
+    try:
+        ran = subprocess.run(words, capture_output=True, text=True, env=environment)
+    except FileNotFoundError:
+        raise NoWire(f"{words[0]} is not installed" + (" (Debian: apt-get install iproute2)" if words[0] == "ip" else "")) from None
     if ran.returncode != 0:
         raise NoWire(f"{' '.join(words)}: {ran.stderr.strip() or ran.returncode}")
     return ran.stdout
