@@ -4,6 +4,7 @@ status that its answer carries, or that it is accepted. It shares no line with t
 
     bench/gate/connect_table.py --lines         prints the table: a Connect a line, as edits of the first one
     bench/gate/connect_table.py --statuses      prints what has to become of each: a status, or 'ok'
+    bench/gate/connect_table.py --check         compares both with the table of tests/tables/connects
     bench/gate/connect_table.py --recorded FOLDER
                                            compares the rules with the Connects of scripts (NAME) and what was printed for them
                                            (NAME.stdout)
@@ -13,7 +14,7 @@ import os
 import struct
 import sys
 
-from program import answer_help, refuse
+from program import TOP, answer_help, refuse
 
 AR, IOCR, ALARM, EXPECTED = 0x0101, 0x0102, 0x0103, 0x0104
 # ErrorCode1 of a fault in a field of each kind: the alarm block's follows that of Expected.
@@ -481,12 +482,29 @@ def recorded(folder):
     return 1 if wrong else 0
 
 
+def check():
+    """Whether the table of the tests has these Connects, and what must become of each."""
+    rows = list(table())
+    wanted = {"stdin": "\n".join(map(line_of, rows)) + "\n", "stdout": "\n".join(" ".join(three) for three in statuses_of(rows)) + "\n"}
+    other = []
+    for name, text in wanted.items():
+        with open(os.path.join(TOP, "tests", "tables", "connects", name), encoding="ascii") as file:
+            if file.read() != text:
+                other.append(name)
+    for name in other:
+        print(f"tests/tables/connects/{name} is not what the rules give")
+    print(f"{len(rows)} Connects, {'other than the rules give' if other else 'as the rules give'}")
+    return 1 if other else 0
+
+
 def main(words):
     answer_help(__doc__, words)
     if words == ["--lines"]:
         print("\n".join(map(line_of, table())))
     elif words == ["--statuses"]:
         print("\n".join(" ".join(three) for three in statuses_of(table())))
+    elif words == ["--check"]:
+        return check()
     elif len(words) == 2 and words[0] == "--recorded":
         return recorded(words[1])
     else:

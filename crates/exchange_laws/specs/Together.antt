@@ -32,8 +32,8 @@ pub record IsBegunAndPlayed {F : Type 0} {S : ℕ} (as_flash : Flash F S) (setup
   pub made : AreMade as_flash first run
   pub ends : last_world first run ≡ last
   -- If the controller exchanges data, it received an ApplicationReady that the device had sent before, with one of its
-  -- own moves. At that point the device had accepted the plan's Connect, and had accepted the plan's records in order,
-  -- each once.
+  -- own moves. When the device sent it, it had accepted the plan's Connect and, unless the plan goes on after a refused
+  -- record, the plan's records in order, each once.
   pub handed : last.controller.live.phase ≡ Exchanging → WasHanded (rules_of first.controller.setup first.device.station) (view_of first) (viewed run)
   -- If the device exchanges data, its controller did so before.
   pub exchanging : (link : RelationState) → last.device.live.rest.link ≡ Some link → link.phase ≡ in_exchange → WasExchanging (viewed run)
