@@ -16,6 +16,7 @@
 //! large, and any number of them can be held at once.
 #![tactic(auto)]
 
+mod apart;
 mod block;
 mod block_reader;
 mod block_type;

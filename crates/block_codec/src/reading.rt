@@ -7,6 +7,7 @@ ghost use Rattle.block_codec.specs.declared.block_type.BlockType.TheVariants.{Ex
 ghost use Rattle.block_codec.specs.Kinds.{number_of, type_of};
 ghost use Rattle.block_codec.specs.Block.{IsAccepted, IsBlock, block, block_of, body_of, fields_of, front};
 
+use crate::apart::{expected_apart, filter_data_apart, module_diff_apart};
 use crate::{
     AlarmAck, Block, BlockFault, BlockType, ExpectedModule, ExpectedSubmodule,
     ExpectedSubmoduleBlockReq,
@@ -16,10 +17,10 @@ use connect_blocks::{
     alarm_cr_block_req_at, alarm_cr_block_res_at, ar_block_req_at, ar_block_res_at, control_at,
     iocr_block_req_at, iocr_block_res_at,
 };
-use module_blocks::{expected_at, expected_in, module_diff_at};
+use module_blocks::expected_in;
 use record_blocks::{
-    alarm_ack_at, alarm_notification_at, filter_data_at, im0_at, im1_at, im2_at, im3_at, im4_at,
-    iod_read_req_at, iod_read_res_at, iod_write_req_at, iod_write_res_at,
+    alarm_ack_at, alarm_notification_at, im0_at, im1_at, im2_at, im3_at, im4_at, iod_read_req_at,
+    iod_read_res_at, iod_write_req_at, iod_write_res_at,
 };
 use wire::{split, u16_at};
 
@@ -157,9 +158,9 @@ fn fields_at(kind: BlockType, body: &[u8]) -> Result<Block<'_>, BlockFault>
         BlockType::AlarmCrBlockReq => Block::AlarmCrBlockReq(alarm_cr_block_req_at(body)?),
         BlockType::AlarmCrBlockRes => Block::AlarmCrBlockRes(alarm_cr_block_res_at(body)?),
         BlockType::ExpectedSubmoduleBlockReq => {
-            Block::ExpectedSubmoduleBlockReq(expected_at(body)?)
+            Block::ExpectedSubmoduleBlockReq(expected_apart(body)?)
         }
-        BlockType::ModuleDiffBlock => Block::ModuleDiffBlock(module_diff_at(body)?),
+        BlockType::ModuleDiffBlock => Block::ModuleDiffBlock(module_diff_apart(body)?),
         BlockType::PrmEnd => Block::PrmEnd(control_at(body, None)?),
         BlockType::PrmEndRes => Block::PrmEndRes(control_at(body, Some(8))?),
         BlockType::ApplicationReady => Block::ApplicationReady(control_at(body, Some(2))?),
@@ -175,8 +176,10 @@ fn fields_at(kind: BlockType, body: &[u8]) -> Result<Block<'_>, BlockFault>
         BlockType::Im2 => Block::Im2(im2_at(body)?),
         BlockType::Im3 => Block::Im3(im3_at(body)?),
         BlockType::Im4 => Block::Im4(im4_at(body)?),
-        BlockType::ImFilterDataSubmodule => { Block::ImFilterDataSubmodule(filter_data_at(body)?) }
-        BlockType::ImFilterDataDevice => Block::ImFilterDataDevice(filter_data_at(body)?),
+        BlockType::ImFilterDataSubmodule => {
+            Block::ImFilterDataSubmodule(filter_data_apart(body)?)
+        }
+        BlockType::ImFilterDataDevice => Block::ImFilterDataDevice(filter_data_apart(body)?),
         BlockType::AlarmNotification => Block::AlarmNotification(alarm_notification_at(body)?),
         BlockType::AlarmAck => Block::AlarmAck(alarm_ack_at(body)?),
     })

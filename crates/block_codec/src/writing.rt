@@ -3,6 +3,7 @@ ghost use Rattle.std.specs.Prelude.{◌≡◌, ◌+◌, ◌≤◌, ◌<◌, ◌+
 ghost use Rattle.arrayvec.specs.ArrayVec.{array_vec_len};
 ghost use Rattle.block_codec.specs.Block.{IsAccepted, IsBlock, block, block_of, block_bytes, block_size, fields_of, front, kind_of};
 
+use crate::apart::{put_expected_apart, put_filter_data_apart, put_module_diff_apart};
 use crate::{AlarmNotification, Block, BlockType};
 use arrayvec::ArrayVec;
 use block_fields::put_version;
@@ -12,12 +13,12 @@ use connect_blocks::{
     put_alarm_cr_block_res, put_ar_block_req, put_ar_block_res, put_control, put_iocr_block_req,
     put_iocr_block_res,
 };
-use module_blocks::{expected_len, module_diff_len, put_expected, put_module_diff};
+use module_blocks::{expected_len, module_diff_len};
 use record_blocks::{
     alarm_ack_len, alarm_front, alarm_notification_len, filter_data_len, im0_len, im1_len, im2_len,
     im3_len, im4_len, iod_read_req_len, iod_read_res_len, iod_write_req_len, iod_write_res_len,
-    put_alarm_ack, put_alarm_notification, put_filter_data, put_im0, put_im1, put_im2, put_im3,
-    put_im4, put_iod_read_req, put_iod_read_res, put_iod_write_req, put_iod_write_res,
+    put_alarm_ack, put_alarm_notification, put_im0, put_im1, put_im2, put_im3, put_im4,
+    put_iod_read_req, put_iod_read_res, put_iod_write_req, put_iod_write_res,
 };
 use wire::{append_u16, join};
 
@@ -82,8 +83,8 @@ fn put_body<const N: usize>(out: &mut ArrayVec<u8, N>, block: &Block)
         Block::IocrBlockRes(value) => put_iocr_block_res(out, value),
         Block::AlarmCrBlockReq(value) => put_alarm_cr_block_req(out, value),
         Block::AlarmCrBlockRes(value) => put_alarm_cr_block_res(out, value),
-        Block::ExpectedSubmoduleBlockReq(value) => put_expected(out, value),
-        Block::ModuleDiffBlock(value) => put_module_diff(out, value),
+        Block::ExpectedSubmoduleBlockReq(value) => put_expected_apart(out, value),
+        Block::ModuleDiffBlock(value) => put_module_diff_apart(out, value),
         Block::PrmEnd(value) => put_control(out, value),
         Block::PrmEndRes(value) => put_control(out, value),
         Block::ApplicationReady(value) => put_control(out, value),
@@ -99,8 +100,8 @@ fn put_body<const N: usize>(out: &mut ArrayVec<u8, N>, block: &Block)
         Block::Im2(value) => put_im2(out, value),
         Block::Im3(value) => put_im3(out, value),
         Block::Im4(value) => put_im4(out, value),
-        Block::ImFilterDataSubmodule(value) => put_filter_data(out, value),
-        Block::ImFilterDataDevice(value) => put_filter_data(out, value),
+        Block::ImFilterDataSubmodule(value) => put_filter_data_apart(out, value),
+        Block::ImFilterDataDevice(value) => put_filter_data_apart(out, value),
         Block::AlarmNotification(value) => put_alarm_notification(out, value),
         Block::AlarmAck(value) => put_alarm_ack(out, value),
     }

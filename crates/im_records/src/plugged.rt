@@ -2,20 +2,33 @@
 ghost use Rattle.std.specs.Prelude.{◌≡◌, ◌+◌, ◌≤◌, ◌++◌, [], length};
 ghost use Rattle.arrayvec.specs.ArrayVec.{array_vec_len};
 ghost use Rattle.record_blocks.specs.FilterData.{filter_data};
+ghost use Rattle.block_codec.specs.Block.{block_bytes};
+ghost use Rattle.block_codec.specs.declared.block.Block.TheVariants as is;
 ghost use Rattle.im_records.specs.Plugged.{device_entries, device_in, device_of, all_of, filter_record, ident_in, modules_in, parts_in};
 ghost use Rattle.im_records.specs.Plugged.{submodules_in};
 
+use crate::reading::Octets;
 use arrayvec::ArrayVec;
 use block_codec::{Block, FilterModule, FilterModules, FilterSubmodule, ImFilterData, write_block};
 use pn_values::{Real, RealModule, RealSubmodule};
 use record_blocks::filter_data_len;
 
-/// Record 0xF840: all submodules that are plugged, and then the one that represents the device. Its lists take ten
-/// thousand octets of stack, so it is a function of its own.
+/// Puts record 0xF840 into an empty list: all submodules that are plugged, and then the one that represents the device.
+pub(crate) fn put_filter(out: &mut Octets, real: &Real)
+    requires { out.old.items ≡ [] }
+    ensures { out.new.items ≡ filter_record real.now }
+{
+    put_all(out, real);
+    put_device(out, real);
+}
+
+/// Appends the block of all submodules that are plugged to an empty list.
 #[inline(never)]
 #[tactic(auto, unfolding(block_codec::specs::Block::block_size, block_codec::specs::Block::fields_of, block_fields::specs::Fields::body, block_fields::specs::Fields::version))]
-pub(crate) fn filter_of(real: &Real) -> ArrayVec<u8, 1024>
-    ensures { result.items ≡ filter_record real.now }
+fn put_all(out: &mut Octets, real: &Real)
+    requires { out.old.items ≡ [] }
+    ensures octets { out.new.items ≡ block_bytes (is.ImFilterDataSubmodule (all_of real.now)) }
+    ensures few { array_vec_len out.new ≤ 600 }
 {
     let mut modules = ArrayVec::new();
     let mut submodules = ArrayVec::new();
@@ -24,26 +37,34 @@ pub(crate) fn filter_of(real: &Real) -> ArrayVec<u8, 1024>
         api: 0,
         modules: FilterModules::lent(&modules, &submodules),
     };
-    let mut device_modules = ArrayVec::new();
-    let mut device_submodules = ArrayVec::new();
-    push_device(&mut device_modules, &mut device_submodules, device_of(real));
+    // The length bounds the octets, so there is room for them.
+    let _size = filter_data_len(&all);
+    write_block(out, &Block::ImFilterDataSubmodule(all));
+}
+
+/// Appends the block of the submodule that represents the device.
+#[inline(never)]
+#[tactic(auto, unfolding(block_codec::specs::Block::block_size, block_codec::specs::Block::fields_of, block_fields::specs::Fields::body, block_fields::specs::Fields::version))]
+fn put_device(out: &mut Octets, real: &Real)
+    requires { array_vec_len out.old ≤ 600 }
+    ensures { out.new.items ≡ out.old.items ++ block_bytes (is.ImFilterDataDevice (device_of real.now)) }
+{
+    let mut modules = ArrayVec::new();
+    let mut submodules = ArrayVec::new();
+    push_device(&mut modules, &mut submodules, device_of(real));
     let device = ImFilterData {
         api: 0,
-        modules: FilterModules::lent(&device_modules, &device_submodules),
+        modules: FilterModules::lent(&modules, &submodules),
     };
     // The length bounds the octets, so there is room for them.
-    let _all_size = filter_data_len(&all);
-    let _device_size = filter_data_len(&device);
-    let mut out = ArrayVec::new();
-    write_block(&mut out, &Block::ImFilterDataSubmodule(all));
-    write_block(&mut out, &Block::ImFilterDataDevice(device));
-    out
+    let _size = filter_data_len(&device);
+    write_block(out, &Block::ImFilterDataDevice(device));
 }
 
 /// Appends the entries of all modules that have a submodule, and of their submodules, to empty lists.
 fn push_all(
-    modules: &mut ArrayVec<FilterModule, 256>,
-    submodules: &mut ArrayVec<FilterSubmodule, 256>,
+    modules: &mut ArrayVec<FilterModule, 16>,
+    submodules: &mut ArrayVec<FilterSubmodule, 64>,
     real: &Real,
 )
     requires no_modules { modules.old.items ≡ [] }
@@ -67,8 +88,8 @@ fn push_all(
 }
 
 /// Appends the entries of submodules. There must be room.
-fn push_parts(entries: &mut ArrayVec<FilterSubmodule, 256>, parts: &[RealSubmodule])
-    requires { array_vec_len entries.old + length parts.now ≤ 256 }
+fn push_parts(entries: &mut ArrayVec<FilterSubmodule, 64>, parts: &[RealSubmodule])
+    requires { array_vec_len entries.old + length parts.now ≤ 64 }
     ensures items { entries.new.items ≡ entries.old.items ++ parts_in parts.now }
     ensures len { array_vec_len entries.new ≡ array_vec_len entries.old + length parts.now }
 {
@@ -108,8 +129,8 @@ fn ident_of(entry: &RealModule, subslot: u16) -> Option<u32>
 
 /// Appends the entries of the device alone to empty lists.
 fn push_device(
-    modules: &mut ArrayVec<FilterModule, 256>,
-    submodules: &mut ArrayVec<FilterSubmodule, 256>,
+    modules: &mut ArrayVec<FilterModule, 1>,
+    submodules: &mut ArrayVec<FilterSubmodule, 1>,
     idents: Option<(u32, u32)>,
 )
     requires no_modules { modules.old.items ≡ [] }
