@@ -366,16 +366,44 @@ def listed(found, gone):
 def with_parts_of_slices(text):
     """An export that takes a slice, which C passes as a pointer and a length, as one that takes these two; and the allocator, of
     which C passes nothing, as a name in it."""
-    for found in re.finditer(r'extern "C" fn \w+\(([^)]*)\)[^{]*\{\n', text):
+    for found in re.finditer(r'(unsafe )?extern "C" fn \w+\(([^)]*)\)[^{]*\{\n', text):
         head, made = found.group(), []
-        for name, write, inside in re.findall(r"(\w+): &(mut )?\[(\w+)\]", found.group(1)):
+        for name, write, inside in re.findall(r"(\w+): &(mut )?\[(\w+)\]", found.group(2)):
             head = head.replace(f"{name}: &{write}[{inside}]", f"{name}: *{write or 'const '}{inside}, {name}_length: usize")
             parts = "from_raw_parts_mut" if write else "from_raw_parts"
             made.append(f"    // SAFETY: the caller guarantees that this many elements are there.\n    let {name} = unsafe {{ core::slice::{parts}({name}, {name}_length) }};\n")
+        # It relies on what its caller says of the two.
+        head = "unsafe " * (bool(made) and not found.group(1)) + head
         if re.search(r"\balloc: Global\b", head):
             head = re.sub(r",\s*alloc: Global\b", "", head)
             made.append("    let alloc = Global;\n")
         text = text.replace(found.group(), head + "".join(made))
+    return text
+
+
+# What the document of an export says of its pointers.
+SAFETY = """\
+///
+/// # Safety
+///
+/// Each pointer leads to as much memory as the C header says of it, or a length beside it. Nobody else uses this memory during the call.
+"""
+
+
+def with_safety(text):
+    """The documents of exports that are `unsafe`, with what their caller has to keep."""
+    return re.sub(r'((?:^///[^\n]*\n)+)((?:^#\[[^\n]*\]\n)*^pub unsafe extern "C" fn)', rf"\1{SAFETY}\2", text, flags=re.MULTILINE)
+
+
+def with_defaults(text):
+    """A `Default` for each type that is made from nothing: Rust expects it beside such a `new`."""
+    for found in re.finditer(r"^impl(<[^\n{]*?>)? (\w+)(<[^\n{]*>)? \{\n.*?^\}\n", text, re.MULTILINE | re.DOTALL):
+        kinds, name, given = found[1] or "", found[2], found[3] or ""
+        is_made = re.search(rf"^    pub fn new\(\) -> (?:Self|{name}\b[^\n{{]*?)\s*\{{", found.group(), re.MULTILINE)
+        is_there = re.search(rf"\bDefault for {name}\b|#\[derive\([^)]*\bDefault\b[^)]*\)\]\n(?:pub(?:\([^)]*\))? )?struct {name}\b", text)
+        if is_made and not is_there:
+            made = f"\nimpl{kinds} Default for {name}{given} {{\n    fn default() -> Self {{\n        Self::new()\n    }}\n}}\n"
+            text = text.replace(found.group(), found.group() + made)
     return text
 
 
@@ -397,6 +425,7 @@ def plain(text):
     tokens = without_unused_handles(tokens)
     tokens = without_unused_turns(tokens)
     text = with_plain_proofs(with_parts_of_slices(with_plain_main(text_of(tokens))))
+    text = with_defaults(with_safety(text))
     return tidy(without_unused_imports(without_model_import(text)))
 
 

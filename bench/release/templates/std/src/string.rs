@@ -20,7 +20,7 @@ impl String {
     }
 
     /// A copy of this text.
-    #[expect(clippy::should_implement_trait, reason = "a copy can fail here")]
+    #[allow(clippy::should_implement_trait, reason = "a copy can fail here")]
     pub fn from_str(alloc: Global, text: &str) -> Result<String, AllocError> {
         let mut copy = String::new(alloc);
         copy.push_str(text)?;
@@ -59,7 +59,7 @@ impl String {
     }
 
     /// A copy.
-    #[expect(clippy::should_implement_trait, reason = "a copy can fail here")]
+    #[allow(clippy::should_implement_trait, reason = "a copy can fail here")]
     pub fn clone(&self) -> Result<String, AllocError> {
         String::from_str(Global, &self.text)
     }

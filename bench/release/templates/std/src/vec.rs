@@ -100,7 +100,7 @@ impl<T: Clone> Vec<T> {
     }
 
     /// A copy.
-    #[expect(clippy::should_implement_trait, reason = "a copy can fail here")]
+    #[allow(clippy::should_implement_trait, reason = "a copy can fail here")]
     pub fn clone(&self) -> Result<Vec<T>, AllocError> {
         Vec::from_slice(Global, &self.items)
     }
