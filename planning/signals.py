@@ -39,13 +39,14 @@ def parted(text):
 
 
 class Named:
-    """A signal that gets a name: its entry in the catalogue, and the names that it may have, the shortest one first."""
+    """A signal that gets a name: its entry in the catalogue, and the names that it may have, the shortest one first. `family` is what it has in
+    common with the signals whose names are as long as its own: the bits of an item, and items whose texts differ in numbers alone."""
 
-    def __init__(self, entry, word, slot, subslot, item):
+    def __init__(self, entry, word, slot, subslot, item, family=None):
         place = f"slot{slot}_sub{subslot}"
         way = "in" if entry["Direction"] == "Input" else "out"
         whole = f"{item}_{word}" if item else word
-        self.entry, self.level = entry, 0
+        self.entry, self.level, self.family = entry, 0, family
         alone = f"n_{word}" if word[0].isdigit() else word
         self.names = [name[:LONGEST_NAME].rstrip("_") for name in (alone, f"slot{slot}_{word}", f"{place}_{word}", f"{place}_{whole}", f"{place}_{way}_{whole}")]
 
@@ -78,13 +79,15 @@ def numbered(signals):
 
 def give_names(signals):
     """Gives each signal its name: the shortest of its own that no other has. If a text repeats, each of its signals has its slot in front, then
-    the subslot, the item, the direction."""
+    the subslot, the item, the direction; and so has its family."""
     while True:
         crowded = [signal for group in by_name(signals).values() if len(group) > 1 for signal in group if signal.level + 1 < len(signal.names)]
         if not crowded:
             break
-        for signal in crowded:
-            signal.level += 1
+        families, alone = {signal.family for signal in crowded} - {None}, {id(signal) for signal in crowded}
+        for signal in signals:
+            if id(signal) in alone or signal.family in families:
+                signal.level += 1
     numbered(signals)
 
 
@@ -102,11 +105,13 @@ def entry_of(way, slot, subslot, octet, kind, length, text, bit=None):
 def signals_of_item(item, way, slot, subslot, octet, words):
     """The signals of a data item: itself, and its bits."""
     word = slug(parted(item.text)[0]) or next(filter(None, map(slug, words)), "input" if way == "Input" else "output")
-    yield Named(entry_of(way, slot, subslot, octet, item.kind, item.length, item.text), word, slot, subslot, "")
+    numbered_text = re.sub("[0-9]+", "0", word)
+    yield Named(entry_of(way, slot, subslot, octet, item.kind, item.length, item.text), word, slot, subslot, "",
+                (slot, subslot, way, numbered_text) if numbered_text != re.sub("[0-9]", "", word) else None)
     for number, text in item.bits:
         at, bit = types.place_of_bit(item.kind, item.length, number)
         of_bit = slug(parted(text)[0]) or f"{word}_bit{number}"
-        yield Named(entry_of(way, slot, subslot, octet + at, types.BOOLEAN, 1, text, bit), of_bit, slot, subslot, word)
+        yield Named(entry_of(way, slot, subslot, octet + at, types.BOOLEAN, 1, text, bit), of_bit, slot, subslot, word, (slot, subslot, way, octet))
 
 
 def of_station(parts, modules):
