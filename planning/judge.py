@@ -5,17 +5,14 @@ the fault; this says the rest, for a message. It needs no program, and shares no
 import json
 import re
 
+from planning.keys import wants
+
 JSON, MISSING, KIND, NUMBER, ALLOWED, MANY, FRAME, CONNECT, NAME, ADDRESS = range(1, 11)
 WORDS = {
     JSON: "it is no JSON",
     MISSING: "a key is missing",
-    KIND: "a value is of another kind than its key wants, or unknown",
-    NUMBER: "a number is out of its range, names nothing, or is repeated",
     ALLOWED: "a module is not allowed in its slot",
-    MANY: "there are too many slots, submodules or records",
-    FRAME: "the cyclic frames of a direction are too long",
-    CONNECT: "the Connect is too long for one frame",
-    NAME: "it is no station name",
+    NAME: "it is not a station name (letters a to z, digits and hyphens; labels of at most 63 joined by dots, 240 in all)",
     ADDRESS: "an address is not valid",
 }
 OCTETS = {"Unsigned8": 1, "Integer8": 1, "Unsigned16": 2, "Integer16": 2, "Unsigned32": 4, "Integer32": 4, "Float32": 4}
@@ -29,7 +26,7 @@ class Fault(Exception):
 
     def __init__(self, number, *place, where="", text=None):
         super().__init__(number)
-        self.number, self.steps, self.where, self.text = number, list(place), where, text or WORDS[number]
+        self.number, self.steps, self.where, self.text = number, list(place), where, text
 
     def further(self, step):
         self.steps.append(step)
@@ -42,7 +39,8 @@ class Fault(Exception):
     def said(self):
         """The fault in words, with its place."""
         place = self.place()
-        return (f"at {place}: " if place else "") + self.text + (f" ({self.where})" if self.where else "")
+        text = self.text or WORDS.get(self.number) or f"it must be {wants(self.steps[::-1])}"
+        return (f"at {place}: " if place else "") + text + (f" ({self.where})" if self.where else "")
 
 
 class NoWhole:
@@ -161,14 +159,14 @@ def io_data(tree):
 def parameter(before, tree):
     index = number_at(tree, "Index", 0, 32_767)
     if any(index == other for other, _ in before):
-        raise Fault(NUMBER, "Index")
+        raise Fault(NUMBER, "Index", text=f"{index} is listed twice")
     return index, number_at(tree, "Length", 1, 64)
 
 
 def submodule(before, tree):
     subslot = number_at(tree, "Subslot", 1, 36_863)
     if any(subslot == other["subslot"] for other in before):
-        raise Fault(NUMBER, "Subslot")
+        raise Fault(NUMBER, "Subslot", text=f"{subslot} is listed twice")
     number_at(tree, "SubmoduleIdentNumber", 0, 0xFFFFFFFF)
     came, sent = at("IOData", io_data, tree["IOData"]) if "IOData" in tree else (0, 0)
     return {"subslot": subslot, "input": came, "output": sent, "parameters": list_at(tree, "ParameterRecordDataItem", parameter)}
@@ -195,7 +193,7 @@ def access_point(tree):
 def module(before, tree):
     name = text_at(tree, "ID")
     if any(name == other["id"] for other in before):
-        raise Fault(NUMBER, "ID")
+        raise Fault(NUMBER, "ID", text=f"'{shown(name)}' is listed twice")
     number_at(tree, "ModuleIdentNumber", 1, 0xFFFFFFFF)
     return {"id": name, "submodules": list_at(tree, "VirtualSubmoduleItem", submodule)}
 
@@ -237,8 +235,9 @@ def project(tree, least, modules):
     controller = member(tree, "Controller")
     texts["Controller"] = at("Controller", lambda: {key: text_at(controller, key) for key in ("NameOfStation", "MAC", "IPAddress")})
     clock = number_at(tree, "SendClockFactor", 1, 128)
-    if clock * number_at(tree, "ReductionRatio", 1, 512) < least:
-        raise Fault(NUMBER, "ReductionRatio")
+    ratio = number_at(tree, "ReductionRatio", 1, 512)
+    if clock * ratio < least:
+        raise Fault(NUMBER, "ReductionRatio", text=f"SendClockFactor {clock} times ReductionRatio {ratio} is {clock * ratio}, less than MinDeviceInterval {least}")
     number_at(tree, "DataHoldFactor", 1, 7_680)
     slots = list_at(tree, "Slots", lambda _, entry: slot(modules, entry))
     flag_at(tree, "ContinueOnRefusedRecord")
@@ -319,7 +318,7 @@ class Station:
             return f"slot {place} is not one of PhysicalSlots"
         if other is not None:
             return f"slot {place} has '{shown(other)}' fixed in it (FixedInSlots), and not '{shown(target)}'"
-        return "" if takes else f"slot {place} is none of AllowedInSlots and FixedInSlots of '{shown(target)}'"
+        return "" if takes else f"slot {place} is in neither AllowedInSlots nor FixedInSlots of '{shown(target)}'"
 
     def used(self):
         """Each slot that is used with its module: those that modules are put into, and those that they are fixed in."""
@@ -339,11 +338,22 @@ class Station:
         twice = next((place for index, place in enumerate(places) if place in places[:index]), None)
         if reason or twice is not None:
             raise Fault(ALLOWED, where=reason or f"slot {twice} is in Slots twice")
-        plugged = self.plugged()
-        is_large = any(len(parts) > MOST_SUBMODULES or any(len(part["parameters"]) > MOST_PARAMETERS for part in parts) for parts in plugged.values())
-        if any(place > LAST_SLOT for place, _ in put + fixed) or is_large or sum(entry["records"] for entry in self.slots) > MOST_RECORDS:
-            raise Fault(MANY)
-        return plugged
+        too_many = next(self.too_many([place for place, _ in put + fixed]), None)
+        if too_many:
+            raise Fault(MANY, text=too_many)
+        return self.plugged()
+
+    def too_many(self, used):
+        """What there is more of than a plan can have."""
+        yield from (f"slot {place} is used, and {LAST_SLOT} is the last one" for place in used if place > LAST_SLOT)
+        for place, parts in sorted(self.plugged().items()):
+            if len(parts) > MOST_SUBMODULES:
+                yield f"slot {place} has {len(parts)} submodules, and {MOST_SUBMODULES} is the most"
+            yield from (f"slot {place} subslot {part['subslot']} has {len(part['parameters'])} of ParameterRecordDataItem, and {MOST_PARAMETERS} is the most"
+                        for part in parts if len(part["parameters"]) > MOST_PARAMETERS)
+        records = sum(entry["records"] for entry in self.slots)
+        if records > MOST_RECORDS:
+            yield f"there are {records} Records, and {MOST_RECORDS} is the most"
 
 
 def judge_lengths(plugged, controller):
@@ -358,12 +368,13 @@ def judge_lengths(plugged, controller):
         frames[1] += (goes and sent + 1) + comes
         places += 2 * (comes + goes)
         descriptions += comes + goes
-    if max(frames) > MOST_DATA:
-        raise Fault(FRAME)
+    for octets, sender in zip(frames, ("device", "controller")):
+        if octets > MOST_DATA:
+            raise Fault(FRAME, text=f"the cyclic frames of the {sender} would have {octets:,} octets, and {MOST_DATA:,} is the most")
     # ARBlockReq, both IOCRBlockReq with their places, AlarmCRBlockReq, and an ExpectedSubmoduleBlockReq for each slot.
     blocks = 58 + len(controller["NameOfStation"]) + 2 * 54 + 6 * places + 26 + 22 * len(plugged) + 8 * len(parts) + 6 * descriptions
     if blocks > MOST_BLOCKS:
-        raise Fault(CONNECT)
+        raise Fault(CONNECT, text=f"the blocks of the Connect would have {blocks:,} octets, and {MOST_BLOCKS:,} is the most")
 
 
 def judge(octets):

@@ -1,10 +1,13 @@
 #define _GNU_SOURCE
 #include "naming.h"
+#include "say.h"
 #include "ticker.h"
 #include "words.h"
+#include <errno.h>
 #include <stdarg.h>
 #include <stdio.h>
 #include <string.h>
+#include <sys/random.h>
 
 #define LEAST_FRAME 60u
 #define BLOCKS_AT 26u /* after the addresses, EtherType, FrameID and the header of DCP */
@@ -12,26 +15,39 @@
 enum { SERVICE_SET = 4, SERVICE_IDENTIFY = 5 };
 enum { FRAME_SET = 0xFEFD, FRAME_IDENTIFY = 0xFEFE, FRAME_IDENTIFIED = 0xFEFF };
 
-/* Numbers of requests; a controller's are 1 and 2. */
-#define XID 0x4E414D45u
+/* Numbers of requests up to this one are those of a controller. */
+#define LAST_XID 2u
+
+/* The number of the request whose answers count. */
+static uint32_t xid;
+
+uint32_t naming_make_xid(void)
+{
+    uint32_t made;
+    do {
+        if (getrandom(&made, sizeof made, 0) != (ssize_t)sizeof made)
+            fail(STATUS_SYSTEM, "the system gives no random numbers: %s", strerror(errno));
+    } while (made <= LAST_XID);
+    return made;
+}
 
 /* The header of a request up to its blocks. */
 static void put_head(uint8_t *frame, const uint8_t target[6], const uint8_t source[6], unsigned id, unsigned service, unsigned delay, size_t blocks)
 {
-    const uint8_t head[] = {0x88, 0x92, (uint8_t)(id >> 8), (uint8_t)id, (uint8_t)service, 0, XID >> 24, XID >> 16 & 0xFF, XID >> 8 & 0xFF, XID & 0xFF,
-                            0, (uint8_t)delay, (uint8_t)(blocks >> 8), (uint8_t)blocks};
+    const uint8_t head[] = {0x88, 0x92, (uint8_t)(id >> 8), (uint8_t)id, (uint8_t)service, 0, (uint8_t)(xid >> 24), (uint8_t)(xid >> 16), (uint8_t)(xid >> 8),
+                            (uint8_t)xid, 0, (uint8_t)delay, (uint8_t)(blocks >> 8), (uint8_t)blocks};
     memcpy(frame, target, 6);
     memcpy(frame + 6, source, 6);
     memcpy(frame + 12, head, sizeof head);
 }
 
-/* Waits until a time for the next answer to such a request. Returns whether one arrived. */
+/* Waits until a time for the next answer to the last request. Returns whether one arrived. */
 static int next_answer(struct wire *wire, unsigned id, unsigned service, uint64_t until, uint8_t octets[WIRE_FRAME], size_t *length)
 {
-    static const uint8_t xid[] = {XID >> 24, XID >> 16 & 0xFF, XID >> 8 & 0xFF, XID & 0xFF};
+    const uint8_t number[] = {(uint8_t)(xid >> 24), (uint8_t)(xid >> 16), (uint8_t)(xid >> 8), (uint8_t)xid};
     while (wire_wait(wire, until, octets, length))
         if (*length >= BLOCKS_AT && wire_frame_id_at(octets, *length) == 14 && octets[14] == id >> 8 && octets[15] == (id & 0xFF) &&
-            octets[16] == service && octets[17] != 0 && memcmp(octets + 18, xid, sizeof xid) == 0)
+            octets[16] == service && octets[17] != 0 && memcmp(octets + 18, number, sizeof number) == 0)
             return 1;
     return 0;
 }
@@ -112,6 +128,7 @@ static void send_identify(struct wire *wire, const uint8_t source[6], const uint
 void naming_ask_all(struct wire *wire)
 {
     static const uint8_t all[] = {0xFF, 0xFF, 0, 0};
+    xid = naming_make_xid();
     send_identify(wire, wire->hardware, all, sizeof all);
 }
 
@@ -125,6 +142,7 @@ static void ask_named(struct wire *wire, const uint8_t source[6], const uint8_t 
 
 void naming_ask_named(struct wire *wire, const uint8_t *name, size_t length)
 {
+    xid = naming_make_xid();
     ask_named(wire, wire->hardware, name, length);
 }
 
@@ -189,6 +207,7 @@ int naming_find(struct wire *wire, const uint8_t source[6], const uint8_t *name,
     size_t size;
     if (length > 240)
         return 0;
+    xid = naming_make_xid();
     for (int times = 0; times < 2; times++) {
         uint64_t until = ticker_now() + SECOND / 2;
         ask_named(wire, source, name, length);
@@ -201,24 +220,32 @@ int naming_find(struct wire *wire, const uint8_t source[6], const uint8_t *name,
     return 0;
 }
 
+/* The BlockError of an answer to Set; 0 if the station has the name. */
+static int outcome_of(const uint8_t *octets, size_t length)
+{
+    size_t size = 0;
+    const uint8_t *said = find_block(octets, length, 5, 4, &size);
+    return said != NULL && size >= 3 ? said[2] : 1;
+}
+
 int naming_assign(struct wire *wire, const uint8_t source[6], const uint8_t mac[6], const uint8_t *name, size_t length)
 {
     static uint8_t octets[WIRE_FRAME];
     uint8_t frame[LEAST_FRAME + 256] = {0};
-    size_t blocks = 6 + length + length % 2, came, size = 0;
+    size_t blocks = 6 + length + length % 2, came;
     const uint8_t head[] = {2, 2, (uint8_t)((length + 2) >> 8), (uint8_t)(length + 2), 0, 1 /* permanent */};
-    const uint8_t *said;
     if (length > 240)
         return -1;
+    xid = naming_make_xid();
     put_head(frame, mac, source, FRAME_SET, SERVICE_SET, 0, blocks);
     memcpy(frame + BLOCKS_AT, head, sizeof head);
     memcpy(frame + BLOCKS_AT + sizeof head, name, length);
     for (int times = 0; times < 3; times++) {
+        uint64_t until = ticker_now() + SECOND;
         wire_send(wire, frame, BLOCKS_AT + blocks < LEAST_FRAME ? LEAST_FRAME : BLOCKS_AT + blocks);
-        if (!next_answer(wire, FRAME_SET, SERVICE_SET, ticker_now() + SECOND, octets, &came) || memcmp(octets + 6, mac, 6) != 0)
-            continue;
-        said = find_block(octets, came, 5, 4, &size);
-        return said != NULL && size >= 3 ? said[2] : 1;
+        while (next_answer(wire, FRAME_SET, SERVICE_SET, until, octets, &came))
+            if (memcmp(octets + 6, mac, 6) == 0)
+                return outcome_of(octets, came);
     }
     return -1;
 }

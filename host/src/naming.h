@@ -17,6 +17,9 @@ struct naming_station {
     uint16_t device_id;
 };
 
+/* The number of a new request (Xid): a random one, and none of a controller's. Only answers to the last request here count. */
+uint32_t naming_make_xid(void);
+
 /* Asks all stations who they are. */
 void naming_ask_all(struct wire *wire);
 

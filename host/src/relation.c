@@ -88,6 +88,7 @@ void relation_open(struct relation *relation, const char *file)
     relation->host = (pn_host){relation, NULL, NULL, transmit};
     relation->file = file;
     station_plan(&relation->plan, file);
+    station_warn(&relation->plan, file);
     memcpy(relation->station, plan->name, plan->name_length);
     strcpy(relation->neighbour, "-");
     strcpy(relation->neighbour_seen, "-");

@@ -1,10 +1,18 @@
 #include "station.h"
+#include "keys.h"
 #include "say.h"
+#include "slots.h"
 #include "words.h"
 #include <errno.h>
 #include <stdio.h>
 #include <stdlib.h>
 #include <string.h>
+
+/* A frame is newer than the last one that was accepted if its CycleCounter is at most this far ahead, modulo the other number. */
+#define NEWEST 61440u
+#define ROUND 65536u
+#define INTERVAL "the interval, SendClockFactor times ReductionRatio, is %u units, and %u is the most at which each frame counts. "
+#define ENDS "the relation ends as no data is held any longer (cause 4)"
 
 /* A catalogue has some thousand octets; a longer file is refused. */
 #define CATALOGUE_MOST (4u << 20)
@@ -44,8 +52,7 @@ static const char *fault_words(uint32_t fault)
     static const char *const words[] = {
         [PN_PLAN_JSON] = "the text is no JSON",
         [PN_PLAN_MISSING_KEY] = "a key is missing",
-        [PN_PLAN_WRONG_KIND] = "a value is of another kind than its key wants",
-        [PN_PLAN_NUMBER] = "a number is out of its range, or what it names is not there or there twice",
+        [PN_PLAN_WRONG_KIND] = "the catalogue must be an object",
         [PN_PLAN_NOT_ALLOWED] = "a module of Slots is not allowed in its slot (AllowedInSlots, FixedInSlots, PhysicalSlots)",
         [PN_PLAN_TOO_MANY] = "there are too many slots, submodules or records (slots 0 to 15, 4 submodules a slot, 32 records)",
         [PN_PLAN_FRAME_LONG] = "a cyclic frame would hold more than 1,440 octets (IOData of all submodules)",
@@ -63,30 +70,53 @@ static int ends_with(const char *text, const char *end)
     return length >= size && strcmp(text + length - size, end) == 0;
 }
 
-/* What is wrong with the number at a key, where the key says it. */
-static const char *number_words(uint32_t fault, const char *where)
+/* What is wrong with the value at a key. */
+static const char *value_words(uint32_t fault, const char *where)
 {
+    static char words[KEYS_WANTS + 16], wants[KEYS_WANTS];
     int is_record = strstr(where, "].Records[") != NULL;
     if (fault == PN_PLAN_NUMBER && is_record && ends_with(where, ".Data"))
-        return "Data has another length than the record (Length of its ParameterRecordDataItem)";
+        return "it must have as many octets as the record (Length of its ParameterRecordDataItem)";
     if (fault == PN_PLAN_NUMBER && is_record && ends_with(where, ".Subslot"))
-        return "the module has no such subslot, or there is no ModuleItem with the ID that ModuleItemTarget names";
+        return "it must be from 1 to 36,863, and a Subslot of the module with the ID that ModuleItemTarget names";
     if (fault == PN_PLAN_NUMBER && is_record && ends_with(where, ".Index"))
-        return "the submodule has no record with this Index (ParameterRecordDataItem)";
-    return fault_words(fault);
+        return "it must be from 0 to 32,767, and an Index of this submodule (ParameterRecordDataItem)";
+    if (fault != PN_PLAN_NUMBER && fault != PN_PLAN_WRONG_KIND)
+        return fault_words(fault);
+    snprintf(words, sizeof words, "it must be %s", keys_wants(where, wants));
+    return words;
 }
 
 void station_plan(pn_plan *plan, const char *path)
 {
-    char where[256];
+    char where[256], why[SLOTS_WORDS];
     size_t length;
     uint8_t *text = read_whole(path, &length);
     uint32_t fault = pn_plan_read(plan, text, length);
     if (fault != PN_OK && pn_plan_where(text, length, where, sizeof where) != 0)
-        fail(STATUS_DATA, "'%s': fault %u at %s: %s", path, (unsigned)(fault - PN_PLAN_FAULT), where, number_words(fault, where));
+        fail(STATUS_DATA, "'%s': fault %u at %s: %s", path, (unsigned)(fault - PN_PLAN_FAULT), where, value_words(fault, where));
+    if (fault == PN_PLAN_NOT_ALLOWED && slots_why(text, length, why) != NULL)
+        fail(STATUS_DATA, "'%s': fault %u: a module is not allowed in its slot: %s", path, (unsigned)(fault - PN_PLAN_FAULT), why);
     if (fault != PN_OK)
         fail(STATUS_DATA, "'%s': fault %u: %s", path, (unsigned)(fault - PN_PLAN_FAULT), fault_words(fault));
+    keys_warn(path, text, length);
     free(text);
+}
+
+void station_warn(const pn_plan *plan, const char *path)
+{
+    unsigned interval = (unsigned)plan->send_clock_factor * plan->reduction_ratio, taken;
+    char ends[128] = "";
+    if (interval <= NEWEST)
+        return;
+    if (interval == ROUND) {
+        say("warning: '%s': Project.ReductionRatio: " INTERVAL "No frame after the first one is newer by its CycleCounter, so " ENDS, path, interval, NEWEST);
+        return;
+    }
+    taken = (ROUND - NEWEST + ROUND - interval - 1) / (ROUND - interval);
+    if (plan->data_hold_factor <= taken)
+        snprintf(ends, sizeof ends, ", so with DataHoldFactor %u " ENDS, plan->data_hold_factor);
+    say("warning: '%s': Project.ReductionRatio: " INTERVAL "Only one frame in %u is newer by its CycleCounter%s", path, interval, NEWEST, taken, ends);
 }
 
 void station_places(struct places *places, const pn_module *modules, uint32_t count, enum direction direction)

@@ -28,8 +28,11 @@ enum direction { OF_INPUT, OF_OUTPUT };
 /* The demo station: two octets of input in slot 1, and two of output in slot 2. */
 void station_demo(pn_station *station);
 
-/* Reads a catalogue. If it gives no plan, ends the program with a message. */
+/* Reads a catalogue, and warns of keys that are not of a catalogue. If it gives no plan, ends the program with a message. */
 void station_plan(pn_plan *plan, const char *path);
+
+/* Warns of an interval at which cyclic frames are not accepted because their CycleCounter is not newer. */
+void station_warn(const pn_plan *plan, const char *path);
 
 /* The submodules that have data of a direction. */
 void station_places(struct places *places, const pn_module *modules, uint32_t count, enum direction direction);
