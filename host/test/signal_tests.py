@@ -240,6 +240,11 @@ class SignalTests:
         same("each type is in the table", kinds, {*types.LENGTHS, *types.SIZED})
         return f"{len(table)} values, {len(bits)} bits; {compare_with_scapy(table)}, {compare_with_tshark(table, bits)}; {check_floats()} floats, {check_refusals()} values read"
 
+    def has_no_signals(self):
+        """Why the program has no signals, if it was built without jansson."""
+        ran = subprocess.run([os.path.join(BUILD, self.kind, "nandutable-controller"), "no-such-if", self.signal_plan("pump-1"), "--signals"], capture_output=True, text=True)
+        return "NOT TRIED: the program was built without jansson (Debian: libjansson-dev, pkg-config)" if "without jansson" in ran.stderr else None
+
     def signal_plan(self, name, signals=None, address="192.168.0.2"):
         """The plan of the demo station, with signals."""
         with open(os.path.join(HERE, "..", "demo", "pump.json"), encoding="utf-8") as file:
@@ -255,6 +260,8 @@ class SignalTests:
 
     def signal_faults(self):
         """Signals that do not fit: the program and the launcher refuse the same ones, and nothing is started."""
+        if lacks := self.has_no_signals():
+            return lacks
         good = {"Name": "level", "Direction": "Input", "Slot": 1, "Subslot": 1, "Octet": 0, "Type": "Unsigned16"}
 
         def fault(signals, words, *options, is_launchers=True):
@@ -310,6 +317,8 @@ class SignalTests:
 
     def signal_names(self, wire):
         """The program lists the same signals as the launcher, of a GSDML file of each kind of device."""
+        if lacks := self.has_no_signals():
+            return lacks
         told = 0
         for number, (pattern, words, interval) in enumerate(self.KINDS):
             path = self.from_gsdml(f"host/test/gsdml/{pattern}", f"kind-{number}.hall", *words, interval=interval)
@@ -328,6 +337,8 @@ class SignalTests:
 
     def signals(self, wire):
         """The flow station by its names: changes, quality, set and get, and the octets that arrive at the device."""
+        if lacks := self.has_no_signals():
+            return lacks
         path = self.from_gsdml("examples/gsdml/*FlowStation*.xml", "flow-7", "--slot", "2=FLOW4", "--slot", "3=CARRIER", "--submodule", "3:1=TEXT16")
         controller = self.controller(wire, path, "--signals")
         controller.ask("set valves 1", "refused set valves: no data is exchanged, the state is looking$")
@@ -391,6 +402,8 @@ class SignalTests:
 
     def signals_of_several(self, wire):
         """Two plans on one controller, one of which has no station; times; a least time between two lines; nothing in octets."""
+        if lacks := self.has_no_signals():
+            return lacks
         signals = [{"Name": "level", "Direction": "Input", "Slot": 1, "Subslot": 1, "Octet": 0, "Type": "Unsigned16", "Unit": "mm"},
                    {"Name": "full", "Direction": "Input", "Slot": 1, "Subslot": 1, "Octet": 0, "Bit": 7, "Type": "Boolean"},
                    {"Name": "speed", "Direction": "Output", "Slot": 2, "Subslot": 1, "Octet": 0, "Type": "Integer16"}]
@@ -432,6 +445,8 @@ class SignalTests:
 
     def signals_slow(self, wire):
         """2,000 signals and a program that never reads: its place takes no memory, the other one gets each newest value, and the exchange goes on."""
+        if lacks := self.has_no_signals():
+            return lacks
         count, path, lines = 2000, self.path("slow-lines"), []
         signals = [{"Name": f"bit_{number}", "Direction": "Input" if number % 2 else "Output", "Slot": 1 + (number + 1) % 2, "Subslot": 1, "Octet": number % 4 // 2, "Bit": number % 8,
                     "Type": "Boolean", "Text": "x" * 100} for number in range(count)]
