@@ -1,14 +1,9 @@
-/* Figures of the library through its header, for bench/figures/library.py: how deep each call goes into a stack that was painted
- * (`stack`), after a script on standard input; and what is to be counted by callgrind in an exchange that the lines on standard input set
- * up: N times a unit of time (`unit`), 32 units (`leap`), a unit with the frame that it sends (`sent`), a cyclic frame (`cyclic`), or the
+/* Figures of the library through its header, for bench/figures/library.py: what is to be counted by callgrind in an exchange that the lines
+ * on standard input set up: N times a unit of time (`unit`), 32 units (`leap`), a unit with the frame that it sends (`sent`), a cyclic frame (`cyclic`), or the
  * millisecond of an exchange (`cycle`). Callgrind counts what is executed within pn_step and pn_fetch, and not what this program does. */
-#define _GNU_SOURCE
 #include "nandutable.h"
-#include <pthread.h>
 #include <stdio.h>
 #include <stdlib.h>
-
-#define DEPTH (1u << 21)
 
 static pn_device device;
 static pn_op op;
@@ -23,70 +18,11 @@ static pn_station station = {
                 {.ident = 16, .slot = 1, .submodule_count = 1, .submodules = {{.ident = 16, .subslot = 1, .input = 2}}},
                 {.ident = 32, .slot = 2, .submodule_count = 1, .submodules = {{.ident = 32, .subslot = 1, .output = 2}}}}};
 
-/* A call, with the octets of a frame or units of time. */
+/* The octets of a frame or of an input. */
 struct line {
-    int kind; /* 0 make, 1 boot, 2 frame, 3 tick, 4 next, 5 output, 6 settings, 7 due */
     uint8_t octets[2000];
     size_t length;
-    uint32_t units;
 };
-
-static void call(struct line *line)
-{
-    static pn_settings settings;
-    static uint32_t due;
-    switch (line->kind) {
-    case 0: pn_make(&device, &station); break;
-    case 1: pn_boot(&device, &op, erased, erased); break;
-    case 2: pn_frame(&device, &op, line->octets, line->length); break;
-    case 3: pn_tick(&device, &op, line->units); break;
-    case 4: pn_next(&device, &op); break;
-    case 5: pn_output(&device, &op, 2, 1); break;
-    case 6: pn_running(&device, &op, &settings); break;
-    default: pn_due(&device, &op, &due); break;
-    }
-}
-
-static size_t deepest[8];
-
-static uint8_t *stack;
-
-/* Paints the stack below this place, makes the call, and sees how much of the paint is gone. */
-static void *painted(void *given)
-{
-    struct line *line = given;
-    uint8_t *top = (uint8_t *)__builtin_frame_address(0) - 512;
-    size_t left = 0;
-    memset(stack, 0xA5, (size_t)(top - stack));
-    call(line);
-    while (stack + left < top && stack[left] == 0xA5)
-        left++;
-    left = (size_t)(top - stack) + 512 - left;
-    if (left > deepest[line->kind])
-        deepest[line->kind] = left;
-    return NULL;
-}
-
-static void on_stack(struct line *line)
-{
-    pthread_attr_t attributes;
-    pthread_t thread;
-    if (stack == NULL && posix_memalign((void **)&stack, 4096, DEPTH) != 0)
-        exit(1);
-    pthread_attr_init(&attributes);
-    pthread_attr_setstack(&attributes, stack, DEPTH);
-    if (pthread_create(&thread, &attributes, painted, line) != 0)
-        exit(1);
-    pthread_join(thread, NULL);
-}
-
-static void take_all(void (*does)(struct line *))
-{
-    static struct line line = {.kind = 4}; /* made once: a line is 2 KiB to be cleared */
-    do
-        does(&line);
-    while (op.work != PN_NOTHING);
-}
 
 /* The last cyclic frame of the lines. */
 static struct line cyclic;
@@ -94,16 +30,14 @@ static struct line cyclic;
 static int is_cyclic(const struct line *line)
 {
     const uint8_t *type = line->octets + (line->octets[12] == 0x81 ? 16 : 12);
-    return line->kind == 2 && line->length >= 60 && type[0] == 0x88 && type[1] == 0x92 && type[2] >= 0x80 && type[2] < 0xF8;
+    return line->length >= 60 && type[0] == 0x88 && type[1] == 0x92 && type[2] >= 0x80 && type[2] < 0xF8;
 }
 
-static void start(void (*does)(struct line *))
+static void start(void)
 {
-    struct line line = {.kind = 0};
     memset(erased, 0xFF, sizeof erased);
-    does(&line);
-    line.kind = 1;
-    does(&line);
+    pn_make(&device, &station);
+    pn_boot(&device, &op, erased, erased);
 }
 
 static size_t read_hex(const char *text, uint8_t *octets, size_t most)
@@ -113,31 +47,6 @@ static size_t read_hex(const char *text, uint8_t *octets, size_t most)
     for (; length < most && sscanf(text, "%2x", &octet) == 1; text += 2)
         octets[length++] = (uint8_t)octet;
     return length;
-}
-
-static void play(void)
-{
-    static char text[70000];
-    while (fgets(text, sizeof text, stdin) != NULL) {
-        struct line line = {.kind = 2};
-        if (strncmp(text, "frame ", 6) == 0) {
-            line.length = read_hex(text + 6, line.octets, sizeof line.octets);
-        } else if (strncmp(text, "tick ", 5) == 0) {
-            line.kind = 3;
-            line.units = (uint32_t)strtoul(text + 5, NULL, 10);
-        } else {
-            continue;
-        }
-        on_stack(&line);
-        while (line.kind == 3 && op.units != 0) {
-            line.units = op.units;
-            take_all(on_stack);
-            on_stack(&line);
-        }
-        take_all(on_stack);
-        for (line.kind = 5; line.kind < 8; line.kind++)
-            on_stack(&line);
-    }
 }
 
 /* --- What is counted --- */
@@ -203,7 +112,6 @@ static void exchange(void)
     static char text[70000];
     static struct line line;
     while (fgets(text, sizeof text, stdin) != NULL) {
-        line.kind = 2;
         if (strncmp(text, "frame ", 6) == 0) {
             line.length = read_hex(text + 6, line.octets, sizeof line.octets);
             must(pn_frame(&device, &op, line.octets, line.length) == PN_OK, 6);
@@ -250,20 +158,12 @@ static void count(const char *what, unsigned long turns)
 
 int main(int words, char **word)
 {
-    static const char *const names[] = {"pn_make", "pn_boot", "pn_frame", "pn_tick", "pn_next", "pn_output", "pn_running", "pn_due"};
-    if (words == 2 && strcmp(word[1], "stack") == 0) {
-        start(on_stack);
-        play();
-        for (int i = 0; i < 8; i++)
-            printf("%s %zu\n", names[i], deepest[i]);
-        return 0;
-    }
     /* WHAT TURNS INTERVAL OCTETS: the units of an interval, and the octets of data of a frame. */
     must(words == 5, 2);
     uint32_t interval = (uint32_t)strtoul(word[3], NULL, 10);
     station.modules[1].submodules[0].input = station.modules[2].submodules[0].output = (uint16_t)(strtoul(word[4], NULL, 10) - 3);
     memcpy(station.order_id, &interval, sizeof interval); /* for library_plain.c */
-    start(call);
+    start();
     exchange();
     announce();
     count(word[1], strtoul(word[2], NULL, 10));

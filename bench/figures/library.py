@@ -1,12 +1,10 @@
 #!/usr/bin/env python3
-"""Measures the library for C through its header: its size, the symbols that it wants, how deep each call goes into the stack, and the
-instructions of each turn of an exchange of 40 octets, beside those of the same work in plain C behind the same calls
-(bench/figures/library_plain.c), which does it unit by unit. Then how deep each call of the library of a controller goes, from its start to
-the exchange of data. Its status is 1 where a call takes more than 24,576 octets of stack, where a turn takes more instructions than its
-bound, or where both do not send as many frames.
+"""Measures the library for C through its header: its size, the symbols that it wants, and the instructions of each turn of an exchange of 40
+octets, beside those of the same work in plain C behind the same calls (bench/figures/library_plain.c), which does it unit by unit. Its status is
+1 where a turn takes more instructions than its bound, or where both do not send as many frames. bench/figures/chip measures the stack.
 
 Needs cc and valgrind. Use: bench/figures/library.py [ARCHIVE]   (that of the plain Rust edition if left out, which
-bench/release/library-check builds; the archive of a controller is that of the plain Rust edition, and is made here)
+bench/release/library-check builds)
 """
 
 import os
@@ -21,9 +19,7 @@ from program import TOP, answer_help, need, refuse
 
 EDITION = os.path.join(TOP, "out", "plain-rust")
 ARCHIVE = os.path.join(EDITION, "target", "release", "libnandutable.a")
-CONTROLLER = os.path.join(EDITION, "target", "release", "libnandutable_controller.a")
 CALLS = ("pn_judge", "pn_put", "pn_step", "pn_fetch")
-DEEPEST = 24_576
 TURNS = 1_000
 OCTETS = 40
 
@@ -42,12 +38,6 @@ def run(words, given=b"", folder=None):
     if ran.returncode != 0:
         sys.exit(f"library: {' '.join(words[:2])} ..: status {ran.returncode} {ran.stderr.decode()[-300:]}")
     return ran.stdout.decode()
-
-
-def script(name):
-    """The lines of an example."""
-    with open(os.path.join(TOP, "examples", name), "rb") as file:
-        return file.read()
 
 
 def instructions(program, folder, kind, turns):
@@ -81,29 +71,6 @@ def counted(program, plain, folder):
     return is_kept
 
 
-def painted(program, given, deepest):
-    """Plays these lines. Notes the deepest stack of each call, and returns what else the program printed."""
-    others = []
-    for line in run([program, "stack"], given).splitlines():
-        call, number = line.split()
-        if call.startswith("pn_"):
-            deepest[call] = max(deepest.get(call, 0), int(number))
-        else:
-            others.append(line)
-    return others
-
-
-def controller(folder, deepest):
-    """The stack of each call of a controller, from its start to the exchange of data."""
-    run(["cargo", "build", "--release", "--quiet", "-p", "nandutable_controller"], folder=EDITION)
-    program = os.path.join(folder, "controller")
-    source = os.path.join(TOP, "bench", "figures", "library_controller.c")
-    run(["cc", "-std=gnu11", "-O2", "-pthread", "-I" + os.path.join(TOP, "include"), source, CONTROLLER, "-o", program])
-    lines = run([os.path.join(TOP, "bench", "figures", "controller.py"), "--lines", "a start-up", "1"])
-    if painted(program, (lines + "tick 32\n").encode(), deepest) != ["state 7"]:
-        sys.exit("library: the controller does not exchange data after the lines of a start-up")
-
-
 def main(words):
     answer_help(__doc__, words)
     if len(words) > 1 or words and not os.path.exists(words[0]):
@@ -120,17 +87,11 @@ def main(words):
         wanted = sorted(line.split()[-1] for line in run(["nm", "-u", whole]).splitlines() if line.split()[0] == "U")
         print(f"symbols that it wants: {' '.join(wanted)}")
         here, plain = os.path.join(TOP, "bench", "figures"), os.path.join(folder, "plain")
-        cc = ["cc", "-std=gnu11", "-O2", "-pthread", "-I" + os.path.join(TOP, "include"), os.path.join(here, "library.c")]
+        cc = ["cc", "-std=gnu11", "-O2", "-I" + os.path.join(TOP, "include"), os.path.join(here, "library.c")]
         run([*cc, archive, "-o", program])
         run([*cc, os.path.join(here, "library_plain.c"), "-o", plain])
-        deepest = {}
-        for name in sorted(name for name in os.listdir(os.path.join(TOP, "examples")) if name.endswith(".txt")):
-            painted(program, script(name), deepest)
-        controller(folder, deepest)
-        for call, depth in deepest.items():
-            print(f"deepest stack of {call}: {depth} octets{'' if depth <= DEEPEST else f', more than {DEEPEST}'}")
         is_kept = counted(program, plain, folder)
-    return 0 if is_kept and max(deepest.values()) <= DEEPEST else 1
+    return 0 if is_kept else 1
 
 
 if __name__ == "__main__":

@@ -80,6 +80,9 @@ static const uint8_t named[] = {
     2, 7, 0, 4, 0, 0, 0, 1,
     1, 2, 0, 14, 0, 0, 0, 0, 0, 0, 0, 0, 0, 0, 0, 0, 0, 0};
 
+/* LLDP of the station, which its services send in the first unit of time: to the group of the nearest bridge, with its name as ChassisID. */
+static const uint8_t announced[] = {0x01, 0x80, 0xC2, 0, 0, 0x0E, 0x02, 0, 0, 0, 0, 1, 0x88, 0xCC, 0x02, 7, 7, 'p', 'u', 'm', 'p', '-', '1'};
+
 static void say_depth(const char *call, uint32_t depth)
 {
     board_say("deepest stack of ");
@@ -142,7 +145,11 @@ int main(void)
     board_paint();
     answer = pn_tick(&device, &op, 32000);
     depth = board_depth();
-    must("a second", answer == PN_OK && op.units == 0);
+    must("the first unit of time", answer == PN_OK && op.units == 31999);
     say_depth("pn_tick", depth);
+    frames = 0;
+    must("pn_carry_out", pn_carry_out(&device, &op, &host) == PN_OK);
+    must("LLDP", frames == 1 && sent_length > sizeof announced && memcmp(sent, announced, sizeof announced) == 0);
+    must("a second", pn_tick(&device, &op, 31999) == PN_OK && op.units == 0);
     return 0;
 }

@@ -30,5 +30,6 @@ SECTIONS {
     /* The rest of the RAM is the stack. */
     stack_end = bss_end;
     stack_begin = ORIGIN(ram) + LENGTH(ram);
-    ASSERT(stack_begin - stack_end >= 24K, "there is no room for the stack")
+    /* A call of the library takes at most 16 KB, and its caller a little. */
+    ASSERT(stack_begin - stack_end >= 16K + 512, "there is no room for the stack")
 }
