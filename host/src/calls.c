@@ -14,12 +14,16 @@
 #define ACTIVITY_AT 40u
 #define AR_AT (HEADER + 28u)
 
-/* From the header of DCE/RPC on: its first flags, the operation, and the block of a Write, after the sizes of the arguments. */
+/* From the header of DCE/RPC on: its first flags, the operation, the number of the fragment, and the first block, after the sizes of the
+ * arguments. */
 #define FLAGS_AT 2u
 #define OPERATION_AT 68u
-#define WRITE_AT (HEADER + 20u)
+#define NUMBER_AT 76u
+#define BLOCK_AT (HEADER + 20u)
 #define FLAG_FRAGMENT 4u
-#define OPERATION_WRITE 3u
+
+/* In the ARBlockReq of a Connect: CMInitiatorMacAdd. */
+#define INITIATOR_AT 26u
 
 /* In the header of a Write, of this many octets: the index of its record, and the number of octets that follow the header. */
 #define WRITE_HEADER 64u
@@ -120,20 +124,56 @@ static int lists_stored(const uint8_t *list, size_t length)
     return 0;
 }
 
+/* The operation of a call. */
+static unsigned operation_of(const uint8_t *header)
+{
+    const uint8_t *at = header + OPERATION_AT;
+    return header[4] >> 4 == 1 ? at[0] | (unsigned)at[1] << 8 : (unsigned)at[0] << 8 | at[1];
+}
+
+static int is_fragment(const uint8_t *header)
+{
+    return (header[FLAGS_AT] & FLAG_FRAGMENT) != 0;
+}
+
 int calls_may_store(const uint8_t *octets, size_t length)
 {
     size_t at = header_at(octets, length);
     const uint8_t *header = octets + at, *write;
-    unsigned operation, index;
-    if (at == 0 || header[1] != CALLS_REQUEST)
+    unsigned index;
+    if (at == 0 || header[1] != CALLS_REQUEST || operation_of(header) != CALLS_WRITE)
         return 0;
-    operation = header[4] >> 4 == 1 ? header[OPERATION_AT] | (unsigned)header[OPERATION_AT + 1] << 8
-                                    : (unsigned)header[OPERATION_AT] << 8 | header[OPERATION_AT + 1];
-    if (operation != OPERATION_WRITE)
-        return 0;
-    if ((header[FLAGS_AT] & FLAG_FRAGMENT) != 0 || length < at + WRITE_AT + WRITE_HEADER)
+    if (is_fragment(header) || length < at + BLOCK_AT + WRITE_HEADER)
         return 1;
-    write = header + WRITE_AT;
+    write = header + BLOCK_AT;
     index = (unsigned)(write[INDEX_AT] << 8 | write[INDEX_AT + 1]);
-    return is_stored(index) || (index == INDEX_LIST && lists_stored(write + WRITE_HEADER, length - at - WRITE_AT - WRITE_HEADER));
+    return is_stored(index) || (index == INDEX_LIST && lists_stored(write + WRITE_HEADER, length - at - BLOCK_AT - WRITE_HEADER));
+}
+
+int calls_begins(const uint8_t *octets, size_t length, unsigned *operation)
+{
+    size_t at = header_at(octets, length);
+    const uint8_t *header = octets + at;
+    if (at == 0 || header[1] != CALLS_REQUEST || (is_fragment(header) && (header[NUMBER_AT] != 0 || header[NUMBER_AT + 1] != 0)))
+        return 0;
+    *operation = operation_of(header);
+    return 1;
+}
+
+int calls_source(const uint8_t *octets, size_t length, uint8_t address[4])
+{
+    size_t at = length >= 18 && octets[12] == 0x81 && octets[13] == 0 ? 18 : 14;
+    if (header_at(octets, length) == 0)
+        return 0;
+    memcpy(address, octets + at + 12, 4);
+    return 1;
+}
+
+int calls_initiator(const uint8_t *octets, size_t length, uint8_t mac[6])
+{
+    size_t at = header_at(octets, length) + BLOCK_AT;
+    if (at == BLOCK_AT || length < at + INITIATOR_AT + 6 || octets[at] != 0x01 || octets[at + 1] != 0x01)
+        return 0;
+    memcpy(mac, octets + at + INITIATOR_AT, 6);
+    return 1;
 }

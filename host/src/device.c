@@ -2,6 +2,7 @@
 #define _GNU_SOURCE
 #include "arp.h"
 #include "chip.h"
+#include "holder.h"
 #include "identity.h"
 #include "link.h"
 #include "loop.h"
@@ -32,6 +33,7 @@ struct options {
     int inputs_begin_bad;
     int is_ready_by_application;
     int is_without_services;
+    int any_controller;
 };
 
 /* From this many commits that the flash still takes on, the device reports that they are few, and again at each tenth of that. */
@@ -68,6 +70,7 @@ struct device {
     struct places inputs;
     struct places outputs;
     struct sets sets;
+    struct holder holder;
     struct status statuses[STATUSES];
     unsigned status_count;
     struct diagnosis diagnoses[DIAGNOSES];
@@ -218,8 +221,8 @@ static void tell_records(struct device *device)
     }
 }
 
-/* What a frame changed besides the process data, and at the first time what there is. */
-static void look_at_news(struct device *device, int is_first)
+/* What a frame changed besides the process data, and at the first time what there is. Returns it. */
+static uint32_t look_at_news(struct device *device, int is_first)
 {
     uint32_t news = 0;
     loop_must(pn_news(&device->room, &device->op, &device->watch, &news), "pn_news");
@@ -228,6 +231,7 @@ static void look_at_news(struct device *device, int is_first)
         tell_records(device);
     if ((news & PN_PARAMETERS_END) != 0)
         lines_tell(&device->loop.lines, "parameters end");
+    return news;
 }
 
 /* Whether the controller runs, by the first output that it sends. */
@@ -413,7 +417,9 @@ static void take_frame(void *context, const uint8_t *octets, size_t length)
     struct device *device = context;
     int is_cyclic = wire_is_cyclic(octets, length);
     uint32_t note, before;
-    if (!sets_let_in(&device->sets, octets, length, device->station.mac, ticker_now()))
+    int is_half_open = device->phase == PN_STARTED || device->phase == PN_AWAITING;
+    if (!holder_lets_in(&device->holder, octets, length, is_half_open) ||
+        !sets_let_in(&device->sets, octets, length, device->station.mac, ticker_now()))
         return;
     before = is_cyclic ? 0 : commits_left(device);
     pn_watch_frame(&device->watch, octets, length);
@@ -427,7 +433,8 @@ static void take_frame(void *context, const uint8_t *octets, size_t length)
     if (note != PN_DONE)
         return;
     if (!is_cyclic) {
-        look_at_news(device, 0);
+        if ((look_at_news(device, 0) & PN_NEW_RELATION) != 0)
+            holder_begins(&device->holder, octets, length);
         look_at_conflicts(device, octets, length);
         device->has_news_of_kernel |= sets_is_set(octets, length, device->station.mac);
     }
@@ -480,6 +487,7 @@ static void statistics(void *context, lines_writer tell)
         tell(lines, "note %s %" PRIu64, notes[i], device->notes[i]);
     tell(lines, "sets dropped %" PRIu64, device->sets.dropped);
     tell(lines, "writes dropped %" PRIu64, device->sets.writes_dropped);
+    tell(lines, "calls dropped %" PRIu64, device->holder.dropped);
     tell(lines, "address conflicts %" PRIu32, conflicts);
     tell(lines, "flash programs %" PRIu64 " erases %" PRIu64 " faults %" PRIu64 " commits-left %" PRIu32, device->chip.programs, device->chip.erases,
          device->chip.faults, left);
@@ -688,7 +696,7 @@ static void usage(void)
 {
     puts("Usage: nandutable-device IFACE --flash FILE [--station FILE] [--identity FILE] [--mac MAC] [--socket PATH]\n"
          "                         [--socket-group GROUP] [--period US] [--realtime N] [--sets-per-second N] [--smallest-interval N]\n"
-         "                         [--inputs-begin-bad] [--ready-by-application] [--no-services]\n"
+         "                         [--inputs-begin-bad] [--ready-by-application] [--any-controller] [--no-services]\n"
          "\n"
          "A PROFINET IO device on the network interface IFACE. Its name, address and I&M texts are in the flash file, and survive a power\n"
          "failure at any moment.\n"
@@ -711,6 +719,8 @@ static void usage(void)
          "  --smallest-interval N  refuses a relation with a shorter interval, in units of 31.25 microseconds, 1 to 65536 (default: 32, 1 ms)\n"
          "  --inputs-begin-bad    the IOPS of an input is bad until its first `input` in a relation\n"
          "  --ready-by-application  the device is ready at the line `ready` after `parameters end`, and not by itself\n"
+         "  --any-controller      accepts a Connect for another controller than its sender, and calls of any station keep a relation that does not\n"
+         "                        exchange data yet: for controllers whose calls pass a router\n"
          "  --no-services         the device alone: no answer to ping, to lookups of the endpoint mapper and to calls to other interfaces, no\n"
          "                        announcement of the address, and no LLDP\n"
          "  --help, --version\n"
@@ -757,6 +767,7 @@ static int take_option(void *context, int option, const char *word)
     case 'b': options->inputs_begin_bad = 1; return 1;
     case 'a': options->is_ready_by_application = 1; return 1;
     case 'w': options->is_without_services = 1; return 1;
+    case 'y': options->any_controller = 1; return 1;
     case 'f': options->flash = word; return 1;
     case 's': options->station = word; return 1;
     case 'i': options->identity = word; return 1;
@@ -775,6 +786,7 @@ static const struct option known[] = {{"flash", required_argument, NULL, 'f'},
                                       {"inputs-begin-bad", no_argument, NULL, 'b'},
                                       {"ready-by-application", no_argument, NULL, 'a'},
                                       {"no-services", no_argument, NULL, 'w'},
+                                      {"any-controller", no_argument, NULL, 'y'},
                                       SHARED_OPTIONS};
 
 /* Checks only the flash file's name, before any message is printed: a message could go into that file. */
@@ -835,6 +847,7 @@ static void open_all(struct device *device, const struct options *options)
     device->host = (pn_host){device, program, erase, transmit};
     device->loop.period = options->shared.period;
     sets_limit(&device->sets, options->sets_a_second, ticker_now());
+    device->holder.is_anyone = options->any_controller;
     wire_open(&device->loop.wire, options->shared.interface);
     if (!has_mac)
         memcpy(device->station.mac, device->loop.wire.hardware, 6);

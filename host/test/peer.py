@@ -348,12 +348,12 @@ class Opener:
                 return came[RPC_AT + 80:RPC_AT + 84], came[BLOCKS_AT:]
         return None
 
-    def connect(self):
+    def connect(self, pieces=1):
         blocks = bytearray(scapys_connect())
         blocks[self.AR_AT:self.AR_AT + 16] = self.ar
         blocks[self.INITIATOR_AT:self.INITIATOR_AT + 6] = self.initiator
         blocks[self.TIMEOUT_AT:self.TIMEOUT_AT + 2] = struct.pack(">H", self.seconds * 10)
-        return self.call(0, arguments(bytes(blocks), 4096))
+        return self.call(0, arguments(bytes(blocks), 4096), pieces)
 
     def header(self, slot, subslot, index, length, api=0):
         return block_of(8, struct.pack(">H16sIHHHHI24s", self.sequence, self.ar, api, slot, subslot, 0, index, length, bytes(24)))
