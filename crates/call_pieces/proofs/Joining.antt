@@ -2,14 +2,13 @@
 use Rattle.std.proofs.Common.{◌≡◌, ◌+◌, ◌-◌, ◌<◌, ◌==◌, ◌&&◌, inl, inr, ℕ, zero, suc, Bool, true, false, not, List, [], ◌∷◌, ◌++◌, get_or, Option, Some, None, refl, sym, ap, subst, ◌∙◌, arith, add-one}
 use Rattle.std.specs.Prelude.{nat_lt, if◌then◌else◌}
 use Rattle.std.specs.List.{All}
-use Rattle.std.specs.Option.{option_map}
 use Rattle.std.proofs.lemmas.Bool.{eqb-true}
 use Rattle.std.proofs.lemmas.Bool.Decides.{nat_tests}
 use Rattle.std.proofs.lemmas.List.Elements.{All-map, All-set}
 use Rattle.call_headers.specs.declared.call.Head.{Head}
 use Rattle.call_pieces.specs.declared.piece.Kind.{Kind}
-use Rattle.call_pieces.specs.Piece.{Piece, is_last, is_same, number_of, piece_of}
-use Rattle.call_pieces.specs.State.{Joined, Waits, State, Unfinished, acknowledged, after_piece, at_place, begun, blank, completes, continued, fack_bytes, fresh, heard, heard_as, holds, is_live, is_next, older, outcome_by, outcome_of, place_of, started, taken, whole_bytes}
+use Rattle.call_pieces.specs.Piece.{Piece, is_same, number_of, piece_of}
+use Rattle.call_pieces.specs.State.{Drops, Joined, Waits, State, Unfinished, after_piece, at_place, begun, blank, comes_next, completes, continued, fack_of, fresh, heard, heard_as, holds, is_live, is_next, older, outcome_by, outcome_of, place_in, started, taken, whole_bytes}
 use Rattle.call_pieces.specs.Run.{Began, Event, Hears, IsAmong, IsCompleted, IsJoined, Ticks, since}
 use Rattle.call_pieces.proofs.Places.{read_all, three, two}
 
@@ -57,12 +56,14 @@ grown kind past u p came next made =
     (u.octets, p.octets, refl, made, record { bytes = came.0; piece = p; came = came.1; read = came.2; same = same; number = eqb-true _ _ tests.1; octets = refl })
 
 continued_made : (kind : Kind) (past : List Event) (u : Unfinished) (p : Piece) → Came kind past p → IsMade kind past u → IsMade kind past (continued u p)
-continued_made kind past u p came made = by (is_next u p && not (is_last p.head.opening.flags)) refl
+continued_made kind past u p came made = by (completes u p) (is_next u p) refl (comes_next u p)
   where
-    by : (b : Bool) → (is_next u p && not (is_last p.head.opening.flags)) ≡ b
-        → IsMade kind past (if b then record u { octets = u.octets ++ p.octets; next = u.next + 1 } else u)
-    by true e = (grown kind past u p came (two (is_next u p) _ e).0 made.0, made.1)
-    by false e = made
+    by : (a b : Bool) → is_next u p ≡ b → (c : Bool)
+        → IsMade kind past (if a then record u { is_whole = true } else if b then record u { octets = u.octets ++ p.octets; next = u.next + 1 } else if c then record u { left = 0 } else u)
+    by true b e c = made
+    by false true e c = (grown kind past u p came e made.0, made.1)
+    by false false e true = (made.0, λ live. absurd cc)
+    by false false e false = made
 
 taken_made : (kind : Kind) (past : List Event) (u : Unfinished) (p : Piece) → Came kind past p → IsMade kind past u → IsMade kind past (taken u p)
 taken_made kind past u p came made = continued_made kind past (begun u p) p came (begun_made kind past u p came made)
@@ -90,7 +91,7 @@ older_made kind past u made = (made.0, λ live. made.1 (was live))
 
 piece_made : (kind : Kind) (past : List Event) (state : State) (p : Piece) → Came kind past p → AreMade kind past state → AreMade kind past (after_piece state (Some p))
 piece_made kind past state p came made =
-    All-set (IsMade kind past) state.calls (place_of p.head state.calls) (taken (at_place state p) p)
+    All-set (IsMade kind past) state.calls (place_in state p) (taken (at_place state p) p)
     (taken_made kind past (at_place state p) p came (read_all (IsMade kind past) state.calls _ made (none_made kind past))) made
 
 option_made : (kind : Kind) (past : List Event) (state : State) (bytes : List ℕ) (o : Option Piece) → piece_of kind bytes ≡ o → AreMade kind past state
@@ -135,13 +136,14 @@ made_since kind (Ticks ∷ past) =
 
 -- what it takes for a whole
 pub whole_parts : (u : Unfinished) (p : Piece) (whole : List ℕ) → outcome_by u p ≡ Joined whole → (completes u p ≡ true) × (whole ≡ whole_bytes u.head (u.octets ++ p.octets))
-whole_parts u p whole e = by (completes u p) refl e
+whole_parts u p whole e = by (completes u p) refl (is_next u p) e
   where
-    by : (b : Bool) → completes u p ≡ b
-        → (if b then Joined (whole_bytes u.head (u.octets ++ p.octets)) else Waits (option_map (fack_bytes p) (acknowledged (continued u p) p))) ≡ Joined whole
+    by : (b : Bool) → completes u p ≡ b → (c : Bool)
+        → (if b then Joined (whole_bytes u.head (u.octets ++ p.octets)) else if c then Waits (fack_of u p) else Drops (fack_of u p)) ≡ Joined whole
         → (completes u p ≡ true) × (whole ≡ whole_bytes u.head (u.octets ++ p.octets))
-    by true e f = (e, cc)
-    by false e f = absurd cc
+    by true e c f = (e, cc)
+    by false e true f = absurd cc
+    by false e false f = absurd cc
 
 completed_by : (kind : Kind) (past : List Event) (state : State) (bytes whole : List ℕ) (o : Option Piece) → piece_of kind bytes ≡ o → AreMade kind past state
     → outcome_of state o ≡ Joined whole → IsCompleted kind past bytes whole

@@ -7,8 +7,8 @@ use Rattle.std.proofs.lemmas.List.Elements.{All-map, All-set}
 use Rattle.std.proofs.lemmas.List.Folds.{list_any_none}
 use Rattle.call_headers.specs.declared.call.Head.{Head}
 use Rattle.call_pieces.specs.declared.piece.Kind.{Kind}
-use Rattle.call_pieces.specs.Piece.{Piece, is_last, is_same, number_of, piece_of}
-use Rattle.call_pieces.specs.State.{State, Unfinished, after_piece, at_place, begun, blank, continued, fresh, heard, holds, is_live, is_next, older, place_of, taken, ticked}
+use Rattle.call_pieces.specs.Piece.{Piece, is_same, number_of, piece_of}
+use Rattle.call_pieces.specs.State.{State, Unfinished, after_piece, at_place, begun, blank, comes_next, completes, continued, fresh, heard, holds, is_live, is_next, older, place_in, taken, ticked}
 use Rattle.call_pieces.specs.Run.{BeginsNone, Event, Hears, Ticks, after, begins, ticks_in}
 use Rattle.call_pieces.proofs.Places.{not_true, read_all, two}
 
@@ -40,11 +40,14 @@ begun_lasts h most u p none lasts = by (number_of p == 0) refl (not (holds p.hea
     by false e b = lasts
 
 continued_lasts : (h : Head) (most : ℕ) (u : Unfinished) (p : Piece) → Lasts h most u → Lasts h most (continued u p)
-continued_lasts h most u p lasts = by (is_next u p && not (is_last p.head.opening.flags))
+continued_lasts h most u p lasts = by (completes u p) (is_next u p) (comes_next u p)
   where
-    by : (b : Bool) → Lasts h most (if b then record u { octets = u.octets ++ p.octets; next = u.next + 1 } else u)
-    by true = lasts
-    by false = lasts
+    by : (a b c : Bool)
+        → Lasts h most (if a then record u { is_whole = true } else if b then record u { octets = u.octets ++ p.octets; next = u.next + 1 } else if c then record u { left = 0 } else u)
+    by true b c = lasts
+    by false true c = lasts
+    by false false true = λ same. omega arith
+    by false false false = lasts
 
 none_lasts : (h : Head) (most : ℕ) → Lasts h most blank
 none_lasts h most e = omega arith
@@ -53,7 +56,7 @@ piece_lasts : (h : Head) (most : ℕ) (state : State) (o : Option Piece) → beg
 piece_lasts h most state None none lasts = lasts
 piece_lasts h most state (Some p) none lasts =
     let u = at_place state p in
-    All-set (Lasts h most) state.calls (place_of p.head state.calls) (taken u p)
+    All-set (Lasts h most) state.calls (place_in state p) (taken u p)
     (continued_lasts h most (begun u p) p (begun_lasts h most u p none (read_all (Lasts h most) state.calls _ lasts (none_lasts h most)))) lasts
 
 -- ---- over events

@@ -35,8 +35,8 @@ idle (u ∷ us) none =
     let same : u.left - 1 ≡ u.left = omega (arith, over) in
     ap (λ (n : ℕ). with_left u n ∷ map (older 1) us) same ∙ ap (λ (vs : List Unfinished). u ∷ vs) (idle us (λ k d few. none (suc k) d (omega (arith, few))))
 
-pub idle_state : (state : State) (kind : Kind) (us : List Unfinished) → state ≡ record { kind = kind; calls = us } → All (λ u. u.left ≤ 0) us → state ≡ ticked state
-idle_state state kind us e none = rw e (ap (λ (vs : List Unfinished). record { kind = kind; calls = vs }) (sym (idle us none)))
+pub idle_state : (state : State) (kind : Kind) (us : List Unfinished) (ages : List ℕ) → state ≡ record { kind = kind; calls = us; ages = ages } → All (λ u. u.left ≤ 0) us → state ≡ ticked state
+idle_state state kind us ages e none = rw e (ap (λ (vs : List Unfinished). record { kind = kind; calls = vs; ages = ages }) (sym (idle us none)))
 
 -- each call is dropped after at most this many ticks, and becomes older
 pub less_left : (ticks most rest : ℕ) (us vs : List Unfinished) → rest ≡ most - ticks → vs ≡ map (older ticks) us → All (λ u. u.left ≤ most) us → All (λ u. u.left ≤ rest) vs

@@ -6,3 +6,4 @@ pub mod Leaping
 pub mod Reading
 pub mod Splitting
 pub mod Due
+pub mod Room

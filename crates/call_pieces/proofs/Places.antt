@@ -1,13 +1,14 @@
 -- The places: which one a fragment goes to, and what a write to one leaves of the others.
-use Rattle.std.proofs.Common.{◌≡◌, ◌+◌, ◌<◌, ◌≤◌, ◌&&◌, ◌==◌, ◌++◌, ℕ, zero, suc, Bool, true, false, not, List, [], ◌∷◌, length, get_or, Some, refl, sym, subst, arith}
+use Rattle.std.proofs.Common.{◌≡◌, ◌+◌, ◌<◌, ◌≤◌, ◌&&◌, ◌++◌, ℕ, zero, suc, Bool, true, false, List, [], ◌∷◌, length, map, get_or, set, Some, refl, sym, subst, arith}
 use Rattle.std.specs.Prelude.{nat_lt, if◌then◌else◌}
 use Rattle.std.specs.List.{All, position_or_len}
 use Rattle.std.proofs.lemmas.Bool.{ltb-true, ltb-false}
 use Rattle.std.proofs.lemmas.List.{length-set, length-map}
+use Rattle.std.proofs.lemmas.List.Elements.{All-map, All-set}
 use Rattle.std.proofs.lemmas.List.Sums.{position_or_len_is}
 use Rattle.call_headers.specs.declared.call.Head.{Head}
-use Rattle.call_pieces.specs.Piece.{Piece, is_last, number_of}
-use Rattle.call_pieces.specs.State.{State, Unfinished, after_piece, begun, blank, continued, fresh, holds, is_next, is_of, oldest, oldest_from, older, place_of, ticked}
+use Rattle.call_pieces.specs.Piece.{Piece}
+use Rattle.call_pieces.specs.State.{State, Unfinished, after_piece, begun, blank, comes_next, completes, continued, fresh, is_next, is_of, older_than, oldest, oldest_from, older, place_of, starts, ticked, turn_of}
 
 -- ---- tests
 
@@ -34,38 +35,39 @@ either : (b : Bool) (x y n : ℕ) → x < n → y < n → (if b then x else y) <
 either true x y n one other = one
 either false x y n one other = other
 
-pub oldest_below : (place least index n : ℕ) (us : List Unfinished) → place < n → index + length us ≤ n → oldest_from place least index us < n
-oldest_below place least index n [] there few = there
-oldest_below place least index n (u ∷ us) there few =
-    either (nat_lt u.left least) (oldest_from index u.left (index + 1) us) (oldest_from place least (index + 1) us) n
-    (oldest_below index u.left (index + 1) n us (omega (arith, few)) (omega (arith, few)))
-    (oldest_below place least (index + 1) n us there (omega (arith, few)))
+pub oldest_below : (place most index n : ℕ) (ages : List ℕ) (us : List Unfinished) → place < n → index + length us ≤ n → oldest_from place most index ages us < n
+oldest_below place most index n ages [] there few = there
+oldest_below place most index n ages (u ∷ us) there few =
+    let turn : ℕ = turn_of u (get_or ages index 0) in
+    either (nat_lt most turn) (oldest_from index turn (index + 1) ages us) (oldest_from place most (index + 1) ages us) n
+    (oldest_below index turn (index + 1) n ages us (omega (arith, few)) (omega (arith, few)))
+    (oldest_below place most (index + 1) n ages us there (omega (arith, few)))
 
-pub place_below : (h : Head) (us : List Unfinished) → 0 < length us → place_of h us < length us
-place_below h us some = by (nat_lt (position_or_len (is_of h) us) (length us)) refl
+pub place_below : (h : Head) (ages : List ℕ) (us : List Unfinished) → 0 < length us → place_of h ages us < length us
+place_below h ages us some = by (nat_lt (position_or_len (is_of h) us) (length us)) refl
   where
-    by : (b : Bool) → nat_lt (position_or_len (is_of h) us) (length us) ≡ b → (if b then position_or_len (is_of h) us else oldest us) < length us
+    by : (b : Bool) → nat_lt (position_or_len (is_of h) us) (length us) ≡ b → (if b then position_or_len (is_of h) us else oldest ages us) < length us
     by true e = ltb-true _ _ e
-    by false e = oldest_below 0 4294967295 0 (length us) us some (omega arith)
+    by false e = oldest_below 0 0 0 (length us) ages us some (omega arith)
 
 -- the first place of the activity
-pub found : (h : Head) (us : List Unfinished) (i : ℕ) → i < length us → ((k : ℕ) → k < i → is_of h (get_or us k blank) ≡ false) → is_of h (get_or us i blank) ≡ true
-    → i ≡ place_of h us
-found h us i there none here =
+pub found : (h : Head) (ages : List ℕ) (us : List Unfinished) (i : ℕ) → i < length us → ((k : ℕ) → k < i → is_of h (get_or us k blank) ≡ false) → is_of h (get_or us i blank) ≡ true
+    → i ≡ place_of h ages us
+found h ages us i there none here =
     let pos = position_or_len_is (is_of h) us i blank (omega (arith, there)) none (λ _. here) in
     sym (by (nat_lt (position_or_len (is_of h) us) (length us)) refl pos)
   where
-    by : (b : Bool) → nat_lt (position_or_len (is_of h) us) (length us) ≡ b → position_or_len (is_of h) us ≡ i → (if b then position_or_len (is_of h) us else oldest us) ≡ i
+    by : (b : Bool) → nat_lt (position_or_len (is_of h) us) (length us) ≡ b → position_or_len (is_of h) us ≡ i → (if b then position_or_len (is_of h) us else oldest ages us) ≡ i
     by true e pos = pos
     by false e pos = let late = ltb-false _ _ e in absurd (omega (arith, late, pos, there))
 
 -- no place of the activity
-pub not_found : (h : Head) (us : List Unfinished) → ((k : ℕ) → k < length us → is_of h (get_or us k blank) ≡ false) → oldest us ≡ place_of h us
-not_found h us none =
+pub not_found : (h : Head) (ages : List ℕ) (us : List Unfinished) → ((k : ℕ) → k < length us → is_of h (get_or us k blank) ≡ false) → oldest ages us ≡ place_of h ages us
+not_found h ages us none =
     let pos = position_or_len_is (is_of h) us (length us) blank (omega arith) none (λ l. absurd (omega (arith, l))) in
     sym (by (nat_lt (position_or_len (is_of h) us) (length us)) refl pos)
   where
-    by : (b : Bool) → nat_lt (position_or_len (is_of h) us) (length us) ≡ b → position_or_len (is_of h) us ≡ length us → (if b then position_or_len (is_of h) us else oldest us) ≡ oldest us
+    by : (b : Bool) → nat_lt (position_or_len (is_of h) us) (length us) ≡ b → position_or_len (is_of h) us ≡ length us → (if b then position_or_len (is_of h) us else oldest ages us) ≡ oldest ages us
     by true e pos = let short = ltb-true _ _ e in absurd (omega (arith, short, pos))
     by false e pos = refl
 
@@ -88,18 +90,42 @@ read_all P us i all none = by (nat_lt i (length us)) refl
 -- ---- how long a place is used
 
 pub young_begun : (u : Unfinished) (p : Piece) → u.left ≤ 64000 → (begun u p).left ≤ 64000
-young_begun u p young = by (number_of p == 0 && not (holds p.head u))
+young_begun u p young = by (starts u p)
   where
     by : (b : Bool) → (if b then fresh p.head else u).left ≤ 64000
     by true = omega arith
     by false = young
 
 pub young_continued : (u : Unfinished) (p : Piece) → u.left ≤ 64000 → (continued u p).left ≤ 64000
-young_continued u p young = by (is_next u p && not (is_last p.head.opening.flags))
+young_continued u p young = by (completes u p) (is_next u p) (comes_next u p)
   where
-    by : (b : Bool) → (if b then record u { octets = u.octets ++ p.octets; next = u.next + 1 } else u).left ≤ 64000
-    by true = young
-    by false = young
+    by : (a b c : Bool)
+        → (if a then record u { is_whole = true } else if b then record u { octets = u.octets ++ p.octets; next = u.next + 1 } else if c then record u { left = 0 } else u).left ≤ 64000
+    by true b c = young
+    by false true c = young
+    by false false true = omega arith
+    by false false false = young
+
+-- ---- ages
+
+pub get_same : (xs : List ℕ) (i : ℕ) → get_or xs i 0 ≡ get_or xs i (get_or xs i 0)
+get_same [] zero = refl
+get_same [] (suc i) = refl
+get_same (x ∷ xs) zero = refl
+get_same (x ∷ xs) (suc i) = get_same xs i
+
+young_one : (age other : ℕ) → age ≤ 3 → other ≤ 3 → older_than age other ≤ 3
+young_one age other few one = by (nat_lt other age) refl
+  where
+    by : (b : Bool) → nat_lt other age ≡ b → (if b then other + 1 else other) ≤ 3
+    by true e = let less = ltb-true _ _ e in omega (arith, less, few)
+    by false e = one
+
+-- an age that is passed is at most 3, as it was below another one
+pub young_ages : (age place : ℕ) (ages : List ℕ) → age ≤ 3 → All (λ n. n ≤ 3) ages → All (λ n. n ≤ 3) (set (map (older_than age) ages) place 0)
+young_ages age place ages few all =
+    All-set (λ (n : ℕ). n ≤ 3) (map (older_than age) ages) place 0 (omega arith)
+    (All-map (λ (n : ℕ). n ≤ 3) (older_than age) ages (λ k d there. young_one age (get_or ages k d) few (all k d there)))
 
 -- ---- lengths
 

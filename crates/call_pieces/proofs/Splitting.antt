@@ -2,7 +2,6 @@
 use Rattle.std.proofs.Common.{◌≡◌, ◌+◌, ◌-◌, ◌*◌, ◌<◌, ◌≤◌, ◌==◌, ◌&&◌, ◌⊎◌, inl, inr, ℕ, zero, suc, Bool, true, false, not, List, [], ◌∷◌, ◌++◌, length, map, take, get_or, set, Some, refl, sym, ap, subst, ◌∙◌, arith}
 use Rattle.std.specs.Prelude.{nat_eq, nat_lt, if◌then◌else◌}
 use Rattle.std.specs.List.{list_any, position_or_len}
-use Rattle.std.specs.Option.{option_map}
 use Rattle.std.specs.Cmp.Lexicographic.{pointwise}
 use Rattle.std.proofs.Math.Seq.{take-add}
 use Rattle.std.proofs.lemmas.Bool.{eq-eqb, eqb-true, le-leb, lt-ltb, ltb-true, ltb-false, ne_eqb}
@@ -12,7 +11,7 @@ use Rattle.std.proofs.lemmas.List.Sums.{fails_before_first, position_or_len_is}
 use Rattle.call_headers.specs.declared.call.Head.{Head}
 use Rattle.call_headers.specs.Call.{head}
 use Rattle.call_pieces.specs.Piece.{Piece, is_activity, is_last, is_same, piece_of}
-use Rattle.call_pieces.specs.State.{Joined, State, Unfinished, Waits, acknowledged, after_piece, at_place, begun, blank, completes, continued, fack_bytes, fresh, heard, heard_as, holds, is_live, is_next, is_of, oldest, older, outcome_by, outcome_of, place_of, taken, ticked, whole_bytes}
+use Rattle.call_pieces.specs.State.{Drops, Joined, State, Unfinished, Waits, after_piece, ages_after, at_place, begun, blank, comes_next, completes, continued, fack_of, fresh, heard, heard_as, holds, is_live, is_next, is_of, oldest, older, outcome_by, outcome_of, place_of, taken, ticked, whole_bytes}
 use Rattle.call_pieces.specs.Split.{IsSendable, carried, is_final, piece_bytes, piece_head, piece_in, pieces_in, whole_of}
 use Rattle.call_pieces.specs.Run.{AreOf, Arrival, CanJoin, Comes, Event, Passes, after, events_of, next_after, next_of, passed_in}
 use Rattle.call_pieces.proofs.Joining.{whole_parts}
@@ -48,6 +47,14 @@ second_false : (a b : Bool) → b ≡ false → (a && b) ≡ false
 second_false true true e = absurd cc
 second_false true false e = refl
 second_false false b e = refl
+
+-- a fragment that does not come next changes nothing
+unchanged : (u : Unfinished) (p : Piece) → is_next u p ≡ false → comes_next u p ≡ false → continued u p ≡ u
+unchanged u p next comes =
+    let more : Unfinished = record u { octets = u.octets ++ p.octets; next = u.next + 1 } in
+    let otherwise : Unfinished = if comes_next u p then record u { left = 0 } else u in
+    if_false _ (record u { is_whole = true }) (if is_next u p then more else otherwise) (first_false _ _ next)
+    ∙ (if_false _ more otherwise next ∙ if_false _ (record u { left = 0 }) u comes)
 
 never_both : (b : Bool) → b ≡ true → b ≡ false → ⊥
 never_both true e f = absurd cc
@@ -109,25 +116,25 @@ module _ (h : Head) (wanted : Bool) (body : List ℕ) (few : length body ≤ 415
       both_true _ _ parts.0 (three (is_activity h u.head) _ _ parts.1).0
 
   -- the place of the activity is the first one that has it, or before it
-  before_first : (us : List Unfinished) → 0 < length us → place_of h us ≤ position_or_len (is_of h) us
-  before_first us some = by (nat_lt (position_or_len (is_of h) us) (length us)) refl
+  before_first : (ages : List ℕ) (us : List Unfinished) → 0 < length us → place_of h ages us ≤ position_or_len (is_of h) us
+  before_first ages us some = by (nat_lt (position_or_len (is_of h) us) (length us)) refl
     where
-      by : (b : Bool) → nat_lt (position_or_len (is_of h) us) (length us) ≡ b → place_of h us ≤ position_or_len (is_of h) us
-      by true e = let same = if_true _ (position_or_len (is_of h) us) (oldest us) e in omega (arith, same)
-      by false e = let late = ltb-false _ _ e in let short = place_below h us some in omega (arith, late, short)
+      by : (b : Bool) → nat_lt (position_or_len (is_of h) us) (length us) ≡ b → place_of h ages us ≤ position_or_len (is_of h) us
+      by true e = let same = if_true _ (position_or_len (is_of h) us) (oldest ages us) e in omega (arith, same)
+      by false e = let late = ltb-false _ _ e in let short = place_below h ages us some in omega (arith, late, short)
 
-  none_before : (us : List Unfinished) → 0 < length us → (k : ℕ) → k < place_of h us → is_of h (get_or us k blank) ≡ false
-  none_before us some k short = fails_before_first (is_of h) us k blank (let most = before_first us some in omega (arith, most, short))
+  none_before : (ages : List ℕ) (us : List Unfinished) → 0 < length us → (k : ℕ) → k < place_of h ages us → is_of h (get_or us k blank) ≡ false
+  none_before ages us some k short = fails_before_first (is_of h) us k blank (let most = before_first ages us some in omega (arith, most, short))
 
-  place_is : (state : State) (n passed : ℕ) (l : IsLate state n passed) → place_of h state.calls ≡ l.place
+  place_is : (state : State) (n passed : ℕ) (l : IsLate state n passed) → place_of h state.ages state.calls ≡ l.place
   place_is state n passed l =
       let us = state.calls in
       let pos = position_or_len_is (is_of h) us l.place blank (let t = l.there in omega (arith, t)) l.first (λ _. of_held (get_or us l.place blank) l.begun_is.here) in
-      if_true _ (position_or_len (is_of h) us) (oldest us) (lt-ltb _ _ (let t = l.there in omega (arith, t, pos))) ∙ pos
+      if_true _ (position_or_len (is_of h) us) (oldest state.ages us) (lt-ltb _ _ (let t = l.there in omega (arith, t, pos))) ∙ pos
 
-  late_at : (state : State) (q : ℕ) (v : Unfinished) (n passed : ℕ) → q < length state.calls → ((k : ℕ) → k < q → is_of h (get_or state.calls k blank) ≡ false)
-      → IsBegun v n passed → IsLate (record state { calls = set state.calls q v }) n passed
-  late_at state q v n passed there first is = record {
+  late_at : (state : State) (ages : List ℕ) (q : ℕ) (v : Unfinished) (n passed : ℕ) → q < length state.calls → ((k : ℕ) → k < q → is_of h (get_or state.calls k blank) ≡ false)
+      → IsBegun v n passed → IsLate (record state { calls = set state.calls q v; ages = ages }) n passed
+  late_at state ages q v n passed there first is = record {
     place = q;
     there = let long = length-set state.calls q v in omega (arith, long, there);
     first = λ k short. ap (is_of h) (get_or-set_other state.calls q k v blank (λ e. omega (arith, e, short))) ∙ first k short;
@@ -230,19 +237,32 @@ module _ (h : Head) (wanted : Bool) (body : List ℕ) (few : length body ≤ 415
       more : Unfinished
       more = record u { octets = u.octets ++ (part i).octets; next = u.next + 1 }
 
-      stays : is_next u (part i) && not (is_last (part i).head.opening.flags) ≡ false → next_after count n i ≡ n → IsBegun (continued u (part i)) (next_after count n i) passed
-      stays e f = subst (λ (v : Unfinished). IsBegun v (next_after count n i) passed) (sym (if_false _ more u e)) (subst (λ (m : ℕ). IsBegun u m passed) (sym f) is)
+      whole_is : Unfinished
+      whole_is = record u { is_whole = true }
+
+      otherwise : Unfinished
+      otherwise = if comes_next u (part i) then record u { left = 0 } else u
+
+      finished : IsBegun whole_is n passed
+      finished = record { here = is.here; next = is.next; octets = is.octets; head_is = is.head_is; left = is.left }
+
+      at : (v : Unfinished) (m : ℕ) → continued u (part i) ≡ v → next_after count n i ≡ m → IsBegun v m passed → IsBegun (continued u (part i)) (next_after count n i) passed
+      at v m e f known = subst (λ (w : Unfinished). IsBegun w (next_after count n i) passed) (sym e) (subst (λ (k : ℕ). IsBegun v k passed) (sym f) known)
 
       by : (a : Bool) → (i == n) ≡ a → (b : Bool) → is_final i body ≡ b → IsBegun (continued u (part i)) (next_after count n i) passed
       by true e false f =
           let same = eqb-true i n e in
-          let goes = both_true _ _ (next_is u n passed i is there same) (not_of_false _ (part_last i ∙ f)) in
-          let nexts : next_after count n i ≡ n + 1 = if_true _ (n + 1) n (both_true _ _ e (not_of_false _ f)) in
-          subst (λ (v : Unfinished). IsBegun v (next_after count n i) passed) (sym (if_true _ more u goes))
-          (subst (λ (m : ℕ). IsBegun more m passed) (sym nexts) (grown u n passed i is same))
-      by true e true f = stays (second_false _ _ (not_false _ (part_last i ∙ f))) (if_false _ (n + 1) n (second_false _ _ (not_false _ f)))
+          let open_is : completes u (part i) ≡ false = second_false _ _ (part_last i ∙ f) in
+          at more (n + 1) (if_false _ whole_is (if is_next u (part i) then more else otherwise) open_is ∙ if_true _ more otherwise (next_is u n passed i is there same))
+          (if_true _ (n + 1) n (both_true _ _ e (not_of_false _ f))) (grown u n passed i is same)
+      by true e true f =
+          let same = eqb-true i n e in
+          let done : completes u (part i) ≡ true = both_true _ _ (next_is u n passed i is there same) (part_last i ∙ f) in
+          at whole_is n (if_true _ whole_is (if is_next u (part i) then more else otherwise) done) (if_false _ (n + 1) n (second_false _ _ (not_false _ f))) finished
       by false e b f =
-          stays (first_false _ _ (not_true _ (λ g. never_both _ (eq-eqb i n (next_only u n passed i is g)) e))) (if_false _ (n + 1) n (first_false _ _ e))
+          let next : is_next u (part i) ≡ false = not_true _ (λ g. never_both _ (eq-eqb i n (next_only u n passed i is g)) e) in
+          let comes : comes_next u (part i) ≡ false = second_false _ _ (ap (λ (k : ℕ). i == k) is.next ∙ e) in
+          at u n (unchanged u (part i) next comes) (if_false _ (n + 1) n (first_false _ _ e)) is
 
   -- ---- a fragment in its place
 
@@ -250,7 +270,7 @@ module _ (h : Head) (wanted : Bool) (body : List ℕ) (few : length body ≤ 415
   ready : (state : State) (n passed i : ℕ) → 0 < length state.calls → IsAt state n passed
       → (IsBegun (begun (at_place state (part i)) (part i)) n passed) ⊎ ((IsEarly state) × (n ≡ 0) × ((i ≡ 0) → ⊥) × (begun (at_place state (part i)) (part i) ≡ at_place state (part i)))
   ready state n passed zero some (inl early) =
-      inl (subst (λ (u : Unfinished). IsBegun u n passed) (sym (begun_first _ (early.0 _ (place_below h state.calls some))))
+      inl (subst (λ (u : Unfinished). IsBegun u n passed) (sym (begun_first _ (early.0 _ (place_below h state.ages state.calls some))))
       (subst (λ (m : ℕ). IsBegun (fresh (piece_head h wanted 0 body)) m passed) (sym early.1) (fresh_begun passed)))
   ready state n passed (suc i) some (inl early) = inr (early.0, early.1, (λ e. omega (arith, e)), begun_later _ i)
   ready state n passed i some (inr l) =
@@ -260,26 +280,25 @@ module _ (h : Head) (wanted : Bool) (body : List ℕ) (few : length body ≤ 415
       inl (subst (λ (u : Unfinished). IsBegun u n passed) (sym (begun_held _ i here.here)) here)
 
   none_held : (state : State) (i : ℕ) → 0 < length state.calls → IsEarly state → holds h (at_place state (part i)) ≡ false
-  none_held state i some early = early _ (place_below h state.calls some)
+  none_held state i some early = early _ (place_below h state.ages state.calls some)
 
   piece_at : (state : State) (n passed i : ℕ) → 0 < length state.calls → i < count → IsAt state n passed → IsAt (after_piece state (Some (part i))) (next_after count n i) passed
   piece_at state n passed i some there at = by (ready state n passed i some at)
     where
       q : ℕ
-      q = place_of h state.calls
+      q = place_of h state.ages state.calls
 
       by : (IsBegun (begun (at_place state (part i)) (part i)) n passed) ⊎ ((IsEarly state) × (n ≡ 0) × ((i ≡ 0) → ⊥) × (begun (at_place state (part i)) (part i) ≡ at_place state (part i)))
           → IsAt (after_piece state (Some (part i))) (next_after count n i) passed
-      by (inl is) = inr (late_at state q (taken (at_place state (part i)) (part i)) (next_after count n i) passed (place_below h state.calls some) (none_before state.calls some) (go_on _ n passed i is there))
+      by (inl is) = inr (late_at state (ages_after state (part i)) q (taken (at_place state (part i)) (part i)) (next_after count n i) passed (place_below h state.ages state.calls some) (none_before state.ages state.calls some) (go_on _ n passed i is there))
       by (inr is) =
           let u = at_place state (part i) in
           let none = none_held state i some is.0 in
-          let more : Unfinished = record u { octets = u.octets ++ (part i).octets; next = u.next + 1 } in
-          let stays : continued u (part i) ≡ u = if_false _ more u (first_false _ _ (three_false _ _ _ none)) in
+          let stays : continued u (part i) ≡ u = unchanged u (part i) (three_false _ _ _ none) (first_false _ _ none) in
           let same : taken u (part i) ≡ u = ap (λ (v : Unfinished). continued v (part i)) is.3 ∙ stays in
           let calls : set state.calls q (taken u (part i)) ≡ state.calls = ap (set state.calls q) same ∙ set-get_or state.calls q blank in
           let nexts : next_after count n i ≡ n = if_false _ (n + 1) n (first_false _ _ (ne_eqb i n (λ e. is.2 (e ∙ is.1)))) in
-          inl (subst (λ (us : List Unfinished). IsEarly (record state { calls = us })) (sym calls) is.0, nexts ∙ is.1)
+          inl (subst (λ (us : List Unfinished). IsEarly (record state { calls = us; ages = ages_after state (part i) })) (sym calls) is.0, nexts ∙ is.1)
 
   -- ---- over arrivals
 
@@ -347,7 +366,8 @@ module _ (h : Head) (wanted : Bool) (body : List ℕ) (few : length body ≤ 415
       by (inl is) =
           let here = subst (λ (m : ℕ). IsBegun u m passed) same is in
           let done : completes u (part number) ≡ true = both_true _ _ (next_is u number passed number here (omega (arith, e)) refl) (part_last number ∙ eq-eqb _ _ e) in
-          if_true _ (Joined (whole_bytes u.head (u.octets ++ (part number).octets))) (Waits (option_map (fack_bytes (part number)) (acknowledged (continued u (part number)) (part number)))) done
+          if_true _ (Joined (whole_bytes u.head (u.octets ++ (part number).octets)))
+          (if is_next u (part number) then Waits (fack_of u (part number)) else Drops (fack_of u (part number))) done
           ∙ ap Joined (whole_is u number passed e here)
       by (inr is) = absurd (is.2 (sym same ∙ is.1))
 

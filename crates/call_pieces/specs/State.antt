@@ -1,5 +1,5 @@
 -- The joiner: four calls that are not complete, each with what came of it.
-use Rattle.std.specs.Prelude.{◌/◌, ◌*◌, ◌+◌, ◌-◌, ◌==◌, ◌&&◌, not, ℕ, Bool, nat_le, nat_lt, List, [], ◌∷◌, ◌++◌, length, map, replicate, Option, Some, None, get_or, slice_set, if◌then◌else◌}
+use Rattle.std.specs.Prelude.{◌/◌, ◌*◌, ◌+◌, ◌-◌, ◌==◌, ◌&&◌, not, ℕ, Bool, true, false, nat_le, nat_lt, List, [], ◌∷◌, ◌++◌, length, map, replicate, Option, Some, None, get_or, slice_index, slice_set, if◌then◌else◌}
 use Rattle.std.specs.List.{position_or_len}
 use Rattle.std.specs.Option.{option_map}
 use Rattle.call_headers.specs.declared.call.Head.{Head}
@@ -16,6 +16,8 @@ pub record Unfinished : Type 0 where
   pub octets : List ℕ
   -- the number of the fragment that comes next
   pub next : ℕ
+  -- whether its last fragment came: it is finished, and stays here only so that a repeat of that fragment completes it again
+  pub is_whole : Bool
   -- in how many ticks it is dropped; 0: nothing is here
   pub left : ℕ
 
@@ -24,6 +26,8 @@ pub record State : Type 0 where
   pub kind : Kind
   -- the four places
   pub calls : List Unfinished
+  -- of each place: in how many of the others a call began after it did here
+  pub ages : List ℕ
 
 -- a header of zeros
 abbrev pub blank_head : Head
@@ -36,11 +40,11 @@ blank_head = record {
 
 -- a place with nothing
 abbrev pub blank : Unfinished
-blank = record { head = blank_head; octets = []; next = 0; left = 0 }
+blank = record { head = blank_head; octets = []; next = 0; is_whole = false; left = 0 }
 
 -- at the start nothing is unfinished
 abbrev pub started : Kind → State
-started kind = record { kind = kind; calls = blank ∷ blank ∷ blank ∷ blank ∷ [] }
+started kind = record { kind = kind; calls = blank ∷ blank ∷ blank ∷ blank ∷ []; ages = 3 ∷ 2 ∷ 1 ∷ 0 ∷ [] }
 
 -- ---- places
 
@@ -55,19 +59,35 @@ is_of h u = is_live u && is_activity h u.head
 abbrev pub holds : Head → Unfinished → Bool
 holds h u = is_live u && is_same h u.head
 
--- the place of the one that began longest ago; one with nothing is older than each
-abbrev pub oldest_from : ℕ → ℕ → ℕ → List Unfinished → ℕ
-oldest_from place least index [] = place
-oldest_from place least index (u ∷ us) =
-    if nat_lt u.left least then oldest_from index u.left (index + 1) us else oldest_from place least (index + 1) us
+-- whether the call in a place is not finished
+abbrev pub is_unfinished : Unfinished → Bool
+is_unfinished u = is_live u && not u.is_whole
 
-abbrev pub oldest : List Unfinished → ℕ
-oldest calls = oldest_from 0 4294967295 0 calls
+-- Which place makes room for another call: the one with the greatest number. One with nothing is taken first, then one with a
+-- finished call, and then one with an unfinished call; among such, the one whose call began first. An age is at most 3.
+abbrev pub turn_of : Unfinished → ℕ → ℕ
+turn_of u age = if is_unfinished u then age else if is_live u then age + 4 else age + 8
 
--- the place of an activity: one at a time, which is the one of its unfinished call, or else the oldest
-abbrev pub place_of : Head → List Unfinished → ℕ
-place_of h calls =
-    if nat_lt (position_or_len (is_of h) calls) (length calls) then position_or_len (is_of h) calls else oldest calls
+abbrev pub oldest_from : ℕ → ℕ → ℕ → List ℕ → List Unfinished → ℕ
+oldest_from place most index ages [] = place
+oldest_from place most index ages (u ∷ us) =
+    if nat_lt most (turn_of u (slice_index ages index)) then oldest_from index (turn_of u (slice_index ages index)) (index + 1) ages us
+    else oldest_from place most (index + 1) ages us
+
+abbrev pub oldest : List ℕ → List Unfinished → ℕ
+oldest ages calls = oldest_from 0 0 0 ages calls
+
+-- the place of an activity: one at a time, which is the one of its call, or else the one that makes room
+abbrev pub place_of : Head → List ℕ → List Unfinished → ℕ
+place_of h ages calls =
+    if nat_lt (position_or_len (is_of h) calls) (length calls) then position_or_len (is_of h) calls else oldest ages calls
+
+-- A call begins in a place: those that began after the one that was there began before it now.
+abbrev pub older_than : ℕ → ℕ → ℕ
+older_than age other = if nat_lt other age then other + 1 else other
+
+abbrev pub begun_at : ℕ → List ℕ → List ℕ
+begun_at place ages = slice_set (map (older_than (slice_index ages place)) ages) place 0
 
 -- ---- a fragment
 
@@ -77,21 +97,35 @@ longest = 4152
 
 -- a call of which nothing is joined yet; it is dropped after 64,000 ticks
 abbrev pub fresh : Head → Unfinished
-fresh h = record { head = h; octets = []; next = 0; left = 64000 }
+fresh h = record { head = h; octets = []; next = 0; is_whole = false; left = 64000 }
 
--- a first fragment begins its call, unless the call is unfinished
+-- whether this fragment begins its call in this place: a first fragment, unless the call is here
+abbrev pub starts : Unfinished → Piece → Bool
+starts u p = number_of p == 0 && not (holds p.head u)
+
 abbrev pub begun : Unfinished → Piece → Unfinished
-begun u p = if number_of p == 0 && not (holds p.head u) then fresh p.head else u
+begun u p = if starts u p then fresh p.head else u
 
--- whether this fragment is the one that comes next in this place, and the whole is not too long with it
+-- whether this fragment is the one that comes next in this place
+abbrev pub comes_next : Unfinished → Piece → Bool
+comes_next u p = holds p.head u && number_of p == u.next
+
+-- whether it is, and the whole is not too long with it
 abbrev pub is_next : Unfinished → Piece → Bool
 is_next u p = holds p.head u && number_of p == u.next && nat_le (length u.octets + length p.octets) longest
 
--- The fragment that comes next is joined, unless it is the last one: that one completes its call, and completes it once
--- more if it comes again. Any other fragment changes nothing.
+-- whether this fragment completes the call in this place
+abbrev pub completes : Unfinished → Piece → Bool
+completes u p = is_next u p && is_last p.head.opening.flags
+
+-- The fragment that comes next is joined. The last one finishes its call, and completes it once more if it comes again. If there
+-- is no room for the fragment that comes next, the call is given up. Any other fragment changes nothing.
 abbrev pub continued : Unfinished → Piece → Unfinished
 continued u p =
-    if is_next u p && not (is_last p.head.opening.flags) then record u { octets = u.octets ++ p.octets; next = u.next + 1 } else u
+    if completes u p then record u { is_whole = true }
+    else if is_next u p then record u { octets = u.octets ++ p.octets; next = u.next + 1 }
+    else if comes_next u p then record u { left = 0 }
+    else u
 
 -- a place after a fragment
 abbrev pub taken : Unfinished → Piece → Unfinished
@@ -105,10 +139,6 @@ whole_head h size = record h {
   opening = record h.opening { flags = h.opening.flags / 8 * 8 };
   extent = record { length = size; fragment = 0; authentication = 0 };
 }
-
--- whether this fragment completes the call in this place
-abbrev pub completes : Unfinished → Piece → Bool
-completes u p = is_next u p && is_last p.head.opening.flags
 
 -- the octets of the whole
 abbrev pub whole_bytes : Head → List ℕ → List ℕ
@@ -135,26 +165,42 @@ fack_bytes p number =
     ++ (in_order (is_little p.head.opening.representation) 2).write p.serial []
     ++ (in_order (is_little p.head.opening.representation) 2).write 0 []
 
--- What a fragment does: it completes a call or an answer, or it waits for others.
+-- What a fragment does: it completes a call or an answer; it is joined, and waits for others; or it is not joined, as it came
+-- before, comes too early, or has no call or no room here.
 pub data Outcome : Type 0 where
   Nothing : Outcome
+  Drops : (fack : Option (List ℕ)) → Outcome
   Waits : (fack : Option (List ℕ)) → Outcome
   Joined : (bytes : List ℕ) → Outcome
+
+-- the acknowledgement of a fragment, if its sender wants one and something is joined
+abbrev pub fack_of : Unfinished → Piece → Option (List ℕ)
+fack_of u p = option_map (fack_bytes p) (acknowledged (continued u p) p)
 
 abbrev pub outcome_by : Unfinished → Piece → Outcome
 outcome_by u p =
     if completes u p then Joined (whole_bytes u.head (u.octets ++ p.octets))
-    else Waits (option_map (fack_bytes p) (acknowledged (continued u p) p))
+    else if is_next u p then Waits (fack_of u p)
+    else Drops (fack_of u p)
 
 -- ---- the machine
 
 -- the place that a fragment goes to
+abbrev pub place_in : State → Piece → ℕ
+place_in state p = place_of p.head state.ages state.calls
+
 abbrev pub at_place : State → Piece → Unfinished
-at_place state p = get_or state.calls (place_of p.head state.calls) blank
+at_place state p = get_or state.calls (place_in state p) blank
+
+abbrev pub ages_after : State → Piece → List ℕ
+ages_after state p = if starts (at_place state p) p then begun_at (place_in state p) state.ages else state.ages
 
 abbrev pub after_piece : State → Option Piece → State
 after_piece state None = state
-after_piece state (Some p) = record state { calls = slice_set state.calls (place_of p.head state.calls) (taken (at_place state p) p) }
+after_piece state (Some p) = record state {
+  calls = slice_set state.calls (place_in state p) (taken (at_place state p) p);
+  ages = ages_after state p;
+}
 
 -- the state after the body of a datagram
 unfoldable pub heard : State → List ℕ → State

@@ -5,7 +5,7 @@ use Rattle.call_pieces.specs.declared.piece.Piece.{Piece as Fragment}
 use Rattle.call_pieces.specs.declared.joiner.Heard.{Heard}
 use Rattle.call_pieces.specs.declared.joiner.Heard.TheVariants as heard
 use Rattle.call_pieces.specs.Piece.{Piece}
-use Rattle.call_pieces.specs.State.{Outcome, Nothing, Waits, Joined}
+use Rattle.call_pieces.specs.State.{Outcome, Nothing, Drops, Waits, Joined}
 
 -- what a fragment is
 abbrev pub piece_as : Fragment → Piece
@@ -14,5 +14,6 @@ piece_as piece = record { head = piece.head; serial = piece.serial; octets = pie
 -- what the body of a datagram did, with the octets that were written
 abbrev pub heard_in : Heard → List ℕ → Outcome
 heard_in heard.Nothing whole = Nothing
+heard_in (heard.Dropped fack) whole = Drops (frame_in fack)
 heard_in (heard.Waits fack) whole = Waits (frame_in fack)
 heard_in heard.Joined whole = Joined whole

@@ -1,6 +1,9 @@
 //! The joiner.
-ghost use Rattle.std.specs.Prelude.{◌≡◌, ◌<◌, ◌≤◌, length, Some};
-ghost use Rattle.call_pieces.specs.State.{after_piece, begun, heard, heard_as, oldest as oldest_by, outcome_by, outcome_of, place_of as place_by, started, taken};
+ghost use Rattle.std.specs.Prelude.{◌≡◌, ◌<◌, ◌≤◌, ℕ, List, length, map, Some, if◌then◌else◌};
+ghost use Rattle.std.specs.List.{All};
+ghost use Rattle.std.specs.Option.{option_map};
+ghost use Rattle.services.specs.Answer.{frame_in};
+ghost use Rattle.call_pieces.specs.State.{Drops, Waits, acknowledged, after_piece, begun, begun_at, fack_bytes, heard, heard_as, older_than as older_by, oldest as oldest_by, outcome_by, outcome_of, place_of as place_by, started, taken, turn_of as turn_by};
 ghost use Rattle.call_pieces.specs.Views.{heard_in, piece_as};
 
 use crate::acknowledgement::{Acknowledgement, acknowledgement};
@@ -21,18 +24,24 @@ pub type WholeCall = ArrayVec<u8, 4232>;
 pub enum Heard {
     /// Nothing: it is no fragment.
     Nothing,
-    /// It is a fragment, and others are missing. The sender may want an acknowledgement.
+    /// It is a fragment that is not joined: it came before, comes too early, or has no call or no room here. The sender may want to
+    /// know what is joined.
+    Dropped(Option<Acknowledgement>),
+    /// It is a fragment that is joined, and others are missing. The sender may want an acknowledgement.
     Waits(Option<Acknowledgement>),
     /// It completes a call or an answer. The answer to a call acknowledges it.
     Joined,
 }
 
-/// The calls or answers of which fragments came: at most four, each of its own activity. The owner gives it the body of each
+/// The calls or answers of which fragments came: at most four, each of its own activity. A finished call stays in its place, for a
+/// repeat of its last fragment, until another call needs the place. The owner gives it the body of each
 /// datagram that may be a fragment, and each tick. Clauses see it as the state of one machine.
 #[derive(Drop)]
 pub struct Joiner {
     kind: Kind,
     pub(crate) calls: [Unfinished; 4],
+    /// Of each place: in how many of the others a call began after it did there.
+    ages: [u8; 4],
     /// For how many ticks something may be unfinished.
     pub(crate) busy: u32,
 }
@@ -44,32 +53,53 @@ impl Model for Joiner {
 
     ghost Value = { State };
 
-    ghost view = { λ j. record { kind = j.kind; calls = j.calls } };
+    ghost view = { λ j. record { kind = j.kind; calls = j.calls; ages = j.ages } };
 
-    ghost invariant = { λ j. (length j.calls ≡ 4) × All (λ u. u.left ≤ j.busy) j.calls × (j.busy ≤ 64000) };
+    ghost invariant = { λ j. (length j.calls ≡ 4) × All (λ u. u.left ≤ j.busy) j.calls × (j.busy ≤ 64000)
+        × (length j.ages ≡ 4) × All (λ age. age ≤ 3) j.ages };
 }
 
-/// The place of the one that began longest ago.
-fn oldest(calls: &[Unfinished]) -> usize
-    requires { 0 < length calls.now }
-    ensures value { result ≡ oldest_by calls.now }
+/// When the place of this call makes room for another one: the greatest number first.
+fn turn_of(call: &Unfinished, age: u8) -> u8
+    requires { age ≤ 3 }
+    ensures { result ≡ turn_by call.now age }
+{
+    if call.is_unfinished() {
+        age
+    } else if call.left() > 0 {
+        age + 4
+    } else {
+        age + 8
+    }
+}
+
+/// The place that makes room: one with nothing, or else one with a finished call, or else one with an unfinished call; among
+/// such, the one whose call began first.
+fn oldest(calls: &[Unfinished], ages: &[u8]) -> usize
+    requires some { 0 < length calls.now }
+    requires many { length ages.now ≡ length calls.now }
+    requires few { All (λ age. age ≤ 3) ages.now }
+    ensures value { result ≡ oldest_by ages.now calls.now }
     ensures there { result < length calls.now }
 {
     let mut place = 0;
-    let mut least = u32::MAX;
+    let mut most = 0;
     for (index, call) in calls.iter().enumerate() {
-        if call.left() < least {
+        let turn = turn_of(call, ages[index]);
+        if turn > most {
             place = index;
-            least = call.left();
+            most = turn;
         }
     }
     place
 }
 
-/// The place of an activity: that of its unfinished call, or else the oldest.
-fn place_of(calls: &[Unfinished], head: &Head) -> usize
-    requires { 0 < length calls.now }
-    ensures value { result ≡ place_by head.now calls.now }
+/// The place of an activity: that of its call, or else the one that makes room.
+fn place_of(calls: &[Unfinished], ages: &[u8], head: &Head) -> usize
+    requires some { 0 < length calls.now }
+    requires many { length ages.now ≡ length calls.now }
+    requires few { All (λ age. age ≤ 3) ages.now }
+    ensures value { result ≡ place_by head.now ages.now calls.now }
     ensures there { result < length calls.now }
 {
     for (index, call) in calls.iter().enumerate() {
@@ -77,7 +107,40 @@ fn place_of(calls: &[Unfinished], head: &Head) -> usize
             return index;
         }
     }
-    oldest(calls)
+    oldest(calls, ages)
+}
+
+/// A call begins in a place, or none does: those that began after the one that was there began before it now.
+fn begin_at(ages: &mut [u8], place: usize, begins: bool)
+    requires there { place < length ages.old }
+    requires few { All (λ age. age ≤ 3) ages.old }
+    ensures value { ages.new ≡ (if begins then begun_at place ages.old else ages.old) }
+    ensures few { All (λ age. age ≤ 3) ages.new }
+{
+    if !begins {
+        return;
+    }
+    let age = ages[place];
+    pass(ages, age);
+    ages[place] = 0;
+}
+
+/// Those that began after this one began before it.
+fn pass(ages: &mut [u8], age: u8)
+    requires { age ≤ 3 }
+    ensures { ages.new ≡ map (older_by age) ages.old }
+{
+    for index in 0..ages.len() {
+        ages[index] = older_than(age, ages[index]);
+    }
+}
+
+/// The same of one of them.
+fn older_than(age: u8, other: u8) -> u8
+    requires { age ≤ 3 }
+    ensures { result ≡ older_by age other }
+{
+    if other < age { other + 1 } else { other }
 }
 
 impl Joiner {
@@ -93,6 +156,7 @@ impl Joiner {
                 Unfinished::blank(),
                 Unfinished::blank(),
             ],
+            ages: [3, 2, 1, 0],
             busy: 0,
         }
     }
@@ -118,7 +182,9 @@ impl Joiner {
         ensures outcome { heard_in result whole.new.items ≡ outcome_of self.old (Some (piece_as piece.now)) }
     {
         self.busy = LIFETIME;
-        let place = place_of(&self.calls, &piece.head);
+        let place = place_of(&self.calls, &self.ages, &piece.head);
+        let begins = self.calls[place].is_begun_by(piece);
+        begin_at(&mut self.ages, place, begins);
         take(&mut self.calls[place], piece, whole)
     }
 }
@@ -136,9 +202,28 @@ fn take(call: &mut Unfinished, piece: &Piece<'_>, whole: &mut WholeCall) -> Hear
         call.complete(piece, whole);
         return Heard::Joined;
     }
+    let joins = call.is_next(piece);
     call.go_on(piece);
-    Heard::Waits(match call.acknowledged(piece) {
+    heard_of(joins, fack_of(call, piece))
+}
+
+/// The acknowledgement of a fragment, if its sender wants one and something is joined.
+fn fack_of(call: &Unfinished, piece: &Piece<'_>) -> Option<Acknowledgement>
+    ensures { frame_in result ≡ option_map (fack_bytes (piece_as piece.now)) (acknowledged call.now (piece_as piece.now)) }
+{
+    match call.acknowledged(piece) {
         Some(number) => Some(acknowledgement(piece, number)),
         None => None,
-    })
+    }
+}
+
+/// What a fragment did that completes no call.
+fn heard_of(joins: bool, fack: Option<Acknowledgement>) -> Heard
+    ensures { (whole : List ℕ) → heard_in result whole ≡ (if joins then Waits (frame_in fack) else Drops (frame_in fack)) }
+{
+    if joins {
+        Heard::Waits(fack)
+    } else {
+        Heard::Dropped(fack)
+    }
 }

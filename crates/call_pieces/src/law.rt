@@ -1,12 +1,12 @@
 //! Laws of fragments. No code is involved.
-ghost use Rattle.std.specs.Prelude.{◌≡◌, ◌≢◌, ◌+◌, ◌<◌, ◌≤◌, ℕ, Bool, List, length, map, Some, false};
+ghost use Rattle.std.specs.Prelude.{◌≡◌, ◌≢◌, ◌+◌, ◌<◌, ◌≤◌, ℕ, Bool, List, length, get_or, map, slice_index, Some, false, true};
 ghost use Rattle.std.specs.List.{All, list_any};
 ghost use Rattle.wire.specs.Codec.{IsSound};
 ghost use Rattle.call_headers.specs.declared.call.Head.{Head};
 ghost use Rattle.call_headers.specs.Call.{head};
 ghost use Rattle.call_pieces.specs.declared.piece.Kind.{Kind};
-ghost use Rattle.call_pieces.specs.Piece.{piece_of};
-ghost use Rattle.call_pieces.specs.State.{Joined, State, heard_as, holds, is_live};
+ghost use Rattle.call_pieces.specs.Piece.{Piece, piece_of};
+ghost use Rattle.call_pieces.specs.State.{Joined, State, after_piece, at_place, blank, heard_as, holds, is_live, is_of, is_unfinished, older_than, place_in, place_of, starts};
 ghost use Rattle.call_pieces.specs.Leaps.{due_in, ticks_of};
 ghost use Rattle.call_pieces.specs.Split.{IsSendable, piece_bytes, piece_in, pieces_in, whole_of};
 ghost use Rattle.call_pieces.specs.Run.{Arrival, BeginsNone, CanJoin, Event, IsCompleted, after, events_of, next_of, since, ticks_in};
@@ -23,6 +23,24 @@ pub fn joined_calls_are_their_fragments()
     // order of their numbers, each once. Nothing else is joined.
     ensures { (kind : Kind) (past : List Event) (bytes whole : List ℕ) → heard_as (since kind past) bytes ≡ Joined whole →
         IsCompleted kind past bytes whole }
+{}
+
+/// Which call makes room for one of another activity.
+pub fn finished_calls_make_room()
+    // An unfinished call makes room only if all places have unfinished calls.
+    ensures finished { (state : State) (h : Head) → All (λ age. age ≤ 3) state.ages → list_any (is_of h) state.calls ≡ false →
+        is_unfinished (get_or state.calls (place_of h state.ages state.calls) blank) ≡ true → All (λ u. is_unfinished u ≡ true) state.calls }
+    // Then it is the one that began first, also among those that began in one tick: no other place has a greater age.
+    ensures order { (state : State) (h : Head) (place : ℕ) → All (λ age. age ≤ 3) state.ages → list_any (is_of h) state.calls ≡ false →
+        is_unfinished (get_or state.calls (place_of h state.ages state.calls) blank) ≡ true → place < length state.calls →
+        slice_index state.ages place ≤ slice_index state.ages (place_of h state.ages state.calls) }
+    // A call that begins is the youngest.
+    ensures youngest { (state : State) (p : Piece) → starts (at_place state p) p ≡ true → place_in state p < length state.ages →
+        slice_index (after_piece state (Some p)).ages (place_in state p) ≡ 0 }
+    // Those that began after the call that made room are older by one place, and those that began before it are as old as before.
+    ensures others { (state : State) (p : Piece) (place : ℕ) → starts (at_place state p) p ≡ true → place ≢ place_in state p →
+        place < length state.ages → slice_index (after_piece state (Some p)).ages place
+        ≡ older_than (slice_index state.ages (place_in state p)) (slice_index state.ages place) }
 {}
 
 /// How long fragments may be missing.

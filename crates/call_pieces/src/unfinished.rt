@@ -1,6 +1,6 @@
 //! Calls and answers of which fragments are missing.
-ghost use Rattle.std.specs.Prelude.{◌≡◌, ◌+◌, ◌≤◌, ◌++◌, length};
-ghost use Rattle.call_pieces.specs.State.{acknowledged as acknowledged_by, begun, blank, completes as completes_by, continued, holds as holds_by, is_next as is_next_by, is_of as is_of_by, older, whole_bytes, whole_head};
+ghost use Rattle.std.specs.Prelude.{◌≡◌, ◌+◌, ◌≤◌, ◌++◌, length, false, true};
+ghost use Rattle.call_pieces.specs.State.{acknowledged as acknowledged_by, begun, blank, comes_next as comes_next_by, completes as completes_by, continued, holds as holds_by, is_next as is_next_by, is_of as is_of_by, is_unfinished as is_unfinished_by, older, starts, whole_bytes, whole_head};
 ghost use Rattle.call_pieces.specs.Views.{piece_as};
 
 use crate::joiner::{LONGEST, WholeCall};
@@ -19,6 +19,7 @@ pub(crate) struct Unfinished {
     head: Head,
     octets: ArrayVec<u8, 4152>,
     next: u16,
+    is_whole: bool,
     left: u32,
 }
 
@@ -28,7 +29,7 @@ impl Model for Unfinished {
 
     ghost Value = { Missing };
 
-    ghost view = { λ u. record { head = u.head; octets = u.octets.items; next = u.next; left = u.left } };
+    ghost view = { λ u. record { head = u.head; octets = u.octets.items; next = u.next; is_whole = u.is_whole; left = u.left } };
 
     ghost invariant = { λ u. (u.next ≤ length u.octets.items) × (length u.octets.items ≤ 4152) };
 }
@@ -81,6 +82,7 @@ impl Unfinished {
             },
             octets: ArrayVec::new(),
             next: 0,
+            is_whole: false,
             left: 0,
         }
     }
@@ -90,6 +92,13 @@ impl Unfinished {
         ensures { result ≡ self.now.left }
     {
         self.left
+    }
+
+    /// Whether there is a call here that is not finished.
+    pub(crate) fn is_unfinished(&self) -> bool
+        ensures { result ≡ is_unfinished_by self.now }
+    {
+        self.left > 0 && !self.is_whole
     }
 
     /// Whether it is of this activity.
@@ -106,20 +115,35 @@ impl Unfinished {
         self.left > 0 && is_same(head, &self.head)
     }
 
+    /// Whether this fragment begins its call here.
+    pub(crate) fn is_begun_by(&self, piece: &Piece<'_>) -> bool
+        ensures { result ≡ starts self.now (piece_as piece.now) }
+    {
+        piece.head.extent.fragment == 0 && !self.holds(&piece.head)
+    }
+
     /// A first fragment begins its call.
     pub(crate) fn begin(&mut self, piece: &Piece<'_>)
         ensures { self.new ≡ begun self.old (piece_as piece.now) }
     {
-        if piece.head.extent.fragment == 0 && !self.holds(&piece.head) {
+        if self.is_begun_by(piece) {
             self.head = piece.head;
             self.octets.clear();
             self.next = 0;
+            self.is_whole = false;
             self.left = LIFETIME;
         }
     }
 
     /// Whether this fragment is the one that comes next.
-    fn is_next(&self, piece: &Piece<'_>) -> bool
+    fn comes_next(&self, piece: &Piece<'_>) -> bool
+        ensures { result ≡ comes_next_by self.now (piece_as piece.now) }
+    {
+        self.holds(&piece.head) && piece.head.extent.fragment == self.next
+    }
+
+    /// Whether this fragment is the one that comes next, and there is room for it.
+    pub(crate) fn is_next(&self, piece: &Piece<'_>) -> bool
         ensures { result ≡ is_next_by self.now (piece_as piece.now) }
     {
         self.holds(&piece.head)
@@ -134,19 +158,32 @@ impl Unfinished {
         self.is_next(piece) && piece.is_last()
     }
 
-    /// The fragment that comes next is joined, unless it is the last one.
+    /// A fragment that does not complete the call is joined if it comes next. If there is no room for it, the call is given up.
     pub(crate) fn go_on(&mut self, piece: &Piece<'_>)
         requires some { 1 ≤ length piece.now.octets.now }
+        requires open { completes_by self.old (piece_as piece.now) ≡ false }
         ensures { self.new ≡ continued self.old (piece_as piece.now) }
     {
-        if self.is_next(piece) && !piece.is_last() {
+        if self.is_next(piece) {
             append(&mut self.octets, piece.octets);
             self.next += 1;
+        } else if self.comes_next(piece) {
+            self.left = 0;
         }
     }
 
+    /// Finishes the call with its last fragment, and writes it.
+    pub(crate) fn complete(&mut self, piece: &Piece<'_>, whole: &mut WholeCall)
+        requires { completes_by self.old (piece_as piece.now) ≡ true }
+        ensures state { self.new ≡ continued self.old (piece_as piece.now) }
+        ensures whole { whole.new.items ≡ whole_bytes self.old.head (self.old.octets ++ piece.now.octets.now) }
+    {
+        self.put_whole(piece, whole);
+        self.is_whole = true;
+    }
+
     /// Writes the call that this fragment completes.
-    pub(crate) fn complete(&self, piece: &Piece<'_>, whole: &mut WholeCall)
+    fn put_whole(&self, piece: &Piece<'_>, whole: &mut WholeCall)
         requires { length self.now.octets + length piece.now.octets.now ≤ 4152 }
         ensures { whole.new.items ≡ whole_bytes self.now.head (self.now.octets ++ piece.now.octets.now) }
     {

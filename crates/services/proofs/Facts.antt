@@ -1,5 +1,5 @@
 -- What single frames do.
-use Rattle.std.proofs.Common.{◌≡◌, ◌&&◌, ℕ, Bool, true, false, List, Some, None, Result, Ok, Err, refl, ap, ◌∙◌}
+use Rattle.std.proofs.Common.{◌≡◌, ◌==◌, ◌&&◌, ℕ, Bool, true, false, List, Some, None, Result, Ok, Err, refl, ap, ◌∙◌}
 use Rattle.std.specs.Prelude.{not, if◌then◌else◌}
 use Rattle.frame_codec.specs.declared.arp.Arp.{Arp}
 use Rattle.frame_codec.specs.declared.fault.FrameFault.{FrameFault}
@@ -7,9 +7,10 @@ use Rattle.pn_values.specs.declared.mac.Mac.{Mac}
 use Rattle.frame_codec.specs.Meaning.{Meaning, Content, RealTime, ArpPacket, UdpDatagram}
 use Rattle.frame_codec.specs.declared.udp.Endpoint.{Endpoint}
 use Rattle.frame_codec.specs.Frame.{frame_of, frame_bytes}
+use Rattle.frame_codec.specs.Calls.{call_port}
 use Rattle.services.specs.State.{State, disputed, is_own, is_running}
 use Rattle.services.specs.Echo.{Request, request_of, reply_frame}
-use Rattle.services.specs.Answer.{IsOtherFrame, IsOther, after_content, after_layers, after_packet, content_disputes, disputes, layers_dispute, answer_to, arp_answer, arp_reply_of, content_answer, datagram_answer, echo_answer, heard, layers_answer, is_asked, is_conflict, is_group, is_sought}
+use Rattle.services.specs.Answer.{IsOtherFrame, IsOther, after_content, after_layers, after_packet, content_disputes, disputes, layers_dispute, answer_to, arp_answer, arp_reply_of, content_answer, datagram_answer, echo_answer, heard, layers_answer, is_asked, is_called, is_conflict, is_group, is_peer, is_sought, answers_calls}
 use Rattle.services.proofs.Requests.{request_unread}
 
 -- an echo request is judged as such
@@ -28,17 +29,30 @@ chosen b one other e = rw e refl
 refused : {A : Type 0} (b : Bool) (one other : A) → b ≡ false → (if b then one else other) ≡ other
 refused b one other e = rw e refl
 
-first_fails : (own group running : Bool) → own ≡ false → (own && not group && running) ≡ false
-first_fails own group running e = rw e refl
+first_fails : (own group running peer : Bool) → own ≡ false → (own && not group && running && peer) ≡ false
+first_fails own group running peer e = rw e refl
 
-second_fails : (own group running : Bool) → group ≡ true → (own && not group && running) ≡ false
-second_fails true group running e = rw e refl
-second_fails false group running e = refl
+second_fails : (own group running peer : Bool) → group ≡ true → (own && not group && running && peer) ≡ false
+second_fails true group running peer e = rw e refl
+second_fails false group running peer e = refl
 
-third_fails : (own group running : Bool) → running ≡ false → (own && not group && running) ≡ false
-third_fails true true running e = refl
-third_fails true false running e = e
-third_fails false group running e = refl
+third_fails : (own group running peer : Bool) → running ≡ false → (own && not group && running && peer) ≡ false
+third_fails true true running peer e = refl
+third_fails true false running peer e = rw e refl
+third_fails false group running peer e = refl
+
+fourth_fails : (own group running peer : Bool) → peer ≡ false → (own && not group && running && peer) ≡ false
+fourth_fails true true running peer e = refl
+fourth_fails true false true peer e = e
+fourth_fails true false false peer e = refl
+fourth_fails false group running peer e = refl
+
+fifth_fails : (answers own running port peer : Bool) → peer ≡ false → (answers && own && running && port && peer) ≡ false
+fifth_fails false own running port peer e = refl
+fifth_fails true false running port peer e = refl
+fifth_fails true true false port peer e = refl
+fifth_fails true true true false peer e = refl
+fifth_fails true true true true peer e = e
 
 module _ (state : State) (bytes : List ℕ) (request : Request) (e : request_of bytes ≡ Ok request) where
   pub echo_answered : is_asked state request ≡ true → answer_to state bytes ≡ Some (reply_frame state.mac request)
@@ -48,13 +62,16 @@ module _ (state : State) (bytes : List ℕ) (request : Request) (e : request_of 
   echo_dropped asked = echo_is state bytes request e ∙ refused (is_asked state request) (Some (reply_frame state.mac request)) None asked
 
   pub echo_elsewhere : is_own state request.destination ≡ false → answer_to state bytes ≡ None
-  echo_elsewhere other = echo_dropped (first_fails (is_own state request.destination) (is_group request.source) (is_running state request.echo.destination) other)
+  echo_elsewhere other = echo_dropped (first_fails (is_own state request.destination) (is_group request.source) (is_running state request.echo.destination) (is_peer state request.echo.source) other)
 
   pub echo_from_group : is_group request.source ≡ true → answer_to state bytes ≡ None
-  echo_from_group group = echo_dropped (second_fails (is_own state request.destination) (is_group request.source) (is_running state request.echo.destination) group)
+  echo_from_group group = echo_dropped (second_fails (is_own state request.destination) (is_group request.source) (is_running state request.echo.destination) (is_peer state request.echo.source) group)
 
   pub echo_other_address : is_running state request.echo.destination ≡ false → answer_to state bytes ≡ None
-  echo_other_address other = echo_dropped (third_fails (is_own state request.destination) (is_group request.source) (is_running state request.echo.destination) other)
+  echo_other_address other = echo_dropped (third_fails (is_own state request.destination) (is_group request.source) (is_running state request.echo.destination) (is_peer state request.echo.source) other)
+
+  pub echo_from_none : is_peer state request.echo.source ≡ false → answer_to state bytes ≡ None
+  echo_from_none other = echo_dropped (fourth_fails (is_own state request.destination) (is_group request.source) (is_running state request.echo.destination) (is_peer state request.echo.source) other)
 
 module _ (state : State) (bytes : List ℕ) (meaning : Meaning) (packet : Arp) (e : frame_of bytes ≡ Ok meaning) (f : meaning.content ≡ ArpPacket packet) where
   arp_is : answer_to state bytes ≡ arp_answer state meaning.destination meaning.source packet
@@ -101,6 +118,10 @@ module _ (state : State) (bytes : List ℕ) (meaning : Meaning) (from to : Endpo
   pub call_is : answer_to state bytes ≡ datagram_answer state meaning.destination meaning.source from to body
   unfolding answer_to
   call_is = rw (e, f) refl
+
+  pub call_from_none : is_peer state from.address ≡ false → answer_to state bytes ≡ None
+  call_from_none other = call_is ∙ refused (is_called state meaning.destination from to) _ None
+      (fifth_fails (answers_calls state.role) (is_own state meaning.destination) (is_running state to.address) (to.port == call_port) (is_peer state from.address) other)
 
   pub call_keeps : heard state bytes ≡ state
   unfolding heard

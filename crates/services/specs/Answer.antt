@@ -4,6 +4,7 @@ use Rattle.std.specs.Cmp.Lexicographic.{pointwise}
 use Rattle.std.specs.Option.{option_map}
 use Rattle.arrayvec.specs.ArrayVec.{ArrayVec as Items}
 use Rattle.pn_values.specs.declared.mac.Mac.{Mac}
+use Rattle.pn_values.specs.IpSuite.{is_host}
 use Rattle.frame_codec.specs.declared.arp.Arp.{Arp}
 use Rattle.frame_codec.specs.declared.arp.ArpOperation.{ArpOperation}
 use Rattle.frame_codec.specs.declared.arp.ArpOperation.TheVariants as arp
@@ -19,6 +20,13 @@ use Rattle.services.specs.declared.announcement.Role.TheVariants.{Device, Contro
 use Rattle.services.specs.State.{State, broadcast, is_own, is_running, disputed}
 use Rattle.services.specs.Echo.{Request, request_of, reply_frame}
 
+-- ---- who may ask (RFC 1122, 3.2.1.3)
+
+-- Whether a request may come from this IP address: from one that a station may have, and not from the running one of this
+-- station. So none comes from 0.0.0.0, 127.0.0.0/8, a group or the broadcast address.
+abbrev pub is_peer : State → List ℕ → Bool
+is_peer state address = is_host (slice_index address 0) && not (pointwise nat_eq address state.address)
+
 -- ---- echo (RFC 792)
 
 -- Whether a MAC address names a group of stations: the lowest bit of its first octet is set (IEEE 802).
@@ -26,9 +34,10 @@ abbrev pub is_group : Mac → Bool
 is_group mac = slice_index mac.octets 0 % 2 == 1
 
 -- Whether an echo request is answered: it goes to the MAC address and the running address of this station, and comes from
--- one station.
+-- one other station.
 abbrev pub is_asked : State → Request → Bool
-is_asked state request = is_own state request.destination && not (is_group request.source) && is_running state request.echo.destination
+is_asked state request =
+    is_own state request.destination && not (is_group request.source) && is_running state request.echo.destination && is_peer state request.echo.source
 
 -- The answer to an echo request, and to nothing else that cannot be read as ARP or UDP.
 abbrev pub echo_answer : State → Result Request FrameFault → Option (List ℕ)
@@ -84,10 +93,11 @@ abbrev pub answers_calls : Role → Bool
 answers_calls Device = true
 answers_calls Controller = false
 
--- Whether a datagram of this destination is a call to this station: to its MAC address, its running address and the port of
--- calls.
-abbrev pub is_called : State → Mac → Endpoint → Bool
-is_called state destination to = answers_calls state.role && is_own state destination && is_running state to.address && to.port == call_port
+-- Whether a datagram between these ends is a call to this station: to its MAC address, its running address and the port of
+-- calls, from the address of another station.
+abbrev pub is_called : State → Mac → Endpoint → Endpoint → Bool
+is_called state destination from to =
+    answers_calls state.role && is_own state destination && is_running state to.address && to.port == call_port && is_peer state from.address
 
 -- The frame that takes an answer to a caller.
 abbrev pub call_reply_of : Mac → List ℕ → Mac → Endpoint → List ℕ → Meaning
@@ -95,7 +105,7 @@ call_reply_of mac address asker from body = record { destination = asker; source
 
 abbrev pub datagram_answer : State → Mac → Mac → Endpoint → Endpoint → List ℕ → Option (List ℕ)
 datagram_answer state destination source from to body =
-    if is_called state destination to then option_map (λ answer. frame_bytes (call_reply_of state.mac state.address source from answer)) (unserved_answer body) else None
+    if is_called state destination from to then option_map (λ answer. frame_bytes (call_reply_of state.mac state.address source from answer)) (unserved_answer body) else None
 
 -- A call to this station: who sent it, where its answer goes, and the body of its datagram.
 pub record Call : Type 0 where
@@ -107,7 +117,7 @@ abbrev pub call_by : State → Mac → Mac → Content → Option Call
 call_by state destination source (RealTime frame_id body) = None
 call_by state destination source (ArpPacket packet) = None
 call_by state destination source (UdpDatagram from to body) =
-    if is_called state destination to then Some (record { source = source; caller = from; body = body }) else None
+    if is_called state destination from to then Some (record { source = source; caller = from; body = body }) else None
 
 -- The call that was read of a frame, if it is one to this station.
 abbrev pub call_of : State → Result Meaning FrameFault → Option Call

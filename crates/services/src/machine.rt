@@ -9,11 +9,11 @@ ghost use Rattle.frame_codec.specs.declared.fault.FrameFault.{FrameFault};
 ghost use Rattle.frame_codec.specs.Frame.{frame_bytes, frame_of};
 ghost use Rattle.frame_codec.specs.Meaning.{ArpPacket, Meaning, UdpDatagram, meaning_of};
 ghost use Rattle.services.specs.State.{announcement_for as announced, disputed, observed, sent_by_tick, started, ticked, is_running as runs, is_own as owns, is_defended as defends_by, announces as announces_by, frames_in};
-ghost use Rattle.services.specs.Answer.{IsOtherFrame, after_content, after_packet, answer_to, arp_answer, arp_reply_of, call_by, call_in, call_reply_of, content_answer, content_disputes, disputes as disputes_by, echo_answer, frame_in, heard, answers_calls as answers_calls_by, datagram_answer, is_asked as asks, is_called as calls_by, is_conflict as conflicts_with, is_group as is_group_by, is_request as requests, is_sought as seeks, resolves as resolves_by};
+ghost use Rattle.services.specs.Answer.{IsOtherFrame, after_content, after_packet, answer_to, arp_answer, arp_reply_of, call_by, call_in, call_reply_of, content_answer, content_disputes, disputes as disputes_by, echo_answer, frame_in, heard, answers_calls as answers_calls_by, datagram_answer, is_asked as asks, is_called as calls_by, is_conflict as conflicts_with, is_group as is_group_by, is_peer as peers, is_request as requests, is_sought as seeks, resolves as resolves_by};
 ghost use Rattle.services.specs.Echo.{Request, reply_frame, request_of};
 ghost use Rattle.services.specs.Views.{asked_by, call_as};
 
-use crate::address::{BROADCAST, is_group, is_same, is_zero};
+use crate::address::{BROADCAST, is_group, is_host, is_same, is_zero};
 use crate::echo::{EchoRequest, request_at};
 use crate::reply::{arp_reply, call_reply, echo_reply, put_announcement};
 use crate::{Announcement, Called, Role};
@@ -147,8 +147,8 @@ impl Services {
         // The answer, if there is one, is that of the machine. There is at most one.
         ensures answer { frame_in result ≡ answer_to self.old bytes.now }
 
-        // An echo request to the MAC address and the running IP address of the station, from no group, is answered by its
-        // reply.
+        // An echo request to the MAC address and the running IP address of the station, from no group and from the IP address of
+        // another station, is answered by its reply.
         ensures echo { (request : Request) → request_of bytes.now ≡ Ok request → asks self.old request ≡ true →
             frame_in result ≡ Some (reply_frame self.old.mac request) }
         // An echo request to another MAC address, as to a group or to all stations, is not answered.
@@ -158,6 +158,9 @@ impl Services {
         ensures group { (request : Request) → request_of bytes.now ≡ Ok request → is_group_by request.source ≡ true → frame_in result ≡ None }
         // An echo request for another IP address is not answered, and none while the station has no address.
         ensures address { (request : Request) → request_of bytes.now ≡ Ok request → runs self.old request.echo.destination ≡ false →
+            frame_in result ≡ None }
+        // An echo request from 0.0.0.0, 127.0.0.0/8, a group, the broadcast address or the running IP address is not answered.
+        ensures sender { (request : Request) → request_of bytes.now ≡ Ok request → peers self.old request.echo.source ≡ false →
             frame_in result ≡ None }
         // An echo request changes nothing.
         ensures echo_keeps { (request : Request) → request_of bytes.now ≡ Ok request → self.new ≡ self.old }
@@ -176,11 +179,15 @@ impl Services {
         ensures arp_dropped { (meaning : Meaning) (packet : Arp) → frame_of bytes.now ≡ Ok meaning → meaning.content ≡ ArpPacket packet →
             seeks self.old meaning.destination packet ≡ false → frame_in result ≡ None }
 
-        // A datagram to the MAC address, the running IP address and the port of calls of a device is answered, if it is a
-        // ping or a call that nobody serves: by 'no call', or by a rejection. No other datagram is answered.
+        // A datagram to the MAC address, the running IP address and the port of calls of a device, from the IP address of another
+        // station, is answered, if it is a ping or a call that nobody serves: by 'no call', or by a rejection. No other datagram
+        // is answered.
         ensures call { (meaning : Meaning) (from to : Endpoint) (body : List ℕ) → frame_of bytes.now ≡ Ok meaning →
             meaning.content ≡ UdpDatagram from to body →
             frame_in result ≡ datagram_answer self.old meaning.destination meaning.source from to body }
+        // A datagram from 0.0.0.0, 127.0.0.0/8, a group, the broadcast address or the running IP address is not answered.
+        ensures caller { (meaning : Meaning) (from to : Endpoint) (body : List ℕ) → frame_of bytes.now ≡ Ok meaning →
+            meaning.content ≡ UdpDatagram from to body → peers self.old from.address ≡ false → frame_in result ≡ None }
         // A datagram changes nothing.
         ensures call_keeps { (meaning : Meaning) (from to : Endpoint) (body : List ℕ) → frame_of bytes.now ≡ Ok meaning →
             meaning.content ≡ UdpDatagram from to body → self.new ≡ self.old }
@@ -205,7 +212,7 @@ impl Services {
     }
 
     /// The call that a frame brings to this station, if it brings one to its MAC address, its running IP address and the
-    /// port of calls.
+    /// port of calls, from the IP address of another station.
     #[tactic(auto, unfolding(crate::specs::Answer::call_in))]
     pub fn call_in<'a>(&self, bytes: &'a [u8]) -> Option<Called<'a>>
         ensures { option_map call_as result ≡ call_in self.now bytes.now }
@@ -282,7 +289,7 @@ impl Services {
     {
         match layered.payload {
             Payload::Udp(ref datagram) => {
-                if !self.is_called(layered.destination, &datagram.destination) {
+                if !self.is_called(layered.destination, &datagram.source, &datagram.destination) {
                     return None;
                 }
                 Some(Called {
@@ -323,7 +330,7 @@ impl Services {
     fn hear_datagram(&self, destination: Mac, source: Mac, datagram: &Udp<'_>) -> Option<Frame>
         ensures { frame_in result ≡ datagram_answer self.now destination source datagram.now.source datagram.now.destination datagram.now.body.now }
     {
-        if !self.is_called(destination, &datagram.destination) {
+        if !self.is_called(destination, &datagram.source, &datagram.destination) {
             return None;
         }
         match unserved_answer(datagram.body) {
@@ -338,14 +345,15 @@ impl Services {
         }
     }
 
-    /// Whether a datagram of this destination is a call to this station.
-    fn is_called(&self, destination: Mac, to: &Endpoint) -> bool
-        ensures { result ≡ calls_by self.now destination to.now }
+    /// Whether a datagram between these ends is a call to this station.
+    fn is_called(&self, destination: Mac, from: &Endpoint, to: &Endpoint) -> bool
+        ensures { result ≡ calls_by self.now destination from.now to.now }
     {
         answers_calls(self.role)
             && self.is_own(destination)
             && self.is_running(to.address)
             && to.port == RPC_PORT
+            && self.is_peer(from.address)
     }
 
     /// Counts the conflict, if the sender of a packet of ARP uses the running address.
@@ -378,6 +386,7 @@ impl Services {
         self.is_own(request.destination)
             && !is_group(request.source)
             && self.is_running(request.echo.destination)
+            && self.is_peer(request.echo.source)
     }
 
     /// Whether a packet of ARP is answered.
@@ -416,6 +425,13 @@ impl Services {
         ensures { result ≡ runs self.now address }
     {
         is_same(address, self.address) && !is_zero(address)
+    }
+
+    /// Whether a request may come from this IP address.
+    fn is_peer(&self, address: [u8; 4]) -> bool
+        ensures { result ≡ peers self.now address }
+    {
+        is_host(address) && !is_same(address, self.address)
     }
 
     /// Whether this is the MAC address of the station.

@@ -14,7 +14,7 @@ use Rattle.device_core.specs.Steps.{Steps}
 use Rattle.pn_values.specs.declared.settings.Settings.{Settings}
 use Rattle.services.specs.State.{frames_in}
 use Rattle.services.specs.State as ip
-use Rattle.station.specs.Serving.{Completes, Other, Piece, Serving, Waits, announces, answer_by, answered, completed, disputes, is_piece, meets, piece_in, replied, said_of, sent_by_tick, takes}
+use Rattle.station.specs.Serving.{Completes, Other, Piece, Serving, Taken, announces, answer_by, answered, completed, disputes, is_piece, meets, piece_in, replied, said_of, sent_by_tick, takes}
 use Rattle.lldp.specs.Announcement.{announcement}
 use Rattle.station.specs.State.{State, Frames, no_frames}
 use Rattle.station.specs.Beside.{Beside, answer_beside, event_beside, idle, is_dropped, joined_beside, joined_by, observing}
@@ -148,7 +148,7 @@ heard_as dropped piece reply disputed met after note = record {
 frame_quiet : (dropped : Bool) (piece : Piece) (reply : Option (List ℕ)) (disputed met : Bool) (after : Serving) (note : Note) (call : Event)
     → Some call ≡ (if dropped then completed piece else None) → IsQuiet (heard_as dropped piece reply disputed met after note)
 frame_quiet true Other reply disputed met after note call e = absurd cc
-frame_quiet true (Waits fack) reply disputed met after note call e = absurd cc
+frame_quiet true (Taken own) reply disputed met after note call e = absurd cc
 frame_quiet true (Completes other) reply disputed met after note call e =
     record { silent = refl; done = done_if (disputed || (met || true)) note (accepted disputed met) }
 frame_quiet false piece reply disputed met after note call e = absurd cc

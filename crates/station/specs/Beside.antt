@@ -39,7 +39,7 @@ abbrev pub answer_beside : Identity → Serving → Note → List ℕ → Option
 answer_beside identity state note bytes = if is_dropped note then answered identity state bytes else None
 
 -- Whether the services accept a frame: they answer it, or count it as a conflict, whatever the device did with it; or it
--- carries a message of a neighbour or a fragment of a call, and the device dropped it.
+-- carries a message of a neighbour or a fragment that is joined, and the device dropped it.
 abbrev pub is_accepted : Identity → Serving → Note → List ℕ → Bool
 is_accepted identity state note bytes =
     is_some (answer_beside identity state note bytes) || (disputes state bytes || (is_dropped note && takes state bytes))

@@ -9,6 +9,7 @@ use Rattle.services.specs.State as ip
 use Rattle.services.specs.Answer as ip_answer
 use Rattle.services.specs.Leaps as ip_leaps
 use Rattle.services.specs.declared.announcement.Role.TheVariants as role
+use Rattle.call_headers.specs.Unserved.{unserved_answer}
 use Rattle.endpoint_mapper.specs.Mapper as mapper
 use Rattle.device_frames.specs.declared.event.Event.{Event}
 use Rattle.device_frames.specs.declared.event.Event.TheVariants.{Call as Joined, Neighbour as Met}
@@ -65,20 +66,39 @@ or_else None other = other
 
 -- ---- calls in fragments
 
--- What a frame that the device dropped is to the calls of which fragments are missing: it brings no fragment, or one while
--- others are missing, with the frame that acknowledges it, or the one that completes a call, as the event by which the device is
--- given that call.
+-- What a frame that the device dropped is to the calls of which fragments are missing: it brings no fragment that is accepted; it
+-- brings one that is, with the frame that answers it, if one does; or it brings the one that completes a call, as the event by which
+-- the device is given that call.
 pub data Piece : Type 0 where
   Other : Piece
-  Waits : (fack : Option (List ℕ)) → Piece
+  Taken : (reply : Option (List ℕ)) → Piece
   Completes : (call : Event) → Piece
+
+-- The frame that takes an answer to the sender of a call.
+abbrev pub reply_to : Serving → ip_answer.Call → List ℕ → List ℕ
+reply_to serving call body = frame_bytes (ip_answer.call_reply_of serving.ip.mac serving.ip.address call.source call.caller body)
+
+-- A fragment that is not joined is accepted only if it is acknowledged.
+abbrev pub dropped_by : Option (List ℕ) → Piece
+dropped_by None = Other
+dropped_by (Some reply) = Taken (Some reply)
+
+-- The frame that refuses a whole call that nobody serves, as it refuses one that comes in one datagram.
+abbrev pub refused_by : Serving → ip_answer.Call → List ℕ → Option (List ℕ)
+refused_by serving call octets = option_map (reply_to serving call) (unserved_answer octets)
+
+-- A whole call is the device's, unless it is refused.
+abbrev pub completed_or : Event → Option (List ℕ) → Piece
+completed_or call None = Completes call
+completed_or call (Some refusal) = Taken (Some refusal)
 
 abbrev pub piece_by : Serving → ip_answer.Call → calls.Outcome → Piece
 piece_by serving call calls.Nothing = Other
-piece_by serving call (calls.Waits fack) =
-    Waits (option_map (λ (body : List ℕ). frame_bytes (ip_answer.call_reply_of serving.ip.mac serving.ip.address call.source call.caller body)) fack)
+piece_by serving call (calls.Drops fack) = dropped_by (option_map (reply_to serving call) fack)
+piece_by serving call (calls.Waits fack) = Taken (option_map (reply_to serving call) fack)
 piece_by serving call (calls.Joined octets) =
-    Completes (Joined (record { mac = call.source; endpoint = call.caller }) serving.ip.address (record { items = octets }))
+    completed_or (Joined (record { mac = call.source; endpoint = call.caller }) serving.ip.address (record { items = octets }))
+    (refused_by serving call octets)
 
 abbrev pub piece_of : Serving → Option ip_answer.Call → Piece
 piece_of serving None = Other
@@ -90,13 +110,13 @@ piece_in serving bytes = piece_of serving (ip_answer.call_in serving.ip bytes)
 
 abbrev pub is_piece : Piece → Bool
 is_piece Other = false
-is_piece (Waits fack) = true
+is_piece (Taken reply) = true
 is_piece (Completes call) = true
 
 -- the event of the call that it completes
 abbrev pub completed : Piece → Option Event
 completed Other = None
-completed (Waits fack) = None
+completed (Taken reply) = None
 completed (Completes call) = Some call
 
 abbrev pub after_piece : Serving → Option ip_answer.Call → Serving
@@ -113,13 +133,13 @@ pieced serving bytes = after_piece serving (ip_answer.call_in serving.ip bytes)
 abbrev pub replied : Identity → Serving → List ℕ → Option (List ℕ)
 replied identity serving bytes = or_else (ip_answer.answer_to serving.ip bytes) (mapper.mapped_frame serving.ip identity bytes)
 
--- A fragment is acknowledged, if it is answered at all.
+-- A fragment that is accepted has the answer of its own.
 abbrev pub answer_by : Piece → Option (List ℕ) → Option (List ℕ)
 answer_by Other reply = reply
-answer_by (Waits fack) reply = fack
+answer_by (Taken own) reply = own
 answer_by (Completes call) reply = None
 
--- The answer to a frame that the device dropped: the acknowledgement of a fragment, or that of the services of the IP address,
+-- The answer to a frame that the device dropped: the acknowledgement of a fragment, or the refusal of a call that it completes; or that of the services of the IP address,
 -- or else that of the endpoint mapper.
 abbrev pub answered : Identity → Serving → List ℕ → Option (List ℕ)
 answered identity serving bytes = answer_by (piece_in serving bytes) (replied identity serving bytes)
@@ -149,7 +169,7 @@ meets serving bytes = is_taken (effect_on serving bytes)
 abbrev pub changes : Serving → List ℕ → Bool
 changes serving bytes = is_change (effect_on serving bytes)
 
--- Whether such a frame carries a message of a neighbour, or a fragment of a call.
+-- Whether such a frame carries a message of a neighbour, or a fragment of a call that is joined or acknowledged.
 abbrev pub takes : Serving → List ℕ → Bool
 takes serving bytes = meets serving bytes || is_piece (piece_in serving bytes)
 

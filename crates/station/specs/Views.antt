@@ -8,12 +8,12 @@ use Rattle.station.specs.declared.device_services.Attended.{Attended}
 use Rattle.station.specs.declared.device_services.Attended.TheVariants as attended
 use Rattle.station.specs.declared.device_services.Piece.{Piece as Found}
 use Rattle.station.specs.declared.device_services.Piece.TheVariants as found
-use Rattle.station.specs.Serving.{Completes, Other, Piece, Waits}
+use Rattle.station.specs.Serving.{Completes, Other, Piece, Taken}
 
 -- what a frame is, with the call that it completes
 abbrev pub piece_as : Found → Event → Piece
 piece_as found.Other call = Other
-piece_as (found.Waits fack) call = Waits (frame_in fack)
+piece_as (found.Taken reply) call = Taken (frame_in reply)
 piece_as found.Completes call = Completes call
 
 -- the note of the station

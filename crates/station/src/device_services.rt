@@ -5,7 +5,8 @@ ghost use Rattle.frame_codec.specs.Outbox.{boxed};
 ghost use Rattle.services.specs.Answer.{frame_in};
 ghost use Rattle.station.specs.Beside.{Beside, IsUndisputed, event_beside, heard_beside, is_dropped as is_dropped_by, joined_from, joined_of};
 ghost use Rattle.station.specs.Views.{joined_in, note_in, piece_as};
-ghost use Rattle.station.specs.Serving.{meets, piece_in, pieced, replied};
+ghost use Rattle.services.specs.Views.{call_as};
+ghost use Rattle.station.specs.Serving.{meets, piece_in, pieced, refused_by, replied};
 ghost use Rattle.services.specs.State.{frames_in};
 ghost use Rattle.std.specs.Prelude.{is_some};
 ghost use Rattle.station.specs.Serving.{NoNews, NoneSends, announces, disputes, due_in, heard, knows, news_in, observed};
@@ -15,13 +16,14 @@ ghost use Rattle.std.specs.Cmp.Lexicographic.{pointwise};
 ghost use Rattle.station.specs.Serving.{aged, met, overheard, said_of, sent_by_tick, serving_at, serving_ticks, ticked, told};
 
 use crate::JoinedCall;
+use call_headers::unserved_answer;
 use call_pieces::{Heard as Pieced, Joiner, Kind};
 use device_core::{Caller, Event, Note};
 use endpoint_mapper::mapped_frame;
 use frame_codec::{Frame, Outbox};
 use lldp::{Heard, Link, Neighbours, announcement};
 use pn_values::{Identity, Settings, StationName};
-use services::{Role, Services, only_conflicts_are_counted};
+use services::{Called, Role, Services, only_conflicts_are_counted};
 use std::marker::Model;
 
 /// What the services beside a device made of an event.
@@ -36,11 +38,12 @@ pub enum Attended {
 /// What a frame that the device dropped is to the calls of which fragments are missing.
 #[derive(Drop)]
 pub(crate) enum Piece {
-    /// It brings no fragment.
+    /// It brings no fragment that is accepted.
     Other,
-    /// It brings a fragment of a call, and others are missing. It is acknowledged by this frame, if its sender wants that.
-    Waits(Option<Frame>),
-    /// It completes a call. The answer acknowledges it.
+    /// It brings a fragment of a call that is joined, acknowledged, or completes a call that nobody serves. This frame answers it, if
+    /// one does: the acknowledgement, or the rejection of the call.
+    Taken(Option<Frame>),
+    /// It completes a call of the device. The answer acknowledges it.
     Completes,
 }
 
@@ -264,7 +267,7 @@ impl DeviceServices {
         let reply = self.replied(identity, bytes);
         match piece {
             Piece::Other => Attended::Noted(put_reply(&reply, disputed || met, note, outbox)),
-            Piece::Waits(fack) => Attended::Noted(put_reply(&fack, true, note, outbox)),
+            Piece::Taken(own) => Attended::Noted(put_reply(&own, true, note, outbox)),
             Piece::Completes => Attended::Joined,
         }
     }
@@ -284,7 +287,7 @@ impl DeviceServices {
         }
     }
 
-    /// It hears a fragment of a call. A call that is complete with it is written into `call`.
+    /// It hears a fragment of a call. A call of the device that is complete with it is written into `call`.
     fn join(&mut self, bytes: &[u8], call: &mut JoinedCall) -> Piece
         ensures state { self.new ≡ pieced self.old bytes.now }
         ensures piece { piece_as result call.new ≡ piece_in self.old bytes.now }
@@ -293,19 +296,36 @@ impl DeviceServices {
             return Piece::Other;
         };
         match self.pieces.hear(called.body, &mut call.octets) {
-            Pieced::Nothing => Piece::Other,
-            Pieced::Waits(Some(fack)) => Piece::Waits(Some(
+            Pieced::Nothing | Pieced::Dropped(None) => Piece::Other,
+            Pieced::Dropped(Some(fack)) => Piece::Taken(Some(
                 self.ip.reply(&called, fack.as_slice()),
             )),
-            Pieced::Waits(None) => Piece::Waits(None),
-            Pieced::Joined => {
-                call.caller = Caller {
-                    mac: called.source,
-                    endpoint: called.caller,
-                };
-                call.address = self.ip.address();
-                Piece::Completes
-            }
+            Pieced::Waits(Some(fack)) => Piece::Taken(Some(
+                self.ip.reply(&called, fack.as_slice()),
+            )),
+            Pieced::Waits(None) => Piece::Taken(None),
+            Pieced::Joined => match self.refused(&called, call.octets.as_slice()) {
+                Some(frame) => Piece::Taken(Some(frame)),
+                None => {
+                    call.caller = Caller {
+                        mac: called.source,
+                        endpoint: called.caller,
+                    };
+                    call.address = self.ip.address();
+                    Piece::Completes
+                }
+            },
+        }
+    }
+
+    /// The frame that refuses a whole call, if nobody serves it.
+    #[inline(never)]
+    fn refused(&self, called: &Called<'_>, octets: &[u8]) -> Option<Frame>
+        ensures { frame_in result ≡ refused_by self.now (call_as called.now) octets.now }
+    {
+        match unserved_answer(octets) {
+            Some(answer) => Some(self.ip.reply(called, answer.as_slice())),
+            None => None,
         }
     }
 

@@ -80,7 +80,10 @@ fn fragments_come_in_any_order() {
             if joined.contains(&turn) {
                 assert_eq!(got, whole, "{order:?} at {turn}");
             } else {
-                assert!(matches!(got, Did::Waits(_)), "{order:?} at {turn}");
+                assert!(
+                    matches!(got, Did::Waits(_) | Did::Dropped(_)),
+                    "{order:?} at {turn}"
+                );
             }
         }
     }
@@ -94,14 +97,14 @@ fn the_last_fragment_in_order_is_acknowledged() {
         ..fragment(1, 7, number, &[1, 2, 3], number == 3)
     };
     // A gap before anything came is not acknowledged: nothing is known of this call.
-    assert_eq!(did(&mut joiner, &part(1).octets()), Did::Waits(None));
+    assert_eq!(did(&mut joiner, &part(1).octets()), Did::Dropped(None));
     assert_eq!(
         did(&mut joiner, &part(0).octets()),
         Did::Waits(Some(part(0).fack(0)))
     );
     assert_eq!(
         did(&mut joiner, &part(2).octets()),
-        Did::Waits(Some(part(2).fack(0)))
+        Did::Dropped(Some(part(2).fack(0)))
     );
     assert_eq!(
         did(&mut joiner, &part(1).octets()),
@@ -109,7 +112,7 @@ fn the_last_fragment_in_order_is_acknowledged() {
     );
     assert_eq!(
         did(&mut joiner, &part(0).octets()),
-        Did::Waits(Some(part(0).fack(1)))
+        Did::Dropped(Some(part(0).fack(1)))
     );
     // A sender that wants none gets none.
     let quiet = Packet {
@@ -154,21 +157,21 @@ fn one_call_of_each_activity() {
         joiner.tick();
     }
     // A fragment of another sequence is not joined to it.
-    assert_eq!(did(&mut joiner, &part(2, 2, 1).octets()), Did::Waits(None));
+    assert_eq!(did(&mut joiner, &part(2, 2, 1).octets()), Did::Dropped(None));
     // Another sequence begins in the place of the first one.
     let second = part(2, 2, 0);
     assert_eq!(
         did(&mut joiner, &second.octets()),
         Did::Waits(Some(second.fack(0)))
     );
-    assert_eq!(did(&mut joiner, &part(2, 1, 1).octets()), Did::Waits(None));
+    assert_eq!(did(&mut joiner, &part(2, 1, 1).octets()), Did::Dropped(None));
     // A fifth activity takes the place of the one that began longest ago.
     let fifth = part(5, 1, 0);
     assert_eq!(
         did(&mut joiner, &fifth.octets()),
         Did::Waits(Some(fifth.fack(0)))
     );
-    assert_eq!(did(&mut joiner, &part(1, 1, 1).octets()), Did::Waits(None));
+    assert_eq!(did(&mut joiner, &part(1, 1, 1).octets()), Did::Dropped(None));
     for (activity, sequence) in [(2, 2), (3, 1), (4, 1), (5, 1)] {
         let whole = part(activity, sequence, 0).whole(&[activity, 0, activity, 1]);
         assert_eq!(
@@ -193,7 +196,15 @@ fn a_whole_has_at_most_4152_octets() {
             } else if joins {
                 assert_eq!(got, Did::Joined(packet.whole(&body)));
             } else {
-                assert_eq!(got, Did::Waits(Some(packet.fack(1))));
+                assert_eq!(got, Did::Dropped(None));
+                // The call is given up: nothing of it is acknowledged any more, until it begins again.
+                let before = fragment(1, 1, 1, parts[1], false);
+                assert_eq!(did(&mut joiner, &before.octets()), Did::Dropped(None));
+                let first = fragment(1, 1, 0, parts[0], false);
+                assert_eq!(
+                    did(&mut joiner, &first.octets()),
+                    Did::Waits(Some(first.fack(0)))
+                );
             }
         }
     }

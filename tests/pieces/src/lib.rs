@@ -8,6 +8,7 @@ mod device;
 mod joined;
 mod passes;
 mod random;
+mod room;
 mod split;
 mod station;
 mod times;
@@ -33,6 +34,7 @@ fn body_of(length: usize) -> Vec<u8> {
 #[derive(Debug, PartialEq, Eq)]
 enum Did {
     Nothing,
+    Dropped(Option<Vec<u8>>),
     Waits(Option<Vec<u8>>),
     Joined(Vec<u8>),
 }
@@ -42,6 +44,7 @@ fn did(joiner: &mut Joiner, bytes: &[u8]) -> Did {
     let mut whole = WholeCall::new();
     match joiner.hear(bytes, &mut whole) {
         Heard::Nothing => Did::Nothing,
+        Heard::Dropped(fack) => Did::Dropped(fack.map(|fack| fack.as_slice().to_vec())),
         Heard::Waits(fack) => Did::Waits(fack.map(|fack| fack.as_slice().to_vec())),
         Heard::Joined => Did::Joined(whole.as_slice().to_vec()),
     }

@@ -102,7 +102,7 @@ fn what_is_split_is_joined() {
                 ));
                 assert!(matches!(
                     did(&mut joiner, &piece(wanted, 0, &body)),
-                    Did::Waits(_)
+                    Did::Dropped(_)
                 ));
             }
             let flags = if wanted { 0x20 } else { 0x28 };

@@ -4,18 +4,23 @@ use super::passes::{body, connect, write};
 use super::writer::{Packet, fragment};
 use device_core::{Event, Note};
 use flash_model::MemoryFlash;
-use frame_codec::{Bytes, ones_sum};
+use frame_codec::{Bytes, Outbox, ones_sum};
 use station::{IoStation, StationOutbox};
 use test_stations::addressed;
 
 /// The frame that takes the body of a datagram from 192.168.0.1 to the station.
 fn frame(datagram: &[u8]) -> Event {
+    frame_from([192, 168, 0, 1], datagram)
+}
+
+/// The same from another IP address.
+fn frame_from(address: [u8; 4], datagram: &[u8]) -> Event {
     let length = u16::try_from(datagram.len()).expect("a length");
     let mut packet = vec![0x45, 0];
     packet.extend((length + 28).to_be_bytes());
-    packet.extend([
-        0, 0, 0x40, 0, 0x40, 0x11, 0, 0, 192, 168, 0, 1, 192, 168, 0, 2,
-    ]);
+    packet.extend([0, 0, 0x40, 0, 0x40, 0x11, 0, 0]);
+    packet.extend(address);
+    packet.extend([192, 168, 0, 2]);
     let sum = !ones_sum(&packet);
     packet[10..12].copy_from_slice(&sum.to_be_bytes());
     packet.extend([0xC0, 0x02, 0x88, 0x94]);
@@ -121,4 +126,117 @@ fn a_write_of_4068_octets_in_fragments_is_answered() {
         answered(&mut station, (2, 3), &body(&blocks), true, true),
         first
     );
+}
+
+/// The frames of the services in the last step, from the bodies of their datagrams on.
+fn bodies(outbox: &StationOutbox) -> Vec<Vec<u8>> {
+    assert!(outbox.device().is_empty());
+    let frames = outbox.services().iter();
+    frames.map(|frame| frame.as_slice()[42..].to_vec()).collect()
+}
+
+#[test]
+fn an_unknown_operation_in_fragments_is_rejected_as_one_in_a_datagram() {
+    for operation in [6, 0x0600, 0xFFFF] {
+        for little in [false, true] {
+            let piece = |number: u16, last: bool| Packet {
+                operation,
+                little,
+                ..fragment(1, 7, number, &[1, 2, 3], last)
+            };
+            let mut station = IoStation::new(addressed().expect("a device"));
+            let mut outbox = StationOutbox::new();
+            let single = Packet {
+                flags: 0x20,
+                ..piece(0, false)
+            };
+            assert_eq!(
+                station.step(&frame(&single.octets()), &mut outbox),
+                Note::Done
+            );
+            let rejection = bodies(&outbox);
+            let status: [u8; 4] = if little {
+                [0x02, 0, 0x01, 0x1C]
+            } else {
+                [0x1C, 0x01, 0, 0x02]
+            };
+            assert_eq!(rejection[0][..3], [4, 6, 8]);
+            assert_eq!(rejection[0][80..84], status);
+            assert_eq!(
+                station.step(&frame(&piece(0, false).octets()), &mut outbox),
+                Note::Done
+            );
+            assert_eq!(bodies(&outbox), [piece(0, false).fack(0)]);
+            // A repeat of the last fragment is rejected again.
+            for _ in 0..2 {
+                assert_eq!(
+                    station.step(&frame(&piece(1, true).octets()), &mut outbox),
+                    Note::Done
+                );
+                assert_eq!(bodies(&outbox), rejection);
+            }
+        }
+    }
+}
+
+#[test]
+fn a_fragment_that_is_neither_joined_nor_acknowledged_has_the_note_of_the_device() {
+    let mut station = IoStation::new(addressed().expect("a device"));
+    let mut outbox = StationOutbox::new();
+    let quiet = |number: u16| Packet {
+        flags: 0x2C,
+        ..fragment(1, 7, number, &[1, 2, 3], false)
+    };
+    let mut note = |datagram: &[u8]| {
+        let note = station.step(&frame(datagram), &mut outbox);
+        assert!(bodies(&outbox).len() <= 1);
+        note
+    };
+    let alone = addressed()
+        .expect("a device")
+        .step(&frame(&quiet(1).octets()), &mut Outbox::new());
+    assert_ne!(alone, Note::Done);
+    // It has no call here.
+    assert_eq!(note(&quiet(1).octets()), alone);
+    // It is joined.
+    assert_eq!(note(&quiet(0).octets()), Note::Done);
+    // It came before, and its sender wants no acknowledgement.
+    assert_eq!(note(&quiet(0).octets()), alone);
+    // It comes too early.
+    assert_eq!(note(&quiet(2).octets()), alone);
+    // It came before, and is acknowledged.
+    let loud = fragment(1, 7, 0, &[1, 2, 3], false);
+    assert_eq!(note(&loud.octets()), Note::Done);
+    // There is no room for it.
+    for number in 1..3 {
+        let large = Packet {
+            body: vec![1; 1390],
+            ..quiet(number)
+        };
+        assert_eq!(note(&large.octets()), Note::Done);
+    }
+    let large = Packet {
+        body: vec![1; 1390],
+        ..fragment(1, 7, 3, &[], false)
+    };
+    assert_eq!(note(&large.octets()), alone);
+    assert_eq!(note(&large.octets()), alone);
+}
+
+#[test]
+fn fragments_are_joined_only_if_another_station_may_have_sent_them() {
+    let first = fragment(1, 7, 0, &[1, 2, 3], false).octets();
+    for (address, facks) in [
+        ([0, 0, 0, 0], 0),
+        ([127, 0, 0, 1], 0),
+        ([224, 0, 0, 1], 0),
+        ([255, 255, 255, 255], 0),
+        ([192, 168, 0, 2], 0),
+        ([192, 168, 0, 3], 1),
+    ] {
+        let mut station = IoStation::new(addressed().expect("a device"));
+        let mut outbox = StationOutbox::new();
+        station.step(&frame_from(address, &first), &mut outbox);
+        assert_eq!(bodies(&outbox).len(), facks, "{address:?}");
+    }
 }

@@ -24,7 +24,7 @@ fn a_call_is_dropped_after_64000_ticks() {
             let expected = if joins {
                 Did::Joined(first.whole(&[1, 2]))
             } else {
-                Did::Waits(None)
+                Did::Dropped(None)
             };
             assert_eq!(did(&mut joiner, &last.octets()), expected, "{ticks}");
         }
@@ -41,7 +41,7 @@ fn a_repeat_of_the_first_fragment_gives_no_more_time() {
     joiner.elapse(1);
     assert_eq!(
         did(&mut joiner, &fragment(1, 1, 1, &[2], true).octets()),
-        Did::Waits(None)
+        Did::Dropped(None)
     );
 }
 

@@ -1,7 +1,9 @@
 //! Pings, and calls that nobody serves. The octets are those of a reference model that shares no line with the product;
 //! tshark reads each answer.
 
-use super::{Role, STATION, Services, answer_of, controller, device, octets};
+use super::{
+    OTHERS, Role, STATION, STRANGERS, Services, answer_of, controller, device, octets, sent_from,
+};
 
 /// What is called, the call, and its answer.
 const CALLS: [(&str, &str, &str); 6] = [
@@ -64,6 +66,28 @@ fn a_call_that_nobody_serves_is_answered() {
 fn other_packets_are_dropped() {
     for (what, call) in DROPPED {
         assert_eq!(answer_of(&mut device(), &octets(call)), None, "{what}");
+    }
+}
+
+/// Neither the rejections nor what stands on `call_in` (the endpoint mapper, and calls in fragments) hear such a call.
+#[test]
+fn a_call_is_heard_only_if_another_station_may_have_sent_it() {
+    for (what, call, _) in CALLS {
+        for address in STRANGERS {
+            let call = sent_from(octets(call), address);
+            assert_eq!(
+                answer_of(&mut device(), &call),
+                None,
+                "{what} of {address:?}"
+            );
+            assert!(device().call_in(&call).is_none(), "{what} of {address:?}");
+        }
+        for address in OTHERS {
+            let call = sent_from(octets(call), address);
+            let answer = answer_of(&mut device(), &call).expect("an answer");
+            assert_eq!(answer[30..34], address, "{what}");
+            assert!(device().call_in(&call).is_some(), "{what} of {address:?}");
+        }
     }
 }
 

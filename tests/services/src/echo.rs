@@ -1,6 +1,8 @@
 //! Echo requests and their replies (RFC 792).
 
-use super::{ADDRESS, STATION, answer_of, controller, device, octets, padded};
+use super::{
+    ADDRESS, OTHERS, STATION, STRANGERS, answer_of, controller, device, octets, padded, sent_from,
+};
 use frame_codec::ones_sum;
 use services::{Role, Services};
 
@@ -94,6 +96,21 @@ fn a_wrong_checksum_is_not_answered() {
             None,
             "octet {place}"
         );
+    }
+}
+
+#[test]
+fn a_request_is_answered_only_if_another_station_may_have_sent_it() {
+    for address in STRANGERS {
+        let request = sent_from(octets(REQUEST), address);
+        assert_eq!(answer_of(&mut device(), &request), None, "{address:?}");
+        assert_eq!(answer_of(&mut controller(), &request), None, "{address:?}");
+    }
+    for address in OTHERS {
+        let request = sent_from(octets(REQUEST), address);
+        let reply = answer_of(&mut device(), &request).expect("an answer");
+        assert_eq!(reply[30..34], address);
+        assert!(answer_of(&mut controller(), &request).is_some());
     }
 }
 

@@ -2,7 +2,7 @@
 //! that Scapy 2.5 makes of its fields, unless the test says otherwise.
 #![cfg(test)]
 
-use frame_codec::Outbox;
+use frame_codec::{Outbox, ones_sum};
 use pn_values::Mac;
 use services::{Role, Services};
 
@@ -22,6 +22,32 @@ const STATION: Mac = Mac {
 /// Its running IP address.
 const ADDRESS: [u8; 4] = [192, 168, 0, 2];
 
+/// IP addresses from which no request of another station comes: that of no station, the loopback, groups, reserved ones, all stations,
+/// and the station's own.
+const STRANGERS: [[u8; 4]; 11] = [
+    [0, 0, 0, 0],
+    [0, 0, 0, 1],
+    [127, 0, 0, 1],
+    [127, 255, 255, 255],
+    [224, 0, 0, 1],
+    [239, 255, 255, 255],
+    [240, 0, 0, 1],
+    [255, 255, 255, 254],
+    [255, 255, 255, 255],
+    [255, 0, 0, 0],
+    ADDRESS,
+];
+
+/// IP addresses that another station may have.
+const OTHERS: [[u8; 4]; 6] = [
+    [1, 0, 0, 0],
+    [126, 255, 255, 255],
+    [128, 0, 0, 1],
+    [192, 168, 0, 3],
+    [10, 0, 0, 2],
+    [223, 255, 255, 255],
+];
+
 /// The announcement of the address, padded to 60 octets.
 const ANNOUNCEMENT: &str =
     "ffffffffffff02000000000108060001080006040001020000000001c0a80002000000000000c0a80002";
@@ -37,6 +63,18 @@ fn octets(digits: &str) -> Vec<u8> {
         .step_by(2)
         .map(|place| u8::from_str_radix(&digits[place..place + 2], 16).expect("a digit"))
         .collect()
+}
+
+/// A packet of IPv4 as this IP address sends it: with its checksum, and without that of UDP.
+fn sent_from(mut frame: Vec<u8>, address: [u8; 4]) -> Vec<u8> {
+    frame[26..30].copy_from_slice(&address);
+    frame[24..26].fill(0);
+    let sum = !ones_sum(&frame[14..34]);
+    frame[24..26].copy_from_slice(&sum.to_be_bytes());
+    if frame[23] == 17 {
+        frame[40..42].fill(0);
+    }
+    frame
 }
 
 /// The octets, padded with zeros to 60.

@@ -10,9 +10,9 @@ returns-then-is_of-clause-value c =
     let us = c.args.calls.now in
     let at = get_or_read us c.loop-index.index c.index-calls-index.result c.loop-index-test.true c.index-calls-index.is blank in
     let here : is_of c.args.head.now (get_or us c.loop-index.index blank) ≡ true = ap (is_of c.args.head.now) (sym at) ∙ (sym c.is_of.ensures ∙ c.if-is_of.true) in
-    found c.args.head.now us c.loop-index.index c.loop-index-test.true c.loop-index.invariant here
+    found c.args.head.now c.args.ages.now us c.loop-index.index c.loop-index-test.true c.loop-index.invariant here
 
 pub returns-clause-value : goal.returns-clause-value
 returns-clause-value c =
     let over = c.loop-index-test.false in
-    c.oldest.ensures.value ∙ not_found c.args.head.now c.args.calls.now (λ k there. c.loop-index.invariant k (omega (arith, over, there)))
+    c.oldest.ensures.value ∙ not_found c.args.head.now c.args.ages.now c.args.calls.now (λ k there. c.loop-index.invariant k (omega (arith, over, there)))

@@ -14,4 +14,6 @@ invariant_of-self c =
       All-set (λ (u : Unfinished). u.left ≤ 64000) j.calls _ _ (c.take.ensures.young (omega (arith, old, busy)))
           (λ k d there. let few = c.self.invariant.1 k d there in omega (arith, few, busy)),
       omega arith,
+      omega (arith, c.begin_at.auto.ages, c.self.invariant.3),
+      c.begin_at.ensures.few,
     )

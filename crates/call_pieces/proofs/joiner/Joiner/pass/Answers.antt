@@ -11,4 +11,6 @@ invariant_of-self c =
       ap length c.age.ensures ∙ (length-map j.calls (older c.args.ticks) ∙ c.self.invariant.0),
       less_left c.args.ticks j.busy c.saturating_sub-self-inside.result j.calls c.age.new.calls (omega (arith, c.saturating_sub-self-inside.ensures)) c.age.ensures c.self.invariant.1,
       omega (arith, c.saturating_sub-self-inside.ensures, c.self.invariant.2),
+      c.self.invariant.3,
+      c.self.invariant.4,
     )

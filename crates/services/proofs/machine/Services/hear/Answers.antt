@@ -1,5 +1,5 @@
 use Rattle.std.proofs.Common.{◌∙◌}
-use Rattle.services.proofs.Facts.{echo_answered, echo_elsewhere, echo_from_group, echo_other_address, echo_keeps, arp_answered, arp_dropped, arp_disputes, arp_keeps, call_is, call_keeps, other_answer, other_keeps}
+use Rattle.services.proofs.Facts.{echo_answered, echo_elsewhere, echo_from_group, echo_other_address, echo_from_none, echo_keeps, arp_answered, arp_dropped, arp_disputes, arp_keeps, call_is, call_from_none, call_keeps, other_answer, other_keeps}
 use Rattle.services.proofs.machine.Services.hear.Goals as goal
 
 pub returns-clause-echo : goal.returns-clause-echo
@@ -13,6 +13,9 @@ returns-clause-group c = λ request e group. c.handle.ensures.answer ∙ echo_fr
 
 pub returns-clause-address : goal.returns-clause-address
 returns-clause-address c = λ request e other. c.handle.ensures.answer ∙ echo_other_address c.args.self.now c.args.bytes.now request e other
+
+pub returns-clause-sender : goal.returns-clause-sender
+returns-clause-sender c = λ request e other. c.handle.ensures.answer ∙ echo_from_none c.args.self.now c.args.bytes.now request e other
 
 pub returns-clause-echo_keeps : goal.returns-clause-echo_keeps
 returns-clause-echo_keeps c = λ request e. c.handle.ensures.state ∙ echo_keeps c.args.self.now c.args.bytes.now request e
@@ -37,6 +40,9 @@ returns-clause-dropped_keeps c = λ fault e apart. c.handle.ensures.state ∙ ot
 
 pub returns-clause-call : goal.returns-clause-call
 returns-clause-call c = λ meaning from to body e f. c.handle.ensures.answer ∙ call_is c.args.self.now c.args.bytes.now meaning from to body e f
+
+pub returns-clause-caller : goal.returns-clause-caller
+returns-clause-caller c = λ meaning from to body e f other. c.handle.ensures.answer ∙ call_from_none c.args.self.now c.args.bytes.now meaning from to body e f other
 
 pub returns-clause-call_keeps : goal.returns-clause-call_keeps
 returns-clause-call_keeps c = λ meaning from to body e f. c.handle.ensures.state ∙ call_keeps c.args.self.now c.args.bytes.now meaning from to body e f
