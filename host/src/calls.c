@@ -14,9 +14,10 @@
 #define ACTIVITY_AT 40u
 #define AR_AT (HEADER + 28u)
 
-/* From the header of DCE/RPC on: its first flags, the operation, the number of the fragment, and the first block, after the sizes of the
+/* From the header of DCE/RPC on: its first flags, the interface, the operation, the number of the fragment, and the first block, after the sizes of the
  * arguments. */
 #define FLAGS_AT 2u
+#define INTERFACE_AT 24u
 #define OPERATION_AT 68u
 #define NUMBER_AT 76u
 #define BLOCK_AT (HEADER + 20u)
@@ -131,6 +132,15 @@ static unsigned operation_of(const uint8_t *header)
     return header[4] >> 4 == 1 ? at[0] | (unsigned)at[1] << 8 : (unsigned)at[0] << 8 | at[1];
 }
 
+/* Whether a datagram is a call of the interface of a PROFINET IO device; others have operations of their own. */
+static int is_call(const uint8_t *header)
+{
+    static const uint8_t interface[16] = {0xDE, 0xA0, 0x00, 0x01, 0x6C, 0x97, 0x11, 0xD1, 0x82, 0x71, 0x00, 0xA0, 0x24, 0x42, 0xDF, 0x7D};
+    uint8_t found[16];
+    read_uuid(header, INTERFACE_AT, found);
+    return header[1] == CALLS_REQUEST && memcmp(found, interface, sizeof found) == 0;
+}
+
 static int is_fragment(const uint8_t *header)
 {
     return (header[FLAGS_AT] & FLAG_FRAGMENT) != 0;
@@ -141,7 +151,7 @@ int calls_may_store(const uint8_t *octets, size_t length)
     size_t at = header_at(octets, length);
     const uint8_t *header = octets + at, *write;
     unsigned index;
-    if (at == 0 || header[1] != CALLS_REQUEST || operation_of(header) != CALLS_WRITE)
+    if (at == 0 || !is_call(header) || operation_of(header) != CALLS_WRITE)
         return 0;
     if (is_fragment(header) || length < at + BLOCK_AT + WRITE_HEADER)
         return 1;
@@ -154,7 +164,7 @@ int calls_begins(const uint8_t *octets, size_t length, unsigned *operation)
 {
     size_t at = header_at(octets, length);
     const uint8_t *header = octets + at;
-    if (at == 0 || header[1] != CALLS_REQUEST || (is_fragment(header) && (header[NUMBER_AT] != 0 || header[NUMBER_AT + 1] != 0)))
+    if (at == 0 || !is_call(header) || (is_fragment(header) && (header[NUMBER_AT] != 0 || header[NUMBER_AT + 1] != 0)))
         return 0;
     *operation = operation_of(header);
     return 1;

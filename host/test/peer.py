@@ -318,6 +318,7 @@ class Opener:
         self.link, self.mac, self.address = wire.socket(), mac, address_of(address)
         self.initiator, self.seconds = initiator or mac, seconds
         self.ar, self.activity, self.sequence = os.urandom(16), os.urandom(16), 0
+        self.interface = bytes.fromhex("dea000016c9711d1827100a02442df7d")
 
     def close(self):
         self.link.close()
@@ -328,7 +329,7 @@ class Opener:
         for number in range(pieces):
             part = body[number * size:(number + 1) * size]
             flags = 0x20 | (0 if pieces == 1 else 0x0E if number == pieces - 1 else 0x0C)
-            head = bytes((4, 0, flags, 0, 0, 0, 0, 0)) + bytes.fromhex("dea000006c97 11d1 8271 00010456 0123 dea000016c97 11d1 8271 00a02442df7d") + self.activity
+            head = bytes((4, 0, flags, 0, 0, 0, 0, 0)) + bytes.fromhex("dea000006c9711d18271000104560123") + self.interface + self.activity
             head += struct.pack(">IIIHHHHHBB", 0, 1, self.sequence, operation, 0xFFFF, 0xFFFF, len(part), number, 0, 0)
             self.link.send((DEVICE + self.mac + b"\x08\0" + internet(self.address, address_of("192.168.0.2"), head + part)).ljust(60, b"\0"))
         self.sequence += 1
