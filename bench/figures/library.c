@@ -1,5 +1,6 @@
 /* Figures of the library through its header, for bench/figures/library.py: what is to be counted by callgrind in an exchange that the lines
- * on standard input set up: N times a unit of time (`unit`), 32 units (`leap`), a unit with the frame that it sends (`sent`), a cyclic frame (`cyclic`), or the
+ * on standard input set up: N times a unit of time (`unit`; without a relation `alone`, and `addressed` in the first two seconds of an address),
+ * 32 units (`leap`), a unit with the frame that it sends (`sent`), a cyclic frame (`cyclic`), or the
  * millisecond of an exchange (`cycle`). Callgrind counts what is executed within pn_step and pn_fetch, and not what this program does. */
 #include "nandutable.h"
 #include <stdio.h>
@@ -107,7 +108,7 @@ static void next_cyclic(unsigned units)
 }
 
 /* The lines of bench/figures/exchange.py up to the exchange: frames, and the input of slot 1. */
-static void exchange(void)
+static void lines(void)
 {
     static char text[70000];
     static struct line line;
@@ -123,7 +124,23 @@ static void exchange(void)
         }
         carry_out();
     }
+    sent = 0;
+}
+
+static void exchange(void)
+{
+    lines();
     must(pn_state(&device, &op) == PN_OK && op.phase == PN_EXCHANGING && cyclic.length != 0, 8);
+}
+
+/* A device without a relation, whose address the lines have set: in the first two seconds of it the second announcement is still to be
+ * sent, after them LLDP alone. */
+static void alone(int is_settled)
+{
+    lines();
+    must(pn_state(&device, &op) == PN_OK && op.phase == PN_NONE, 11);
+    units_pass(is_settled ? 66000 : 10);
+    must(sent == (is_settled ? 3 : 2), 12); /* LLDP at the start, and announcements */
     sent = 0;
 }
 
@@ -140,7 +157,7 @@ static void announce(void)
 static void count(const char *what, unsigned long turns)
 {
     for (unsigned long i = 0; i < turns; i++) {
-        if (strcmp(what, "unit") == 0) {
+        if (strcmp(what, "unit") == 0 || strcmp(what, "alone") == 0 || strcmp(what, "addressed") == 0) {
             must(pn_tick(&device, &op, 1) == PN_OK && op.work == PN_NOTHING, 9);
         } else if (strcmp(what, "leap") == 0) {
             must(pn_tick(&device, &op, 32) == PN_OK && op.work == PN_NOTHING, 10);
@@ -164,8 +181,12 @@ int main(int words, char **word)
     station.modules[1].submodules[0].input = station.modules[2].submodules[0].output = (uint16_t)(strtoul(word[4], NULL, 10) - 3);
     memcpy(station.order_id, &interval, sizeof interval); /* for library_plain.c */
     start();
-    exchange();
-    announce();
+    if (strcmp(word[1], "alone") == 0 || strcmp(word[1], "addressed") == 0) {
+        alone(word[1][1] == 'l');
+    } else {
+        exchange();
+        announce();
+    }
     count(word[1], strtoul(word[2], NULL, 10));
     return 0;
 }

@@ -14,6 +14,7 @@ import sys
 import tempfile
 
 sys.path.insert(0, os.path.join(os.path.dirname(os.path.realpath(__file__)), "..", "gate"))
+import calls
 import exchange
 from program import TOP, answer_help, need, refuse
 
@@ -23,9 +24,12 @@ CALLS = ("pn_judge", "pn_put", "pn_step", "pn_fetch")
 TURNS = 1_000
 OCTETS = 40
 
-# What is counted: its title, the units of an interval (SendClockFactor times ReductionRatio), and how many instructions a turn may take.
+# What is counted: its title, the units of an interval (SendClockFactor times ReductionRatio; none without a relation, which the plain
+# program does not count), and how many instructions a turn may take.
 KINDS = {
     "unit": ("a pn_tick of one unit with which nothing is due", (128, 512), 100),
+    "alone": ("the same of a device without a relation", None, 90),
+    "addressed": ("the same in the first two seconds of an address", None, 90),
     "leap": ("a pn_tick of 32 units with which nothing is due", (128, 512), 150),
     "cyclic": ("a pn_frame of a cyclic frame of 40 octets", (128, 512), 200),
     "sent": ("a pn_tick of one unit that sends 40 octets, and its pn_next", (1, 1), 220),
@@ -43,8 +47,8 @@ def run(words, given=b"", folder=None):
 def instructions(program, folder, kind, turns):
     """The instructions within pn_step and pn_fetch, and nothing of the program that calls it; and how many frames were sent."""
     kept = os.path.join(folder, "callgrind")
-    (clock, ratio) = KINDS[kind][1]
-    lines = exchange.front(OCTETS, (clock, ratio, 7680)) + exchange.cyclic(OCTETS)(0)
+    (clock, ratio) = KINDS[kind][1] or (1, 1)
+    lines = exchange.front(OCTETS, (clock, ratio, 7680)) + exchange.cyclic(OCTETS)(0) if KINDS[kind][1] else calls.SET_SUITE
     said = run(["valgrind", "--tool=callgrind", "--quiet", "--collect-atstart=no", "--toggle-collect=pn_step", "--toggle-collect=pn_fetch", f"--callgrind-out-file={kept}", program,
                 kind, str(turns), str(clock * ratio), str(OCTETS)], lines.encode())
     with open(kept) as file:
@@ -60,9 +64,10 @@ def each(program, folder, kind):
 def counted(program, plain, folder):
     """Prints the instructions of each kind of turn. Says whether they keep their bounds."""
     is_kept = True
-    for kind, (title, _, bound) in KINDS.items():
-        (ours, sent), (theirs, plain_sent) = (each(one, folder, kind) for one in (program, plain))
-        print(f"{title}: {ours:.0f} instructions (at most {bound}); in plain C, unit by unit, {theirs:.0f}")
+    for kind, (title, interval, bound) in KINDS.items():
+        ours, sent = each(program, folder, kind)
+        theirs, plain_sent = each(plain, folder, kind) if interval else (None, 0)
+        print(f"{title}: {ours:.0f} instructions (at most {bound}){f'; in plain C, unit by unit, {theirs:.0f}' if interval else ''}")
         if ours > bound:
             print(f"PASSES ITS BOUND: {title}: {ours:.0f}, at most {bound}")
         if sent != plain_sent:

@@ -19,12 +19,12 @@ use Rattle.device_core.specs.Leaps.{OnlyTheLastSends as OnlyTheLastOfDevice, liv
 use Rattle.services.specs.declared.announcement.Announcement.{Announcement}
 use Rattle.services.specs.declared.announcement.Announcement.TheVariants.{Nothing, First, Second}
 use Rattle.services.specs.State as ip
-use Rattle.services.specs.Leaps.{announcement_due_in}
+use Rattle.services.specs.Leaps.{announcement_due_in, never}
 use Rattle.station.specs.Serving.{NoNews, NoneSends, Serving, due_in, knows, observed, sent_by_tick, serving_ticks, ticked}
 use Rattle.station.specs.Beside.{Beside, beside, event_beside, idle, observing}
-use Rattle.station.specs.Leaps.{Follows, LeapsAreTicks, Leapt, OnlyTheLastMeets, OnlyTheLastOfPlain, OnlyTheLastSends, QuietUnitsAreTicks, QuietUnitsBringNoNews, QuietUnitsCount}
+use Rattle.station.specs.Leaps.{Follows, LeapsAreTicks, Leapt, OnlyTheLastMeets, OnlyTheLastOfPlain, OnlyTheLastSends, QuietUnitsAreTicks, QuietUnitsBringNoNews, QuietUnitsCount, QuietUnitsCountDown}
 use Rattle.station.specs.Leaps.{beside_ticks, due_at, due_beside, plain_tick, plain_ticks, services_due, then_leap, tick_beside, tick_of, ticks_of, told_at, told_if}
-use Rattle.station.proofs.ServingTicks.{before_due, no_more, quiet_news}
+use Rattle.station.proofs.ServingTicks.{before_due, counts_down, no_more, quiet_news}
 
 -- ---- one Tick event
 
@@ -315,6 +315,22 @@ quiet_count values units state there few =
     let more = counts_by (knows state values.running) units (due_in state) (due_in later) (services_due values later)
     (subst (λ (n : ℕ). units < n) was few) counts (due_there values later there ∙ known) in
     omega (arith, was, more)
+
+down_by : (b : Bool) (units due more later : ℕ) → units < (if b then due else 1) → (if b then due else 1) < never → (due < never → units + more ≤ due)
+    → later ≡ (if b then more else 1) → units + later ≤ (if b then due else 1)
+down_by true units due more later few some counts is = let less = counts some in omega (arith, less, is)
+down_by false units due more later few some counts is = omega (arith, few, is)
+
+pub quiet_down : QuietUnitsCountDown
+quiet_down values units state there few some =
+    let inside = within units values state there (omega (arith, few)) in
+    let later = serving_ticks units state in
+    let known : (if knows later values.running then due_in later else 1) ≡ (if knows state values.running then due_in later else 1) =
+    ap (λ (b : Bool). if b then due_in later else 1) (kept_known units state values.running) in
+    let was : services_due values state ≡ (if knows state values.running then due_in state else 1) = due_there values state there in
+    let less = down_by (knows state values.running) units (due_in state) (due_in later) (services_due values later)
+    (subst (λ (n : ℕ). units < n) was few) (subst (λ (n : ℕ). n < never) was some) (counts_down units state inside.0) (due_there values later there ∙ known) in
+    omega (arith, was, less)
 
 -- whether there are news before each of these ticks
 abbrev pub SameNews : Values → ℕ → Serving → Type 0

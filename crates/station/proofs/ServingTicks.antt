@@ -1,5 +1,5 @@
 -- Ticks at all that is beside a device.
-use Rattle.std.proofs.Common.{◌≡◌, ◌+◌, ◌≤◌, ◌<◌, ◌||◌, ◌&&◌, ◌++◌, ℕ, zero, suc, Bool, true, false, List, [], ◌∷◌, Option, Some, None, refl, ap, subst, ◌∙◌, arith, inl, inr}
+use Rattle.std.proofs.Common.{◌≡◌, ◌+◌, ◌≤◌, ◌<◌, ◌||◌, ◌&&◌, ◌++◌, ◌⊎◌, ℕ, zero, suc, Bool, true, false, List, [], ◌∷◌, Option, Some, None, refl, ap, subst, ◌∙◌, arith, inl, inr}
 use Rattle.std.specs.Prelude.{◌-◌, max, min, nat_le, if◌then◌else◌}
 use Rattle.std.proofs.lemmas.Bool.{cases_lt}
 use Rattle.std.proofs.lemmas.Bool.Decides.{nat_tests}
@@ -133,6 +133,51 @@ near_before state few =
     let known = known_before state.known (max state.next 1) (max (near.ticked state).next 1) few counts in
     (still, known.0, known.1)
 
+-- ---- one tick takes one off what is due
+
+announced_nearer : (announcement : Announcement) → 1 < ip_leaps.announcement_due_in announcement
+    → (ip_leaps.announcement_due_in announcement ≡ ip_leaps.never) ⊎ (1 + ip_leaps.announcement_due_in (ip.announcement_after announcement) ≤ ip_leaps.announcement_due_in announcement)
+announced_nearer Nothing few = inl refl
+announced_nearer First few = absurd (omega (arith, few))
+announced_nearer (Second left) few =
+    let later : nat_le left 1 ≡ false = grind (arith, nat_tests) in
+    let next : ip_leaps.announcement_due_in (ip.announcement_after (Second left)) ≡ max 1 (left - 1) =
+    ap (λ (b : Bool). ip_leaps.announcement_due_in (if b then Nothing else Second (left - 1))) later in
+    inr (omega (arith, few, next))
+
+known_nearer : (known : Option near.Known) (most later : ℕ) → 1 < near_leaps.sooner known most → 1 + later ≤ most
+    → 1 + near_leaps.sooner (near.older known) later ≤ near_leaps.sooner known most
+known_nearer None most later few counts = counts
+known_nearer (Some known) most later few counts =
+    let some : 1 < known.left = omega (arith, few) in
+    let there : nat_le known.left 1 ≡ false = grind (arith, nat_tests) in
+    let next : near_leaps.sooner (near.older (Some known)) later ≡ min (max 1 (known.left - 1)) later =
+    ap (λ (b : Bool). near_leaps.sooner (if b then None else Some (record known { left = known.left - 1 })) later) there in
+    omega (arith, some, counts, next)
+
+near_nearer : (state : near.State) → 1 < near_leaps.due_in state → 1 + near_leaps.due_in (near.ticked state) ≤ near_leaps.due_in state
+near_nearer state few =
+    let some : 1 < max state.next 1 = few_most state.known (max state.next 1) few in
+    let still : nat_le state.next 1 ≡ false = grind (arith, nat_tests) in
+    let next : (near.ticked state).next ≡ state.next - 1 = ap (λ (b : Bool). if b then 160000 else state.next - 1) still in
+    let counts : 1 + max (near.ticked state).next 1 ≤ max state.next 1 = omega (arith, some, next) in
+    known_nearer state.known (max state.next 1) (max (near.ticked state).next 1) few counts
+
+nearer_by : (never own later neighbour after : ℕ) → (own ≡ never) ⊎ (1 + later ≤ own) → 1 + after ≤ neighbour → min own neighbour < never
+    → 1 + min later after ≤ min own neighbour
+nearer_by never own later neighbour after (inl none) counts few = omega (arith, none, counts, few)
+nearer_by never own later neighbour after (inr one) counts few = omega (arith, one, counts)
+
+tick_nearer : (serving : Serving) → 1 < due_in serving → due_in serving < ip_leaps.never → 1 + due_in (ticked serving) ≤ due_in serving
+tick_nearer serving few some =
+    let state = serving.ip in
+    let quiet = undefended (ip.is_defended state) state.announcement (omega (arith, few)) in
+    let was : ip_leaps.due_in state ≡ ip_leaps.announcement_due_in state.announcement = ap (λ (b : Bool). due_by b state.announcement) quiet.0 in
+    let one : (ip_leaps.due_in state ≡ ip_leaps.never) ⊎ (1 + ip_leaps.due_in (ip.ticked state) ≤ ip_leaps.due_in state) =
+    rw was (announced_nearer state.announcement quiet.1) in
+    nearer_by ip_leaps.never (ip_leaps.due_in state) (ip_leaps.due_in (ip.ticked state)) (near_leaps.due_in serving.near) (near_leaps.due_in (near.ticked serving.near)) one
+    (near_nearer serving.near (omega (arith, few))) some
+
 -- ---- all ticks before something is due
 
 one_more : (before ticks : ℕ) (serving : Serving) → before < suc ticks → NoneSends ticks serving → sent_by_tick (serving_ticks ticks serving) ≡ []
@@ -157,6 +202,17 @@ before_due (suc ticks) serving few =
       λ before sooner. one_more before ticks serving sooner all.0 (silent now last.0 met.0),
       omega (arith, all.1, nearer),
     )
+
+-- each takes one off what is due
+pub counts_down : (ticks : ℕ) (serving : Serving) → ticks < due_in serving → due_in serving < ip_leaps.never → ticks + due_in (serving_ticks ticks serving) ≤ due_in serving
+counts_down zero serving few some = omega arith
+counts_down (suc ticks) serving few some =
+    let fewer : ticks < due_in serving = omega (arith, few) in
+    let more = (before_due ticks serving fewer).1 in
+    let less = counts_down ticks serving fewer some in
+    let now = serving_ticks ticks serving in
+    let one = tick_nearer now (omega (arith, few, more)) (omega (arith, less, some)) in
+    omega (arith, less, one)
 
 -- no tick before something is due changes the neighbour
 pub quiet_news : (ticks : ℕ) (serving : Serving) → ticks < due_in serving → NoNews ticks serving

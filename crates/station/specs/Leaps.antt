@@ -68,6 +68,11 @@ abbrev pub QuietUnitsCount : Type 0
 QuietUnitsCount = (values : Values) (units : ℕ) (state : Serving) → values.is_lost ≡ false → units < services_due values state
     → services_due values state ≤ units + services_due values (serving_ticks units state)
 
+-- It is at most that, unless it was the number for never. So each such unit takes one off what is due.
+abbrev pub QuietUnitsCountDown : Type 0
+QuietUnitsCountDown = (values : Values) (units : ℕ) (state : Serving) → values.is_lost ≡ false → units < services_due values state
+    → services_due values state < never → units + services_due values (serving_ticks units state) ≤ services_due values state
+
 -- Units before anything is due of the services do not change the neighbour.
 abbrev pub QuietUnitsBringNoNews : Type 0
 QuietUnitsBringNoNews = (units : ℕ) (state : Serving) → units < due_in state → (serving_ticks units state).has_news ≡ state.has_news

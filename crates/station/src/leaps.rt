@@ -2,7 +2,7 @@
 ghost use Rattle.std.specs.Prelude.{◌≡◌, ◌<◌, ◌≤◌, ◌-◌, []};
 ghost use Rattle.device_core.specs.Leaps.{live_due_in, ticks_of as ticks_alone};
 ghost use Rattle.frame_codec.specs.Outbox.{boxed};
-ghost use Rattle.station.specs.Leaps.{FollowsAt, LeapsAreTicks, NoNewsBeside, NoneSendsBeside, OnlyTheLastMeets, OnlyTheLastOfPlain, OnlyTheLastSends, QuietUnitsAreTicks, QuietUnitsBringNoNews, QuietUnitsCount};
+ghost use Rattle.station.specs.Leaps.{FollowsAt, LeapsAreTicks, NoNewsBeside, NoneSendsBeside, OnlyTheLastMeets, OnlyTheLastOfPlain, OnlyTheLastSends, QuietUnitsAreTicks, QuietUnitsBringNoNews, QuietUnitsCount, QuietUnitsCountDown};
 ghost use Rattle.station.specs.Leaps.{beside_ticks, due_at, due_beside, plain_ticks, services_due, tick_beside, ticks_of};
 ghost use Rattle.station.specs.State.{in_order};
 
@@ -186,11 +186,12 @@ pub fn elapse_alone<F: Flash<S>, const S: usize>(
 }
 
 /// As long as nothing is due of the services beside a device that has power, units of time are ticks of theirs and send
-/// nothing, bring what is due no nearer than by their number, and do not change the neighbour. So such units may be counted, and
+/// nothing, bring what is due nearer by exactly their number, and do not change the neighbour. So such units may be counted, and
 /// the services told of them later, all at once. These are laws of the definitions that specify `follow_units`.
 pub fn quiet_units_are_ticks()
     ensures ticks { QuietUnitsAreTicks }
     ensures count { QuietUnitsCount }
+    ensures down { QuietUnitsCountDown }
     ensures news { QuietUnitsBringNoNews }
 {}
 

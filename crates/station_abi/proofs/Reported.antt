@@ -41,11 +41,6 @@ passed_all old new asked reported answer due work free passes is waits done told
       ∙ ap (λ (n : ℕ). let op : Op = record asked { units = 0; due = due_both new; note = 0; work = n } in op) waits),
 )
 
-pub counted_all : (old between new : Served) (asked reported : Op) (answer : ℕ) → barred_both old ≡ None → PassesBoth old asked.units 0 between → new ≡ between → answer ≡ 0
-    → reported ≡ with_passed (Ok (record { left = 0; due = due_both between })) between asked → IsTick old asked answer new reported
-counted_all old between new asked reported answer free passes same done told =
-    subst (λ (s : Served). IsTick old asked answer s reported) (sym same) (Ok (record { left = 0; due = due_both between }), (free, passes, refl), done, told)
-
 -- The kind of the next piece of work, if only frames of the port may be.
 pub waiting_only : (calls : List Call) (frames own : List (List ℕ)) → calls ≡ [] → own ≡ [] → (if has_some frames then 3 else 0) ≡ or_own (waiting calls frames) (waiting [] own)
 waiting_only calls [] own none no_own = rw none (rw no_own refl)

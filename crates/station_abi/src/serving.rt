@@ -30,7 +30,7 @@ use lldp::Link;
 use pn_values::Settings;
 use records::TakenRecord;
 use relations::{Phase, ProviderStatus};
-use station_port::{Leap, ServedPort};
+use station_port::ServedPort;
 
 /// Carries out one operation, with the given octets. Returns 0, or why nothing changed.
 pub fn serve(port: &mut ServedPort, op: &mut Op, given: &[u8]) -> u32
@@ -244,9 +244,8 @@ fn tick(port: &mut ServedPort, op: &mut Op) -> u32
     ensures { IsTick port.old op.old result port.new op.new }
 {
     match port.skip(op.units) {
-        Leap::Due(due) => tell_passed(op, due, 0, 0),
-        Leap::Uncounted => tell_count(port, op),
-        Leap::Refused => tick_more(port, op),
+        Some(due) => tell_passed(op, due, 0, 0),
+        None => tick_more(port, op),
     }
 }
 
@@ -259,25 +258,12 @@ fn tick_more(port: &mut ServedPort, op: &mut Op) -> u32
         return tick_all(port, op);
     }
     match port.unit() {
-        Leap::Due(due) => {
+        Some(due) => {
             let work = if port.has_frames() { 3 } else { 0 };
             tell_passed(op, due, 0, work)
         }
-        Leap::Uncounted => tell_count(port, op),
-        Leap::Refused => tick_all(port, op),
+        None => tick_all(port, op),
     }
-}
-
-// All units passed: what is due is counted.
-#[inline(never)]
-fn tell_count(port: &mut ServedPort, op: &mut Op) -> u32
-    ensures same { port.new ≡ port.old }
-    ensures answer { result ≡ 0 }
-    ensures reported { op.new ≡ with_passed (Ok (record { left = 0; due = due_both port.old })) port.old op.old }
-{
-    let due = port.count();
-    let work = port.waiting();
-    tell_passed(op, due, 0, work)
 }
 
 // The same of any units.

@@ -10,7 +10,7 @@ use Rattle.device_frames.specs.declared.event.Event.TheVariants.{Frame}
 use Rattle.device_frames.specs.declared.note.Note.{Note}
 use Rattle.device_frames.specs.declared.note.Note.TheVariants.{Done}
 use Rattle.station.specs.Beside.{ConflictsAreNoticed, has_any, is_dropped}
-use Rattle.station.specs.Leaps.{QuietUnitsAreTicks, QuietUnitsBringNoNews, QuietUnitsCount}
+use Rattle.station.specs.Leaps.{QuietUnitsAreTicks, QuietUnitsBringNoNews, QuietUnitsCount, QuietUnitsCountDown}
 use Rattle.station.specs.Serving.{Serving, knows, serving_ticks}
 use Rattle.pn_values.specs.declared.settings.Settings.{Settings}
 use Rattle.std.specs.Cmp.Lexicographic.{pointwise}
@@ -22,13 +22,13 @@ use Rattle.device_abi.specs.recording.Calls.{CallsOf}
 use Rattle.device_abi.specs.declared.port.stage.Stage.TheVariants.{Booted}
 use Rattle.device_abi.specs.port.State.{State, barred, barred_by, has_some, has_work}
 use Rattle.device_abi.specs.port.Steps.{Answers, Passes, Takes, Ticks}
-use Rattle.station_port.specs.Pace.{AreCalm, HasNoNews, IsPaced, TicksBesideAny, caught_up}
+use Rattle.station_port.specs.Pace.{AreCalm, HasNoNews, IsPaced, TicksBesideAny, caught_up, soonest}
 use Rattle.station_port.specs.State.{Served, barred_both, due_with}
 use Rattle.station_port.specs.Steps.{AnswersBoth, GivesAny, IsBeside, IsNoticed, IsOfApplication, PassesBoth, Settles, StepsBoth, StepsOrNot, TellsBoth, TellsPortAny, TicksBoth}
 use Rattle.station_port.proofs.Barring.{barred_alone, free_by, free_parts, free_port}
 use Rattle.station_port.proofs.Hearing.{KnowsOf, OnlyConflicts, app_takes, beside_app, seen_same, silent_values, steps_silent}
 use Rattle.station_port.proofs.Left.{same_address}
-use Rattle.station_port.proofs.Pacing.{calm_both, calm_news, caught_zero, due_sooner, resting_of}
+use Rattle.station_port.proofs.Pacing.{calm_both, calm_news, caught_zero, due_soonest, resting_of}
 use Rattle.station_port.proofs.Silent.{application_step, dropped_step}
 use Rattle.station_port.proofs.Telling.{tells_first, tells_none, tells_whole}
 use Rattle.station_port.proofs.Ticking.{at, ticks_any, ticks_kept}
@@ -88,12 +88,12 @@ pub ticks_free : (units : ℕ) (old new : State) → barred old ≡ None → Tic
 ticks_free zero old new free same quiet none = ap barred same ∙ free
 ticks_free (suc units) old new free ticks quiet none = free_by new ticks.4.stage quiet none
 
--- What is due of both then, if it is not later than the rest.
-pub due_calm : QuietUnitsCount → QuietUnitsBringNoNews → (due rest limit : ℕ) (port : State) (services : Option Serving) (frames : List (List ℕ)) → due ≡ live_due_in port.device.live → due ≤ rest → 0 < rest
-    → IsPaced rest limit port.device.live.values services frames → due ≡ due_with (caught_up (limit - rest) services) port.device.live
-due_calm counts news due rest limit port services frames is sooner some paced =
+-- What is due of both then.
+pub due_calm : QuietUnitsCount → QuietUnitsCountDown → QuietUnitsBringNoNews → (said due rest limit : ℕ) (port : State) (services : Option Serving) (frames : List (List ℕ)) → said ≡ soonest due rest services
+    → due ≡ live_due_in port.device.live → 0 < rest → IsPaced rest limit port.device.live.values services frames → said ≡ due_with (caught_up (limit - rest) services) port.device.live
+due_calm counts down news said due rest limit port services frames says is some paced =
     let resting = resting_of rest limit port.device.live.values services frames some paced in
-    due_sooner counts news due rest limit port.device.live services is sooner some resting.inside resting.calm
+    says ∙ due_soonest counts down news due rest limit port.device.live services is some resting.inside resting.calm
 
 -- ---- the device is told of its neighbour
 

@@ -5,11 +5,11 @@ use Rattle.settings_store.specs.State.{Values}
 use Rattle.services.specs.Leaps.{never}
 use Rattle.device_core.specs.Leaps.{live_due_in}
 use Rattle.device_core.specs.State.{Live}
-use Rattle.station.specs.Leaps.{QuietUnitsAreTicks, QuietUnitsBringNoNews, QuietUnitsCount, services_due}
+use Rattle.station.specs.Leaps.{QuietUnitsAreTicks, QuietUnitsBringNoNews, QuietUnitsCount, QuietUnitsCountDown, services_due}
 use Rattle.station.specs.Serving.{Serving, due_in, knows, serving_ticks, ticked}
 use Rattle.device_abi.specs.port.State.{State, has_some}
 use Rattle.device_abi.specs.port.Steps.{Ticks}
-use Rattle.station_port.specs.Pace.{AreCalm, Calm, HasNoNews, IsBehind, IsKnown, IsPaced, Known, Resting, caught_up}
+use Rattle.station_port.specs.Pace.{AreCalm, Calm, HasNoNews, IsBehind, IsKnown, IsPaced, Known, Resting, caught_up, soonest}
 use Rattle.station_port.specs.State.{due_with}
 use Rattle.station_port.specs.Steps.{RestsFor, TicksBoth}
 use Rattle.station_port.proofs.Ticking.{at, ticks_alone, ticks_quiet}
@@ -106,13 +106,22 @@ calm_both quiet counts news units rest limit serves old new services few inside 
     (caught_more units rest limit services (omega (arith, few)) inside)
     (rests_both quiet news units serves old new (caught_up (limit - rest) services) none ticks)
 
--- What is due of both is what is due of the device, if that is not later than the rest.
-pub due_sooner : QuietUnitsCount → QuietUnitsBringNoNews → (due rest limit : ℕ) (live : Live) (services : Option Serving) → due ≡ live_due_in live → due ≤ rest → 0 < rest → rest ≤ limit
-    → AreCalm limit live.values services → due ≡ due_with (caught_up (limit - rest) services) live
-due_sooner counts news due rest limit live None is sooner some inside calm = is
-due_sooner counts news due rest limit live (Some state) is sooner some inside calm =
-    let later = calm_later counts news limit (limit - rest) live.values state calm (omega (arith, some, inside)) in
-    omega (arith, is, sooner, some, inside, later.0)
+-- What is due of the services is the rest.
+calm_rest : QuietUnitsCount → QuietUnitsCountDown → QuietUnitsBringNoNews → (rest limit : ℕ) (values : Values) (state : Serving) → 0 < rest → rest ≤ limit → Calm limit values state
+    → services_due values (serving_ticks (limit - rest) state) ≡ rest
+calm_rest counts down news rest limit values state some inside calm =
+    let due = calm_due limit values state calm in
+    let later = (calm_later counts news limit (limit - rest) values state calm (omega (arith, some, inside))).0 in
+    let less = down values (limit - rest) state calm.power (omega (arith, due, calm.due, some, inside)) (omega (arith, due, calm.due, calm.few)) in
+    omega (arith, due, calm.due, later, less, inside)
+
+-- So what is due of both is what is due of the device, or the rest.
+pub due_soonest : QuietUnitsCount → QuietUnitsCountDown → QuietUnitsBringNoNews → (due rest limit : ℕ) (live : Live) (services : Option Serving) → due ≡ live_due_in live → 0 < rest → rest ≤ limit
+    → AreCalm limit live.values services → soonest due rest services ≡ due_with (caught_up (limit - rest) services) live
+due_soonest counts down news due rest limit live None is some inside calm = is
+due_soonest counts down news due rest limit live (Some state) is some inside calm =
+    let own = calm_rest counts down news rest limit live.values state some inside calm in
+    omega (arith, is, own)
 
 -- If something is known, it is this.
 pub known_of : (units due rest : ℕ) (port : State) (frames : List (List ℕ)) → units < due → IsKnown due rest port frames → Known due rest port frames

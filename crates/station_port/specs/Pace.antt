@@ -1,7 +1,8 @@
 -- Units of time that are counted for services, which are told of them later.
-use Rattle.std.specs.Prelude.{◌≡◌, ◌-◌, ◌<◌, ◌≤◌, ◌⊎◌, ⊤, ℕ, true, false, List, [], Option, Some, None}
+use Rattle.std.specs.Prelude.{◌≡◌, ◌-◌, ◌<◌, ◌≤◌, ◌⊎◌, ⊤, ℕ, min, true, false, List, [], Option, Some, None}
 use Rattle.std.specs.Option.{option_map}
 use Rattle.settings_store.specs.State.{Values}
+use Rattle.services.specs.Leaps.{never}
 use Rattle.device_core.specs.Leaps.{live_due_in}
 use Rattle.pn_values.specs.declared.identity.Identity.{Identity}
 use Rattle.station.specs.Leaps.{NoNewsBeside, NoneSendsBeside, beside_ticks, tick_beside}
@@ -9,19 +10,20 @@ use Rattle.station.specs.Serving.{Serving, due_in, knows, serving_ticks}
 use Rattle.device_abi.specs.port.State.{State, barred}
 
 -- Services that have nothing to see or to tell beside a device with these settings: it has power, they know its running settings,
--- and it knows its neighbour. Nothing is due of them in fewer units than this.
+-- and it knows its neighbour. The unit of this number is the next one with which something is due of them.
 pub record Calm (limit : ℕ) (values : Values) (state : Serving) : Type 0 where
   pub power : values.is_lost ≡ false
   pub seen : knows state values.running ≡ true
   pub told : state.has_news ≡ false
-  pub due : limit ≤ due_in state
+  pub due : limit ≡ due_in state
+  pub few : limit < never
 
 abbrev pub AreCalm : ℕ → Values → Option Serving → Type 0
 AreCalm limit values None = ⊤
 AreCalm limit values (Some state) = Calm limit values state
 
--- The services were not told of the last units, this limit less the rest: no frame of theirs remains, and nothing is due of them in
--- fewer units than the limit.
+-- The services were not told of the last units, this limit less the rest: no frame of theirs remains, and what is due of them next is
+-- due at the limit. So it is due after the rest.
 pub record Resting (rest limit : ℕ) (values : Values) (services : Option Serving) (frames : List (List ℕ)) : Type 0 where
   pub some : 0 < rest
   pub inside : rest ≤ limit
@@ -31,6 +33,11 @@ pub record Resting (rest limit : ℕ) (values : Values) (services : Option Servi
 -- Either the services were told of all units, or this.
 abbrev pub IsPaced : ℕ → ℕ → Values → Option Serving → List (List ℕ) → Type 0
 IsPaced rest limit values services frames = ((rest ≡ 0) × (limit ≡ 0)) ⊎ Resting rest limit values services frames
+
+-- What is due of both, if this is due of the device, and the services, if there are any, rest for this many units.
+abbrev pub soonest : ℕ → ℕ → Option Serving → ℕ
+soonest due rest None = due
+soonest due rest (Some state) = min due rest
 
 -- No work remains, and fewer units than this many bring nothing to the device and to the services.
 pub record Known (due rest : ℕ) (port : State) (frames : List (List ℕ)) : Type 0 where

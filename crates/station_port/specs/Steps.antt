@@ -17,8 +17,6 @@ use Rattle.device_abi.specs.declared.port.refusal.Refusal.TheVariants as refusal
 use Rattle.device_abi.specs.port.State.{State, barred}
 use Rattle.device_abi.specs.port.Steps.{KnowsOrNot, StartsOrNot, Takes}
 use Rattle.station_port.specs.State.{Served, barred_both, due_both, waiting_both}
-use Rattle.station_port.specs.declared.served.Leap.{Leap}
-use Rattle.station_port.specs.declared.served.Leap.TheVariants.{Refused, Due, Uncounted}
 
 -- What the services, if there are any, do beside a step that left the device with these settings and gave this note: the
 -- services after it, the frames that they send, and the note of the station.
@@ -109,18 +107,16 @@ abbrev pub PassesBothOrNot : Served → ℕ → Result Passed Refusal → Served
 PassesBothOrNot old units (Ok passed) new = (barred_both old ≡ None) × PassesBoth old units passed.left new × (passed.due ≡ due_both new)
 PassesBothOrNot old units (Err refusal) new = (barred_both old ≡ Some refusal) × (new ≡ old)
 
--- Units pass that bring nothing, or none passes and nothing changes.
-abbrev pub SkipsOrNot : Served → ℕ → Leap → Served → Type 0
-SkipsOrNot old units Refused new = new ≡ old
-SkipsOrNot old units (Due due) new = (barred_both old ≡ None) × PassesBoth old units 0 new × (due ≡ due_both new) × (waiting_both new ≡ 0)
-SkipsOrNot old units Uncounted new = (barred_both old ≡ None) × PassesBoth old units 0 new
+-- Units pass that bring nothing, with what is due then, or none passes and nothing changes.
+abbrev pub SkipsOrNot : Served → ℕ → Option ℕ → Served → Type 0
+SkipsOrNot old units None new = new ≡ old
+SkipsOrNot old units (Some due) new = (barred_both old ≡ None) × PassesBoth old units 0 new × (due ≡ due_both new) × (waiting_both new ≡ 0)
 
--- One unit passes, after which at most frames of the device remain, or none passes and nothing changes.
-abbrev pub PassesOneOrNot : Served → Leap → Served → Type 0
-PassesOneOrNot old Refused new = new ≡ old
-PassesOneOrNot old (Due due) new =
+-- One unit passes, after which at most frames of the device remain, with what is due then; or none passes and nothing changes.
+abbrev pub PassesOneOrNot : Served → Option ℕ → Served → Type 0
+PassesOneOrNot old None new = new ≡ old
+PassesOneOrNot old (Some due) new =
     (barred_both old ≡ None) × PassesBoth old 1 0 new × (due ≡ due_both new) × (new.port.calls ≡ []) × (new.frames ≡ [])
-PassesOneOrNot old Uncounted new = (barred_both old ≡ None) × PassesBoth old 1 0 new
 
 -- A frame is accepted in silence, or handled, or refused, and then nothing changes.
 abbrev pub HearsBoth : Served → Event → Option (Result Note Refusal) → Served → Type 0

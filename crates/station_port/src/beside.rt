@@ -7,7 +7,7 @@ ghost use Rattle.device_abi.specs.port.Steps.{Ticks};
 ghost use Rattle.station.specs.Beside.{beside, is_dropped, joined_beside};
 ghost use Rattle.station.specs.Views.{joined_in, note_in};
 ghost use Rattle.station.specs.declared.device_services.Attended.TheVariants.{Joined};
-ghost use Rattle.station_port.specs.Pace.{AreCalm, Calm, HasNoNews, IsBehind, TicksBeside, TicksBesideAny, caught_up};
+ghost use Rattle.station_port.specs.Pace.{AreCalm, Calm, HasNoNews, IsBehind, TicksBeside, TicksBesideAny, caught_up, soonest as soonest_by};
 ghost use Rattle.station_port.specs.State.{due_with};
 ghost use Rattle.station_port.specs.Steps.{GivesAny, GivesPort, IsBeside, IsNoticed, TellsPort, TellsPortAny, seen_by, services_from};
 
@@ -147,8 +147,8 @@ pub(crate) fn due_of(port: &Port, services: &Option<DeviceServices>) -> u32
     }
 }
 
-// Fewer units than this surely bring nothing to services that have no frames, and have nothing to see or to tell before; 0 if that
-// is not known.
+// The unit of this number is the next one with which something is due of services that have no frames, and they have nothing to see or
+// to tell before; 0 if that is not known.
 pub(crate) fn rest_of(port: &Port, services: &Option<DeviceServices>) -> u32
     ensures { 0 < result → AreCalm result port.now.device.live.values services.now }
 {
@@ -163,9 +163,20 @@ fn rest_beside(device: &Device<RecordedFlash<4096>, 4096>, services: &DeviceServ
     ensures { 0 < result → Calm result device.now.live.values services.now }
 {
     if device.is_lost() || services.has_news() || !services.knows(device.running()) {
-        0
-    } else {
-        services.due_in()
+        return 0;
+    }
+    let due = services.due_in();
+    if due == NEVER { 0 } else { due }
+}
+
+// What is due of both, if this is due of the device, and the services rest for this many units.
+#[inline(always)]
+pub(crate) fn soonest(due: u32, rest: u32, services: &Option<DeviceServices>) -> u32
+    ensures { result ≡ soonest_by due rest services.now }
+{
+    match services {
+        Some(_) => due.min(rest),
+        None => due,
     }
 }
 

@@ -6,4 +6,4 @@
 mod beside;
 mod served;
 
-pub use served::{Leap, ServedPort};
+pub use served::ServedPort;

@@ -8,7 +8,9 @@ ghost use Rattle.station_port.specs.State.{IsFetched, barred_both, conflicts_of,
 ghost use Rattle.station_port.specs.Steps.{AnswersBoth, HearsBoth, KnowsBothOrNot, PassesBothOrNot, PassesOneOrNot, PreparesOrNot, Settles, SkipsOrNot};
 ghost use Rattle.station_port.specs.Steps.{StartsBothOrNot, StepsOrNot, TellsBoth, TicksBoth};
 
-use crate::beside::{begun, catch_up, due_of, follow, observe, pass_both, rest_of, tell_neighbour};
+use crate::beside::{
+    begun, catch_up, due_of, follow, observe, pass_both, rest_of, soonest, tell_neighbour,
+};
 use device_abi::{Passed, Port, Recorded, Refusal};
 use device_core::Note;
 use flash_model::Sector;
@@ -45,17 +47,6 @@ pub struct ServedPort {
     frames_past: usize,
     /// The place of a call that the services join from its fragments.
     call: JoinedCall,
-}
-
-/// What became of units of time that were to pass at once.
-#[derive(Clone, Copy, Debug, PartialEq, Eq)]
-pub enum Leap {
-    /// None passed: they may bring something, or work remains.
-    Refused,
-    /// All passed, and this is due then.
-    Due(u32),
-    /// All passed. What is due then is still to be counted.
-    Uncounted,
 }
 
 impl Model for ServedPort {
@@ -318,45 +309,42 @@ impl ServedPort {
         units < self.due
     }
 
-    /// Lets units of time pass if they surely bring nothing, as most do. No work remains then.
+    /// Lets units of time pass if they surely bring nothing, as most do, and returns what is due then. No work remains then. `None`
+    /// if none passed: they may bring something, or work remains.
     #[inline(always)]
-    pub fn skip(&mut self, units: u32) -> Leap
+    pub fn skip(&mut self, units: u32) -> Option<u32>
         ensures { SkipsOrNot self.old units result self.new }
     {
         if units >= self.due {
-            return Leap::Refused;
+            return None;
         }
         quiet_units_are_ticks();
         let due = self.port.skip(units);
         // The services are not told of them yet.
         self.rest -= units;
-        if due > self.rest {
-            self.due = 0;
-            return Leap::Uncounted;
-        }
-        self.due = due;
-        Leap::Due(due)
+        self.due = due.min(self.rest);
+        Some(soonest(due, self.rest, &self.services))
     }
 
-    /// Lets one unit of time pass if no work remains and the services have no part in it. Only frames of the device are work
-    /// then.
+    /// Lets one unit of time pass if no work remains and the services have no part in it, and returns what is due then. Only frames
+    /// of the device are work then. `None` if it did not pass.
     #[inline(always)]
-    pub fn unit(&mut self) -> Leap
+    pub fn unit(&mut self) -> Option<u32>
         ensures { PassesOneOrNot self.old result self.new }
     {
         if self.rest <= 1 || !self.port.is_counted() {
-            return Leap::Refused;
+            return None;
         }
         quiet_units_are_ticks();
         let due = self.port.unit();
         // The services are not told of it yet.
         self.rest -= 1;
-        if due > self.rest {
-            self.due = 0;
-            return Leap::Uncounted;
-        }
-        self.due = if self.port.has_frames() { 0 } else { due };
-        Leap::Due(due)
+        self.due = if self.port.has_frames() {
+            0
+        } else {
+            due.min(self.rest)
+        };
+        Some(soonest(due, self.rest, &self.services))
     }
 
     /// Lets units of time pass, up to the first that sends something. Returns how many remain, and what is due then.
@@ -371,18 +359,14 @@ impl ServedPort {
         quiet_units_are_ticks();
         let passed = self.port.tick(units)?;
         self.rest -= units - passed.left;
-        if passed.due <= self.rest {
-            self.due = if self.port.has_frames() {
-                0
-            } else {
-                passed.due
-            };
-            return Ok(passed);
-        }
-        self.due = 0; // the units may change it
+        self.due = if self.port.has_frames() {
+            0
+        } else {
+            passed.due.min(self.rest)
+        };
         Ok(Passed {
             left: passed.left,
-            due: self.count(),
+            due: soonest(passed.due, self.rest, &self.services),
         })
     }
 

@@ -3,7 +3,7 @@ use Rattle.std.proofs.Common.{◌≡◌, ◌∙◌, ℕ, Bool, if◌then◌else�
 use Rattle.station_port.specs.State.{Served, waiting_both}
 use Rattle.station_port.specs.Steps.{PassesBoth}
 use Rattle.station_abi.specs.Serves.{IsTick}
-use Rattle.station_abi.proofs.Reported.{counted_all, passed_all, waiting_only}
+use Rattle.station_abi.proofs.Reported.{passed_all, waiting_only}
 use Rattle.station_abi.proofs.serving.tick_more.Goals.{then-has_frames, else-has_frames}
 use Rattle.station_abi.proofs.serving.tick_more.Goals as goal
 
@@ -11,7 +11,7 @@ pub returns-after-has_frames : goal.returns-after-has_frames
 returns-after-has_frames c =
     let old = c.args.port.now in
     let new = c.unit.new.self in
-    let s = c.in-Due.ensures in
+    let s = c.in-Some.ensures in
     let one : 1 ≡ c.args.op.now.units = sym c.if-op-ne1.false in
     let only = waiting_only new.port.calls new.port.frames new.frames s.3 s.4 in
     let waits : c.if-has_frames.work ≡ waiting_both new =
@@ -19,18 +19,9 @@ returns-after-has_frames c =
       | then-has_frames w ↦ w.work-is ∙ (ap (λ (b : Bool). let n : ℕ = if b then 3 else 0 in n) (sym w.if-has_frames.true ∙ c.has_frames.ensures) ∙ only)
       | else-has_frames w ↦ w.work-is ∙ (ap (λ (b : Bool). let n : ℕ = if b then 3 else 0 in n) (sym w.if-has_frames.false ∙ c.has_frames.ensures) ∙ only)
     ] in
-    passed_all old new c.args.op.now c.tell_passed.new.op c.tell_passed.result c.in-Due.due c.if-has_frames.work s.0 (subst (λ (n : ℕ). PassesBoth old n 0 new) one s.1) s.2 waits c.tell_passed.ensures.answer
+    passed_all old new c.args.op.now c.tell_passed.new.op c.tell_passed.result c.in-Some.due c.if-has_frames.work s.0 (subst (λ (n : ℕ). PassesBoth old n 0 new) one s.1) s.2 waits c.tell_passed.ensures.answer
     c.tell_passed.ensures.reported
 
-pub returns-in-Uncounted : goal.returns-in-Uncounted
-returns-in-Uncounted c =
-    let old = c.args.port.now in
-    let new = c.unit.new.self in
-    let s = c.in-Uncounted.ensures in
-    let one : 1 ≡ c.args.op.now.units = sym c.if-op-ne1.false in
-    counted_all old new c.tell_count.new.port c.args.op.now c.tell_count.new.op c.tell_count.result s.0 (subst (λ (n : ℕ). PassesBoth old n 0 new) one s.1) c.tell_count.ensures.same c.tell_count.ensures.answer
-    c.tell_count.ensures.reported
-
-pub returns-in-Refused : goal.returns-in-Refused
-returns-in-Refused c =
-    subst (λ (s : Served). IsTick s c.args.op.now c.tick_all-in-Refused.result c.tick_all-in-Refused.new.port c.tick_all-in-Refused.new.op) c.in-Refused.ensures c.tick_all-in-Refused.ensures
+pub returns-in-None : goal.returns-in-None
+returns-in-None c =
+    subst (λ (s : Served). IsTick s c.args.op.now c.tick_all-in-None.result c.tick_all-in-None.new.port c.tick_all-in-None.new.op) c.in-None.ensures c.tick_all-in-None.ensures

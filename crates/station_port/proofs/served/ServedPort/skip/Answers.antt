@@ -14,28 +14,7 @@ invariant_of-self c =
     let frames = drop all.frames_past (boxed all.outbox) in
     let known = known_of c.args.units all.due all.rest all.port frames (omega (arith, c.if-units-self.false)) c.self.invariant.1 in (
       passed_paced c.args.units all.rest all.limit all.port c.skip-due.new.self all.services frames (omega (arith, c.if-units-self.false, known.inside)) c.self.invariant.0 c.skip-due.ensures.ticks,
-      inl refl,
-    )
-
-pub returns-then-due-self : goal.returns-then-due-self
-returns-then-due-self c =
-    let all = c.self.inside in
-    let frames = drop all.frames_past (boxed all.outbox) in
-    let laws = c.quiet_units_are_ticks.ensures in
-    let known = known_of c.args.units all.due all.rest all.port frames (omega (arith, c.if-units-self.false)) c.self.invariant.1 in
-    rw (← c.self.view_is) (
-      barred_alone (at all.serves all.port (caught_up (all.limit - all.rest) all.services) frames) known.fetched ∙ known.free,
-      passes_calm laws.ticks laws.count laws.news c.args.units all.rest all.limit all.serves all.port c.skip-due.new.self all.services frames (omega (arith, c.if-units-self.false, known.inside)) c.self.invariant.0
-          c.skip-due.ensures.ticks,
-    )
-
-pub invariant_of-self-2 : goal.invariant_of-self-2
-invariant_of-self-2 c =
-    let all = c.self.inside in
-    let frames = drop all.frames_past (boxed all.outbox) in
-    let known = known_of c.args.units all.due all.rest all.port frames (omega (arith, c.if-units-self.false)) c.self.invariant.1 in (
-      passed_paced c.args.units all.rest all.limit all.port c.skip-due.new.self all.services frames (omega (arith, c.if-units-self.false, known.inside)) c.self.invariant.0 c.skip-due.ensures.ticks,
-      inr (record { free = c.skip-due.ensures.free; fetched = known.fetched; device = omega (arith, c.skip-due.ensures.due); inside = omega (arith, c.if-due-self.false) }),
+      inr (record { free = c.skip-due.ensures.free; fetched = known.fetched; device = omega (arith, c.skip-due.ensures.due, c.min-self-inside.ensures); inside = omega (arith, c.min-self-inside.ensures) }),
     )
 
 pub returns : goal.returns
@@ -50,7 +29,7 @@ returns c =
     rw (← c.self.view_is) (
       barred_alone (at all.serves all.port (caught_up (all.limit - all.rest) all.services) frames) known.fetched ∙ known.free,
       passes_calm laws.ticks laws.count laws.news c.args.units all.rest all.limit all.serves all.port c.skip-due.new.self all.services frames few c.self.invariant.0 c.skip-due.ensures.ticks,
-      due_calm laws.count laws.news c.skip-due.result (all.rest - c.args.units) all.limit c.skip-due.new.self all.services frames c.skip-due.ensures.due (omega (arith, c.if-due-self.false))
-          (omega (arith, c.if-units-self.false, known.inside)) paced,
+      due_calm laws.count laws.down laws.news c.soonest.result c.skip-due.result (all.rest - c.args.units) all.limit c.skip-due.new.self all.services frames c.soonest.ensures c.skip-due.ensures.due
+          (omega (arith, few)) paced,
       waits_free after (barred_alone after known.fetched ∙ c.skip-due.ensures.free),
     )

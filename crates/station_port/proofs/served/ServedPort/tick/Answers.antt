@@ -1,9 +1,7 @@
 -- Units pass in which the services have no part: they are counted for these.
-use Rattle.std.proofs.Common.{◌-◌, ◌∙◌, ◌<◌, drop, refl, sym, ap, subst, arith, inl, inr}
+use Rattle.std.proofs.Common.{◌-◌, ◌∙◌, ◌<◌, drop, sym, arith, inl, inr}
 use Rattle.frame_codec.specs.Outbox.{boxed}
 use Rattle.station_port.specs.Pace.{caught_up}
-use Rattle.station_port.specs.State.{Served, due_both}
-use Rattle.station_port.specs.Steps.{PassesBoth}
 use Rattle.station_port.proofs.Barring.{barred_alone}
 use Rattle.station_port.proofs.Composed.{due_calm, passed_paced, passes_left, ticks_free}
 use Rattle.station_port.proofs.Pacing.{resting_of}
@@ -11,8 +9,8 @@ use Rattle.station_port.proofs.Ticking.{at}
 use Rattle.station_port.proofs.served.ServedPort.tick.Goals.{then-has_frames, else-has_frames}
 use Rattle.station_port.proofs.served.ServedPort.tick.Goals as goal
 
-pub invariant_of-self-then-passed-self : goal.invariant_of-self-then-passed-self
-invariant_of-self-then-passed-self c =
+pub invariant_of-self-2 : goal.invariant_of-self-2
+invariant_of-self-2 c =
     let all = c.self.inside in
     let frames = drop all.frames_past (boxed all.outbox) in
     let new = c.tick.new.self in
@@ -26,14 +24,14 @@ invariant_of-self-then-passed-self c =
         | else-has_frames w ↦ inr (record {
           free = ticks_free count all.port new c.in_ok-passed.ensures.passes.0 passes.ticks c.in_ok-passed.ensures.quiet (sym c.has_frames.ensures ∙ w.if-has_frames.false);
           fetched = fetched;
-          device = omega (arith, w.self-is, c.in_ok-passed.ensures.passes.2);
-          inside = omega (arith, w.self-is, c.if-passed-self.true);
+          device = omega (arith, w.self-is, w.min-self-inside.ensures, c.in_ok-passed.ensures.passes.2);
+          inside = omega (arith, w.self-is, w.min-self-inside.ensures);
         })
       ],
     )
 
-pub returns-then-passed-self : goal.returns-then-passed-self
-returns-then-passed-self c =
+pub returns : goal.returns
+returns c =
     let all = c.self.inside in
     let frames = drop all.frames_past (boxed all.outbox) in
     let laws = c.quiet_units_are_ticks.ensures in
@@ -47,27 +45,6 @@ returns-then-passed-self c =
     rw (← c.self.view_is) (
       barred_alone (at all.serves all.port (caught_up (all.limit - all.rest) all.services) frames) fetched ∙ c.in_ok-passed.ensures.passes.0,
       passes_left laws.ticks laws.count laws.news c.args.units left all.rest all.limit all.serves all.port new all.services frames few c.self.invariant.0 passes,
-      due_calm laws.count laws.news c.in_ok-passed.passed.due (all.rest - (c.args.units - left)) all.limit new all.services frames c.in_ok-passed.ensures.passes.2 (omega (arith, c.if-passed-self.true)) (omega (arith, some)) paced,
-    )
-
-pub invariant_of-self-2 : goal.invariant_of-self-2
-invariant_of-self-2 c =
-    let all = c.self.inside in
-    let count = c.args.units - c.in_ok-passed.passed.left in
-    let few : count < all.rest = omega (arith, c.if-units-self.false) in
-    (passed_paced count all.rest all.limit all.port c.tick.new.self all.services (drop all.frames_past (boxed all.outbox)) few c.self.invariant.0 c.in_ok-passed.ensures.passes.1.ticks, inl refl)
-
-pub returns : goal.returns
-returns c =
-    let all = c.self.inside in
-    let frames = drop all.frames_past (boxed all.outbox) in
-    let laws = c.quiet_units_are_ticks.ensures in
-    let left = c.in_ok-passed.passed.left in
-    let few : c.args.units < all.rest = omega (arith, c.if-units-self.false) in
-    let fetched = (resting_of all.rest all.limit all.port.device.live.values all.services frames (omega (arith, few)) c.self.invariant.0).fetched in
-    let passes = passes_left laws.ticks laws.count laws.news c.args.units left all.rest all.limit all.serves all.port c.tick.new.self all.services frames few c.self.invariant.0 c.in_ok-passed.ensures.passes.1 in
-    rw (← c.self.view_is) (
-      barred_alone (at all.serves all.port (caught_up (all.limit - all.rest) all.services) frames) fetched ∙ c.in_ok-passed.ensures.passes.0,
-      subst (λ (s : Served). PassesBoth (at all.serves all.port (caught_up (all.limit - all.rest) all.services) frames) c.args.units left s) (sym c.count.ensures.same) passes,
-      c.count.ensures.due ∙ ap (λ s. due_both s) (sym c.count.ensures.same),
+      due_calm laws.count laws.down laws.news c.soonest.result c.in_ok-passed.passed.due (all.rest - (c.args.units - left)) all.limit new all.services frames c.soonest.ensures c.in_ok-passed.ensures.passes.2
+          (omega (arith, some)) paced,
     )

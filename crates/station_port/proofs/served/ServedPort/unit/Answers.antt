@@ -12,24 +12,6 @@ use Rattle.station_port.proofs.served.ServedPort.unit.Goals as goal
 pub invariant_of-self : goal.invariant_of-self
 invariant_of-self c =
     let all = c.self.inside in
-    let few : 1 < all.rest = omega (arith, c.if-self-le1.false) in
-    (passed_paced 1 all.rest all.limit all.port c.unit-due.new.self all.services (drop all.frames_past (boxed all.outbox)) few c.self.invariant.0 c.unit-due.ensures.ticks, inl refl)
-
-pub returns-then-due-self : goal.returns-then-due-self
-returns-then-due-self c =
-    let all = c.self.inside in
-    let frames = drop all.frames_past (boxed all.outbox) in
-    let laws = c.quiet_units_are_ticks.ensures in
-    let few : 1 < all.rest = omega (arith, c.if-self-le1.false) in
-    let fetched = (resting_of all.rest all.limit all.port.device.live.values all.services frames (omega (arith, few)) c.self.invariant.0).fetched in
-    rw (← c.self.view_is) (
-      barred_alone (at all.serves all.port (caught_up (all.limit - all.rest) all.services) frames) fetched ∙ c.is_counted.ensures c.if-not-is_counted.false,
-      passes_calm laws.ticks laws.count laws.news 1 all.rest all.limit all.serves all.port c.unit-due.new.self all.services frames few c.self.invariant.0 c.unit-due.ensures.ticks,
-    )
-
-pub invariant_of-self-2 : goal.invariant_of-self-2
-invariant_of-self-2 c =
-    let all = c.self.inside in
     let frames = drop all.frames_past (boxed all.outbox) in
     let new = c.unit-due.new.self in
     let few : 1 < all.rest = omega (arith, c.if-self-le1.false) in
@@ -40,8 +22,8 @@ invariant_of-self-2 c =
         | else-has_frames w ↦ inr (record {
           free = free_by new c.unit-due.ensures.ticks.4.stage c.unit-due.ensures.quiet (sym c.has_frames.ensures ∙ w.if-has_frames.false);
           fetched = fetched;
-          device = omega (arith, w.self-is, c.unit-due.ensures.due);
-          inside = omega (arith, w.self-is, c.if-due-self.false);
+          device = omega (arith, w.self-is, w.min-self-inside.ensures, c.unit-due.ensures.due);
+          inside = omega (arith, w.self-is, w.min-self-inside.ensures);
         })
       ],
     )
@@ -58,7 +40,7 @@ returns c =
     rw (← c.self.view_is) (
       barred_alone (at all.serves all.port (caught_up (all.limit - all.rest) all.services) frames) fetched ∙ c.is_counted.ensures c.if-not-is_counted.false,
       passes_calm laws.ticks laws.count laws.news 1 all.rest all.limit all.serves all.port new all.services frames few c.self.invariant.0 c.unit-due.ensures.ticks,
-      due_calm laws.count laws.news c.unit-due.result (all.rest - 1) all.limit new all.services frames c.unit-due.ensures.due (omega (arith, c.if-due-self.false)) (omega (arith, few)) paced,
+      due_calm laws.count laws.down laws.news c.soonest.result c.unit-due.result (all.rest - 1) all.limit new all.services frames c.soonest.ensures c.unit-due.ensures.due (omega (arith, few)) paced,
       c.unit-due.ensures.quiet,
       fetched,
     )
