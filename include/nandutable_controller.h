@@ -58,7 +58,8 @@ enum {
     PN_DATA_HOLD = 4,     /* no cyclic frame arrived within the data hold time */
     PN_ABORTED = 5,       /* the device ended the relation */
     PN_ALARM_RETRIES = 6, /* the device did not acknowledge an AlarmAck */
-    PN_STOPPED = 7        /* pn_controller_stop */
+    PN_STOPPED = 7,       /* pn_controller_stop */
+    PN_NO_PROGRESS = 8    /* a state lasted as long as its patience (patience, waiting_patience of pn_plan) */
 };
 
 /* A parameter record that the controller writes at start-up. The submodule in this slot and subslot must accept it (its `parameters`), with
@@ -105,6 +106,9 @@ typedef struct pn_plan {
     pn_record records[PN_RECORDS];
     uint32_t continue_on_refused_record; /* not 0: the start-up goes on after a record that the device refused */
     uint32_t multiple_write;             /* not 0: a Write of the start-up carries several records; only if the device supports it */
+    uint32_t release_on_refused_record;  /* not 0: the controller releases the relation when it ends after a record that the device refused */
+    uint32_t patience;         /* not of a catalogue: for how many units (PN_UNIT_NS) a state of the start-up lasts at most; 0: no limit */
+    uint32_t waiting_patience; /* the same for the state in which the controller waits for the ApplicationReady */
 } pn_plan;
 
 /* The neighbour of a controller by LLDP: the texts of its PortID and its ChassisID (a MAC address as `02-00-00-00-00-01`), and the MAC
@@ -117,10 +121,12 @@ typedef struct pn_neighbour {
     uint8_t chassis[255];
 } pn_neighbour;
 
-/* Who works as a tool: its MAC address and its IP address, to which stations answer. */
+/* Who works as a tool: its MAC address and its IP address, to which stations answer, and the number of its request by DCP. Each request, a
+ * search and a Set, has a number of its own, so that no answer to another one counts. */
 typedef struct pn_tool {
     uint8_t mac[6];
     uint8_t address[4]; /* only pn_tool_read and pn_tool_record read it */
+    uint32_t xid;       /* Xid of the Identify or the Set; a controller uses 1 and 2 */
 } pn_tool;
 
 /* Which stations answered to a name by the place. Begin with zeros. */
@@ -152,10 +158,10 @@ typedef struct pn_controller {
 } pn_controller;
 
 #if defined(__cplusplus)
-static_assert(sizeof(pn_plan) == 4280 && sizeof(pn_search) == 264 && sizeof(pn_tool) == 10 && sizeof(pn_target) == 14,
+static_assert(sizeof(pn_plan) == 4292 && sizeof(pn_search) == 264 && sizeof(pn_tool) == 16 && sizeof(pn_target) == 14,
               "another layout than the library's");
 #else
-_Static_assert(sizeof(pn_plan) == 4280 && sizeof(pn_search) == 264 && sizeof(pn_tool) == 10 && sizeof(pn_target) == 14,
+_Static_assert(sizeof(pn_plan) == 4292 && sizeof(pn_search) == 264 && sizeof(pn_tool) == 16 && sizeof(pn_target) == 14,
                "another layout than the library's");
 #endif
 
@@ -553,14 +559,14 @@ static inline uint32_t pn_controller_diagnosis(const pn_controller *controller, 
 /* --- What a tool does before a controller starts. Frames that it writes are in `length` and `octets` of the operation. --- */
 
 /* Writes an Identify for the name of a station by its place (AliasName): the port of its neighbour, a dot and the name of its neighbour, such
- * as `port-002.switch-1`. Send it to all stations, and hand each frame that arrives in the next second to pn_tool_heard. May return PN_NULL,
- * PN_BAD_LENGTH (no octets, or more than 511). */
+ * as `port-002.switch-1`, with the Xid of the tool. Send it to all stations, and hand each frame that arrives in the next second to
+ * pn_tool_heard. May return PN_NULL, PN_BAD_LENGTH (no octets, or more than 511). */
 static inline uint32_t pn_tool_ask(const pn_tool *tool, pn_op *op, const uint8_t *alias, size_t length)
 {
     return tool == NULL || op == NULL || alias == NULL ? (uint32_t)PN_NULL : pn_tool_find(tool, op, alias, length);
 }
 
-/* Hands in a received frame. Only an answer to that Identify changes the search. May return PN_NULL. */
+/* Hands in a received frame. Only an answer to that Identify changes the search: one with the Xid of the tool. May return PN_NULL. */
 static inline uint32_t pn_tool_heard(const pn_tool *tool, pn_search *search, const uint8_t *octets, size_t length)
 {
     if (tool == NULL || search == NULL || octets == NULL)
@@ -570,14 +576,15 @@ static inline uint32_t pn_tool_heard(const pn_tool *tool, pn_search *search, con
 }
 
 /* Writes a Set of a name to the station that answered, which then has it for good: only if it is the only one that answered, and told that
- * it has no name. May return PN_NULL, PN_PLAN_NAME (the text is no station name), PN_NOBODY, PN_SEVERAL, PN_HAS_NAME, PN_NAME_UNTOLD. */
+ * it has no name. Before, give the tool another Xid than that of the search. May return PN_NULL, PN_PLAN_NAME (the text is no station name),
+ * PN_NOBODY, PN_SEVERAL, PN_HAS_NAME, PN_NAME_UNTOLD. */
 static inline uint32_t pn_tool_give(const pn_tool *tool, const pn_search *search, pn_op *op, const uint8_t *text, size_t length)
 {
     return tool == NULL || search == NULL || op == NULL || text == NULL ? (uint32_t)PN_NULL : pn_tool_name(tool, search, op, text, length);
 }
 
-/* Reads what a received frame answers to that Set: its BlockError in `note` of the operation, 0 if the station has the name. May return
- * PN_NULL, PN_NO_ANSWER. */
+/* Reads what a received frame answers to that Set: its BlockError in `note` of the operation, 0 if the station has the name. Only an answer
+ * of that station with the Xid of the tool counts. May return PN_NULL, PN_NO_ANSWER. */
 static inline uint32_t pn_tool_given(const pn_tool *tool, const pn_search *search, pn_op *op, const uint8_t *octets, size_t length)
 {
     return tool == NULL || search == NULL || op == NULL || octets == NULL ? (uint32_t)PN_NULL

@@ -29,7 +29,8 @@ prints what the file offers: its access points, their slots, modules and submodu
     --send-clock N                the send clock in units of 31.25 microseconds
     --reduction N                 the reduction ratio
     --data-hold N                 after how many intervals without a frame a relation ends; 3 without it
-    --on-refused-record WHAT      'end' or 'continue': what the controller does if the device refuses a record; end without it
+    --on-refused-record WHAT      what the controller does if the device refuses a record: 'end', 'release' (it ends, and releases the relation) or
+                                  'continue'; end without it
     --record SLOT:SUBSLOT:INDEX=HEX  the octets of a parameter record, in place of those by default
     --without SLOT:SUBSLOT:INDEX  leaves a parameter record out
 
@@ -40,7 +41,7 @@ WRONG_WORDS, WRONG_FILE, NO_FILE = 64, 65, 1
 TEXTS = {"--access-point": "access_point", "--name": "name", "--address": "address", "--mask": "mask", "--gateway": "gateway",
          "--controller-name": "controller_name", "--controller-mac": "controller_mac", "--controller-address": "controller_address",
          "--interval-ms": "interval", "--send-clock": "send_clock", "--reduction": "reduction", "--data-hold": "data_hold",
-         "--on-refused-record": "continues"}
+         "--on-refused-record": "refused"}
 LISTS = {"--slot": "slots", "--submodule": "submodules", "--record": "records", "--without": "without"}
 NEEDED = ("--name", "--address", "--controller-name", "--controller-mac", "--controller-address")
 
@@ -56,7 +57,7 @@ class Choice:
         self.access_point = self.name = self.address = self.controller_name = self.controller_mac = self.controller_address = None
         self.mask, self.gateway, self.data_hold = "255.255.255.0", "0.0.0.0", 3
         self.interval = self.send_clock = self.reduction = None
-        self.continues = False
+        self.refused = "end"
         self.slots, self.submodules, self.records, self.without = {}, {}, {}, set()
         self.named = set()
         if len(words) % 2:
@@ -88,9 +89,9 @@ class Choice:
         if word == "--access-point":
             return value
         if word == "--on-refused-record":
-            if value not in ("end", "continue"):
-                raise WrongWords(f"{word} is 'end' or 'continue', and '{shown(value)}' is not")
-            return value == "continue"
+            if value not in ("end", "release", "continue"):
+                raise WrongWords(f"{word} is 'end', 'release' or 'continue', and '{shown(value)}' is not")
+            return value
         return number(word, value, 1, {"--send-clock": 128, "--reduction": 512, "--data-hold": 7_680}[word])
 
     def put(self, word, value):

@@ -241,6 +241,7 @@ def project(tree, least, modules):
     number_at(tree, "DataHoldFactor", 1, 7_680)
     slots = list_at(tree, "Slots", lambda _, entry: slot(modules, entry))
     flag_at(tree, "ContinueOnRefusedRecord")
+    flag_at(tree, "ReleaseOnRefusedRecord")
     return texts, slots
 
 

@@ -301,4 +301,5 @@ class Station:
             "NameOfStation": choice.name, "IPAddress": choice.address, "SubnetMask": choice.mask, "Gateway": choice.gateway,
             "Controller": {"NameOfStation": choice.controller_name, "MAC": choice.controller_mac, "IPAddress": choice.controller_address},
             "SendClockFactor": self.send_clock, "ReductionRatio": self.ratio, "DataHoldFactor": choice.data_hold, "Slots": slots}
-        return {**said, **({"ContinueOnRefusedRecord": True} if choice.continues else {}), "Signals": signals.of_station(self.parts, self.modules)}
+        key = {"continue": "ContinueOnRefusedRecord", "release": "ReleaseOnRefusedRecord"}.get(choice.refused)
+        return {**said, **({key: True} if key else {}), "Signals": signals.of_station(self.parts, self.modules)}

@@ -129,8 +129,9 @@ def told_of(catalogue):
     """What must come of a catalogue that has a plan."""
     modules = modules_of(catalogue)
     goes_on = ["continue"] if catalogue["Project"].get("ContinueOnRefusedRecord", False) else []
+    releases = ["release"] if catalogue["Project"].get("ReleaseOnRefusedRecord", False) else []
     lists = ["lists"] if catalogue["DeviceAccessPointItem"].get("MultipleWriteSupported", False) else []
-    return [*layouts_of(modules), f"connect {connect_of(catalogue, modules).hex()}", *records_of(catalogue), *goes_on, *lists]
+    return [*layouts_of(modules), f"connect {connect_of(catalogue, modules).hex()}", *records_of(catalogue), *goes_on, *releases, *lists]
 
 
 def read(path):

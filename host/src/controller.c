@@ -652,7 +652,7 @@ static void read_words(struct options *options, int count, char *words[])
 /* The controller of a plan as a tool. */
 static pn_tool tool_of(const pn_plan *plan)
 {
-    pn_tool tool;
+    pn_tool tool = {.xid = 0};
     memcpy(tool.mac, plan->controller_mac, sizeof tool.mac);
     memcpy(tool.address, plan->controller_address, sizeof tool.address);
     return tool;

@@ -55,6 +55,7 @@ static const struct key keys[] = {
     {"Project", "DataHoldFactor", "a whole number from 1 to 7,680"},
     {"Project", "Slots", "a list of objects"},
     {"Project", "ContinueOnRefusedRecord", "true or false"},
+    {"Project", "ReleaseOnRefusedRecord", "true or false"},
     {"Controller", "NameOfStation", "a string"},
     {"Controller", "MAC", "a string"},
     {"Controller", "IPAddress", "a string"},

@@ -9,7 +9,8 @@
 /* The longest such name, in octets. */
 #define PLACE_LONGEST 511
 
-/* Asks for a second which stations answer to this name by the place. */
+/* Asks for a second which stations answer to this name by the place. This request and the Set have numbers of their own: the Xid of the tool is
+ * not used. */
 void place_find(struct wire *wire, const pn_tool *tool, const char *place, pn_search *search);
 
 /* Why the station does not get this name, or PN_OK. */

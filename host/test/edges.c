@@ -311,7 +311,7 @@ static void hears_neighbour(void)
 /* The calls of a tool without what they need, and with what they refuse. */
 static void misuse_tool(void)
 {
-    static const pn_tool tool = {{2, 0, 0, 0, 0, 2}, {192, 168, 0, 1}};
+    static const pn_tool tool = {{2, 0, 0, 0, 0, 2}, {192, 168, 0, 1}, 3};
     static const pn_target target = {{2, 0, 0, 0, 0, 1}, {192, 168, 0, 2}, 291, 1110};
     pn_search search;
     memset(&search, 0, sizeof search);

@@ -463,7 +463,7 @@ class SignalTests:
             found, _, text = text.rpartition(b"\n")
             lines.extend(found.decode().splitlines())
             text = b""
-        read_until(rb"state exchanging\n")
+        controller.expect("state exchanging", 60)
         asleep.sendall(b"names\nget *\n" * 20)
         for number in range(1, 200):
             device.ask(f"input 1 1 {number * 257 & 0xFFFF:04x}", "note done")

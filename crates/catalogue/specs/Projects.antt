@@ -31,6 +31,7 @@ pub record Project : Type 0 where
   pub data_hold_factor : ℕ
   pub slots : List Slot
   pub continue_on_refused_record : Bool
+  pub release_on_refused_record : Bool
 
 -- the station's name and IP suite
 unfoldable pub station : Reader Station
@@ -71,6 +72,7 @@ project least_interval modules tree =
     number_at key.DataHoldFactor 1 7680 tree >>= λ data_hold_factor.
     list_at key.Slots (λ _ entry. slot_item modules entry) tree >>= λ slots.
     flag_at key.ContinueOnRefusedRecord tree >>= λ continue_on_refused_record.
+    flag_at key.ReleaseOnRefusedRecord tree >>= λ release_on_refused_record.
     Ok (record {
       station = station;
       controller = controller;
@@ -79,4 +81,5 @@ project least_interval modules tree =
       data_hold_factor = data_hold_factor;
       slots = slots;
       continue_on_refused_record = continue_on_refused_record;
+      release_on_refused_record = release_on_refused_record;
     })

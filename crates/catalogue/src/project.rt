@@ -60,6 +60,8 @@ pub struct Project {
     pub slots: Vec<SlotItem>,
     /// Whether the start-up goes on after a record that the device refused.
     pub continue_on_refused_record: bool,
+    /// Whether the controller releases the relation when it ends because the device refused a record.
+    pub release_on_refused_record: bool,
 }
 
 impl Model for Project {
@@ -73,6 +75,7 @@ impl Model for Project {
       data_hold_factor = item.data_hold_factor;
       slots = item.slots.items;
       continue_on_refused_record = item.continue_on_refused_record;
+      release_on_refused_record = item.release_on_refused_record;
     } };
 }
 
@@ -147,6 +150,7 @@ pub(crate) fn project_of(
     let data_hold_factor = word_at(tree, Key::DataHoldFactor, 1, 7680)?;
     let slots = list(alloc, modules, tree, Key::Slots)?;
     let continue_on_refused_record = flag_at(tree, Key::ContinueOnRefusedRecord)?;
+    let release_on_refused_record = flag_at(tree, Key::ReleaseOnRefusedRecord)?;
     Ok(Project {
         station,
         controller,
@@ -155,5 +159,6 @@ pub(crate) fn project_of(
         data_hold_factor,
         slots,
         continue_on_refused_record,
+        release_on_refused_record,
     })
 }

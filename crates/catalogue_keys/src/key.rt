@@ -45,6 +45,7 @@ pub enum Key {
     Records,
     Data,
     ContinueOnRefusedRecord,
+    ReleaseOnRefusedRecord,
 }
 
 impl Key {
@@ -94,6 +95,7 @@ impl Key {
             Key::Records => "Records",
             Key::Data => "Data",
             Key::ContinueOnRefusedRecord => "ContinueOnRefusedRecord",
+            Key::ReleaseOnRefusedRecord => "ReleaseOnRefusedRecord",
         }
     }
 }

@@ -10,21 +10,17 @@ use Rattle.dcp_core.specs.Request.{Asked}
 use Rattle.frame_codec.specs.Frame.{frame_of}
 use Rattle.frame_codec.specs.Meaning.{RealTime}
 
--- Transaction of all requests.
-abbrev pub xid : ℕ
-xid = 0x4E414D45
-
 -- The multicast address of Identify requests (IEC 61158-6-10, 4.3.1.3.1).
 unfoldable pub identify_multicast : Mac
 identify_multicast = record { octets = 0x01 ∷ 0x0E ∷ 0xCF ∷ 0x00 ∷ 0x00 ∷ 0x00 ∷ [] }
 
--- An Identify whose only filter is this name by the place.
-abbrev pub alias_asked : List ℕ → Asked
-alias_asked alias = record { service = Identify; xid = xid; blocks = record { kind = AliasName; contents = alias } ∷ [] }
+-- An Identify with this transaction (Xid), whose only filter is this name by the place.
+abbrev pub alias_asked : ℕ → List ℕ → Asked
+alias_asked xid alias = record { service = Identify; xid = xid; blocks = record { kind = AliasName; contents = alias } ∷ [] }
 
--- A Set of this name, which the station keeps: BlockQualifier 1.
-abbrev pub name_asked : List ℕ → Asked
-name_asked name = record { service = Set; xid = xid; blocks = record { kind = NameOfStation; contents = 0 ∷ 1 ∷ name } ∷ [] }
+-- A Set with this transaction (Xid) of this name, which the station keeps: BlockQualifier 1.
+abbrev pub name_asked : ℕ → List ℕ → Asked
+name_asked xid name = record { service = Set; xid = xid; blocks = record { kind = NameOfStation; contents = 0 ∷ 1 ∷ name } ∷ [] }
 
 -- A station reads this frame as octets under a FrameID, with what pads the frame after them.
 pub record IsCarried (source destination : Mac) (frame_id : ℕ) (octets frame : List ℕ) : Type 0 where

@@ -11,7 +11,7 @@ use Rattle.plans.specs.declared.parts.Controller.{Controller}
 use Rattle.controller_frames.specs.Heard.{Heard, Answers, heard_of}
 use Rattle.commissioning.specs.declared.naming.Unnamed.{Unnamed}
 use Rattle.commissioning.specs.declared.naming.Unnamed.TheVariants as why
-use Rattle.commissioning.specs.Asked.{IsHeardAs, name_asked, xid}
+use Rattle.commissioning.specs.Asked.{IsHeardAs, name_asked}
 use Rattle.commissioning.specs.Place.{Place, Nobody, One, Several}
 
 -- Why no station at a place gets a name: only a station that is alone and has none gets one.
@@ -22,12 +22,12 @@ why_unnamed (One mac None) = Some why.Untold
 why_unnamed (One mac (Some [])) = None
 why_unnamed (One mac (Some (letter ∷ letters))) = Some why.Named
 
--- A Set of this name is sent from this tool, to the only station that answered, which told that it has no name; or why none is
--- sent.
-abbrev pub IsNaming : Place → Mac → List ℕ → Result (Items ℕ) Unnamed → Type 0
-IsNaming (One mac (Some [])) source name (Ok frame) = IsHeardAs frame.items source (record { octets = mac }) (name_asked name)
-IsNaming place source name (Ok frame) = ⊥
-IsNaming place source name (Err why) = why_unnamed place ≡ Some why
+-- A Set with this number of this name is sent from this tool, to the only station that answered, which told that it has no name; or why none
+-- is sent.
+abbrev pub IsNaming : Place → Mac → ℕ → List ℕ → Result (Items ℕ) Unnamed → Type 0
+IsNaming (One mac (Some [])) source xid name (Ok frame) = IsHeardAs frame.items source (record { octets = mac }) (name_asked xid name)
+IsNaming place source xid name (Ok frame) = ⊥
+IsNaming place source xid name (Err why) = why_unnamed place ≡ Some why
 
 -- ---- its answer
 
@@ -36,9 +36,9 @@ is_set Get = false
 is_set Set = true
 is_set Identify = false
 
--- Whether an answer is one to the Set of a name.
-abbrev pub is_renamed : Answered → Bool
-is_renamed answer = is_set answer.service && answer.xid == xid
+-- Whether an answer is one to the Set of a name, whose number is this.
+abbrev pub is_renamed : ℕ → Answered → Bool
+is_renamed xid answer = is_set answer.service && answer.xid == xid
 
 -- The BlockError that a block reports. A block with a value reports none.
 abbrev pub error_of_block : AnsweredBlock → Option ℕ
@@ -59,15 +59,15 @@ error_in (block ∷ blocks) = told_first (error_of_block block) (error_in blocks
 abbrev pub error_of : Answered → ℕ
 error_of answer = if answer.is_supported then error_in answer.blocks else 1
 
--- What an answer of a station says of the Set: only the station at the place answers it.
-abbrev pub told_by : Place → List ℕ → Answered → Option ℕ
-told_by (One mac name) source answer = if pointwise nat_eq mac source && is_renamed answer then Some (error_of answer) else None
-told_by Nobody source answer = None
-told_by (Several first other) source answer = None
+-- What an answer of a station says of the Set with this number: only the station at the place answers it.
+abbrev pub told_by : ℕ → Place → List ℕ → Answered → Option ℕ
+told_by xid (One mac name) source answer = if pointwise nat_eq mac source && is_renamed xid answer then Some (error_of answer) else None
+told_by xid Nobody source answer = None
+told_by xid (Several first other) source answer = None
 
-abbrev pub named_heard : Place → Heard → Option ℕ
-named_heard place (Answers source answer) = told_by place source.octets answer
-named_heard place heard = None
+abbrev pub named_heard : ℕ → Place → Heard → Option ℕ
+named_heard xid place (Answers source answer) = told_by xid place source.octets answer
+named_heard xid place heard = None
 
-abbrev pub named_by : Controller → Place → List ℕ → Option ℕ
-named_by tool place octets = named_heard place (heard_of tool octets)
+abbrev pub named_by : Controller → ℕ → Place → List ℕ → Option ℕ
+named_by tool xid place octets = named_heard xid place (heard_of tool octets)

@@ -10,7 +10,6 @@ use Rattle.dcp_core.specs.Response.{Answered}
 use Rattle.plans.specs.declared.parts.Controller.{Controller}
 use Rattle.controller_frames.specs.Heard.{Heard, Answers, heard_of}
 use Rattle.commissioning.specs.declared.search.Search.{Search}
-use Rattle.commissioning.specs.Asked.{xid}
 
 -- Nobody answered; one station, with the name that it told last, if it told one (it is empty if the station has none); or more
 -- than one.
@@ -39,21 +38,21 @@ is_identify Get = false
 is_identify Set = false
 is_identify Identify = true
 
--- Whether an answer is one to the Identify of a search.
-abbrev pub is_found : Answered → Bool
-is_found answer = is_identify answer.service && answer.is_supported && answer.xid == xid
+-- Whether an answer is one to the Identify of a search, whose number is this.
+abbrev pub is_found : ℕ → Answered → Bool
+is_found xid answer = is_identify answer.service && answer.is_supported && answer.xid == xid
 
 -- The name that an answer tells.
 abbrev pub told_name : Answered → Option (List ℕ)
 told_name answer = value_among NameOfStation answer.blocks
 
--- After a frame: only an answer to the Identify counts.
-abbrev pub after_heard : Place → Heard → Place
-after_heard place (Answers source answer) = if is_found answer then met place source.octets (told_name answer) else place
-after_heard place heard = place
+-- After a frame: only an answer to the Identify with this number counts.
+abbrev pub after_heard : ℕ → Place → Heard → Place
+after_heard xid place (Answers source answer) = if is_found xid answer then met place source.octets (told_name answer) else place
+after_heard xid place heard = place
 
-abbrev pub after_frame : Controller → Place → List ℕ → Place
-after_frame tool place octets = after_heard place (heard_of tool octets)
+abbrev pub after_frame : Controller → ℕ → Place → List ℕ → Place
+after_frame tool xid place octets = after_heard xid place (heard_of tool octets)
 
 -- ---- over all answers
 

@@ -6,7 +6,7 @@ ghost use Rattle.commissioning.specs.Asked.{IsHeardAs, name_asked};
 ghost use Rattle.commissioning.specs.Named.{IsNaming, error_in as error_by, error_of as error_told, error_of_block as error_told_by, is_renamed as is_renamed_by, named_by, told_by, why_unnamed};
 ghost use Rattle.commissioning.specs.Place.{place_of};
 
-use crate::request::{XID, set_name};
+use crate::request::set_name;
 use crate::search::Search;
 use controller_frames::{Hearing, heard};
 use dcp_core::{Outcome, Response, ResponseBlock, Service};
@@ -28,23 +28,24 @@ pub enum Unnamed {
 }
 
 impl Search {
-    /// The frame by which the station at the place gets this name, or why none gets it.
-    pub fn name(&self, tool: &Controller, name: &StationName) -> Result<Frame, Unnamed>
+    /// The frame by which the station at the place gets this name, or why none gets it. `xid` is the number of the Set: another one than that
+    /// of the search, and of each request before.
+    pub fn name(&self, tool: &Controller, xid: u32, name: &StationName) -> Result<Frame, Unnamed>
         // The Set goes to the only station that answered, which told that it has no name.
-        ensures { IsNaming (place_of self.now) tool.now.mac name.now result }
+        ensures { IsNaming (place_of self.now) tool.now.mac xid name.now result }
     {
         match self.unnamed() {
             Some(why) => Err(why),
-            None => Ok(self.set(tool.mac, name)),
+            None => Ok(self.set(tool.mac, xid, name)),
         }
     }
 
     /// The frame by which the first station gets this name.
-    fn set(&self, source: Mac, name: &StationName) -> Frame
-        ensures { IsHeardAs result.items source (record { octets = self.now.first }) (name_asked name.now) }
+    fn set(&self, source: Mac, xid: u32, name: &StationName) -> Frame
+        ensures { IsHeardAs result.items source (record { octets = self.now.first }) (name_asked xid name.now) }
     {
         let octets = self.first;
-        set_name(source, Mac { octets }, name)
+        set_name(source, Mac { octets }, xid, name)
     }
 
     /// Why no station gets a name.
@@ -72,21 +73,21 @@ impl Search {
         Some(Unnamed::Named)
     }
 
-    /// What a frame answers to the Set: 0 if the station has the name, else the BlockError. Other frames answer nothing.
-    pub fn outcome(&self, tool: &Controller, bytes: &Bytes) -> Option<u8>
-        ensures { result ≡ named_by tool.now (place_of self.now) bytes.now.items }
+    /// What a frame answers to the Set with the number `xid`: 0 if the station has the name, else the BlockError. Other frames answer nothing.
+    pub fn outcome(&self, tool: &Controller, xid: u32, bytes: &Bytes) -> Option<u8>
+        ensures { result ≡ named_by tool.now xid (place_of self.now) bytes.now.items }
     {
         match heard(tool, bytes) {
-            Hearing::Answers(source, answer) => self.outcome_of(source, &answer),
+            Hearing::Answers(source, answer) => self.outcome_of(source, xid, &answer),
             _ => None,
         }
     }
 
     /// What the answer of a station to a request of DCP says of the Set.
-    fn outcome_of(&self, source: Mac, answer: &Response<'_>) -> Option<u8>
-        ensures { result ≡ told_by (place_of self.now) source.octets (answered answer.now) }
+    fn outcome_of(&self, source: Mac, xid: u32, answer: &Response<'_>) -> Option<u8>
+        ensures { result ≡ told_by xid (place_of self.now) source.octets (answered answer.now) }
     {
-        if self.stations == 1 && self.first == source.octets && is_renamed(answer) {
+        if self.stations == 1 && self.first == source.octets && is_renamed(answer, xid) {
             Some(error_of(answer))
         } else {
             None
@@ -94,11 +95,11 @@ impl Search {
     }
 }
 
-/// Whether an answer is one to the Set of a name.
-fn is_renamed(answer: &Response<'_>) -> bool
-    ensures { result ≡ is_renamed_by (answered answer.now) }
+/// Whether an answer is one to the Set of a name, whose number was `xid`.
+fn is_renamed(answer: &Response<'_>, xid: u32) -> bool
+    ensures { result ≡ is_renamed_by xid (answered answer.now) }
 {
-    matches!(answer.service, Service::Set) && answer.xid == XID
+    matches!(answer.service, Service::Set) && answer.xid == xid
 }
 
 /// The BlockError of an answer, 0 for success. A service that is not supported counts as an option that is not.

@@ -9,9 +9,6 @@ use frame_codec::{DCP_GET_SET, DCP_IDENTIFY_REQUEST, Frame, Layered, Payload, wr
 use pn_values::{Mac, StationName};
 use wire::append;
 
-/// Transaction of all requests: `NAME`. Those of a controller have 1 and 2.
-pub(crate) const XID: u32 = 0x4E41_4D45;
-
 /// The multicast address of Identify requests (IEC 61158-6-10, 4.3.1.3.1).
 const IDENTIFY_MULTICAST: Mac = Mac {
     octets: [0x01, 0x0E, 0xCF, 0x00, 0x00, 0x00],
@@ -50,17 +47,18 @@ fn carry(source: Mac, destination: Mac, frame_id: u16, body: &[u8]) -> Frame
     })
 }
 
-/// The frame by which this station asks all stations which one has this name by its place: at most 511 octets.
+/// The frame by which this station asks all stations which one has this name by its place: at most 511 octets. `xid` is the number of the
+/// request, which its answers have too (Xid, IEC 61158-6-10, 4.3.1.3.4). Give each request a number of its own; a controller uses 1 and 2.
 #[tactic(auto, unfolding(dcp_core::specs::Format::block_of, dcp_core::specs::Format::block, dcp_core::specs::Format::kind))]
-pub fn identify_by_alias(source: Mac, alias: &[u8]) -> Frame
+pub fn identify_by_alias(source: Mac, xid: u32, alias: &[u8]) -> Frame
     requires { length alias.now ≤ 511 }
-    // A station reads the frame as an Identify with this AliasName as its only filter.
-    ensures { IsHeardAs result.items source identify_multicast (alias_asked alias.now) }
+    // A station reads the frame as an Identify with this number, and this AliasName as its only filter.
+    ensures { IsHeardAs result.items source identify_multicast (alias_asked xid alias.now) }
 {
     let mut octets = Octets::new();
     let request = Request {
         service: Service::Identify,
-        xid: XID,
+        xid,
         blocks: one(Kind::AliasName, alias),
     };
     write_request(&request, &mut octets);
@@ -85,15 +83,15 @@ fn named_octets(name: &StationName) -> ArrayVec<u8, 242>
 
 /// The frame by which a station gets this name.
 #[tactic(auto, unfolding(dcp_core::specs::Format::block_of, dcp_core::specs::Format::block, dcp_core::specs::Format::kind))]
-pub(crate) fn set_name(source: Mac, destination: Mac, name: &StationName) -> Frame
-    // The station reads the frame as a Set of this name, for good.
-    ensures { IsHeardAs result.items source destination (name_asked name.now) }
+pub(crate) fn set_name(source: Mac, destination: Mac, xid: u32, name: &StationName) -> Frame
+    // The station reads the frame as a Set with this number of this name, for good.
+    ensures { IsHeardAs result.items source destination (name_asked xid name.now) }
 {
     let mut octets = Octets::new();
     let contents = named_octets(name);
     let request = Request {
         service: Service::Set,
-        xid: XID,
+        xid,
         blocks: one(Kind::NameOfStation, contents.as_slice()),
     };
     write_request(&request, &mut octets);

@@ -3,7 +3,6 @@ ghost use Rattle.std.specs.Prelude.{◌≡◌, ◌≤◌, length, Some, option_m
 ghost use Rattle.dcp_core.specs.Answered.{answered};
 ghost use Rattle.commissioning.specs.Place.{Nobody, One, after_frame, is_found as is_found_by, met, name_of, place_of, told_name};
 
-use crate::request::XID;
 use controller_frames::{Hearing, heard};
 use dcp_core::{Kind, Response, Service};
 use frame_codec::Bytes;
@@ -46,21 +45,21 @@ impl Search {
         }
     }
 
-    /// Hears a frame that this tool received. Only an answer to its Identify counts.
-    pub fn hear(&mut self, tool: &Controller, bytes: &Bytes)
-        ensures { place_of self.new ≡ after_frame tool.now (place_of self.old) bytes.now.items }
+    /// Hears a frame that this tool received. Only an answer to its Identify counts, whose number was `xid`.
+    pub fn hear(&mut self, tool: &Controller, xid: u32, bytes: &Bytes)
+        ensures { place_of self.new ≡ after_frame tool.now xid (place_of self.old) bytes.now.items }
     {
         match heard(tool, bytes) {
-            Hearing::Answers(source, answer) => self.hear_answer(source, &answer),
+            Hearing::Answers(source, answer) => self.hear_answer(source, xid, &answer),
             _ => {}
         }
     }
 
     /// Hears the answer of a station to a request of DCP.
-    fn hear_answer(&mut self, source: Mac, answer: &Response<'_>)
-        ensures { place_of self.new ≡ (if is_found_by (answered answer.now) then met (place_of self.old) source.octets (told_name (answered answer.now)) else place_of self.old) }
+    fn hear_answer(&mut self, source: Mac, xid: u32, answer: &Response<'_>)
+        ensures { place_of self.new ≡ (if is_found_by xid (answered answer.now) then met (place_of self.old) source.octets (told_name (answered answer.now)) else place_of self.old) }
     {
-        if is_found(answer) {
+        if is_found(answer, xid) {
             self.meet(source, answer.value(Kind::NameOfStation));
         }
     }
@@ -116,9 +115,9 @@ impl Search {
     }
 }
 
-/// Whether an answer is one to the Identify of a search.
-fn is_found(answer: &Response<'_>) -> bool
-    ensures { result ≡ is_found_by (answered answer.now) }
+/// Whether an answer is one to the Identify of a search, whose number was `xid`.
+fn is_found(answer: &Response<'_>, xid: u32) -> bool
+    ensures { result ≡ is_found_by xid (answered answer.now) }
 {
-    matches!(answer.service, Service::Identify) && answer.is_supported && answer.xid == XID
+    matches!(answer.service, Service::Identify) && answer.is_supported && answer.xid == xid
 }

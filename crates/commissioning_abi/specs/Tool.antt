@@ -31,7 +31,7 @@ pub record IsFound (written : WrittenTool) (alias : List ℕ) (asked : Op) (answ
   pub answered : answer ≡ 0
   pub frame : List ℕ
   pub handed : reported ≡ with_octets frame asked
-  pub asks : IsHeardAs frame (record { octets = written.mac }) identify_multicast (alias_asked alias)
+  pub asks : IsHeardAs frame (record { octets = written.mac }) identify_multicast (alias_asked written.xid alias)
 
 abbrev pub IsFindIf : Bool → WrittenTool → List ℕ → Op → ℕ → Op → Type 0
 IsFindIf true written alias asked answer reported = (answer ≡ 8) × (reported ≡ asked)
@@ -57,7 +57,7 @@ pub record IsGiven (written : WrittenTool) (place : Place) (text : List ℕ) (as
   pub alone : place ≡ One station (Some [])
   pub frame : List ℕ
   pub handed : reported ≡ with_octets frame asked
-  pub sets : IsHeardAs frame (record { octets = written.mac }) (record { octets = station }) (name_asked text)
+  pub sets : IsHeardAs frame (record { octets = written.mac }) (record { octets = station }) (name_asked written.xid text)
 
 abbrev pub IsNamed : Option Unnamed → WrittenTool → Place → List ℕ → Op → ℕ → Op → Type 0
 IsNamed None written place text asked answer reported = IsGiven written place text asked answer reported

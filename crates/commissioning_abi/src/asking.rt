@@ -27,16 +27,16 @@ pub fn find(tool: &WrittenTool, alias: &[u8], op: &mut Op) -> u32
         return BAD_LENGTH;
     }
     let octets = tool.mac;
-    let frame = identify_by_alias(Mac { octets }, alias);
+    let frame = identify_by_alias(Mac { octets }, tool.xid, alias);
     put(op, frame.as_slice());
     0
 }
 
-/// Hears a received frame: only an answer to that question counts.
+/// Hears a received frame: only an answer to that question counts, by the number of the tool's request.
 pub fn hear(tool: &WrittenTool, search: &mut Search, given: &[u8])
-    ensures { place_of search.new ≡ after_frame (tool_in tool.now) (place_of search.old) (take 1519 given.now) }
+    ensures { place_of search.new ≡ after_frame (tool_in tool.now) tool.now.xid (place_of search.old) (take 1519 given.now) }
 {
-    search.hear(&tool_of(tool), &first_of(given));
+    search.hear(&tool_of(tool), tool.xid, &first_of(given));
 }
 
 /// Writes the frame by which the station at the place gets this name. Returns 0, or why not.
@@ -53,7 +53,7 @@ pub fn name(tool: &WrittenTool, search: &Search, text: &[u8], op: &mut Op) -> u3
 fn write_name(tool: &WrittenTool, search: &Search, name: &StationName, op: &mut Op) -> u32
     ensures { IsNamed (why_unnamed (place_of search.now)) tool.now (place_of search.now) name.now op.old result op.new }
 {
-    match search.name(&tool_of(tool), name) {
+    match search.name(&tool_of(tool), tool.xid, name) {
         Ok(frame) => {
             put(op, frame.as_slice());
             0
@@ -77,9 +77,9 @@ fn number_of(why: Unnamed) -> u32
 /// What a received frame answers to that Set: the BlockError in `note`, 0 if the station has the name. Returns 0, or that it
 /// answers nothing.
 pub fn outcome(tool: &WrittenTool, search: &Search, given: &[u8], op: &mut Op) -> u32
-    ensures { IsOutcome (named_by (tool_in tool.now) (place_of search.now) (take 1519 given.now)) op.old result op.new }
+    ensures { IsOutcome (named_by (tool_in tool.now) tool.now.xid (place_of search.now) (take 1519 given.now)) op.old result op.new }
 {
-    match search.outcome(&tool_of(tool), &first_of(given)) {
+    match search.outcome(&tool_of(tool), tool.xid, &first_of(given)) {
         Some(error) => {
             op.note = u32::from(error);
             0

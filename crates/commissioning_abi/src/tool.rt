@@ -7,12 +7,14 @@ use plans::Controller;
 use pn_values::{Mac, StationName};
 use wire::at_most;
 
-/// Who asks: the MAC address and the IP address of the tool.
+/// Who asks: the MAC address and the IP address of the tool, and the number of its request by DCP.
 #[repr(C)]
 #[derive(Drop)]
 pub struct WrittenTool {
     pub mac: [u8; 6],
     pub address: [u8; 4],
+    /// Xid of the request.
+    pub xid: u32,
 }
 
 // The tool as a controller without a name.

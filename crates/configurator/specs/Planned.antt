@@ -45,6 +45,7 @@ parts_of found addresses = record {
   real = record { modules = record { items = plugged found } };
   records = record { items = records_of found.project.slots };
   continue_on_refused_record = found.project.continue_on_refused_record;
+  release_on_refused_record = found.project.release_on_refused_record;
   multiple_write = found.access_point.multiple_write;
 }
 

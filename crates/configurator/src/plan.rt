@@ -50,6 +50,7 @@ fn parts_of(catalogue: &Catalogue, names: Names, addresses: Addresses) -> Parts
         real: real_of(catalogue),
         records: records_of(project.slots.as_slice()),
         continue_on_refused_record: project.continue_on_refused_record,
+        release_on_refused_record: project.release_on_refused_record,
         multiple_write: catalogue.access_point.multiple_write,
     }
 }

@@ -4,7 +4,7 @@ ghost use Rattle.wire.specs.Codec.{Gives};
 ghost use Rattle.block_codec.specs.Block.{block_of};
 ghost use Rattle.connect_requests.specs.Pieces.{behind, piece_at, pieces_in};
 ghost use Rattle.connect_requests.specs.Handled.{asked_uuid, conflict, ar_in, request_with, request_within};
-ghost use Rattle.connect_requests.specs.Drafts.{AreAccepted, behind_within, sofar_of};
+ghost use Rattle.connect_requests.specs.Drafts.{AreAccepted, behind_within, pieces_within, sofar_of};
 ghost use Rattle.connect_requests.specs.Request.{IsAlarmCr, IsAr, IsIocr};
 
 use crate::draft::{Draft, block_at};
@@ -114,6 +114,24 @@ pub fn asked_uuid(blocks: &[u8]) -> Uuid
     }
 }
 
+/// Adds all blocks in the octets to an empty draft, at most `most`. The room for the modules and submodules of a block takes seven
+/// thousand octets of stack, which are free again when the layouts are checked.
+#[inline(never)]
+fn add_all<'a>(
+    draft: &mut Draft<'a>,
+    smallest: u32,
+    others: &'a [u8],
+    most: usize,
+    expected: &mut Expected,
+) -> Result<(), CallFault>
+    ensures pieces { Gives (λ _. sofar_of draft.new expected.new) result
+        (pieces_within smallest (sofar_of draft.old expected.old) (pieces_in most others.now)) }
+    ensures accepted { AreAccepted draft.old → AreAccepted draft.new }
+{
+    let mut room = Room::new();
+    draft.add_pieces(smallest, others, most, &mut room, expected)
+}
+
 impl ConnectRequest {
     /// An empty request, to be filled by `read`.
     pub fn new() -> ConnectRequest {
@@ -157,13 +175,13 @@ impl ConnectRequest {
         ensures { Gives (λ _. self.new) result (behind_within smallest ar (pieces_in most others.now)) }
     {
         let mut draft = Draft::new();
-        let mut room = Room::new();
         clear(&mut self.expected);
-        draft.add_pieces(smallest, others, most, &mut room, &mut self.expected)?;
+        add_all(&mut draft, smallest, others, most, &mut self.expected)?;
         self.finish(ar, &draft)
     }
 
     /// Stores what was read, if no block is missing and the layouts are valid.
+    #[inline(never)]
     #[tactic(auto, using(crate::proofs::Accepted::iocr_in_range), unfolding(crate::specs::Handled::request_with))]
     fn finish(&mut self, ar: Ar, draft: &Draft) -> Result<(), CallFault>
         requires ar { IsAr ar }

@@ -1,62 +1,17 @@
 -- Units of time that pass at once: those before the last one send nothing and end nothing.
 use Rattle.std.proofs.Common.{◌≡◌, ◌+◌, ◌≤◌, ◌++◌, ℕ, zero, suc, Bool, true, false, List, [], ◌∷◌, map, Some, None, if◌then◌else◌, refl, sym, ap, subst, ◌∙◌, arith}
 use Rattle.std.specs.Prelude.{◌||◌, ◌&&◌, not}
-use Rattle.cyclic_exchange.specs.Units.{Brought}
-use Rattle.pn_alarms.specs.declared.repeats.Due.{Due}
-use Rattle.pn_alarms.specs.Sending.{due}
 use Rattle.controller_state.specs.declared.event.Event.TheVariants.{Tick}
 use Rattle.controller_state.specs.declared.state.State as phase
-use Rattle.controller_core.specs.Leaps.{ticks_of}
-use Rattle.controller_core.specs.Machine.{Turn, brought, exchange_later, flowed, gone_on, is_again, later, requests_of, step_of, where_due}
-use Rattle.controller_core.specs.Machine as machine
-use Rattle.controller_state.specs.State.{Controlling, Live}
+use Rattle.controller_core.specs.Leaps.{OnlyTheLastEnds, ticks_of}
+use Rattle.controller_core.specs.Machine.{step_of}
+use Rattle.controller_state.specs.State.{Controlling}
 use Rattle.controller_station.specs.Beside as services
 use Rattle.controller_station.specs.Beside.{Beside, sent_by_tick, ticked}
 use Rattle.controller_station.specs.Served.{Frames, Served}
 use Rattle.controller_station.specs.Leaps.{OnlyTheLastSends, sent_beside}
 use Rattle.controller_abi.specs.State.{State, has_frames, is_over, is_stopped}
 use Rattle.controller_abi.specs.Steps.{Ticks}
-
--- ---- a unit that sends nothing keeps the phase
-
-map_none : {A B : Type 0} (f : A → B) (items : List A) → map f items ≡ [] → items ≡ []
-map_none f [] none = refl
-map_none f (item ∷ items) none = cc none
-
-abbrev TypeOf : {A : Type 0} → A → Type 0
-TypeOf {A = A} value = A
-
-by_ending : (live : Live) (high low : Due) (is_request : Bool) (tick : Brought) (ending : TypeOf tick.ending) → (flowed live high low is_request tick ending).sent ≡ []
-    → (flowed live high low is_request tick ending).live.phase ≡ live.phase
-by_ending live high low is_request tick None none = refl
-by_ending live high low is_request tick (Some reason) none = cc none
-
-abbrev gone_by : Live → Bool → Bool → Turn
-gone_by live is_request stands =
-    if stands then flowed (exchange_later live) (due live.alarms.sending) (due live.low_alarms.sending) is_request (brought live) (brought live).ending
-    else record { live = live; sent = where_due is_request (requests_of live.device live.asked) }
-
-by_relation : (live : Live) (is_request stands : Bool) → (gone_by live is_request stands).sent ≡ [] → (gone_by live is_request stands).live.phase ≡ live.phase
-by_relation live is_request false none = refl
-by_relation live is_request true none = by_ending (exchange_later live) (due live.alarms.sending) (due live.low_alarms.sending) is_request (brought live) (brought live).ending none
-
-gone_phase : (live : Live) (is_request : Bool) → (gone_on live is_request).sent ≡ [] → (gone_on live is_request).live.phase ≡ live.phase
-gone_phase live is_request none = by_relation live is_request live.stands none
-
-step_phase : (controller : Controlling) → (step_of controller Tick).frames ≡ [] → (step_of controller Tick).controller.live.phase ≡ controller.live.phase
-unfolding step_of
-step_phase controller none =
-    gone_phase (later controller.live) (is_again controller.live) (map_none _ (machine.ticked controller.live).sent none)
-
--- If none of some units sends anything, the phase stays.
-phase_kept : (controller : Controlling) (units : ℕ) → ((before : ℕ) → before ≤ units → (ticks_of before controller).frames ≡ []) → (ticks_of units controller).controller.live.phase ≡ controller.live.phase
-phase_kept controller zero none = refl
-phase_kept controller (suc units) none =
-    let first = ticks_of units controller in
-    let step = step_of first.controller Tick in
-    let before : first.frames ≡ [] = none units (omega arith) in
-    let quiet : step.frames ≡ [] = sym (ap (λ (f : List (List ℕ)). f ++ step.frames) before) ∙ none (suc units) (omega arith) in
-    step_phase first.controller quiet ∙ phase_kept controller units (λ earlier sooner. none earlier (omega (arith, sooner)))
 
 -- ---- units at once
 
@@ -88,10 +43,10 @@ with_frames controller services frames = record { controller = controller; servi
 abbrev stopped_by : Bool → List (List ℕ) → phase.State → Bool
 stopped_by was_over frames phase = has_frames frames || (not was_over && is_over phase)
 
-pub ticks_all : (was_over : Bool) (units : ℕ) (old : State) → has_frames old.frames ≡ false → is_stopped was_over old ≡ false → OnlyTheLastSends units (both old)
+pub ticks_all : (was_over : Bool) (units : ℕ) (old : State) → has_frames old.frames ≡ false → is_stopped was_over old ≡ false → OnlyTheLastSends units (both old) → OnlyTheLastEnds units old.controller
     → Ticks was_over units old (at units old)
-ticks_all was_over zero old idle free last = ap (with_frames old.controller old.services) (sym (none_of old.frames idle))
-ticks_all was_over (suc units) old idle free last =
+ticks_all was_over zero old idle free last ends = ap (with_frames old.controller old.services) (sym (none_of old.frames idle))
+ticks_all was_over (suc units) old idle free last ends =
     let first = ticks_of units old.controller in
     let step = step_of first.controller Tick in
     let beside = sent_by_tick (services.ticks_of units old.services) in
@@ -100,9 +55,9 @@ ticks_all was_over (suc units) old idle free last =
     let by_services : sent_beside units old.services ≡ [] = ap (λ (frames : Frames). frames.services) (last units (omega arith)) in
     let quiet : first.frames ≡ [] = by_controller units (omega arith) in
     let none : (at units old).frames ≡ [] = ap (λ (f : List (List ℕ)). f ++ sent_beside units old.services) quiet ∙ by_services in
-    let phase = phase_kept old.controller units by_controller in (
+    let phase = ends units (omega arith) in (
       at units old,
-      ticks_all was_over units old idle free (λ before earlier. last before (omega (arith, earlier))),
+      ticks_all was_over units old idle free (λ before earlier. last before (omega (arith, earlier))) (λ before earlier. ends before (omega (arith, earlier))),
       ap (λ (f : List (List ℕ)). stopped_by was_over f first.controller.live.phase) (none ∙ sym (none_of old.frames idle)) ∙ ap (stopped_by was_over old.frames) phase ∙ free,
       ap (λ (f : List (List ℕ)). with_frames step.controller (ticked (services.ticks_of units old.services)) ((f ++ step.frames) ++ (sent_beside units old.services ++ beside))) quiet
           ∙ ap (λ (f : List (List ℕ)). with_frames step.controller (ticked (services.ticks_of units old.services)) (step.frames ++ (f ++ beside))) by_services,

@@ -9,7 +9,7 @@ use Rattle.pn_values.specs.declared.real.RealSubmodule.{RealSubmodule}
 use Rattle.station_names.specs.Valid.{is_station_name}
 use Rattle.pn_values.specs.StationName.{IsStationName}
 use Rattle.plans.specs.Connect.{does_connect_fit}
-use Rattle.plans.specs.Plan.{do_frames_fit, plan_of}
+use Rattle.plans.specs.Plan.{do_frames_fit, long_of, plan_of}
 use Rattle.plans.specs.declared.parts.Parts.{Parts}
 use Rattle.plans.specs.declared.plan.TooLong.{TooLong}
 use Rattle.plans.specs.declared.plan.TooLong.TheVariants.{Frame, Connect}
@@ -19,7 +19,7 @@ use Rattle.c_layout.specs.declared.plugged.Submodule.{Submodule}
 use Rattle.c_layout.specs.Modules.{is_module, module_of, submodule_of, submodules_in}
 use Rattle.controller_abi.specs.declared.plan.WrittenPlan.{WrittenPlan}
 use Rattle.controller_abi.specs.declared.plan.WrittenRecord.{WrittenRecord}
-use Rattle.controller_abi.specs.Plans.{IsShort, IsWritten, are_addresses, are_low, are_named, are_numbers, are_ordered, are_placed, are_times, does_take, fault_of_length, has_room, is_name, is_part, is_plan}
+use Rattle.controller_abi.specs.Plans.{IsShort, IsWritten, are_addresses, are_low, are_named, are_numbers, are_ordered, are_placed, are_times, does_take, fault_of_length, has_room, is_name, is_part, is_plan, length_number}
 use Rattle.controller_abi.specs.Plans.{is_record, is_rising, is_sound, is_written, controller_name_in, modules_in, name_in, parts_of, records_in, suite_in}
 
 -- ---- numbers in order
@@ -209,6 +209,12 @@ long_fault Connect is = cc
 
 pub not_long : (read : Result Parts TooLong) (long : TooLong) → (fault_of_length read == 0) ≡ true → read ≡ Err long → ⊥
 not_long read long none is = long_fault long (subst (λ (found : Result Parts TooLong). (fault_of_length found == 0) ≡ true) is none)
+
+-- What is too long has the number of the fault.
+pub of_lengths : (read : Result Parts TooLong) → length_number (long_of read) ≡ fault_of_length read
+of_lengths (Ok parts) = refl
+of_lengths (Err Frame) = refl
+of_lengths (Err Connect) = refl
 
 -- What its parts are made from.
 pub written_in : (written : WrittenPlan) → is_written written ≡ true → IsWritten written

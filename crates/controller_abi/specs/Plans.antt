@@ -1,5 +1,5 @@
 -- The plan of a station, as a host writes it.
-use Rattle.std.specs.Prelude.{◌≡◌, ◌&&◌, ◌+◌, ◌%◌, ◌==◌, ◌≤◌, ℕ, Bool, true, false, nat_le, nat_lt, not, if◌then◌else◌, Result, Ok, Err, List, [], ◌∷◌, take, map, slice_index}
+use Rattle.std.specs.Prelude.{◌≡◌, ◌&&◌, ◌+◌, ◌%◌, ◌==◌, ◌≤◌, ℕ, Bool, true, false, nat_le, nat_lt, not, if◌then◌else◌, Option, Some, None, Result, Ok, Err, List, [], ◌∷◌, take, map, slice_index}
 use Rattle.std.specs.List.{AllByRecursion, list_all, list_any}
 use Rattle.uuid.specs.Parts.{is_nil_bytes}
 use Rattle.pn_values.specs.IpSuite.{Suite, is_host, is_suite}
@@ -9,6 +9,7 @@ use Rattle.plans.specs.declared.parts.Parts.{Parts}
 use Rattle.plans.specs.declared.parts.PlanRecord.{PlanRecord}
 use Rattle.plans.specs.declared.plan.TooLong.{TooLong}
 use Rattle.plans.specs.declared.plan.TooLong.TheVariants.{Frame, Connect}
+use Rattle.controller_frames.specs.declared.setup.ControllerOptions.{ControllerOptions}
 use Rattle.c_layout.specs.declared.plugged.Module.{Module}
 use Rattle.c_layout.specs.declared.plugged.Parameter.{Parameter}
 use Rattle.c_layout.specs.declared.plugged.Submodule.{Submodule}
@@ -118,6 +119,10 @@ is_written written =
 abbrev pub record_of : WrittenRecord → PlanRecord
 record_of entry = record { slot = entry.slot; subslot = entry.subslot; index = entry.index; «data» = record { items = take entry.length entry.octets } }
 
+-- The options of the controller.
+abbrev pub options_in : WrittenPlan → ControllerOptions
+options_in written = record { patience = written.patience; waiting_patience = written.waiting_patience }
+
 abbrev pub parts_of : WrittenPlan → Parts
 parts_of written = record {
   station = record { name = name_in written; suite = suite_in written; vendor_id = written.vendor_id; device_id = written.device_id };
@@ -130,6 +135,7 @@ parts_of written = record {
   real = record { modules = record { items = map module_of (modules_in written) } };
   records = record { items = map record_of (records_in written) };
   continue_on_refused_record = not (written.continue_on_refused_record == 0);
+  release_on_refused_record = not (written.release_on_refused_record == 0);
   multiple_write = not (written.multiple_write == 0);
 }
 
@@ -157,6 +163,12 @@ fault_of_length (Ok plan) = 0
 fault_of_length (Err Frame) = 39
 fault_of_length (Err Connect) = 40
 
+-- The same of what is too long, if anything is.
+abbrev pub length_number : Option TooLong → ℕ
+length_number None = 0
+length_number (Some Frame) = 39
+length_number (Some Connect) = 40
+
 -- The first fault of a plan, with the number that a catalogue with this fault has, 32 and the number of the fault; 0 if
 -- it has none. After lists that are too long the faults are checked in the order of those of a catalogue.
 abbrev pub fault_of : WrittenPlan → ℕ
@@ -175,5 +187,5 @@ is_plan written = fault_of written == 0
 -- plan, or an ARUUID that is zero.
 abbrev pub why_not_made : ℕ → ℕ → ℕ → WrittenPlan → List ℕ → ℕ
 why_not_made size abi op_size written ar =
-    if not (abi == 3 && op_size == 1568) then 2 else
+    if not (abi == 4 && op_size == 1568) then 2 else
     (if nat_lt size 40960 then 3 else (if not (is_plan written) then 16 else (if is_nil_bytes ar then 16 else 0)))

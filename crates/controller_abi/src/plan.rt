@@ -12,10 +12,10 @@ ghost use Rattle.controller_abi.specs.State.{opened};
 ghost use Rattle.controller_abi.specs.Plans.{IsShort, IsWritten, are_addresses as is_addressed, are_low as is_low, are_named};
 ghost use Rattle.controller_abi.specs.Plans.{are_numbers as are_all_numbers, are_ordered as is_in_order};
 ghost use Rattle.controller_abi.specs.Plans.{are_placed as are_all_placed, are_times as is_timed, controller_name_in};
-ghost use Rattle.controller_abi.specs.Plans.{does_part_take, does_take, fault_of, fault_of_length as of_length};
+ghost use Rattle.controller_abi.specs.Plans.{does_part_take, does_take, fault_of, fault_of_length as of_length, length_number};
 ghost use Rattle.controller_abi.specs.Plans.{has_room as has_all_room, is_item, is_name as is_named, is_part};
 ghost use Rattle.controller_abi.specs.Plans.{is_plan as is_planned, is_record, is_rising, is_sound as is_all_sound};
-ghost use Rattle.controller_abi.specs.Plans.{is_written as is_all_written, modules_in, name_in, parts_of, record_of, records_in};
+ghost use Rattle.controller_abi.specs.Plans.{is_written as is_all_written, modules_in, name_in, options_in, parts_of, record_of, records_in};
 ghost use Rattle.controller_abi.specs.Plans.{suite_in, why_not_made};
 
 use crate::port::Port;
@@ -24,13 +24,14 @@ use c_layout::{
     BAD_ABI, BAD_PLAN, Module, PLAN_FAULT, Parameter, SMALL_ROOM, Submodule, are_modules,
     are_parameters, modules,
 };
-use plans::{Controller, Parts, Plan, PlanRecord, Station, Times, TooLong};
+use controller_core::ControllerOptions;
+use plans::{Controller, Parts, Plan, PlanRecord, Station, Times, TooLong, too_long};
 use pn_values::{IpSuite, Mac, Real, StationName};
 use station_names::check;
 use uuid::Uuid;
 
 /// The version of the header.
-const ABI: u32 = 3;
+const ABI: u32 = 4;
 
 /// The number of octets of the memory for a port.
 const ROOM: usize = 40960;
@@ -92,6 +93,12 @@ pub struct WrittenPlan {
     pub continue_on_refused_record: u32,
     /// Whether a Write of the start-up carries several records (MultipleWrite): 0 for no.
     pub multiple_write: u32,
+    /// Whether the controller releases the relation when it ends because the device refused a record: 0 for no.
+    pub release_on_refused_record: u32,
+    /// For how many units of 31.25 microseconds a state of the start-up lasts at most: 0 for no limit.
+    pub patience: u32,
+    /// The same for the state in which the controller waits for the ApplicationReady.
+    pub waiting_patience: u32,
 }
 
 /// Why no controller is made from this plan, or 0: another version or size of an operation than the library's, too
@@ -116,18 +123,33 @@ pub fn judge(size: usize, abi: u32, op_size: usize, written: &WrittenPlan, ar: &
 #[inline(always)]
 pub fn unstarted(written: &WrittenPlan, ar: &[u8; 16], activity: &[u8; 16]) -> Port
     requires { is_planned written.now ≡ true }
-    ensures { result.controller.setup ≡ record { plan = parts_of written.now; ar = ar.now; activity = activity.now } }
+    ensures { result.controller.setup ≡ record { plan = parts_of written.now; ar = ar.now; activity = activity.now; options = options_in written.now } }
 {
     let Ok(plan) = planned(written) else {
         unreachable!()
     };
-    Port::unstarted(plan, Uuid::from_bytes(*ar), Uuid::from_bytes(*activity))
+    Port::unstarted(
+        plan,
+        Uuid::from_bytes(*ar),
+        Uuid::from_bytes(*activity),
+        options_in(written),
+    )
+}
+
+/// The options of the controller.
+fn options_in(written: &WrittenPlan) -> ControllerOptions
+    ensures { result ≡ options_in written.now }
+{
+    ControllerOptions {
+        patience: written.patience,
+        waiting_patience: written.waiting_patience,
+    }
 }
 
 /// Starts the controller in place. Its opening frame waits to be fetched, and nothing else remains.
 #[inline(never)]
 pub fn start(port: &mut Port)
-    ensures { port.new ≡ opened (begun port.old.controller.setup.plan port.old.controller.setup.ar port.old.controller.setup.activity) }
+    ensures { port.new ≡ opened (begun port.old.controller.setup) }
 {
     port.start();
 }
@@ -166,10 +188,17 @@ fn fault_of_length(written: &WrittenPlan) -> u32
     requires { is_all_written written.now ≡ true }
     ensures { result ≡ of_length (plan_of (parts_of written.now)) }
 {
-    match planned(written) {
-        Ok(_) => 0,
-        Err(TooLong::Frame) => FRAME_LONG,
-        Err(TooLong::Connect) => CONNECT_LONG,
+    number_of(too_long(&parts_in(written)))
+}
+
+// The number for what is too long, 0 if nothing is.
+fn number_of(long: Option<TooLong>) -> u32
+    ensures { result ≡ length_number long }
+{
+    match long {
+        None => 0,
+        Some(TooLong::Frame) => FRAME_LONG,
+        Some(TooLong::Connect) => CONNECT_LONG,
     }
 }
 
@@ -461,6 +490,7 @@ fn parts_in(written: &WrittenPlan) -> Parts
         real: real_in(written),
         records: records_of(written),
         continue_on_refused_record: written.continue_on_refused_record != 0,
+        release_on_refused_record: written.release_on_refused_record != 0,
         multiple_write: written.multiple_write != 0,
     }
 }

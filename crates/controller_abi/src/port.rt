@@ -7,7 +7,7 @@ ghost use Rattle.controller_abi.specs.Outputs.{output_at as output_in, output_of
 ghost use Rattle.controller_abi.specs.State.{IsNext, advanced, after, has_frames, is_over as over, is_stopped as stops, opened, port_due_in};
 ghost use Rattle.controller_abi.specs.Steps.{Passes, Ticks};
 
-use controller_core::{Controller, Event, State};
+use controller_core::{Controller, ControllerOptions, Event, State};
 use controller_station::{ServedController, ServedOutbox};
 use frame_codec::Frame;
 use lldp::Neighbour;
@@ -38,13 +38,13 @@ impl Model for Port {
 }
 
 impl Port {
-    /// The controller of a plan, with the ARUUID of its relation and the activity of its calls, before it starts.
+    /// The controller of a plan, with the ARUUID of its relation, the activity of its calls and its options, before it starts.
     #[inline(always)]
-    pub fn unstarted(plan: Plan, ar: Uuid, activity: Uuid) -> Port
-        ensures { result.controller.setup ≡ record { plan = plan; ar = ar; activity = activity } }
+    pub fn unstarted(plan: Plan, ar: Uuid, activity: Uuid, options: ControllerOptions) -> Port
+        ensures { result.controller.setup ≡ record { plan = plan; ar = ar; activity = activity; options = options } }
     {
         Port {
-            served: ServedController::unstarted(plan, ar, activity),
+            served: ServedController::unstarted(plan, ar, activity, options),
             outbox: ServedOutbox::new(),
             frames_past: 0,
         }
@@ -52,7 +52,7 @@ impl Port {
 
     /// Starts the controller in place. Its opening frame waits to be fetched, and nothing else remains.
     pub fn start(&mut self)
-        ensures { self.new ≡ opened (begun self.old.controller.setup.plan self.old.controller.setup.ar self.old.controller.setup.activity) }
+        ensures { self.new ≡ opened (begun self.old.controller.setup) }
     {
         self.served.start();
         self.served.send_opening(&mut self.outbox);

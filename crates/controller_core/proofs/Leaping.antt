@@ -1,7 +1,7 @@
 -- Several units of time at once, and as many Tick events.
-use Rattle.std.proofs.Common.{◌≡◌, ◌+◌, ◌-◌, ◌%◌, ◌<◌, ◌==◌, ◌++◌, ℕ, zero, suc, Bool, true, false, List, [], ◌∷◌, map, sum, refl, sym, ap, ◌∙◌, arith, append_assoc, Option, Some, None, if◌then◌else◌}
+use Rattle.std.proofs.Common.{◌≡◌, ◌+◌, ◌-◌, ◌%◌, ◌<◌, ◌==◌, ◌&&◌, ◌++◌, ℕ, zero, suc, Bool, true, false, List, [], ◌∷◌, map, sum, refl, sym, ap, ◌∙◌, arith, append_assoc, Option, Some, None, if◌then◌else◌}
 use Rattle.std.specs.Prelude.{min, is_some}
-use Rattle.std.proofs.lemmas.Bool.{ne_eqb}
+use Rattle.std.proofs.lemmas.Bool.{eqb-true, ne_eqb}
 use Rattle.std.proofs.lemmas.Bool.Decides.{nat_tests}
 use Rattle.std.proofs.lemmas.List.{append-nil}
 use Rattle.std.proofs.lemmas.List.Sums.{sum_by-cons}
@@ -20,11 +20,13 @@ use Rattle.cyclic_exchange.specs.Leaps.{IsQuietFor, cyclic_due_in}
 use Rattle.cyclic_exchange.specs.Units.{Brought, cyclic_later, ending_by, is_silent, tick_by, tick_of}
 use Rattle.controller_frames.specs.declared.record_request.RecordRequest.{RecordRequest}
 use Rattle.controller_frames.specs.declared.request.Request.{Request}
+use Rattle.controller_frames.specs.declared.setup.Setup.{Setup}
 use Rattle.controller_frames.specs.Sent.{Sent, bytes_of}
+use Rattle.controller_state.specs.declared.state.Cause.TheVariants.{NoProgress}
 use Rattle.controller_state.specs.declared.event.Event.TheVariants.{Tick}
-use Rattle.controller_core.specs.Leaps.{LeapsAreTicks, NoneSends, OnlyTheLastSends, access_due_in, and_then, exchange_due_in, request_due_in, ticks_of}
-use Rattle.controller_core.specs.Machine.{Stepped, Turn, accesses_by, exchange_later, flowed, gone_on, is_again, later, pending_by, pending_of, requests_of, step_of, stepped, ticked, where_due}
-use Rattle.controller_state.specs.State.{Controlling, Live, with_live}
+use Rattle.controller_core.specs.Leaps.{LeapsAreTicks, NoneEnds, NoneSends, OnlyTheLastEnds, OnlyTheLastSends, access_due_in, and_then, exchange_due_in, patience_due_in, request_due_in, ticks_of}
+use Rattle.controller_core.specs.Machine.{Stepped, Turn, accesses_by, exchange_later, flowed, gone_on, is_again, is_spent, later, pending_by, pending_of, quit, requests_of, step_of, stepped, ticked, where_due}
+use Rattle.controller_state.specs.State.{Controlling, Live, is_limited, with_live}
 
 pub below_left : (number one other : ℕ) → number < min one other → number < one
 below_left number one other below = omega (arith, below)
@@ -38,7 +40,7 @@ exchange_below live number stands below = rw stands at below
 
 -- ---- one Tick event
 
-tick_is : (controlling : Controlling) → step_of controlling Tick ≡ stepped controlling (ticked controlling.live)
+tick_is : (controlling : Controlling) → step_of controlling Tick ≡ stepped controlling (ticked controlling.setup controlling.live)
 unfolding step_of
 tick_is controlling = refl
 
@@ -122,13 +124,38 @@ none_later number limit below =
     let same : number + 0 ≡ number = omega arith in
     sym (ap (λ (n : ℕ). n % limit) same ∙ mod-eq_of_lt below)
 
+-- ---- the patience
+
+left_next : (left units : ℕ) → left - units - 1 ≡ left - suc units
+left_next left units = omega arith
+
+none_left : (left : ℕ) → left ≡ left - 0
+none_left left = omega arith
+
+lasts_by : (left units : ℕ) (is_none : Bool) → (left == 0) ≡ is_none → suc units < (if is_none then never else left) → (left - units == 1) ≡ false
+lasts_by left units true e before =
+    let none : left ≡ 0 = eqb-true left 0 e in
+    ne_eqb (left - units) 1 (λ one. omega (arith, none, one))
+lasts_by left units false e before = ne_eqb (left - units) 1 (λ one. omega (arith, before, one))
+
+both_false : (limited : Bool) → (limited && false) ≡ false
+both_false true = refl
+both_false false = refl
+
+lasts : (live : Live) (units : ℕ) → suc units < patience_due_in live → (is_limited live.phase && live.left - units == 1) ≡ false
+lasts live units before = ap (λ (b : Bool). is_limited live.phase && b) (lasts_by live.left units (live.left == 0) refl before) ∙ both_false (is_limited live.phase)
+
+-- A unit with which the patience does not end.
+goes_on : (setup : Setup) (live : Live) → is_spent live ≡ false → ticked setup live ≡ gone_on (later live) (is_again live)
+goes_on setup live unspent = ap (λ (b : Bool). if b then quit setup NoProgress (later live) live.phase else gone_on (later live) (is_again live)) unspent
+
 -- ---- units with which nothing is due, if the relation is not established
 
-abbrev with_counts : Live → ℕ → ℕ → Live
-with_counts live waited units = record live { waited = waited; units = units }
+abbrev with_counts : Live → ℕ → ℕ → ℕ → Live
+with_counts live waited left units = record live { waited = waited; left = left; units = units }
 
 abbrev off_later : ℕ → Live → Live
-off_later units live = with_counts live ((live.waited + units) % 32000) ((live.units + units) % 65536)
+off_later units live = with_counts live ((live.waited + units) % 32000) (live.left - units) ((live.units + units) % 65536)
 
 abbrev turn_with : Live → List Sent → Turn
 turn_with live sent = record { live = live; sent = sent }
@@ -138,23 +165,26 @@ gone_off live is_request stands = rw stands refl
 
 off_next : (live : Live) (units : ℕ) → later (off_later units live) ≡ off_later (suc units) live
 off_next live units =
-    ap (λ (w : ℕ). with_counts live w (((live.units + units) % 65536 + 1) % 65536)) (waited_next live.waited units)
-    ∙ ap (with_counts live ((live.waited + suc units) % 32000)) (counter_next live.units units)
+    ap (λ (w : ℕ). with_counts live w (live.left - units - 1) (((live.units + units) % 65536 + 1) % 65536)) (waited_next live.waited units)
+    ∙ (ap (λ (l : ℕ). with_counts live ((live.waited + suc units) % 32000) l (((live.units + units) % 65536 + 1) % 65536)) (left_next live.left units)
+    ∙ ap (with_counts live ((live.waited + suc units) % 32000) (live.left - suc units)) (counter_next live.units units))
 
-off_turn : (live : Live) (units : ℕ) → live.stands ≡ false → suc units < request_due_in live → ticked (off_later units live) ≡ turn_with (off_later (suc units) live) []
-off_turn live units stands before =
-    gone_off (later (off_later units live)) (is_again (off_later units live)) stands
+off_turn : (setup : Setup) (live : Live) (units : ℕ) → live.stands ≡ false → suc units < patience_due_in live → suc units < request_due_in live
+    → ticked setup (off_later units live) ≡ turn_with (off_later (suc units) live) []
+off_turn setup live units stands lasting before =
+    goes_on setup (off_later units live) (lasts live units lasting)
+    ∙ (gone_off (later (off_later units live)) (is_again (off_later units live)) stands
     ∙ (ap (turn_with (later (off_later units live))) (no_request live.device live.asked live.waited units before)
-    ∙ ap (λ (l : Live). turn_with l []) (off_next live units))
+    ∙ ap (λ (l : Live). turn_with l []) (off_next live units)))
 
 -- ---- the same if it is established
 
-abbrev with_exchange : Live → ℕ → ℕ → Cyclic → ControllerEnd → ControllerEnd → Live
-with_exchange live waited units cyclic high low = record live { waited = waited; units = units; cyclic = cyclic; alarms = high; low_alarms = low }
+abbrev with_exchange : Live → ℕ → ℕ → ℕ → Cyclic → ControllerEnd → ControllerEnd → Live
+with_exchange live waited left units cyclic high low = record live { waited = waited; left = left; units = units; cyclic = cyclic; alarms = high; low_alarms = low }
 
 abbrev on_later : ℕ → Live → Live
 on_later units live =
-    with_exchange live ((live.waited + units) % 32000) ((live.units + units) % 65536) (after cyclic_later units live.cyclic) (after controller_later units live.alarms)
+    with_exchange live ((live.waited + units) % 32000) (live.left - units) ((live.units + units) % 65536) (after cyclic_later units live.cyclic) (after controller_later units live.alarms)
     (after controller_later units live.low_alarms)
 
 gone_there : (live : Live) (is_request : Bool) → live.stands ≡ true → BringsNothing live.cyclic (due live.alarms.sending) (due live.low_alarms.sending)
@@ -173,17 +203,19 @@ on_next live units =
     let cyclic = after cyclic_later (suc units) live.cyclic in
     let high = after controller_later (suc units) live.alarms in
     let low = after controller_later (suc units) live.low_alarms in
-    ap (λ (w : ℕ). with_exchange live w (((live.units + units) % 65536 + 1) % 65536) cyclic high low) (waited_next live.waited units)
-    ∙ ap (λ (u : ℕ). with_exchange live ((live.waited + suc units) % 32000) u cyclic high low) (counter_next live.units units)
+    ap (λ (w : ℕ). with_exchange live w (live.left - units - 1) (((live.units + units) % 65536 + 1) % 65536) cyclic high low) (waited_next live.waited units)
+    ∙ (ap (λ (l : ℕ). with_exchange live ((live.waited + suc units) % 32000) l (((live.units + units) % 65536 + 1) % 65536) cyclic high low) (left_next live.left units)
+    ∙ ap (λ (u : ℕ). with_exchange live ((live.waited + suc units) % 32000) (live.left - suc units) u cyclic high low) (counter_next live.units units))
 
-on_turn : (live : Live) (units : ℕ) → live.stands ≡ true → suc units < request_due_in live → suc units < access_due_in live
+on_turn : (setup : Setup) (live : Live) (units : ℕ) → live.stands ≡ true → suc units < patience_due_in live → suc units < request_due_in live → suc units < access_due_in live
     → BringsNothing (after cyclic_later units live.cyclic) (due (after controller_later units live.alarms).sending) (due (after controller_later units live.low_alarms).sending)
-    → ticked (on_later units live) ≡ turn_with (on_later (suc units) live) []
-on_turn live units stands before sooner none =
+    → ticked setup (on_later units live) ≡ turn_with (on_later (suc units) live) []
+on_turn setup live units stands lasting before sooner none =
     let next = exchange_later (later (on_later units live)) in
-    gone_there (later (on_later units live)) (is_again (on_later units live)) stands none
+    goes_on setup (on_later units live) (lasts live units lasting)
+    ∙ (gone_there (later (on_later units live)) (is_again (on_later units live)) stands none
     ∙ (ap (λ (s : List Sent). turn_with next (s ++ [])) (no_pending live live.asked units before sooner)
-    ∙ ap (λ (l : Live). turn_with l []) (on_next live units))
+    ∙ ap (λ (l : Live). turn_with l []) (on_next live units)))
 
 -- ---- many units
 
@@ -194,73 +226,90 @@ abbrev and_tick : Stepped → Stepped
 and_tick before = and_then before (step_of before.controller Tick)
 
 -- One more unit that sends nothing.
-one_more : (controlling : Controlling) (live next : Live) → ticked live ≡ turn_with next [] → and_tick (sent_with (with_live controlling live) []) ≡ sent_with (with_live controlling next) []
+one_more : (controlling : Controlling) (live next : Live) → ticked controlling.setup live ≡ turn_with next [] → and_tick (sent_with (with_live controlling live) []) ≡ sent_with (with_live controlling next) []
 one_more controlling live next turn =
     ap (and_then (sent_with (with_live controlling live) [])) (tick_is (with_live controlling live))
     ∙ ap (λ (t : Turn). and_then (sent_with (with_live controlling live) []) (stepped (with_live controlling live) t)) turn
 
 off_ticks : (controlling : Controlling) (units : ℕ) → controlling.live.stands ≡ false → controlling.live.waited < 32000 → controlling.live.units < 65536
-    → units < request_due_in controlling.live → ticks_of units controlling ≡ sent_with (with_live controlling (off_later units controlling.live)) []
-off_ticks controlling zero stands few fits below =
-    ap (λ (w : ℕ). sent_with (with_live controlling (with_counts controlling.live w controlling.live.units)) []) (none_later controlling.live.waited 32000 few)
-    ∙ ap (λ (u : ℕ). sent_with (with_live controlling (with_counts controlling.live ((controlling.live.waited + 0) % 32000) u)) []) (none_later controlling.live.units 65536 fits)
-off_ticks controlling (suc units) stands few fits below =
-    ap and_tick (off_ticks controlling units stands few fits (omega (arith, below)))
-    ∙ one_more controlling (off_later units controlling.live) (off_later (suc units) controlling.live) (off_turn controlling.live units stands below)
+    → units < patience_due_in controlling.live → units < request_due_in controlling.live → ticks_of units controlling ≡ sent_with (with_live controlling (off_later units controlling.live)) []
+off_ticks controlling zero stands few fits lasting below =
+    ap (λ (w : ℕ). sent_with (with_live controlling (with_counts controlling.live w controlling.live.left controlling.live.units)) []) (none_later controlling.live.waited 32000 few)
+    ∙ (ap (λ (l : ℕ). sent_with (with_live controlling (with_counts controlling.live ((controlling.live.waited + 0) % 32000) l controlling.live.units)) []) (none_left controlling.live.left)
+    ∙ ap (λ (u : ℕ). sent_with (with_live controlling (with_counts controlling.live ((controlling.live.waited + 0) % 32000) (controlling.live.left - 0) u)) []) (none_later controlling.live.units 65536 fits))
+off_ticks controlling (suc units) stands few fits lasting below =
+    ap and_tick (off_ticks controlling units stands few fits (omega (arith, lasting)) (omega (arith, below)))
+    ∙ one_more controlling (off_later units controlling.live) (off_later (suc units) controlling.live) (off_turn controlling.setup controlling.live units stands lasting below)
 
 on_ticks : (controlling : Controlling) (units : ℕ) → controlling.live.stands ≡ true → controlling.live.waited < 32000 → controlling.live.units < 65536
-    → units < request_due_in controlling.live → units < access_due_in controlling.live → BringNothing units controlling.live.cyclic controlling.live.alarms controlling.live.low_alarms
+    → units < patience_due_in controlling.live → units < request_due_in controlling.live → units < access_due_in controlling.live → BringNothing units controlling.live.cyclic controlling.live.alarms controlling.live.low_alarms
     → ticks_of units controlling ≡ sent_with (with_live controlling (on_later units controlling.live)) []
 unfolding BringNothing
-on_ticks controlling zero stands few fits below sooner none =
+on_ticks controlling zero stands few fits lasting below sooner none =
     let live = controlling.live in
-    ap (λ (w : ℕ). sent_with (with_live controlling (with_exchange live w live.units live.cyclic live.alarms live.low_alarms)) []) (none_later live.waited 32000 few)
-    ∙ ap (λ (u : ℕ). sent_with (with_live controlling (with_exchange live ((live.waited + 0) % 32000) u live.cyclic live.alarms live.low_alarms)) []) (none_later live.units 65536 fits)
-on_ticks controlling (suc units) stands few fits below sooner none =
-    ap and_tick (on_ticks controlling units stands few fits (omega (arith, below)) (omega (arith, sooner)) (λ before earlier. none before (omega (arith, earlier))))
-    ∙ one_more controlling (on_later units controlling.live) (on_later (suc units) controlling.live) (on_turn controlling.live units stands below sooner (none units (omega arith)))
+    ap (λ (w : ℕ). sent_with (with_live controlling (with_exchange live w live.left live.units live.cyclic live.alarms live.low_alarms)) []) (none_later live.waited 32000 few)
+    ∙ (ap (λ (l : ℕ). sent_with (with_live controlling (with_exchange live ((live.waited + 0) % 32000) l live.units live.cyclic live.alarms live.low_alarms)) []) (none_left live.left)
+    ∙ ap (λ (u : ℕ). sent_with (with_live controlling (with_exchange live ((live.waited + 0) % 32000) (live.left - 0) u live.cyclic live.alarms live.low_alarms)) []) (none_later live.units 65536 fits))
+on_ticks controlling (suc units) stands few fits lasting below sooner none =
+    ap and_tick (on_ticks controlling units stands few fits (omega (arith, lasting)) (omega (arith, below)) (omega (arith, sooner)) (λ before earlier. none before (omega (arith, earlier))))
+    ∙ one_more controlling (on_later units controlling.live) (on_later (suc units) controlling.live) (on_turn controlling.setup controlling.live units stands lasting below sooner (none units (omega arith)))
 
 pub off_state : (controlling : Controlling) (units : ℕ) → controlling.live.stands ≡ false → controlling.live.waited < 32000 → controlling.live.units < 65536
-    → units < request_due_in controlling.live → (ticks_of units controlling).controller ≡ with_live controlling (off_later units controlling.live)
-off_state controlling units stands few fits below = ap (λ (s : Stepped). s.controller) (off_ticks controlling units stands few fits below)
+    → units < patience_due_in controlling.live → units < request_due_in controlling.live → (ticks_of units controlling).controller ≡ with_live controlling (off_later units controlling.live)
+off_state controlling units stands few fits lasting below = ap (λ (s : Stepped). s.controller) (off_ticks controlling units stands few fits lasting below)
 
 pub off_sends : (controlling : Controlling) (units : ℕ) → controlling.live.stands ≡ false → controlling.live.waited < 32000 → controlling.live.units < 65536
-    → units < request_due_in controlling.live → NoneSends units controlling
-off_sends controlling units stands few fits below before earlier =
-    ap (λ (s : Stepped). s.frames) (off_ticks controlling before stands few fits (omega (arith, below, earlier)))
+    → units < patience_due_in controlling.live → units < request_due_in controlling.live → NoneSends units controlling
+off_sends controlling units stands few fits lasting below before earlier =
+    ap (λ (s : Stepped). s.frames) (off_ticks controlling before stands few fits (omega (arith, lasting, earlier)) (omega (arith, below, earlier)))
+
+pub off_ends : (controlling : Controlling) (units : ℕ) → controlling.live.stands ≡ false → controlling.live.waited < 32000 → controlling.live.units < 65536
+    → units < patience_due_in controlling.live → units < request_due_in controlling.live → NoneEnds units controlling
+off_ends controlling units stands few fits lasting below before earlier =
+    ap (λ (s : Stepped). s.controller.live.phase) (off_ticks controlling before stands few fits (omega (arith, lasting, earlier)) (omega (arith, below, earlier)))
 
 pub on_state : (controlling : Controlling) (units : ℕ) → controlling.live.stands ≡ true → controlling.live.waited < 32000 → controlling.live.units < 65536
-    → units < request_due_in controlling.live → units < access_due_in controlling.live → BringNothing units controlling.live.cyclic controlling.live.alarms controlling.live.low_alarms
+    → units < patience_due_in controlling.live → units < request_due_in controlling.live → units < access_due_in controlling.live → BringNothing units controlling.live.cyclic controlling.live.alarms controlling.live.low_alarms
     → (ticks_of units controlling).controller ≡ with_live controlling (on_later units controlling.live)
-on_state controlling units stands few fits below sooner none = ap (λ (s : Stepped). s.controller) (on_ticks controlling units stands few fits below sooner none)
+on_state controlling units stands few fits lasting below sooner none = ap (λ (s : Stepped). s.controller) (on_ticks controlling units stands few fits lasting below sooner none)
 
 pub on_sends : (controlling : Controlling) (units : ℕ) → controlling.live.stands ≡ true → controlling.live.waited < 32000 → controlling.live.units < 65536
-    → units < request_due_in controlling.live → units < access_due_in controlling.live → BringNothing units controlling.live.cyclic controlling.live.alarms controlling.live.low_alarms → NoneSends units controlling
+    → units < patience_due_in controlling.live → units < request_due_in controlling.live → units < access_due_in controlling.live → BringNothing units controlling.live.cyclic controlling.live.alarms controlling.live.low_alarms → NoneSends units controlling
 unfolding BringNothing
-on_sends controlling units stands few fits below sooner none before earlier =
+on_sends controlling units stands few fits lasting below sooner none before earlier =
     ap (λ (s : Stepped). s.frames)
-    (on_ticks controlling before stands few fits (omega (arith, below, earlier)) (omega (arith, sooner, earlier)) (λ first first_below. none first (omega (arith, earlier, first_below))))
+    (on_ticks controlling before stands few fits (omega (arith, lasting, earlier)) (omega (arith, below, earlier)) (omega (arith, sooner, earlier)) (λ first first_below. none first (omega (arith, earlier, first_below))))
+
+pub on_ends : (controlling : Controlling) (units : ℕ) → controlling.live.stands ≡ true → controlling.live.waited < 32000 → controlling.live.units < 65536
+    → units < patience_due_in controlling.live → units < request_due_in controlling.live → units < access_due_in controlling.live → BringNothing units controlling.live.cyclic controlling.live.alarms controlling.live.low_alarms → NoneEnds units controlling
+unfolding BringNothing
+on_ends controlling units stands few fits lasting below sooner none before earlier =
+    ap (λ (s : Stepped). s.controller.live.phase)
+    (on_ticks controlling before stands few fits (omega (arith, lasting, earlier)) (omega (arith, below, earlier)) (omega (arith, sooner, earlier)) (λ first first_below. none first (omega (arith, earlier, first_below))))
 
 -- ---- a leap: units with which nothing is due, and then one Tick event
 
-pub leap_state : (old mid new : Controlling) (units before : ℕ) → units ≡ suc before → mid ≡ (ticks_of before old).controller → new ≡ with_live mid (ticked mid.live).live
+pub leap_state : (old mid new : Controlling) (units before : ℕ) → units ≡ suc before → mid ≡ (ticks_of before old).controller → new ≡ with_live mid (ticked mid.setup mid.live).live
     → new ≡ (ticks_of units old).controller
 leap_state old mid new units before count is ticks =
     let first = ticks_of before old in
-    ticks ∙ (ap (λ (m : Controlling). with_live m (ticked m.live).live) is
+    ticks ∙ (ap (λ (m : Controlling). with_live m (ticked m.setup m.live).live) is
     ∙ (sym (ap (λ (s : Stepped). s.controller) (tick_is first.controller)) ∙ ap (λ (n : ℕ). (ticks_of n old).controller) (sym count)))
 
 pub leap_frames : (old mid : Controlling) (frames : List (List ℕ)) (units before : ℕ) → units ≡ suc before → mid ≡ (ticks_of before old).controller → NoneSends before old
-    → frames ≡ map (bytes_of mid.setup) (ticked mid.live).sent → frames ≡ (ticks_of units old).frames
+    → frames ≡ map (bytes_of mid.setup) (ticked mid.setup mid.live).sent → frames ≡ (ticks_of units old).frames
 leap_frames old mid frames units before count is none ticks =
     let first = ticks_of before old in
     let last : frames ≡ (step_of first.controller Tick).frames =
-    ticks ∙ (ap (λ (m : Controlling). map (bytes_of m.setup) (ticked m.live).sent) is ∙ sym (ap (λ (s : Stepped). s.frames) (tick_is first.controller))) in
+    ticks ∙ (ap (λ (m : Controlling). map (bytes_of m.setup) (ticked m.setup m.live).sent) is ∙ sym (ap (λ (s : Stepped). s.frames) (tick_is first.controller))) in
     last ∙ (ap (λ (f : List (List ℕ)). f ++ (step_of first.controller Tick).frames) (sym (none before (omega arith)))
     ∙ ap (λ (n : ℕ). (ticks_of n old).frames) (sym count))
 
 pub leap_last : (controlling : Controlling) (units before : ℕ) → units ≡ suc before → NoneSends before controlling → OnlyTheLastSends units controlling
 leap_last controlling units before count none first earlier = none first (omega (arith, count, earlier))
+
+pub leap_ends : (controlling : Controlling) (units before : ℕ) → units ≡ suc before → NoneEnds before controlling → OnlyTheLastEnds units controlling
+leap_ends controlling units before count none first earlier = none first (omega (arith, count, earlier))
 
 -- ---- leaps one after another
 

@@ -1,5 +1,5 @@
 -- Several units of time at once, which do what as many Tick events do, one by one.
-use Rattle.std.specs.Prelude.{◌≡◌, ◌<◌, ◌≤◌, ◌-◌, ◌++◌, ℕ, zero, suc, min, List, [], ◌∷◌, sum, is_some, if◌then◌else◌}
+use Rattle.std.specs.Prelude.{◌≡◌, ◌==◌, ◌<◌, ◌≤◌, ◌-◌, ◌++◌, ℕ, zero, suc, min, List, [], ◌∷◌, sum, is_some, if◌then◌else◌}
 use Rattle.pn_alarms.specs.Leaps.{data_due_in, never}
 use Rattle.cyclic_exchange.specs.Leaps.{cyclic_due_in}
 use Rattle.controller_state.specs.declared.event.Event.TheVariants.{Tick}
@@ -19,9 +19,13 @@ abbrev pub exchange_due_in : Live → ℕ
 exchange_due_in live =
     if live.stands then min (access_due_in live) (min (min (cyclic_due_in live.cyclic) (data_due_in live.alarms.sending)) (data_due_in live.low_alarms.sending)) else never
 
+-- The number of units up to and with the next one with which the patience of its phase ends.
+abbrev pub patience_due_in : Live → ℕ
+patience_due_in live = if live.left == 0 then never else live.left
+
 -- The number of units up to and with the next one with which something is sent, or the controller ends.
 abbrev pub live_due_in : Live → ℕ
-live_due_in live = min (request_due_in live) (exchange_due_in live)
+live_due_in live = min (patience_due_in live) (min (request_due_in live) (exchange_due_in live))
 
 -- The controller after this many Tick events, one by one, and the frames that they send, in order.
 abbrev pub and_then : Stepped → Stepped → Stepped
@@ -37,6 +41,13 @@ NoneSends units controlling = (before : ℕ) → before ≤ units → (ticks_of 
 
 abbrev pub OnlyTheLastSends : ℕ → Controlling → Type 0
 OnlyTheLastSends units controlling = (before : ℕ) → before < units → (ticks_of before controlling).frames ≡ []
+
+-- None of these units changes the phase of the controller, and none but the last.
+abbrev pub NoneEnds : ℕ → Controlling → Type 0
+NoneEnds units controlling = (before : ℕ) → before ≤ units → (ticks_of before controlling).controller.live.phase ≡ controlling.live.phase
+
+abbrev pub OnlyTheLastEnds : ℕ → Controlling → Type 0
+OnlyTheLastEnds units controlling = (before : ℕ) → before < units → (ticks_of before controlling).controller.live.phase ≡ controlling.live.phase
 
 -- Leaps one after another, each as its own number of Tick events.
 abbrev pub leaps_of : List ℕ → Controlling → Stepped

@@ -1,5 +1,5 @@
 -- What an event does to a controller, and what is then sent (IEC 61158-6-10, 5.2; protocol machine CMCTL).
-use Rattle.std.specs.Prelude.{◌+◌, ◌%◌, ◌==◌, ◌&&◌, ◌++◌, ℕ, Bool, true, false, not, List, [], ◌∷◌, length, map, nat_lt, if◌then◌else◌, is_some, option_map, Option, Some, None}
+use Rattle.std.specs.Prelude.{◌+◌, ◌-◌, ◌%◌, ◌==◌, ◌&&◌, ◌++◌, ℕ, Bool, true, false, not, List, [], ◌∷◌, length, map, nat_lt, if◌then◌else◌, is_some, option_map, Option, Some, None}
 use Rattle.pn_values.specs.declared.mac.Mac.{Mac}
 use Rattle.frame_codec.specs.declared.udp.Caller.{Caller}
 use Rattle.dcp_core.specs.Response.{Answered}
@@ -41,11 +41,13 @@ use Rattle.controller_frames.specs.declared.record_request.RecordRequest.{Record
 use Rattle.controller_frames.specs.declared.record_request.RecordService.{RecordService}
 use Rattle.controller_frames.specs.declared.record_request.RecordService.TheVariants as service
 use Rattle.controller_frames.specs.declared.refusal.Refusal.{Refusal}
+use Rattle.controller_frames.specs.declared.setup.ControllerOptions.{ControllerOptions}
 use Rattle.controller_frames.specs.declared.setup.Setup.{Setup}
 use Rattle.controller_frames.specs.declared.request.Request.{Request}
 use Rattle.controller_frames.specs.declared.request.Request.TheVariants as asks
 use Rattle.controller_frames.specs.Heard.{Heard, Nothing, Answers, Responds, Refuses, Calls, Alarms, heard_of}
 use Rattle.controller_frames.specs.Heard.{Cyclic as Comes}
+use Rattle.controller_frames.specs.Options.{default_options}
 use Rattle.controller_frames.specs.RecordRequests.{most_record_octets}
 use Rattle.controller_frames.specs.Requests.{first_of, writing_from}
 use Rattle.controller_frames.specs.Sent.{Sent, Requests, Accesses, Agrees, Cycles, Confirms, Replies, Ends, bytes_of, ready_answer}
@@ -61,7 +63,7 @@ use Rattle.controller_state.specs.declared.event.Event.{Event}
 use Rattle.controller_state.specs.declared.event.Event.TheVariants.{Frame, Tick as Ticks, Give, Status as Rate, Read, Write, Stop}
 use Rattle.record_access.specs.Access.{answered_with, call_number, dropped, is_rejected, is_reply, made, no_access, record_in}
 use Rattle.controller_state.specs.Outputs.{awaits, change_by, iops_of, mark_at, marked}
-use Rattle.controller_state.specs.State.{Controlling, Live, with_live, phase_for}
+use Rattle.controller_state.specs.State.{Controlling, Live, is_limited, left_in, phase_for, with_live}
 use Rattle.startup_answers.specs.Answers.{is_addressed, is_answer, is_found, is_ready, is_refused, is_right, is_set_answer, ready_in}
 use Rattle.connect_answers.specs.Connect.{Chosen, chosen_of, found_in, is_whole, nothing}
 use Rattle.startup_answers.specs.declared.outcomes.Outcomes.{Outcomes}
@@ -83,9 +85,9 @@ abbrev pub stays : Live → Turn
 stays live = record { live = live; sent = [] }
 
 -- A request is sent, which is active from now on.
-abbrev pub asking : State → Request → Live → Turn
-asking phase request live = record {
-  live = record live { phase = phase; asked = Some request; waited = 0 };
+abbrev pub asking : Setup → State → Request → Live → Turn
+asking setup phase request live = record {
+  live = record live { phase = phase; asked = Some request; waited = 0; left = left_in setup.options live.left live.phase phase };
   sent = Requests live.device request ∷ [];
 }
 
@@ -93,7 +95,7 @@ asking phase request live = record {
 
 -- The controller has ended, and so has its relation. What the device reported of its diagnosis ends with it.
 abbrev pub over : Cause → Live → Live
-over cause live = record live { phase = Ended cause; asked = None; waited = 0; stands = false; cyclic = ended_of live.cyclic; access = dropped live.access; diagnosis = nothing_reported }
+over cause live = record live { phase = Ended cause; asked = None; waited = 0; left = 0; stands = false; cyclic = ended_of live.cyclic; access = dropped live.access; diagnosis = nothing_reported }
 
 -- The device refuses a call with this status: the controller has ended.
 abbrev pub denied : Status → Live → Live
@@ -101,14 +103,18 @@ denied status live = over cause.Refused (record live { refusal = Some status })
 
 -- The controller has ended, and the device is informed by a Release.
 abbrev pub released : Setup → Cause → Live → Turn
-released setup cause live = asking (Ended cause) (asks.Release (next_sequence setup.plan live.access.calls live.asked)) (over cause live)
+released setup cause live = asking setup (Ended cause) (asks.Release (next_sequence setup.plan live.access.calls live.asked)) (over cause live)
 
--- The application stops it. From the Connect on the device is informed.
+-- It is ended for this cause in this phase, unless it has ended. From the Connect on the device is informed.
+abbrev pub quit : Setup → Cause → Live → State → Turn
+quit setup cause live Looking = stays (over cause live)
+quit setup cause live Addressing = stays (over cause live)
+quit setup cause live (Ended before) = stays live
+quit setup cause live phase = released setup cause live
+
+-- The application stops it.
 abbrev pub stopped : Setup → Live → State → Turn
-stopped setup live Looking = stays (over cause.Stopped live)
-stopped setup live Addressing = stays (over cause.Stopped live)
-stopped setup live (Ended cause) = stays live
-stopped setup live phase = released setup cause.Stopped live
+stopped setup live phase = quit setup cause.Stopped live phase
 
 -- ---- DCP answers
 
@@ -117,23 +123,23 @@ abbrev pub found : Setup → Live → Mac → Answered → Turn
 found setup live source answer =
     if is_right setup.plan answer
     then (if is_addressed setup.plan answer
-    then asking Connecting asks.Connect (record live { device = source })
-    else asking Addressing asks.Address (record live { device = source }))
+    then asking setup Connecting asks.Connect (record live { device = source })
+    else asking setup Addressing asks.Address (record live { device = source }))
     else stays (over cause.WrongDevice live)
 
 -- The station accepted its address, or refused it.
-abbrev pub addressed : Live → Answered → Turn
-addressed live answer = if is_agreed answer then asking Connecting asks.Connect live else stays (over cause.Refused live)
+abbrev pub addressed : Setup → Live → Answered → Turn
+addressed setup live answer = if is_agreed answer then asking setup Connecting asks.Connect live else stays (over cause.Refused live)
 
 abbrev pub answered : Setup → Live → Mac → Answered → State → Turn
 answered setup live source answer Looking = if is_found setup.plan answer then found setup live source answer else stays live
-answered setup live source answer Addressing = if is_set_answer answer then addressed live answer else stays live
+answered setup live source answer Addressing = if is_set_answer answer then addressed setup live answer else stays live
 answered setup live source answer phase = stays live
 
 -- ---- responses
 
-abbrev pub writing : Request → Live → Turn
-writing request live = asking (phase_for request) request live
+abbrev pub writing : Setup → Request → Live → Turn
+writing setup request live = asking setup (phase_for request) request live
 
 -- The relation is established.
 abbrev pub standing : Setup → Live → Chosen → Live
@@ -146,7 +152,7 @@ standing setup live chosen = record live {
 -- After a positive answer to the Connect: an answer without all of its blocks is dropped; if a module is a wrong one the
 -- relation is released.
 abbrev pub related_by : Setup → Live → Option Chosen → Turn
-related_by setup live (Some chosen) = writing (writing_from setup.plan 0) (standing setup live chosen)
+related_by setup live (Some chosen) = writing setup (writing_from setup.plan 0) (standing setup live chosen)
 related_by setup live None = stays live
 
 abbrev pub connected_by : Setup → Live → Found → Turn
@@ -163,14 +169,18 @@ connected setup live None = stays live
 abbrev pub noted : Status → ℕ → Live → Live
 noted status number live = record live { refusal = Some status; refused_record = Some (record { number = number; status = status }) }
 
+-- The controller ends because of a record, and informs the device if the plan says so.
+abbrev pub refused_record : Setup → Live → Turn
+refused_record setup live = if setup.plan.release_on_refused_record then released setup cause.Refused live else stays (over cause.Refused live)
+
 abbrev pub past_record : Setup → ℕ → Live → Turn
 past_record setup number live =
-    if setup.plan.continue_on_refused_record then writing (writing_from setup.plan (number + 1)) live else stays (over cause.Refused live)
+    if setup.plan.continue_on_refused_record then writing setup (writing_from setup.plan (number + 1)) live else refused_record setup live
 
 -- After a positive response to a Write: the next one, if all its records were written. A response that cannot be read is
 -- dropped.
 abbrev pub after_write : Setup → Live → ℕ → Outcomes → Turn
-after_write setup live number AllWritten = writing (writing_from setup.plan (number + 1)) live
+after_write setup live number AllWritten = writing setup (writing_from setup.plan (number + 1)) live
 after_write setup live number (Denied place status) = past_record setup number (noted status (first_of setup.plan number + place) live)
 after_write setup live number Unreadable = stays live
 
@@ -180,7 +190,7 @@ done setup live blocks asks.Identify = stays live
 done setup live blocks asks.Address = stays live
 done setup live blocks asks.Connect = connected setup live (found_in 400 blocks nothing)
 done setup live blocks (asks.Write number) = after_write setup live number (outcomes_of setup.plan number blocks)
-done setup live blocks asks.PrmEnd = stays (record live { phase = Waiting; asked = None })
+done setup live blocks asks.PrmEnd = stays (record live { phase = Waiting; asked = None; left = setup.options.waiting_patience })
 done setup live blocks (asks.Release sequence) = stays (record live { asked = None })
 
 -- After a negative response.
@@ -245,11 +255,11 @@ refused setup live refusal None = stays (rejected setup live refusal live.access
 -- It is answered, and data is exchanged from then on. While data is exchanged it is answered again.
 abbrev pub readied : Live → Caller → Call → ControlBlock → State → Turn
 readied live caller call block Ending = record {
-  live = record live { phase = Exchanging; asked = None; cyclic = begun_of live.cyclic };
+  live = record live { phase = Exchanging; asked = None; left = 0; cyclic = begun_of live.cyclic };
   sent = Agrees caller (ready_answer call block) ∷ [];
 }
 readied live caller call block Waiting = record {
-  live = record live { phase = Exchanging; asked = None; cyclic = begun_of live.cyclic };
+  live = record live { phase = Exchanging; asked = None; left = 0; cyclic = begun_of live.cyclic };
   sent = Agrees caller (ready_answer call block) ∷ [];
 }
 readied live caller call block Exchanging = record { live = live; sent = Agrees caller (ready_answer call block) ∷ [] }
@@ -357,9 +367,13 @@ turned setup live (Alarms source under header notice) = alarmed live source unde
 abbrev pub is_again : Live → Bool
 is_again live = live.waited + 1 == 32000
 
--- The timer of the request and CycleCounter a unit later.
+-- The timer of the request, the patience of the phase, and CycleCounter a unit later.
 abbrev pub later : Live → Live
-later live = record live { waited = if is_again live then 0 else live.waited + 1; units = (live.units + 1) % 65536 }
+later live = record live { waited = if is_again live then 0 else live.waited + 1; left = live.left - 1; units = (live.units + 1) % 65536 }
+
+-- The patience of the phase ends with this unit.
+abbrev pub is_spent : Live → Bool
+is_spent live = is_limited live.phase && live.left == 1
 
 -- What is sent if it is due.
 abbrev pub where_due : Bool → List Sent → List Sent
@@ -439,9 +453,10 @@ gone_on live is_request =
     then flowed (exchange_later live) (due live.alarms.sending) (due live.low_alarms.sending) is_request (brought live) (brought live).ending
     else record { live = live; sent = where_due is_request (requests_of live.device live.asked) }
 
--- A unit passes: what is due of the relation, if it is established, and the request again.
-abbrev pub ticked : Live → Turn
-ticked live = gone_on (later live) (is_again live)
+-- A unit passes: if the patience of the phase ends, the controller ends, and nothing else is sent. Otherwise what is due of the
+-- relation, if it is established, and the request again.
+abbrev pub ticked : Setup → Live → Turn
+ticked setup live = if is_spent live then quit setup cause.NoProgress (later live) live.phase else gone_on (later live) (is_again live)
 
 -- ---- events
 
@@ -518,7 +533,7 @@ written setup live slot subslot index octets =
 
 abbrev pub turn_of : Setup → Live → Event → Turn
 turn_of setup live (Frame bytes) = turned setup live (heard_of setup.plan.controller bytes.items)
-turn_of setup live Ticks = ticked live
+turn_of setup live Ticks = ticked setup live
 turn_of setup live (Give slot subslot value) = stays (given live slot subslot value.items)
 turn_of setup live (Rate slot subslot is_good) = stays (rated live slot subslot is_good)
 turn_of setup live (Read slot subslot index) = requested setup live service.Read slot subslot index []
@@ -534,6 +549,7 @@ first plan = record {
   device = nobody;
   asked = Some asks.Identify;
   waited = 0;
+  left = 0;
   units = 0;
   stands = false;
   deviates = false;
@@ -551,9 +567,12 @@ first plan = record {
   diagnosis = nothing_reported;
 }
 
--- The controller of a plan, with this ARUUID and this activity.
+-- The controller of a plan, with this ARUUID, this activity and these options; and without options.
+abbrev pub fresh_with : Parts → List ℕ → List ℕ → ControllerOptions → Controlling
+fresh_with plan ar activity options = record { setup = record { plan = plan; ar = ar; activity = activity; options = options }; live = first plan }
+
 abbrev pub fresh : Parts → List ℕ → List ℕ → Controlling
-fresh plan ar activity = record { setup = record { plan = plan; ar = ar; activity = activity }; live = first plan }
+fresh plan ar activity = fresh_with plan ar activity default_options
 
 -- Its opening frame: the Identify.
 unfoldable pub opening_of : Controlling → List ℕ

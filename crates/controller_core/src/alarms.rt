@@ -182,6 +182,7 @@ impl Controller {
         // An ended controller does not need the answer to its request, and does not repeat it.
         self.asked = None;
         self.waited = 0;
+        self.left = 0;
         self.stands = false;
         self.exchange.end();
         self.access.drop_waiting();

@@ -3,13 +3,13 @@ ghost use Rattle.std.specs.Prelude.{◌≡◌, ◌≤◌, IfSome, [], ◌∷◌,
 ghost use Rattle.cyclic_exchange.specs.Process.{value_at};
 ghost use Rattle.frame_codec.specs.Outbox.{boxed};
 ghost use Rattle.record_access.specs.Access.{record_of};
-ghost use Rattle.controller_core.specs.Machine.{can_request, end_of, fresh, opening_of, provider_of, report_in};
+ghost use Rattle.controller_core.specs.Machine.{can_request, end_of, fresh, fresh_with, opening_of, provider_of, report_in};
 
 use crate::{RefusedRecord, State};
 use alarm_reports::{Priority, Report};
 use arrayvec::ArrayVec;
 use block_codec::AlarmNotification;
-use controller_frames::{RecordRequest, Request, Setup, send_request};
+use controller_frames::{ControllerOptions, RecordRequest, Request, Setup, send_request};
 use controller_state::{KeptAlarm, OutputMark, open};
 use cyclic_exchange::{CyclicExchange, ProviderStatus};
 use frame_codec::{Frame, Outbox};
@@ -31,6 +31,8 @@ pub struct Controller {
     pub(crate) asked: Option<Request>,
     /// The units since it was sent.
     pub(crate) waited: u32,
+    /// The units that the phase may still last, 0 without a limit.
+    pub(crate) left: u32,
     /// The units since the controller was made, modulo 65,536.
     pub(crate) units: u16,
     /// Whether the relation is established.
@@ -72,6 +74,7 @@ impl Model for Controller {
         device = controller.device;
         asked = controller.asked;
         waited = controller.waited;
+        left = controller.left;
         units = controller.units;
         stands = controller.stands;
         deviates = controller.deviates;
@@ -94,19 +97,36 @@ impl Model for Controller {
 }
 
 impl Controller {
-    /// The controller of a plan, with the ARUUID of its relation, which is not zero, and the activity of its calls. Its
-    /// opening frame counts as sent.
+    /// The controller of a plan, with the ARUUID of its relation, which is not zero, and the activity of its calls. It has no
+    /// patience: no state has a limit. Its opening frame counts as sent.
     pub fn new(plan: Plan, ar: Uuid, activity: Uuid) -> Controller
         ensures { result ≡ fresh plan ar activity }
     {
-        Controller::of(Setup { plan, ar, activity })
+        Controller::of(Setup {
+            plan,
+            ar,
+            activity,
+            options: ControllerOptions::default(),
+        })
+    }
+
+    /// The same with options.
+    pub fn new_with(plan: Plan, ar: Uuid, activity: Uuid, options: ControllerOptions) -> Controller
+        ensures { result ≡ fresh_with plan ar activity options }
+    {
+        Controller::of(Setup {
+            plan,
+            ar,
+            activity,
+            options,
+        })
     }
 
     /// The controller of a plan before it starts. It is small to make, so it can be written where it stays: `start` then
     /// completes it in place.
     #[inline(always)]
-    pub fn unstarted(plan: Plan, ar: Uuid, activity: Uuid) -> Controller
-        ensures { result.setup ≡ record { plan = plan; ar = ar; activity = activity } }
+    pub fn unstarted(plan: Plan, ar: Uuid, activity: Uuid, options: ControllerOptions) -> Controller
+        ensures { result.setup ≡ record { plan = plan; ar = ar; activity = activity; options = options } }
     {
         // In this order the plan is copied once less.
         let alarms = ControllerAlarms::new(RTA_TIMEOUT_FACTOR, RTA_RETRIES);
@@ -117,6 +137,7 @@ impl Controller {
             device: Mac { octets: [0; 6] },
             asked: None,
             waited: 0,
+            left: 0,
             units: 0,
             stands: false,
             deviates: false,
@@ -129,19 +150,25 @@ impl Controller {
             low_alarm: None,
             access: Access::new(),
             diagnosis: ReportedDiagnoses::new(),
-            setup: Setup { plan, ar, activity },
+            setup: Setup {
+                plan,
+                ar,
+                activity,
+                options,
+            },
         }
     }
 
-    /// Starts in place, in any state: the controller is then as `new` makes it from the same plan. Its opening frame counts
-    /// as sent.
+    /// Starts in place, in any state: the controller is then as `new_with` makes it from the same plan and options. Its opening
+    /// frame counts as sent.
     pub fn start(&mut self)
-        ensures { self.new ≡ fresh self.old.setup.plan self.old.setup.ar self.old.setup.activity }
+        ensures { self.new ≡ fresh_with self.old.setup.plan self.old.setup.ar self.old.setup.activity self.old.setup.options }
     {
         self.phase = State::Looking;
         self.device = Mac { octets: [0; 6] };
         self.asked = Some(Request::Identify);
         self.waited = 0;
+        self.left = 0;
         self.units = 0;
         self.stands = false;
         self.deviates = false;
@@ -160,7 +187,7 @@ impl Controller {
     /// a controller.
     #[inline(never)]
     fn of(setup: Setup) -> Controller
-        ensures { result ≡ fresh setup.plan setup.ar setup.activity }
+        ensures { result ≡ fresh_with setup.plan setup.ar setup.activity setup.options }
     {
         // The exchange is large: it is opened before the controller is written, which is then written once, where the
         // caller has room for it.
@@ -173,6 +200,7 @@ impl Controller {
             device: Mac { octets: [0; 6] },
             asked: Some(Request::Identify),
             waited: 0,
+            left: 0,
             units: 0,
             stands: false,
             deviates: false,
@@ -223,6 +251,20 @@ impl Controller {
         ensures { result ≡ self.now.setup.ar }
     {
         self.setup.ar
+    }
+
+    /// Its options.
+    pub fn options(&self) -> ControllerOptions
+        ensures { result ≡ self.now.setup.options }
+    {
+        self.setup.options
+    }
+
+    /// The units that its state may still last before it ends with `Cause::NoProgress`, 0 without a limit.
+    pub fn left(&self) -> u32
+        ensures { result ≡ self.now.live.left }
+    {
+        self.left
     }
 
     /// The state of the controller.

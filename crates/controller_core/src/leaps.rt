@@ -1,7 +1,7 @@
 //! Several units of time at once.
 ghost use Rattle.std.specs.Prelude.{◌≡◌, ◌<◌, ◌≤◌};
 ghost use Rattle.frame_codec.specs.Outbox.{boxed};
-ghost use Rattle.controller_core.specs.Leaps.{LeapsAreTicks, NoneSends, OnlyTheLastSends, access_due_in, exchange_due_in, live_due_in, request_due_in, ticks_of};
+ghost use Rattle.controller_core.specs.Leaps.{LeapsAreTicks, NoneEnds, NoneSends, OnlyTheLastEnds, OnlyTheLastSends, access_due_in, exchange_due_in, live_due_in, patience_due_in, request_due_in, ticks_of};
 
 use crate::Controller;
 use controller_state::{SECOND, counter_later, waited_later};
@@ -15,7 +15,16 @@ impl Controller {
         ensures value { result ≡ live_due_in self.now.live }
         ensures some { 0 < result }
     {
-        self.request_due_in().min(self.exchange_due_in())
+        self.patience_due_in()
+            .min(self.request_due_in().min(self.exchange_due_in()))
+    }
+
+    // The number of units up to and with the next one with which the patience of its phase ends.
+    fn patience_due_in(&self) -> u32
+        ensures value { result ≡ patience_due_in self.now.live }
+        ensures some { 0 < result }
+    {
+        if self.left == 0 { NEVER } else { self.left }
     }
 
     // The number of units up to and with the next one with which the request is sent again.
@@ -63,10 +72,12 @@ impl Controller {
     /// appends the frames to be sent. It does what as many Tick events do, one by one.
     pub fn elapse(&mut self, units: u32, outbox: &mut Outbox)
         requires { units ≤ live_due_in self.old.live }
-        // The controller and the frames are those after that many Tick events. Only the last of them may send.
+        // The controller and the frames are those after that many Tick events. Only the last of them may send, or end the
+        // controller.
         ensures state { self.new ≡ (ticks_of units self.old).controller }
         ensures frames { boxed outbox.new ≡ (ticks_of units self.old).frames }
         ensures last { OnlyTheLastSends units self.old }
+        ensures ends { OnlyTheLastEnds units self.old }
     {
         outbox.clear();
         if units == 0 {
@@ -81,9 +92,11 @@ impl Controller {
         requires { units < live_due_in self.old.live }
         ensures state { self.new ≡ (ticks_of units self.old).controller }
         ensures none { NoneSends units self.old }
+        ensures phase { NoneEnds units self.old }
     {
         self.units = counter_later(self.units, units);
         self.waited = waited_later(self.waited, units);
+        self.left = self.left.saturating_sub(units);
         if !self.stands {
             return;
         }

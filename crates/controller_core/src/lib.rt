@@ -13,7 +13,7 @@ mod step;
 
 pub use alarm_reports::{Priority, Report};
 pub use controller::Controller;
-pub use controller_frames::{MOST_RECORD_OCTETS, RecordRequest, RecordService};
+pub use controller_frames::{ControllerOptions, MOST_RECORD_OCTETS, RecordRequest, RecordService};
 pub use controller_state::{Cause, Event, RefusedRecord, State};
 pub use cyclic_exchange::ProviderStatus;
 pub use leaps::leaps_are_ticks;

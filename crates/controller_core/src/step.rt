@@ -8,14 +8,15 @@ ghost use Rattle.controller_frames.specs.Heard.{heard_of, heard_real_time as hea
 ghost use Rattle.controller_frames.specs.Sent.{bytes_of};
 ghost use Rattle.controller_frames.specs.Reported.{reported};
 ghost use Rattle.connect_answers.specs.Connect.{chosen_by, nothing, found_in as all_found};
+ghost use Rattle.controller_state.specs.declared.state.Cause.TheVariants.{NoProgress};
 ghost use Rattle.controller_state.specs.State.{with_live};
 ghost use Rattle.controller_core.specs.Machine.{accesses_of, accessing, failed, granted, pending_of, rejected, replied, replied_by, requested, written};
 ghost use Rattle.controller_core.specs.Machine.{acks_of, addressed, alarmed, answered, asking, called, come, connected, connected_by};
 ghost use Rattle.controller_core.specs.Machine.{brought, decided, denied, done, due_frames, ended_by, exchange_later, flowed, found, given};
 ghost use Rattle.controller_core.specs.Machine.{after_write, gone_on, is_again, handled, later, noted, outputs_of, past_record};
-ghost use Rattle.controller_core.specs.Machine.{rated, readied, refused, refused_by, related_by, released, remarked, requests_of, responded, step_of};
+ghost use Rattle.controller_core.specs.Machine.{rated, readied, refused, refused_by, refused_record as ended_by_record, related_by, released, remarked, requests_of, responded, step_of};
 ghost use Rattle.startup_answers.specs.Answers.{ready_in as block_of_ready};
-ghost use Rattle.controller_core.specs.Machine.{stopped, ticked, turned, undone, where_due, writing};
+ghost use Rattle.controller_core.specs.Machine.{is_spent, quit, ticked, turned, undone, where_due, writing};
 ghost use Rattle.frame_codec.specs.Outbox.{boxed};
 ghost use Rattle.pn_alarms.specs.Sending.{due};
 ghost use Rattle.pn_alarms.specs.Sending.{is_again as is_repeated};
@@ -30,7 +31,8 @@ use controller_frames::{
     send_record_request, send_request,
 };
 use controller_state::{
-    SECOND, awaits, cause_of, change, header_of, iops_in, is_alarm, phase_for, route_of,
+    SECOND, awaits, cause_of, change, header_of, iops_in, is_alarm, is_limited, left_in, phase_for,
+    route_of,
 };
 use cyclic_data::Provider;
 use cyclic_exchange::Tick;
@@ -74,16 +76,17 @@ impl Controller {
             Event::Write(slot, subslot, index, octets) => {
                 self.write_record(*slot, *subslot, *index, octets.as_slice(), outbox)
             }
-            Event::Stop => self.stop(outbox),
+            Event::Stop => self.quit(Cause::Stopped, outbox),
         }
     }
 
     // Sends a request, which is active from now on.
     fn ask(&mut self, phase: State, request: Request, outbox: &mut Outbox)
         requires empty { outbox.old.items ≡ [] }
-        ensures state { self.new ≡ with_live self.old (asking phase request self.old.live).live }
-        ensures frames { boxed outbox.new ≡ map (bytes_of self.old.setup) (asking phase request self.old.live).sent }
+        ensures state { self.new ≡ with_live self.old (asking self.old.setup phase request self.old.live).live }
+        ensures frames { boxed outbox.new ≡ map (bytes_of self.old.setup) (asking self.old.setup phase request self.old.live).sent }
     {
+        self.left = left_in(&self.setup.options, self.left, self.phase, phase);
         self.phase = phase;
         self.asked = Some(request);
         self.waited = 0;
@@ -101,23 +104,23 @@ impl Controller {
         self.ask(State::Ended(cause), Request::Release(sequence), outbox);
     }
 
-    // The application stops the controller.
+    // Ends the controller for this cause, unless it has ended.
     #[inline(never)]
-    fn stop(&mut self, outbox: &mut Outbox)
+    fn quit(&mut self, cause: Cause, outbox: &mut Outbox)
         requires empty { outbox.old.items ≡ [] }
-        ensures state { self.new ≡ with_live self.old (stopped self.old.setup self.old.live self.old.live.phase).live }
-        ensures frames { boxed outbox.new ≡ map (bytes_of self.old.setup) (stopped self.old.setup self.old.live self.old.live.phase).sent }
+        ensures state { self.new ≡ with_live self.old (quit self.old.setup cause self.old.live self.old.live.phase).live }
+        ensures frames { boxed outbox.new ≡ map (bytes_of self.old.setup) (quit self.old.setup cause self.old.live self.old.live.phase).sent }
     {
         match self.phase {
             // No relation was asked for yet, so there is no device to inform.
-            State::Looking | State::Addressing => self.end(Cause::Stopped),
+            State::Looking | State::Addressing => self.end(cause),
             // The first cause is kept: an engineer looks for what ended the relation.
             State::Ended(_) => {}
             State::Connecting
             | State::Writing
             | State::Ending
             | State::Waiting
-            | State::Exchanging => self.release(Cause::Stopped, outbox),
+            | State::Exchanging => self.release(cause, outbox),
         }
     }
 
@@ -340,8 +343,8 @@ impl Controller {
     // The answer to the Set of the IP suite.
     fn hear_set(&mut self, answer: &dcp_core::Response<'_>, outbox: &mut Outbox)
         requires empty { outbox.old.items ≡ [] }
-        ensures state { self.new ≡ with_live self.old (addressed self.old.live (answered_as answer.now)).live }
-        ensures frames { boxed outbox.new ≡ map (bytes_of self.old.setup) (addressed self.old.live (answered_as answer.now)).sent }
+        ensures state { self.new ≡ with_live self.old (addressed self.old.setup self.old.live (answered_as answer.now)).live }
+        ensures frames { boxed outbox.new ≡ map (bytes_of self.old.setup) (addressed self.old.setup self.old.live (answered_as answer.now)).sent }
     {
         if answer.is_positive() {
             self.ask(State::Connecting, Request::Connect, outbox);
@@ -491,6 +494,19 @@ impl Controller {
             let next = request_behind(&self.setup.plan, number);
             self.write(next, outbox);
         } else {
+            self.end_by_record(outbox);
+        }
+    }
+
+    // Ends because of a record, and informs the device if the plan says so: it has established the relation.
+    fn end_by_record(&mut self, outbox: &mut Outbox)
+        requires empty { outbox.old.items ≡ [] }
+        ensures state { self.new ≡ with_live self.old (ended_by_record self.old.setup self.old.live).live }
+        ensures frames { boxed outbox.new ≡ map (bytes_of self.old.setup) (ended_by_record self.old.setup self.old.live).sent }
+    {
+        if self.setup.plan.release_on_refused_record() {
+            self.release(Cause::Refused, outbox);
+        } else {
             self.end(Cause::Refused);
         }
     }
@@ -560,6 +576,7 @@ impl Controller {
             Request::PrmEnd => {
                 self.phase = State::Waiting;
                 self.asked = None;
+                self.left = self.setup.options.waiting_patience;
             }
             // Not reached: `decide` has handled the response to a Release, with any status.
             Request::Release(_) => self.asked = None,
@@ -589,8 +606,8 @@ impl Controller {
     // Writes records, or ends the parameters.
     fn write(&mut self, request: Request, outbox: &mut Outbox)
         requires empty { outbox.old.items ≡ [] }
-        ensures state { self.new ≡ with_live self.old (writing request self.old.live).live }
-        ensures frames { boxed outbox.new ≡ map (bytes_of self.old.setup) (writing request self.old.live).sent }
+        ensures state { self.new ≡ with_live self.old (writing self.old.setup request self.old.live).live }
+        ensures frames { boxed outbox.new ≡ map (bytes_of self.old.setup) (writing self.old.setup request self.old.live).sent }
     {
         self.ask(phase_for(request), request, outbox);
     }
@@ -686,6 +703,7 @@ impl Controller {
             State::Ending | State::Waiting => {
                 self.phase = State::Exchanging;
                 self.asked = None;
+                self.left = 0;
                 self.exchange.begin();
                 send_ready_answer(&self.setup, caller, call, block, outbox);
             }
@@ -733,6 +751,7 @@ impl Controller {
     {
         // CycleCounter counts units from the start on, in all states, and wraps around as the field does.
         self.units = self.units.wrapping_add(1);
+        self.left = self.left.saturating_sub(1);
         if self.waited + 1 == SECOND {
             self.waited = 0;
             true
@@ -759,8 +778,43 @@ impl Controller {
     #[inline(always)]
     pub(crate) fn tick(&mut self, outbox: &mut Outbox)
         requires empty { outbox.old.items ≡ [] }
-        ensures state { self.new ≡ with_live self.old (ticked self.old.live).live }
-        ensures frames { boxed outbox.new ≡ map (bytes_of self.old.setup) (ticked self.old.live).sent }
+        ensures state { self.new ≡ with_live self.old (ticked self.old.setup self.old.live).live }
+        ensures frames { boxed outbox.new ≡ map (bytes_of self.old.setup) (ticked self.old.setup self.old.live).sent }
+    {
+        if self.is_spent() {
+            return self.lose_patience(outbox);
+        }
+        self.go_on_ticking(outbox)
+    }
+
+    // Whether the patience of the phase ends with this unit.
+    #[inline(always)]
+    fn is_spent(&self) -> bool
+        ensures { result ≡ is_spent self.now.live }
+    {
+        self.left == 1 && is_limited(self.phase)
+    }
+
+    // A unit with which the patience of the phase ends.
+    #[inline(never)]
+    fn lose_patience(&mut self, outbox: &mut Outbox)
+        requires empty { outbox.old.items ≡ [] }
+        ensures state { self.new
+            ≡ with_live self.old (quit self.old.setup NoProgress (later self.old.live) self.old.live.phase).live }
+        ensures frames { boxed outbox.new
+            ≡ map (bytes_of self.old.setup) (quit self.old.setup NoProgress (later self.old.live) self.old.live.phase).sent }
+    {
+        let _ = self.pass();
+        self.quit(Cause::NoProgress, outbox);
+    }
+
+    // A unit with which the patience of the phase does not end.
+    #[inline(always)]
+    fn go_on_ticking(&mut self, outbox: &mut Outbox)
+        requires empty { outbox.old.items ≡ [] }
+        ensures state { self.new ≡ with_live self.old (gone_on (later self.old.live) (is_again self.old.live)).live }
+        ensures frames { boxed outbox.new
+            ≡ map (bytes_of self.old.setup) (gone_on (later self.old.live) (is_again self.old.live)).sent }
     {
         if self.pass() {
             return self.ask_again(outbox);

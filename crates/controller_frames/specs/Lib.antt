@@ -1,4 +1,5 @@
 pub mod Heard
+pub mod Options
 pub mod RecordRequests
 pub mod Refusal
 pub mod Reported

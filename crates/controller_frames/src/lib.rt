@@ -26,5 +26,5 @@ pub use record_request::{MOST_RECORD_OCTETS, RecordRequest, RecordService, send_
 pub use refusal::Refusal;
 pub use request::Request;
 pub use requests::send_request;
-pub use setup::Setup;
+pub use setup::{ControllerOptions, Setup};
 pub use writes::{first_of, group_of, write_count};

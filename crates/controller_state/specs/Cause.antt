@@ -1,7 +1,7 @@
 -- The numbers of the causes.
 use Rattle.std.specs.Prelude.{ℕ}
 use Rattle.controller_state.specs.declared.state.Cause.{Cause}
-use Rattle.controller_state.specs.declared.state.Cause.TheVariants.{WrongDevice, Refused, ModuleDiff, DataHold, Aborted, AlarmRetries, Stopped}
+use Rattle.controller_state.specs.declared.state.Cause.TheVariants.{WrongDevice, Refused, ModuleDiff, DataHold, Aborted, AlarmRetries, Stopped, NoProgress}
 use Rattle.pn_alarms.specs.declared.abort.Abort.{Abort}
 use Rattle.pn_alarms.specs.declared.abort.Abort.TheVariants as reason
 use Rattle.controller_state.specs.declared.state.Cause.TheVariants as cause
@@ -14,6 +14,7 @@ number_of DataHold = 4
 number_of Aborted = 5
 number_of AlarmRetries = 6
 number_of Stopped = 7
+number_of NoProgress = 8
 
 -- Why the controller ends with the relation.
 abbrev pub cause_of : Abort → Cause

@@ -16,4 +16,4 @@ pub use event::Event;
 pub use kept::{KeptAlarm, ack_of};
 pub use opening::{open, route_of};
 pub use outputs::{OutputMark, awaits, change, iops_in};
-pub use state::{Cause, RefusedRecord, State, cause_of, phase_for};
+pub use state::{Cause, RefusedRecord, State, cause_of, is_limited, left_in, phase_for};

@@ -1,9 +1,9 @@
 // The state of a controller, and why it ended.
 ghost use Rattle.std.specs.Prelude.{◌≡◌};
 ghost use Rattle.controller_state.specs.Cause.{cause_of, number_of};
-ghost use Rattle.controller_state.specs.State.{phase_for};
+ghost use Rattle.controller_state.specs.State.{is_limited, is_writing, left_in, patience_in, phase_for};
 
-use controller_frames::Request;
+use controller_frames::{ControllerOptions, Request};
 use pn_alarms::Abort;
 use rpc_core::Status;
 
@@ -24,10 +24,12 @@ pub enum Cause {
     AlarmRetries = 6,
     /// The application stopped the controller.
     Stopped = 7,
+    /// A state lasted as long as its patience: its answer, or ApplicationReady, did not come in time.
+    NoProgress = 8,
 }
 
 impl Cause {
-    /// The number of this cause, 1 to 7.
+    /// The number of this cause, 1 to 8.
     pub fn number(self) -> u8
         ensures { result ≡ number_of self }
     {
@@ -72,6 +74,56 @@ pub fn phase_for(request: Request) -> State
     match request {
         Request::Write(_) => State::Writing,
         _ => State::Ending,
+    }
+}
+
+/// The units that this state may last, 0 without a limit.
+fn patience_in(options: &ControllerOptions, state: State) -> u32
+    ensures { result ≡ patience_in options.now state }
+{
+    match state {
+        State::Addressing | State::Connecting | State::Writing | State::Ending => options.patience,
+        State::Waiting => options.waiting_patience,
+        State::Looking | State::Exchanging | State::Ended(_) => 0,
+    }
+}
+
+/// The units that the next state may still last, if the state before it may last this many more. All Writes together are
+/// one state.
+pub fn left_in(options: &ControllerOptions, left: u32, before: State, next: State) -> u32
+    ensures { result ≡ left_in options.now left before next }
+{
+    if is_writing(before) && is_writing(next) {
+        left
+    } else {
+        patience_in(options, next)
+    }
+}
+
+/// Whether records are written.
+fn is_writing(state: State) -> bool
+    ensures { result ≡ is_writing state }
+{
+    match state {
+        State::Writing => true,
+        State::Looking
+        | State::Addressing
+        | State::Connecting
+        | State::Ending
+        | State::Waiting
+        | State::Exchanging
+        | State::Ended(_) => false,
+    }
+}
+
+/// Whether this state has a limit if the options set one.
+pub fn is_limited(state: State) -> bool
+    ensures { result ≡ is_limited state }
+{
+    match state {
+        State::Addressing | State::Connecting | State::Writing | State::Ending | State::Waiting =>
+            true,
+        State::Looking | State::Exchanging | State::Ended(_) => false,
     }
 }
 

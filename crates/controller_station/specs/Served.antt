@@ -7,10 +7,10 @@ use Rattle.frame_codec.specs.declared.arp.Arp.{Arp}
 use Rattle.services.specs.State.{broadcast, frames_in}
 use Rattle.services.specs.Answer.{answer_to, is_request}
 use Rattle.plans.specs.declared.parts.Controller.{Controller}
-use Rattle.plans.specs.declared.parts.Parts.{Parts}
+use Rattle.controller_frames.specs.declared.setup.Setup.{Setup}
 use Rattle.controller_state.specs.declared.event.Event.{Event}
 use Rattle.controller_state.specs.declared.event.Event.TheVariants.{Frame, Tick, Give, Status, Read, Write, Stop}
-use Rattle.controller_core.specs.Machine.{fresh}
+use Rattle.controller_core.specs.Machine.{first}
 use Rattle.controller_state.specs.State.{Controlling}
 use Rattle.controller_station.specs.Beside.{Beside, beside_at, heard, sent_by_tick, ticked}
 
@@ -45,9 +45,9 @@ only answer = record { controller = []; services = frames_in answer }
 abbrev pub by_services : List ℕ → Frames
 by_services frame = record { controller = []; services = frame ∷ [] }
 
--- The controller of a plan, with this ARUUID and this activity, and what is beside the controller of the plan.
-abbrev pub begun : Parts → List ℕ → List ℕ → Served
-begun plan ar activity = record { controller = fresh plan ar activity; services = beside_at plan.controller }
+-- The controller of this configuration at its start, and what is beside the controller of its plan.
+abbrev pub begun : Setup → Served
+begun setup = record { controller = record { setup = setup; live = first setup.plan }; services = beside_at setup.plan.controller }
 
 -- ---- a step of what is beside
 

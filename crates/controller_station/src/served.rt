@@ -8,6 +8,8 @@ ghost use Rattle.lldp.specs.State.{Known};
 ghost use Rattle.lldp.specs.Views.{peer_as};
 ghost use Rattle.services.specs.Answer.{answer_to, arp_reply_of};
 ghost use Rattle.controller_frames.specs.Heard.{Nothing, heard_of};
+ghost use Rattle.controller_frames.specs.Options.{default_options};
+ghost use Rattle.controller_core.specs.Leaps.{OnlyTheLastEnds};
 ghost use Rattle.controller_core.specs.Machine.{opening_of, step_of};
 ghost use Rattle.controller_state.specs.declared.event.Event.TheVariants.{Frame as Framed};
 ghost use Rattle.controller_station.specs.Beside.{beside_at, due_in, ticks_of};
@@ -15,7 +17,7 @@ ghost use Rattle.controller_station.specs.Served.{after_frame, begun, beside, be
 ghost use Rattle.controller_station.specs.Leaps.{OnlyTheLastSends, sent_beside, sent_by, served_due_in, ticked_by};
 
 use crate::{ControllerServices, ServedOutbox};
-use controller_core::{Controller, Event};
+use controller_core::{Controller, ControllerOptions, Event};
 use frame_codec::{Frame, Outbox};
 use lldp::Neighbour;
 use plans::Plan;
@@ -48,7 +50,7 @@ impl ServedController {
     /// The controller of a plan, with the ARUUID of its relation, which is not zero, and the activity of its calls, and
     /// what is beside the controller of the plan. Its opening frame counts as sent.
     pub fn new(plan: Plan, ar: Uuid, activity: Uuid) -> ServedController
-        ensures { result ≡ begun plan ar activity }
+        ensures { result ≡ begun (record { plan = plan; ar = ar; activity = activity; options = default_options }) }
     {
         ServedController {
             services: services_of(&plan),
@@ -56,22 +58,42 @@ impl ServedController {
         }
     }
 
-    /// The controller of a plan before it starts, and what is beside it. It is small to make, so it can be written where it
-    /// stays: `start` then completes it in place.
-    #[inline(always)]
-    pub fn unstarted(plan: Plan, ar: Uuid, activity: Uuid) -> ServedController
-        ensures { result.controller.setup ≡ record { plan = plan; ar = ar; activity = activity } }
+    /// The same with options of the controller.
+    pub fn new_with(
+        plan: Plan,
+        ar: Uuid,
+        activity: Uuid,
+        options: ControllerOptions,
+    ) -> ServedController
+        ensures { result ≡ begun (record { plan = plan; ar = ar; activity = activity; options = options }) }
     {
         ServedController {
             services: services_of(&plan),
-            controller: Controller::unstarted(plan, ar, activity),
+            controller: Controller::new_with(plan, ar, activity, options),
         }
     }
 
-    /// Starts in place, in any state: both are then as `new` makes them from the same plan. Its opening frame counts as
-    /// sent.
+    /// The controller of a plan before it starts, and what is beside it. It is small to make, so it can be written where it
+    /// stays: `start` then completes it in place.
+    #[inline(always)]
+    pub fn unstarted(
+        plan: Plan,
+        ar: Uuid,
+        activity: Uuid,
+        options: ControllerOptions,
+    ) -> ServedController
+        ensures { result.controller.setup ≡ record { plan = plan; ar = ar; activity = activity; options = options } }
+    {
+        ServedController {
+            services: services_of(&plan),
+            controller: Controller::unstarted(plan, ar, activity, options),
+        }
+    }
+
+    /// Starts in place, in any state: both are then as `new_with` makes them from the same plan and options. Its opening frame
+    /// counts as sent.
     pub fn start(&mut self)
-        ensures { self.new ≡ begun self.old.controller.setup.plan self.old.controller.setup.ar self.old.controller.setup.activity }
+        ensures { self.new ≡ begun self.old.controller.setup }
     {
         self.controller.start();
         self.services = services_of(self.controller.plan());
@@ -170,6 +192,8 @@ impl ServedController {
         ensures state { self.new ≡ ticked_by units self.old }
         ensures frames { outbox.new ≡ sent_by units self.old }
         ensures last { OnlyTheLastSends units self.old }
+        // Only the last of them may end the controller.
+        ensures ends { OnlyTheLastEnds units self.old.controller }
     {
         self.controller.elapse(units, &mut outbox.controller);
         pass_beside(&mut self.services, units, &mut outbox.services);

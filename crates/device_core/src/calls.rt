@@ -177,6 +177,7 @@ impl<F: Flash<S>, const S: usize> Device<F, S> {
     }
 
     // Each operation except a Write: state, frames and note are those of `handled_new .. OPERATION`.
+    #[inline(never)]
     fn connect(&mut self, serving: &Serving<'_>, outbox: &mut Outbox) -> Note
         requires operation { serving.now.operation ≡ operation.Connect }
         requires empty { outbox.old.items ≡ [] }
@@ -211,6 +212,7 @@ impl<F: Flash<S>, const S: usize> Device<F, S> {
         Note::Done
     }
 
+    #[inline(never)]
     fn release(&mut self, serving: &Serving<'_>, outbox: &mut Outbox) -> Note
         requires operation { serving.now.operation ≡ operation.Release }
         requires empty { outbox.old.items ≡ [] }
@@ -233,6 +235,7 @@ impl<F: Flash<S>, const S: usize> Device<F, S> {
 
     // A PrmEnd that is accepted is answered, and then ApplicationReady is sent, unless the application says when it is
     // ready.
+    #[inline(never)]
     fn control(&mut self, serving: &Serving<'_>, outbox: &mut Outbox) -> Note
         requires operation { serving.now.operation ≡ operation.Control }
         requires empty { outbox.old.items ≡ [] }
@@ -254,6 +257,7 @@ impl<F: Flash<S>, const S: usize> Device<F, S> {
         Note::Done
     }
 
+    #[inline(never)]
     fn read(&mut self, serving: &Serving<'_>, outbox: &mut Outbox) -> Note
         requires operation { serving.now.operation ≡ operation.Read }
         requires empty { outbox.old.items ≡ [] }
@@ -289,6 +293,7 @@ impl<F: Flash<S>, const S: usize> Device<F, S> {
     }
 
     // Anybody may read in this way. If the call names the relation, it shows that the controller is alive.
+    #[inline(never)]
     fn read_implicit(&mut self, serving: &Serving<'_>, outbox: &mut Outbox) -> Note
         requires operation { serving.now.operation ≡ operation.ReadImplicit }
         requires empty { outbox.old.items ≡ [] }
@@ -326,6 +331,7 @@ impl<F: Flash<S>, const S: usize> Device<F, S> {
     }
 
     // A Write: an I&M text is stored in the flash, a parameter record is kept in the relation.
+    #[inline(never)]
     fn write(&mut self, serving: &Serving<'_>, outbox: &mut Outbox) -> Note
         requires operation { serving.now.operation ≡ operation.Write }
         requires stored { Holds (F.image self.old.flash) self.old.live.values }
@@ -344,6 +350,7 @@ impl<F: Flash<S>, const S: usize> Device<F, S> {
     }
 
     // One record.
+    #[inline(never)]
     fn write_one(&mut self, serving: &Serving<'_>, write: Write, outbox: &mut Outbox) -> Note
         requires operation { serving.now.operation ≡ operation.Write }
         requires stored { Holds (F.image self.old.flash) self.old.live.values }
@@ -361,6 +368,7 @@ impl<F: Flash<S>, const S: usize> Device<F, S> {
 
     // Several records: I&M texts are stored in the flash, parameter records are kept in the relation, each by itself. The
     // answer has the outcome of each.
+    #[inline(never)]
     fn write_each(
         &mut self,
         serving: &Serving<'_>,
@@ -396,6 +404,7 @@ impl<F: Flash<S>, const S: usize> Device<F, S> {
     }
 
     // A Write that is refused.
+    #[inline(never)]
     fn refuse_write(&mut self, serving: &Serving<'_>, fault: CallFault, outbox: &mut Outbox) -> Note
         requires operation { serving.now.operation ≡ operation.Write }
         requires empty { outbox.old.items ≡ [] }
@@ -411,6 +420,7 @@ impl<F: Flash<S>, const S: usize> Device<F, S> {
     }
 
     // An I&M text: its answer depends on the outcome of its command, and is kept after the commit.
+    #[inline(never)]
     fn store_text(
         &mut self,
         serving: &Serving<'_>,
@@ -435,6 +445,7 @@ impl<F: Flash<S>, const S: usize> Device<F, S> {
     }
 
     // A parameter record.
+    #[inline(never)]
     fn keep_parameter(
         &mut self,
         serving: &Serving<'_>,

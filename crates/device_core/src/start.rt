@@ -96,7 +96,9 @@ impl<F: Flash<S>, const S: usize> Device<F, S> {
         Ok(())
     }
 
-    // Forgets all that is not stored: besides the settings, the device is as it starts.
+    // Forgets all that is not stored: besides the settings, the device is as it starts. What replaces it takes ten thousand octets of
+    // stack, so it is a function of its own.
+    #[inline(never)]
     fn forget(&mut self)
         ensures { self.new ≡ with_rest self.old at_start }
     {

@@ -112,8 +112,8 @@ module _ (plan : Parts) where
   none_waits (Ended cause) asked request waiting in_step stands waits = waits
 
 module _ (setup : Setup) where
-  released_goes : (heard : ToController) (reason : Cause) (live : Live) → GoesOn setup.plan heard live (released setup reason live)
-  released_goes heard reason live = record { in_step = record { asked = inr (next_sequence setup.plan live.access.calls live.asked, refl); waiting = refl }; moves = inr (inl refl); says = (inl refl, tt) }
+  released_goes : (heard : ToController) (reason : Cause) (live after : Live) → GoesOn setup.plan heard live (released setup reason after)
+  released_goes heard reason live after = record { in_step = record { asked = inr (next_sequence setup.plan after.access.calls after.asked, refl); waiting = refl }; moves = inr (inl refl); says = (inl refl, tt) }
 
   -- what a pending request says of the state: the call that makes it, that its record exists, or that the relation has
   -- ended
@@ -153,7 +153,7 @@ module _ (setup : Setup) where
       (answers : heard ≡ small.Answers number positive) (granted : (positive ≡ true) ⊎ (setup.plan.continue_on_refused_record ≡ true))
       (few : number ≤ write_count setup.plan) (idle : after.access.waiting ≡ None) where
     writing_by : (b : Bool) → nat_lt number (write_count setup.plan) ≡ b
-        → GoesOn setup.plan heard live (writing (cond b (asks.Write number) asks.PrmEnd) after)
+        → GoesOn setup.plan heard live (writing setup (cond b (asks.Write number) asks.PrmEnd) after)
     writing_by true below = record {
       in_step = record { asked = (number, ltb-true number (write_count setup.plan) below, refl); waiting = idle };
       moves = inr (inr (inr (inl (record { sequence = number; positive = positive; asked = before; answered = answers; granted = granted; becomes = inl (few, refl) }))));
@@ -167,7 +167,7 @@ module _ (setup : Setup) where
           says = (inr (inl (refl, refl)), tt);
         }
 
-    writing_goes : GoesOn setup.plan heard live (writing (writing_from setup.plan number) after)
+    writing_goes : GoesOn setup.plan heard live (writing setup (writing_from setup.plan number) after)
     writing_goes = writing_by (nat_lt number (write_count setup.plan)) refl
 
   -- whether the response to a request says that all went well
@@ -353,9 +353,9 @@ module _ (setup : Setup) where
     kind_goes (Connects source) holds =
         record { in_step = record { asked = refl; waiting = idle_seeking holds.seeking }; moves = inr (inr (inl refl)); says = (inr (inl (refl, refl)), tt) }
     kind_goes (Addresses source) holds =
-        record { in_step = record { asked = refl; waiting = idle_seeking holds.seeking }; moves = inl (sym (seeking holds.seeking)); says = (tt, tt) }
-    kind_goes (Ends reason refusal refused) holds = record { in_step = record { asked = inl refl; waiting = refl }; moves = inr (inl refl); says = tt }
-    kind_goes (Releases reason) holds = released_goes heard reason live
+        record { in_step = record { asked = refl; waiting = idle_seeking holds.0.seeking }; moves = inl (sym (seeking holds.0.seeking)); says = (tt, tt) }
+    kind_goes (Ends reason refusal refused units) holds = record { in_step = record { asked = inl refl; waiting = refl }; moves = inr (inl refl); says = tt }
+    kind_goes (Releases reason refusal refused units) holds = released_goes heard reason live (record live { refusal = refusal; refused_record = refused; units = units })
     kind_goes (Relates chosen) holds =
         let granted = holds.0 in
         writing_goes live (standing setup live chosen) 0 heard true (tells live.phase live.asked in_step asks.Connect granted.stood) (granted_said asks.Connect granted refl) (inl refl) (omega arith)

@@ -29,3 +29,4 @@ pub mod DeviceOwing
 pub mod DeviceLists
 pub mod DeviceWalk
 pub mod ControllerTurns
+pub mod TurnsPatience

@@ -58,27 +58,27 @@ came_from mac setup (Write slot subslot index octets) from = tt
 came_from mac setup Stop from = tt
 
 module _ (mac : Mac) where
-  asking_sent : (phase : State) (request : Request) (live : Live) → IsAimed live → IsFew request → IsSent mac (asking phase request live)
-  asking_sent phase request live is few = record { live = record { device = is.device; asked = few; way = is.way; access = is.access }; sent = ((is.device, numbered request few), tt) }
+  asking_sent : (setup : Setup) (phase : State) (request : Request) (live : Live) → IsAimed live → IsFew request → IsSent mac (asking setup phase request live)
+  asking_sent setup phase request live is few = record { live = record { device = is.device; asked = few; way = is.way; access = is.access }; sent = ((is.device, numbered request few), tt) }
 
   over_aimed : (why : Cause) (live : Live) → IsAimed live → IsAimed (over why live)
   over_aimed why live is = record { device = is.device; asked = tt; way = record { partner = is.way.partner; sent_tag = is.way.sent_tag; alarm_tag = is.way.alarm_tag }; access = tt }
 
   released_sent : (setup : Setup) (why : Cause) (live : Live) → IsSetup setup → IsAimed live → IsSent mac (released setup why live)
   released_sent setup why live good is =
-      asking_sent (Ended why) (asks.Release (next_sequence setup.plan live.access.calls live.asked)) (over why live) (over_aimed why live is) (sequence_few setup.plan live.access.calls live.asked is.asked)
+      asking_sent setup (Ended why) (asks.Release (next_sequence setup.plan live.access.calls live.asked)) (over why live) (over_aimed why live is) (sequence_few setup.plan live.access.calls live.asked is.asked)
 
-  writing_sent : (setup : Setup) (number : ℕ) (live : Live) → IsSetup setup → IsAimed live → IsSent mac (writing (writing_from setup.plan number) live)
+  writing_sent : (setup : Setup) (number : ℕ) (live : Live) → IsSetup setup → IsAimed live → IsSent mac (writing setup (writing_from setup.plan number) live)
   writing_sent setup number live good is =
-      asking_sent (phase_for (writing_from setup.plan number)) (writing_from setup.plan number) live is (writing_few setup.plan number good.plan)
+      asking_sent setup (phase_for (writing_from setup.plan number)) (writing_from setup.plan number) live is (writing_few setup.plan number good.plan)
 
   stands_aimed : (setup : Setup) (live : Live) (chosen : Chosen) → IsAimed live → IsAimed (standing setup live chosen)
   stands_aimed setup live chosen is = record { device = is.device; asked = is.asked; way = record { partner = is.device; sent_tag = omega arith; alarm_tag = omega arith }; access = is.access }
 
-  unasked : (live : Live) (phase : State) → IsAimed live → IsAimed (record live { phase = phase; asked = None })
-  unasked live phase is = record { device = is.device; asked = tt; way = is.way; access = is.access }
+  unasked : (live : Live) (phase : State) (left : ℕ) → IsAimed live → IsAimed (record live { phase = phase; asked = None; left = left })
+  unasked live phase left is = record { device = is.device; asked = tt; way = is.way; access = is.access }
 
-  begun_aimed : (live : Live) → IsAimed live → IsAimed (record live { phase = Exchanging; asked = None; cyclic = begun_of live.cyclic })
+  begun_aimed : (live : Live) → IsAimed live → IsAimed (record live { phase = Exchanging; asked = None; left = 0; cyclic = begun_of live.cyclic })
   begun_aimed live is = record { device = is.device; asked = tt; way = record { partner = is.way.partner; sent_tag = is.way.sent_tag; alarm_tag = is.way.alarm_tag }; access = is.access }
 
   with_end_aimed : (live : Live) (priority : Priority) (end : ControllerEnd) → IsAimed live → IsAimed (with_end live priority end)
@@ -148,18 +148,19 @@ module _ (mac : Mac) where
 
     kind_sent : (kind : Kind) → IsKind setup live came kind → IsSent mac (turn_by setup live kind)
     kind_sent Rests holds = record { live = is; sent = tt }
-    kind_sent (Connects source) holds = asking_sent Connecting asks.Connect _ (at_station source holds.known) tt
-    kind_sent (Addresses source) holds = asking_sent Addressing asks.Address _ (at_station source holds.known) tt
-    kind_sent (Ends why refusal refused) holds = record {
+    kind_sent (Connects source) holds = asking_sent setup Connecting asks.Connect _ (at_station source holds.known) tt
+    kind_sent (Addresses source) holds = asking_sent setup Addressing asks.Address _ (at_station source holds.0.known) tt
+    kind_sent (Ends why refusal refused units) holds = record {
       live = record { device = is.device; asked = tt; way = record { partner = is.way.partner; sent_tag = is.way.sent_tag; alarm_tag = is.way.alarm_tag }; access = tt };
       sent = tt;
     }
-    kind_sent (Releases why) holds = released_sent setup why live good is
+    kind_sent (Releases why refusal refused units) holds =
+        released_sent setup why (record live { refusal = refusal; refused_record = refused; units = units }) good (record { device = is.device; asked = is.asked; way = is.way; access = is.access })
     kind_sent (Relates chosen) holds = writing_sent setup 0 (standing setup live chosen) good (stands_aimed setup live chosen is)
     kind_sent (Writes number) holds = writing_sent setup (number + 1) live good is
     kind_sent (Skips number refused status) holds = writing_sent setup (number + 1) (noted status refused live) good (record { device = is.device; asked = is.asked; way = is.way; access = is.access })
-    kind_sent Waits holds = record { live = unasked live Waiting is; sent = tt }
-    kind_sent Forgets holds = record { live = unasked live live.phase is; sent = tt }
+    kind_sent Waits holds = record { live = unasked live Waiting setup.options.waiting_patience is; sent = tt }
+    kind_sent Forgets holds = record { live = unasked live live.phase live.left is; sent = tt }
     kind_sent (Begins caller call block) holds = record { live = begun_aimed live is; sent = (agrees caller call block holds.1, tt) }
     kind_sent (Repeats caller call block) holds = record { live = is; sent = (agrees caller call block holds.1, tt) }
     kind_sent (Follows source frame_id body) holds =

@@ -69,7 +69,7 @@ came_sized setup Stop sized = tt
 
 -- ---- requests
 
-asking_right : (setup : Setup) (phase : State) (request : Request) (live : Live) → IsLive live → IsFew request → IsRight setup (asking phase request live)
+asking_right : (setup : Setup) (phase : State) (request : Request) (live : Live) → IsLive live → IsFew request → IsRight setup (asking setup phase request live)
 asking_right setup phase request live is few = record {
   live = record { device = is.device; asked = few; way = is.way; few = is.few; high = is.high; low = is.low; access = is.access };
   sent = ((is.device, numbered request few), tt);
@@ -82,7 +82,7 @@ released_right : (setup : Setup) (cause_is : Cause) (live : Live) → IsSetup se
 released_right setup cause_is live good is =
     asking_right setup (Ended cause_is) (asks.Release (next_sequence setup.plan live.access.calls live.asked)) (over cause_is live) (over_live cause_is live is) (sequence_few setup.plan live.access.calls live.asked is.asked)
 
-writing_right : (setup : Setup) (number : ℕ) (live : Live) → IsSetup setup → IsLive live → IsRight setup (writing (writing_from setup.plan number) live)
+writing_right : (setup : Setup) (number : ℕ) (live : Live) → IsSetup setup → IsLive live → IsRight setup (writing setup (writing_from setup.plan number) live)
 writing_right setup number live good is =
     asking_right setup (phase_for (writing_from setup.plan number)) (writing_from setup.plan number) live is (writing_few setup.plan number good.plan)
 
@@ -97,12 +97,12 @@ stands_live setup live chosen is small = record {
   access = is.access;
 }
 
-unasked : (live : Live) (phase : State) → IsLive live → IsLive (record live { phase = phase; asked = None })
-unasked live phase is = record { device = is.device; asked = tt; way = is.way; few = is.few; high = is.high; low = is.low; access = is.access }
+unasked : (live : Live) (phase : State) (left : ℕ) → IsLive live → IsLive (record live { phase = phase; asked = None; left = left })
+unasked live phase left is = record { device = is.device; asked = tt; way = is.way; few = is.few; high = is.high; low = is.low; access = is.access }
 
 -- ---- ApplicationReady
 
-begun_live : (live : Live) → IsLive live → IsLive (record live { phase = Exchanging; asked = None; cyclic = record live.cyclic { begun = true; hearing = record live.cyclic.hearing { held = 0 } } })
+begun_live : (live : Live) → IsLive live → IsLive (record live { phase = Exchanging; asked = None; left = 0; cyclic = record live.cyclic { begun = true; hearing = record live.cyclic.hearing { held = 0 } } })
 begun_live live is = record { device = is.device; asked = tt; way = is.way; few = is.few; high = is.high; low = is.low; access = is.access }
 
 -- ---- alarms
@@ -274,18 +274,20 @@ module _ (long : BlocksAreLong) (setup : Setup) (live : Live) (came : Came) (goo
   kind_right : (kind : Kind) → IsKind setup live came kind → IsRight setup (turn_by setup live kind)
   kind_right Rests holds = record { live = is; sent = tt }
   kind_right (Connects source) holds = asking_right setup Connecting asks.Connect _ (at_station source holds.known) tt
-  kind_right (Addresses source) holds = asking_right setup Addressing asks.Address _ (at_station source holds.known) tt
-  kind_right (Ends why refusal refused) holds =
+  kind_right (Addresses source) holds = asking_right setup Addressing asks.Address _ (at_station source holds.0.known) tt
+  kind_right (Ends why refusal refused units) holds =
       record { live = record { device = is.device; asked = tt; way = is.way; few = is.few; high = is.high; low = is.low; access = tt }; sent = tt }
-  kind_right (Releases why) holds = released_right setup why live good is
+  kind_right (Releases why refusal refused units) holds =
+      released_right setup why (record live { refusal = refusal; refused_record = refused; units = units }) good
+      (record { device = is.device; asked = is.asked; way = is.way; few = is.few; high = is.high; low = is.low; access = is.access })
   kind_right (Relates chosen) holds =
       let sized_so : IsSized (Responds holds.0.response) = reported (Hears (Responds holds.0.response)) holds.0.comes in
       writing_right setup 0 (standing setup live chosen) good (stands_live setup live chosen is (sized_so chosen holds.1))
   kind_right (Writes number) holds = writing_right setup (number + 1) live good is
   kind_right (Skips number refused status) holds = writing_right setup (number + 1) (noted status refused live) good
       (record { device = is.device; asked = is.asked; way = is.way; few = is.few; high = is.high; low = is.low; access = is.access })
-  kind_right Waits holds = record { live = unasked live Waiting is; sent = tt }
-  kind_right Forgets holds = record { live = unasked live live.phase is; sent = tt }
+  kind_right Waits holds = record { live = unasked live Waiting setup.options.waiting_patience is; sent = tt }
+  kind_right Forgets holds = record { live = unasked live live.phase live.left is; sent = tt }
   kind_right (Begins caller call block) holds = record { live = begun_live live is; sent = (agrees caller call block holds.1, tt) }
   kind_right (Repeats caller call block) holds = record { live = is; sent = (agrees caller call block holds.1, tt) }
   kind_right (Follows source frame_id body) holds =

@@ -36,7 +36,10 @@ use Rattle.controller_frames.specs.declared.setup.Setup.{Setup}
 use Rattle.controller_frames.specs.Heard.{Heard, Alarms}
 use Rattle.controller_frames.specs.Sent.{Sent, Confirms}
 use Rattle.controller_state.specs.Alarms.{ack_of, kept_alarm}
-use Rattle.controller_core.specs.Machine.{Turn, acked_under, acks_in, acks_of, behind_ack, behind_data, brought, due_frames, end_of, flow_later, flowed, given, is_again, later, noticed, outputs_of, over, pending_by, rated, requested, requests_of, stays, stopped, taken, turned, where_due, written}
+use Rattle.controller_core.specs.Machine.{Turn, acked_under, acks_in, acks_of, behind_ack, behind_data, brought, due_frames, end_of, flow_later, flowed, given, gone_on, is_again, is_spent, later, noticed, outputs_of, over, pending_by, quit, rated, requested, requests_of, stays, stopped, taken, turned, where_due, written}
+use Rattle.controller_state.specs.declared.state.Cause.TheVariants.{NoProgress}
+use Rattle.controller_state.specs.declared.state.State.{State}
+use Rattle.controller_state.specs.declared.state.State.TheVariants.{Looking, Addressing, Ended}
 use Rattle.controller_state.specs.Cause.{cause_of}
 use Rattle.controller_state.specs.State.{Live}
 use Rattle.end_laws.specs.turns.Alarms.{AreAllTaken, AreTakenInOrder, LackAtMostTheLast, Move, Relation, Raises, PassesAtDevice, ComesToDevice, AckComesToDevice, AlarmComes, Hears, PassesAtController, Gives, GivesStatus, Reads, Writes, Stops, ShowsTheLast, acked_at_device, alarm_comes, behind, behind_one, comes_to_device, hears, is_looked_at, is_priority, last_of, passed_at_device, raised_by, report_as, shown_of, start, turns}
@@ -479,10 +482,22 @@ module _ (priority : Priority) where
       inactive_on priority r (record { live = later r.live; sent = where_due (is_again r.live) (requests_of r.live.device r.live.asked) }) p
       (idle_at priority r.live (where_due (is_again r.live) (requests_of r.live.device r.live.asked)) (requests_no_ack r.live.device r.live.asked (is_again r.live)))
 
-  -- ---- any moves
-
   plain_on : (r : Relation) (turn : Turn) → IsPlayed priority r → IsInactive r.live turn → IsPlayed priority (turns r turn)
   plain_on r turn p is = inactive_on priority r turn p (at_priority priority r.live turn is)
+
+  -- The patience of the phase ends with a unit, in this phase; or it does not.
+  quit_inactive : (setup : Setup) (live : Live) (phase : State) → IsInactive live (quit setup NoProgress (later live) phase)
+  quit_inactive setup live Looking = record { high = refl; low = refl; alarm = refl; low_alarm = refl; sent = tt }
+  quit_inactive setup live Addressing = record { high = refl; low = refl; alarm = refl; low_alarm = refl; sent = tt }
+  quit_inactive setup live (Ended cause) = record { high = refl; low = refl; alarm = refl; low_alarm = refl; sent = tt }
+  quit_inactive setup live phase = record { high = refl; low = refl; alarm = refl; low_alarm = refl; sent = (tt, tt) }
+
+  spent_on : (setup : Setup) (r : Relation) (p : IsPlayed priority r) (is : Bool) (phase : State)
+      → IsPlayed priority (turns r (if is then quit setup NoProgress (later r.live) phase else gone_on (later r.live) (is_again r.live)))
+  spent_on setup r p true phase = plain_on r (quit setup NoProgress (later r.live) phase) p (quit_inactive setup r.live phase)
+  spent_on setup r p false phase = stands_on r p r.live.stands
+
+  -- ---- any moves
 
   one_on : (setup : Setup) (r : Relation) (move : Move) → IsPlayed priority r → IsPlayed priority (behind_one priority setup r move)
   one_on setup r (Raises alarm) p = raise_on priority r p alarm r.device.sender.standing refl
@@ -491,7 +506,7 @@ module _ (priority : Priority) where
   one_on setup r (AckComesToDevice number) p = ack_passes priority r number p
   one_on setup r (AlarmComes source under header place) p = alarm_on priority r p source under header place (slice_get r.alarms.pdus place) refl
   one_on setup r (Hears heard) p = hears_on setup r p heard
-  one_on setup r PassesAtController p = stands_on r p r.live.stands
+  one_on setup r PassesAtController p = spent_on setup r p (is_spent r.live) r.live.phase
   one_on setup r (Gives slot subslot value) p =
       plain_on r (stays (given r.live slot subslot value)) p (record { high = refl; low = refl; alarm = refl; low_alarm = refl; sent = tt })
   one_on setup r (GivesStatus slot subslot is_good) p =

@@ -1,5 +1,5 @@
 -- What a controller that ended receives, and what it sends.
-use Rattle.std.proofs.Common.{◌≡◌, ◌⊎◌, inl, inr, ◌&&◌, ◌++◌, ℕ, Bool, true, false, not, List, [], ◌∷◌, length, map, Option, Some, None, refl, sym, ap, subst, ◌∙◌}
+use Rattle.std.proofs.Common.{◌≡◌, ◌⊎◌, inl, inr, ◌==◌, ◌&&◌, ◌++◌, ℕ, Bool, true, false, not, List, [], ◌∷◌, length, map, Option, Some, None, refl, sym, ap, subst, ◌∙◌}
 use Rattle.std.specs.Prelude.{if◌then◌else◌, is_some, nat_lt}
 use Rattle.std.proofs.lemmas.Bool.{false≢true}
 use Rattle.std.specs.List.{AllByRecursion}
@@ -17,10 +17,11 @@ use Rattle.pn_alarms.specs.Sending.{due}
 use Rattle.controller_state.specs.declared.event.Event.{Event}
 use Rattle.controller_state.specs.declared.event.Event.TheVariants.{Frame, Tick, Give, Status, Read, Write, Stop}
 use Rattle.controller_state.specs.declared.state.Cause.{Cause}
+use Rattle.controller_state.specs.declared.state.Cause.TheVariants.{NoProgress}
 use Rattle.controller_state.specs.declared.state.State.{State}
 use Rattle.controller_state.specs.declared.state.State.TheVariants.{Looking, Addressing, Ending, Waiting, Exchanging, Ended}
-use Rattle.controller_state.specs.State.{Controlling, Live, with_live}
-use Rattle.controller_core.specs.Machine.{Turn, accessing, flow_later, flowed, brought, is_again, is_exchanging, later, request_for, requested, requests_of, stays, step_of, stopped, ticked, turned, written}
+use Rattle.controller_state.specs.State.{Controlling, Live, is_limited, with_live}
+use Rattle.controller_core.specs.Machine.{Turn, accessing, flow_later, flowed, brought, gone_on, is_again, is_exchanging, later, quit, request_for, requested, requests_of, stays, step_of, stopped, ticked, turned, written}
 use Rattle.controller_core.specs.Machine.{where_due as sent_where_due}
 use Rattle.end_laws.specs.turns.Runs.{frames_of}
 use Rattle.end_laws.specs.turns.Ended.{CountsUnits, DropsWhatComes, HasEnded, IsReleased, IsDropped, IsOnlySet, IsSilent, KeepsItsCause, RepeatsItsRelease, is_unit, may_release, release_in, release_of, where_due}
@@ -34,10 +35,10 @@ use Rattle.end_laws.proofs.TurnsWhole.{reached_on, whole_end}
 abbrev IsUnmoved : Setup → Live → Heard → Turn → Type 0
 IsUnmoved setup live heard turn = (turn ≡ stays live) ⊎ (IsReleased setup live heard × (turn ≡ stays (record live { asked = None })))
 
-module _ (setup : Setup) (live : Live) (heard : Heard) (cause : Cause) (h : IsEnd cause live) where
+module _ (setup : Setup) (live : Live) (heard : Heard) (cause : Cause) (h : IsEnd setup.plan cause live) where
   -- No other request than the Release is active.
   unasked : (request : Request) → is_release request ≡ false → live.asked ≡ Some request → ⊥
-  unasked request other stood = unreported request cause other (subst (λ (o : Option Request). IsReported cause o) stood h.asked)
+  unasked request other stood = unreported setup.plan request cause other (subst (λ (o : Option Request). IsReported setup.plan cause o) stood h.asked)
 
   -- It is in no other phase.
   other_phase : (phase : State) → is_over phase ≡ false → live.phase ≡ phase → ⊥
@@ -68,9 +69,9 @@ module _ (setup : Setup) (live : Live) (heard : Heard) (cause : Cause) (h : IsEn
   unmoved_by : (kind : Kind) → IsKind setup live (Hears heard) kind → IsUnmoved setup live heard (turn_by setup live kind)
   unmoved_by Rests holds = inl refl
   unmoved_by (Connects source) holds = absurd (either_phase Looking Addressing refl refl holds.seeking)
-  unmoved_by (Addresses source) holds = absurd (either_phase Looking Addressing refl refl holds.seeking)
-  unmoved_by (Ends mine refusal refused) holds = absurd (holds cause h)
-  unmoved_by (Releases mine) holds = absurd (holds.0 cause h)
+  unmoved_by (Addresses source) holds = absurd (either_phase Looking Addressing refl refl holds.0.seeking)
+  unmoved_by (Ends mine refusal refused units) holds = absurd (holds.0 cause h)
+  unmoved_by (Releases mine refusal refused units) holds = absurd (holds.0 cause h)
   unmoved_by (Relates chosen) holds = absurd (unasked asks.Connect refl holds.0.stood)
   unmoved_by (Writes number) holds = absurd (unasked (asks.Write number) refl holds.0.stood)
   unmoved_by (Skips number refused status) holds = absurd (unasked (asks.Write number) refl holds.stood)
@@ -89,7 +90,7 @@ module _ (setup : Setup) (live : Live) (heard : Heard) (cause : Cause) (h : IsEn
   unmoved_by (Breaks reason) holds = absurd (not_passes holds.0)
   unmoved_by Idles holds = absurd (not_passes holds.0)
 
-heard_as : (setup : Setup) (live : Live) (heard : Heard) (cause : Cause) → IsEnd cause live → IsUnmoved setup live heard (turned setup live heard)
+heard_as : (setup : Setup) (live : Live) (heard : Heard) (cause : Cause) → IsEnd setup.plan cause live → IsUnmoved setup live heard (turned setup live heard)
 heard_as setup live heard cause h =
     let turn = turn_is setup live (Hears heard) in
     subst (λ (t : Turn). IsUnmoved setup live heard t) (sym turn.is) (unmoved_by setup live heard cause h turn.kind turn.holds)
@@ -118,11 +119,24 @@ written_as setup live cause slot subslot index octets e = by_length (nat_lt most
 abbrev unit_of : Live → Turn
 unit_of live = record { live = later live; sent = sent_where_due (is_again live) (requests_of live.device live.asked) }
 
-ticked_as : (live : Live) → live.stands ≡ false → ticked live ≡ unit_of live
-ticked_as live down =
-    ap (λ (is : Bool). if is then flowed (flow_later live) (due live.alarms.sending) (due live.low_alarms.sending) (is_again live) (brought live) (brought live).ending else unit_of live) down
+no_unit : true ≡ false → ⊥
+no_unit e = cc
 
-unit_frames : (setup : Setup) (device : Mac) (asked : Option Request) (is : Bool) (cause : Cause) → IsReported cause asked
+-- It has no patience.
+unlimited : (cause : Cause) (phase : State) → phase ≡ Ended cause → is_limited phase ≡ false
+unlimited cause phase e = ap (λ (p : State). is_limited p) e
+
+not_spent : (limited is_last : Bool) → limited ≡ false → (limited && is_last) ≡ false
+not_spent true is_last e = absurd (no_unit e)
+not_spent false is_last e = refl
+
+ticked_as : (setup : Setup) (live : Live) (cause : Cause) → live.phase ≡ Ended cause → live.stands ≡ false → ticked setup live ≡ unit_of live
+ticked_as setup live cause phase down =
+    ap (λ (is : Bool). if is then quit setup NoProgress (later live) live.phase else gone_on (later live) (is_again live))
+    (not_spent (is_limited live.phase) (live.left == 1) (unlimited cause live.phase phase))
+    ∙ ap (λ (is : Bool). if is then flowed (flow_later live) (due live.alarms.sending) (due live.low_alarms.sending) (is_again live) (brought live) (brought live).ending else unit_of live) down
+
+unit_frames : (setup : Setup) (device : Mac) (asked : Option Request) (is : Bool) (cause : Cause) → IsReported setup.plan cause asked
     → map (bytes_of setup) (sent_where_due is (requests_of device asked)) ≡ where_due is (release_in setup device asked)
 unit_frames setup device None true cause reported = refl
 unit_frames setup device None false cause reported = refl
@@ -130,10 +144,10 @@ unit_frames setup device (Some (asks.Release sequence)) true cause reported = re
 unit_frames setup device (Some (asks.Release sequence)) false cause reported = refl
 unit_frames setup device (Some request) is cause reported = absurd reported
 
-unit_frames_of : (setup : Setup) (live : Live) (cause : Cause) → IsEnd cause live
-    → map (bytes_of setup) (ticked live).sent ≡ where_due (is_again live) (release_in setup live.device live.asked)
+unit_frames_of : (setup : Setup) (live : Live) (cause : Cause) → IsEnd setup.plan cause live
+    → map (bytes_of setup) (ticked setup live).sent ≡ where_due (is_again live) (release_in setup live.device live.asked)
 unit_frames_of setup live cause h =
-    ap (λ (turn : Turn). map (bytes_of setup) turn.sent) (ticked_as live h.down) ∙ unit_frames setup live.device live.asked (is_again live) cause h.asked
+    ap (λ (turn : Turn). map (bytes_of setup) turn.sent) (ticked_as setup live cause h.phase h.down) ∙ unit_frames setup live.device live.asked (is_again live) cause h.asked
 
 -- ---- one event
 
@@ -142,10 +156,7 @@ frame_drops : (setup : Setup) (live : Live) (heard : Heard) (turn : Turn) → Is
 frame_drops setup live heard turn (inl e) = (ap (λ (t : Turn). map (bytes_of setup) t.sent) e, inl (ap (λ (t : Turn). t.live) e))
 frame_drops setup live heard turn (inr x) = (ap (λ (t : Turn). map (bytes_of setup) t.sent) x.1, inr (x.0, ap (λ (t : Turn). t.live) x.1))
 
-no_unit : true ≡ false → ⊥
-no_unit e = cc
-
-drops : (controller : Controlling) (cause : Cause) (event : Event) → IsEnd cause controller.live → is_unit event ≡ false
+drops : (controller : Controlling) (cause : Cause) (event : Event) → IsEnd controller.setup.plan cause controller.live → is_unit event ≡ false
     → ((step_of controller event).frames ≡ []) × IsDropped controller.setup event controller.live (step_of controller event).controller.live
 unfolding step_of
 drops controller cause (Frame bytes) h other =
@@ -170,12 +181,12 @@ drops controller cause Stop h other =
       ap (λ (t : Turn). t.live) stays_so,
     )
 
-units : (controller : Controlling) (cause : Cause) → IsEnd cause controller.live
+units : (controller : Controlling) (cause : Cause) → IsEnd controller.setup.plan cause controller.live
     → ((step_of controller Tick).controller ≡ with_live controller (later controller.live))
     × ((step_of controller Tick).frames ≡ where_due (is_again controller.live) (release_of controller))
 unfolding step_of
 units controller cause h = (
-  ap (λ (t : Turn). with_live controller t.live) (ticked_as controller.live h.down),
+  ap (λ (t : Turn). with_live controller t.live) (ticked_as controller.setup controller.live cause h.phase h.down),
   unit_frames_of controller.setup controller.live cause h,
 )
 
@@ -206,7 +217,7 @@ given_left : (setup : Setup) (before after : Live) → IsOnlySet before after �
 given_left setup before after e =
     record { phase = ap (λ (live : Live). live.phase) e; release = inl (ap (λ (live : Live). release_in setup live.device live.asked) e) }
 
-left : (controller : Controlling) (cause : Cause) (event : Event) → IsEnd cause controller.live
+left : (controller : Controlling) (cause : Cause) (event : Event) → IsEnd controller.setup.plan cause controller.live
     → IsLeft controller.setup controller.live (step_of controller event).controller.live
 left controller cause (Frame bytes) h =
     frame_left controller.setup (heard_of controller.setup.plan.controller bytes.items) controller.live (step_of controller (Frame bytes)).controller.live
@@ -238,7 +249,7 @@ due_are false (Some frame) = tt
 none_are : (release : Option (List ℕ)) (frames : List (List ℕ)) → frames ≡ [] → AllByRecursion (λ frame. Some frame ≡ release) frames
 none_are release frames e = subst (λ (xs : List (List ℕ)). AllByRecursion (λ frame. Some frame ≡ release) xs) (sym e) tt
 
-sent_are : (controller : Controlling) (cause : Cause) (event : Event) → IsEnd cause controller.live
+sent_are : (controller : Controlling) (cause : Cause) (event : Event) → IsEnd controller.setup.plan cause controller.live
     → AllByRecursion (λ frame. Some frame ≡ release_of controller) (step_of controller event).frames
 sent_are controller cause (Frame bytes) h = none_are (release_of controller) (step_of controller (Frame bytes)).frames (drops controller cause (Frame bytes) h refl).0
 sent_are controller cause Tick h =
@@ -281,7 +292,7 @@ all_sent (event ∷ events) controller cause h =
     (carried (release_of next) (release_of controller) (frames_of events next) (left controller cause event end).release
     (all_sent events next cause (ended_on controller cause event h)))
 
-none_stands : (setup : Setup) (device : Mac) (asked : Option Request) (cause : Cause) → may_release cause ≡ false → IsReported cause asked → release_in setup device asked ≡ None
+none_stands : (setup : Setup) (device : Mac) (asked : Option Request) (cause : Cause) → may_release setup.plan cause ≡ false → IsReported setup.plan cause asked → release_in setup device asked ≡ None
 none_stands setup device (Some (asks.Release sequence)) cause other reported = absurd (no_unit (sym reported ∙ other))
 none_stands setup device asked cause other reported = refl
 

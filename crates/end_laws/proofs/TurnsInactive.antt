@@ -83,8 +83,8 @@ module _ (setup : Setup) (live : Live) (came : Came) (plain : IsPlain came) wher
   inactive_by Rests holds = inactive_stays live
   inactive_by (Connects source) holds = record { high = refl; low = refl; alarm = refl; low_alarm = refl; sent = (tt, tt) }
   inactive_by (Addresses source) holds = record { high = refl; low = refl; alarm = refl; low_alarm = refl; sent = (tt, tt) }
-  inactive_by (Ends cause refusal refused) holds = record { high = refl; low = refl; alarm = refl; low_alarm = refl; sent = tt }
-  inactive_by (Releases cause) holds = record { high = refl; low = refl; alarm = refl; low_alarm = refl; sent = (tt, tt) }
+  inactive_by (Ends cause refusal refused units) holds = record { high = refl; low = refl; alarm = refl; low_alarm = refl; sent = tt }
+  inactive_by (Releases cause refusal refused units) holds = record { high = refl; low = refl; alarm = refl; low_alarm = refl; sent = (tt, tt) }
   inactive_by (Relates chosen) holds = record { high = refl; low = refl; alarm = refl; low_alarm = refl; sent = (tt, tt) }
   inactive_by (Writes number) holds = record { high = refl; low = refl; alarm = refl; low_alarm = refl; sent = (tt, tt) }
   inactive_by (Skips number refused status) holds = record { high = refl; low = refl; alarm = refl; low_alarm = refl; sent = (tt, tt) }

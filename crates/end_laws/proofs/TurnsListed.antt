@@ -148,10 +148,10 @@ module _ (setup : Setup) (live : Live) (alarms : List AlarmNotification) (is : I
         let u = is.before (sought_before live.phase holds.seeking) in
         record { asks = λ e. tt; before = λ b. record { none = u.none; down = u.down; empty = u.empty }; lists = is.lists }
     listed_by (came.Addresses source) holds =
-        let u = is.before (sought_before live.phase holds.seeking) in
+        let u = is.before (sought_before live.phase holds.0.seeking) in
         record { asks = λ e. tt; before = λ b. record { none = u.none; down = u.down; empty = u.empty }; lists = is.lists }
-    listed_by (came.Ends cause refusal refused) holds = record { asks = λ e. absurd (none_asks e); before = λ b. absurd b; lists = λ up. absurd (false≢true up) }
-    listed_by (came.Releases cause) holds = record { asks = λ e. absurd (release_asks _ e); before = λ b. absurd b; lists = λ up. absurd (false≢true up) }
+    listed_by (came.Ends cause refusal refused units) holds = record { asks = λ e. absurd (none_asks e); before = λ b. absurd b; lists = λ up. absurd (false≢true up) }
+    listed_by (came.Releases cause refusal refused units) holds = record { asks = λ e. absurd (release_asks _ e); before = λ b. absurd b; lists = λ up. absurd (false≢true up) }
     listed_by (came.Relates chosen) holds =
         let u = is.before (is.asks holds.0.stood) in
         writes_listed _ (nat_lt 0 (write_count setup.plan)) 0 refl refl (λ up. u.empty ∙ ap (λ (xs : List AlarmNotification). after_reports xs nothing_reported) (sym u.none))

@@ -1,5 +1,5 @@
 -- Each turn of a controller is of one of the kinds.
-use Rattle.std.proofs.Common.{◌≡◌, inl, inr, ◌≤◌, ◌+◌, ◌&&◌, ℕ, Bool, true, false, not, List, [], length, Option, Some, None, refl, sym, ap, subst, ◌∙◌, arith}
+use Rattle.std.proofs.Common.{◌≡◌, inl, inr, ◌≤◌, ◌+◌, ◌%◌, ◌==◌, ◌&&◌, ℕ, Bool, true, false, not, List, [], length, Option, Some, None, refl, sym, ap, subst, ◌∙◌, arith}
 use Rattle.std.specs.Prelude.{if◌then◌else◌, is_some, nat_lt, option_and_then}
 use Rattle.std.proofs.lemmas.Bool.{and_parts, false≢true, ltb-false}
 use Rattle.pn_values.specs.declared.mac.Mac.{Mac}
@@ -18,6 +18,7 @@ use Rattle.alarm_reports.specs.declared.priority.Priority.{Priority}
 use Rattle.alarm_reports.specs.Message.{ToController}
 use Rattle.pn_alarms.specs.Sending.{due}
 use Rattle.cyclic_exchange.specs.Received.{behind_frame}
+use Rattle.plans.specs.declared.parts.Parts.{Parts}
 use Rattle.controller_frames.specs.declared.record_request.RecordRequest.{RecordRequest}
 use Rattle.controller_frames.specs.declared.record_request.RecordService.{RecordService}
 use Rattle.controller_frames.specs.declared.record_request.RecordService.TheVariants as service
@@ -36,7 +37,7 @@ use Rattle.controller_state.specs.declared.state.Cause.{Cause}
 use Rattle.controller_state.specs.declared.state.Cause.TheVariants as why
 use Rattle.controller_state.specs.declared.state.State.{State}
 use Rattle.controller_state.specs.declared.state.State.TheVariants.{Looking, Addressing, Ending, Waiting, Exchanging, Ended}
-use Rattle.controller_state.specs.State.{Live}
+use Rattle.controller_state.specs.State.{Live, is_limited}
 use Rattle.record_access.specs.Access.{answered_with, is_rejected, is_reply, record_in}
 use Rattle.controller_state.specs.Alarms.{is_alarm}
 use Rattle.startup_answers.specs.Answers.{is_addressed, is_answer, is_found, is_ready, is_refused, is_right, is_set_answer}
@@ -45,7 +46,7 @@ use Rattle.startup_answers.specs.declared.outcomes.Outcomes.{Outcomes}
 use Rattle.startup_answers.specs.declared.outcomes.Outcomes.TheVariants.{AllWritten, Unreadable}
 use Rattle.startup_answers.specs.declared.outcomes.Outcomes.TheVariants.{Refused as Denied}
 use Rattle.startup_answers.specs.Outcomes.{are_written, is_all_written, outcomes_of}
-use Rattle.controller_core.specs.Machine.{Turn, acked_under, after_write, answered, brings, brought, called, can_request, connected, decided, done, failed, flow_later, flowed, granted, is_again, is_exchanging, handled, later, noticed, readied, past_record, refused, refused_by, rejected, related_by, replied, replied_by, request_for, requested, requests_of, responded, stays, stopped, turn_of, turned, undone, noted, where_due, written}
+use Rattle.controller_core.specs.Machine.{Turn, acked_under, after_write, answered, brings, brought, called, can_request, connected, decided, done, failed, flow_later, flowed, gone_on, granted, is_again, is_exchanging, is_spent, handled, later, noticed, quit, readied, past_record, refused, refused_by, rejected, related_by, replied, replied_by, request_for, requested, requests_of, responded, stays, stopped, turn_of, turned, undone, noted, where_due, written}
 use Rattle.startup_answers.specs.Answers.{ready_in}
 use Rattle.end_laws.specs.turns.Turns.{Came, Hears, Passes, Gets, GetsStatus, AsksRead, AsksWrite, Halts, Found, IsGoing, IsGranted, IsKind, IsReadied, IsSought, IsReported, IsTurn, Kind, Rests, Connects, Addresses, Ends, Releases, Relates, Writes, Skips, Waits, Forgets, Begins, Repeats, Follows, Takes, IsAcked, Gives, GivesStatus, Asks, IsReplied, Flows, Breaks, Idles, came_by, chosen_in, turn_by, turn_for}
 
@@ -62,18 +63,18 @@ abbrev pub is_release : Request → Bool
 is_release (asks.Release sequence) = true
 is_release request = false
 
-pub unreported : (request : Request) (cause : Cause) → is_release request ≡ false → IsReported cause (Some request) → ⊥
-unreported (asks.Release sequence) cause other reported = false≢true (sym other)
-unreported request cause other reported = reported
+pub unreported : (plan : Parts) (request : Request) (cause : Cause) → is_release request ≡ false → IsReported plan cause (Some request) → ⊥
+unreported plan (asks.Release sequence) cause other reported = false≢true (sym other)
+unreported plan request cause other reported = reported
 
 module _ (setup : Setup) (live : Live) where
-  going : (phase : State) → live.phase ≡ phase → is_over phase ≡ false → IsGoing live
+  going : (phase : State) → live.phase ≡ phase → is_over phase ≡ false → IsGoing setup.plan live
   going phase is stands = λ cause end. not_over phase cause stands (sym is ∙ end.phase)
 
-  asked_going : (request : Request) → live.asked ≡ Some request → is_release request ≡ false → IsGoing live
-  asked_going request stood other = λ cause end. unreported request cause other (subst (λ (o : Option Request). IsReported cause o) stood end.asked)
+  asked_going : (request : Request) → live.asked ≡ Some request → is_release request ≡ false → IsGoing setup.plan live
+  asked_going request stood other = λ cause end. unreported setup.plan request cause other (subst (λ (o : Option Request). IsReported setup.plan cause o) stood end.asked)
 
-  up_going : live.stands ≡ true → IsGoing live
+  up_going : live.stands ≡ true → IsGoing setup.plan live
   up_going up = λ cause end. false≢true (sym end.down ∙ up)
 
   as_kind : (came : Came) (kind : Kind) → IsKind setup live came kind → IsTurn setup live came (turn_by setup live kind)
@@ -104,15 +105,15 @@ module _ (setup : Setup) (live : Live) where
       let sought : IsSought live came source = record { seeking = inl is; known = inr (answer, refl) } in
       either (is_found setup.plan answer)
       (either (is_right setup.plan answer)
-      (either (is_addressed setup.plan answer) (as_kind came (Connects source) sought) (as_kind came (Addresses source) sought))
-      (as_kind came (Ends why.WrongDevice live.refusal live.refused_record) (going Looking is refl)))
+      (either (is_addressed setup.plan answer) (as_kind came (Connects source) sought) (as_kind came (Addresses source) (sought, is)))
+      (as_kind came (Ends why.WrongDevice live.refusal live.refused_record live.units) (going Looking is refl, refl)))
       (rests came)
   answered_is source answer Addressing is =
       let came = Hears (Answers source answer) in
       either (is_set_answer answer)
       (either (is_agreed answer)
       (as_kind came (Connects live.device) (record { seeking = inr is; known = inl refl }))
-      (as_kind came (Ends why.Refused live.refusal live.refused_record) (going Addressing is refl)))
+      (as_kind came (Ends why.Refused live.refusal live.refused_record live.units) (going Addressing is refl, refl)))
       (rests came)
   answered_is source answer phase is = rests (Hears (Answers source answer))
 
@@ -140,7 +141,7 @@ module _ (setup : Setup) (live : Live) where
       connected_is (Some found) e =
           either (is_whole found)
           (either found.differs
-          (as_kind heard_now (Releases why.ModuleDiff) (asked_going asks.Connect stood refl, refl))
+          (as_kind heard_now (Releases why.ModuleDiff live.refusal live.refused_record live.units) (asked_going asks.Connect stood refl, refl, refl))
           (related_is (chosen_of found) (ap (λ (o : Option Found). option_and_then (λ (f : Found). chosen_of f) o) e)))
           (rests heard_now)
       connected_is None e = rests heard_now
@@ -153,8 +154,11 @@ module _ (setup : Setup) (live : Live) where
         by_cases setup.plan.continue_on_refused_record
         (λ goes. as_kind heard_now (Skips number refused status)
         (record { stood = stood; response = response; comes = refl; right = right; refused = negative; goes_on = goes }))
-        (λ ends. as_kind heard_now (Ends why.Refused (Some status) (Some (record { number = refused; status = status })))
-        (asked_going (asks.Write number) stood refl))
+        (λ ends. by_cases setup.plan.release_on_refused_record
+        (λ informs. as_kind heard_now (Releases why.Refused (Some status) (Some (record { number = refused; status = status })) live.units)
+        (asked_going (asks.Write number) stood refl, informs, refl))
+        (λ silent. as_kind heard_now (Ends why.Refused (Some status) (Some (record { number = refused; status = status })) live.units)
+        (asked_going (asks.Write number) stood refl, refl)))
 
     -- a Write is answered, and this became of its records
     outcomes_is : (number : ℕ) → live.asked ≡ Some (asks.Write number) → is_answer setup (asks.Write number) response.header ≡ true → is_done response.status ≡ true
@@ -178,7 +182,7 @@ module _ (setup : Setup) (live : Live) where
         → IsTurn setup live heard_now (undone setup live response.status request)
     undone_is (asks.Write number) stood right other negative =
         passed_is number (first_of setup.plan number) response.status stood right (ap (λ (b : Bool). b && are_written setup.plan number response.blocks) negative)
-    undone_is request stood right other negative = as_kind heard_now (Ends why.Refused (Some response.status) live.refused_record) (asked_going request stood other)
+    undone_is request stood right other negative = as_kind heard_now (Ends why.Refused (Some response.status) live.refused_record live.units) (asked_going request stood other, refl)
 
     handled_is : (request : Request) → live.asked ≡ Some request → is_answer setup request response.header ≡ true → is_release request ≡ false
         → IsTurn setup live heard_now (handled setup live response request)
@@ -227,7 +231,7 @@ module _ (setup : Setup) (live : Live) where
   refused_by_is refusal (asks.Release sequence) stood right =
       as_kind (Hears (Refuses refusal)) Forgets
       (Refuses refusal, refl, inr (record { refusal = refusal; sequence = sequence; stood = stood; comes = refl; right = right }))
-  refused_by_is refusal request stood right = as_kind (Hears (Refuses refusal)) (Ends why.Refused (Some refusal.status) live.refused_record) (asked_going request stood refl)
+  refused_by_is refusal request stood right = as_kind (Hears (Refuses refusal)) (Ends why.Refused (Some refusal.status) live.refused_record live.units) (asked_going request stood refl, refl)
 
   rejected_is : (refusal : Refusal) (waiting : Option RecordRequest) → live.asked ≡ None → live.access.waiting ≡ waiting
       → IsTurn setup live (Hears (Refuses refusal)) (stays (rejected setup live refusal waiting))
@@ -266,7 +270,7 @@ module _ (setup : Setup) (live : Live) where
   noticed_is source under header (notice.Data number report) up = as_kind _ (Takes number report) (up, source, under, header, refl)
   noticed_is source under header (notice.Ack number) up = as_kind _ (IsAcked (acked_under live under) number) (up, source, under, header, refl, refl)
   noticed_is source under header notice.Nack up = rests _
-  noticed_is source under header (notice.Abort status) up = as_kind _ (Ends why.Aborted live.refusal live.refused_record) (up_going up)
+  noticed_is source under header (notice.Abort status) up = as_kind _ (Ends why.Aborted live.refusal live.refused_record live.units) (up_going up, refl)
 
   come_is : (source : Mac) (frame_id : ℕ) (body : List ℕ) (is : Bool) → live.stands ≡ is
       → IsTurn setup live (Hears (Comes source frame_id body)) (stays (if is then record live { cyclic = behind_frame live.cyclic source frame_id body } else live))
@@ -298,11 +302,23 @@ module _ (setup : Setup) (live : Live) where
   ticked_is true up = flowed_is (brought live).ending up refl
   ticked_is false down = as_kind Passes Idles (refl, down)
 
+  -- a unit with which the patience of a phase ends
+  spent_is : (phase : State) → live.phase ≡ phase → is_limited phase ≡ true → IsTurn setup live Passes (quit setup why.NoProgress (later live) phase)
+  spent_is Looking is limited = absurd (false≢true limited)
+  spent_is Addressing is limited = as_kind Passes (Ends why.NoProgress live.refusal live.refused_record ((live.units + 1) % 65536)) (going Addressing is refl, refl)
+  spent_is Exchanging is limited = absurd (false≢true limited)
+  spent_is (Ended cause) is limited = absurd (false≢true limited)
+  spent_is phase is limited = as_kind Passes (Releases why.NoProgress live.refusal live.refused_record ((live.units + 1) % 65536)) (going phase is refl, refl, refl)
+
+  passes_is : (is : Bool) → is_spent live ≡ is → IsTurn setup live Passes (if is then quit setup why.NoProgress (later live) live.phase else gone_on (later live) (is_again live))
+  passes_is true spent = spent_is live.phase refl (and_parts (is_limited live.phase) (live.left == 1) spent).0
+  passes_is false going_on = ticked_is live.stands refl
+
   stopped_is : (phase : State) → live.phase ≡ phase → IsTurn setup live Halts (stopped setup live phase)
-  stopped_is Looking is = as_kind Halts (Ends why.Stopped live.refusal live.refused_record) (going Looking is refl)
-  stopped_is Addressing is = as_kind Halts (Ends why.Stopped live.refusal live.refused_record) (going Addressing is refl)
+  stopped_is Looking is = as_kind Halts (Ends why.Stopped live.refusal live.refused_record live.units) (going Looking is refl, refl)
+  stopped_is Addressing is = as_kind Halts (Ends why.Stopped live.refusal live.refused_record live.units) (going Addressing is refl, refl)
   stopped_is (Ended cause) is = rests Halts
-  stopped_is phase is = as_kind Halts (Releases why.Stopped) (going phase is refl, refl)
+  stopped_is phase is = as_kind Halts (Releases why.Stopped live.refusal live.refused_record live.units) (going phase is refl, refl, refl)
 
   exchanging_is : (phase : State) → is_exchanging phase ≡ true → phase ≡ Exchanging
   exchanging_is Exchanging e = refl
@@ -329,7 +345,7 @@ module _ (setup : Setup) (live : Live) where
 
   pub turn_is : (came : Came) → IsTurn setup live came (turn_for setup live came)
   turn_is (Hears heard) = turned_is heard
-  turn_is Passes = ticked_is live.stands refl
+  turn_is Passes = passes_is (is_spent live) refl
   turn_is (Gets slot subslot value) = as_kind (Gets slot subslot value) (Gives slot subslot value) refl
   turn_is (GetsStatus slot subslot is_good) = as_kind (GetsStatus slot subslot is_good) (GivesStatus slot subslot is_good) refl
   turn_is (AsksRead slot subslot index) = requested_is (AsksRead slot subslot index) service.Read slot subslot index [] (omega arith)

@@ -22,4 +22,6 @@ pub use hearing::{
     responses_are_heard, stations_are_real,
 };
 pub use sending::{frames_are_messages, messages_are_addressed, messages_can_be_sent};
-pub use turns::{alarms_are_taken_in_order, ended_is_kept, turns_are_of_a_kind};
+pub use turns::{
+    alarms_are_taken_in_order, ended_is_kept, no_state_outlasts_its_patience, turns_are_of_a_kind,
+};

@@ -5,4 +5,4 @@ mod kinds;
 mod law;
 
 pub use kinds::turns_are_of_a_kind;
-pub use law::{alarms_are_taken_in_order, ended_is_kept};
+pub use law::{alarms_are_taken_in_order, ended_is_kept, no_state_outlasts_its_patience};

@@ -74,8 +74,8 @@ IsUnready setup (AsksRead slot subslot index) = Unit {0}
 IsUnready setup (AsksWrite slot subslot index octets) = Unit {0}
 IsUnready setup Halts = Unit {0}
 
-asking_early : (phase : State) (request : Request) (live : Live) → is_exchanging phase ≡ false → live.access.waiting ≡ None → EarlyTurn (asking phase request live)
-asking_early phase request live e none = record { live = record { phase = e; waiting = none }; sent = (tt, tt) }
+asking_early : (setup : Setup) (phase : State) (request : Request) (live : Live) → is_exchanging phase ≡ false → live.access.waiting ≡ None → EarlyTurn (asking setup phase request live)
+asking_early setup phase request live e none = record { live = record { phase = e; waiting = none }; sent = (tt, tt) }
 
 written_phase : (request : Request) → is_exchanging (phase_for request) ≡ false
 written_phase asks.Identify = refl
@@ -150,8 +150,8 @@ module _ (setup : Setup) (live : Live) (came : Came) (is : IsEarlyAt live) (unre
   kind_early Rests holds = record { live = is; sent = tt }
   kind_early (Connects source) holds = record { live = record { phase = refl; waiting = is.waiting }; sent = (tt, tt) }
   kind_early (Addresses source) holds = record { live = record { phase = refl; waiting = is.waiting }; sent = (tt, tt) }
-  kind_early (Ends why refusal refused) holds = record { live = record { phase = refl; waiting = refl }; sent = tt }
-  kind_early (Releases why) holds = record { live = record { phase = refl; waiting = refl }; sent = (tt, tt) }
+  kind_early (Ends why refusal refused units) holds = record { live = record { phase = refl; waiting = refl }; sent = tt }
+  kind_early (Releases why refusal refused units) holds = record { live = record { phase = refl; waiting = refl }; sent = (tt, tt) }
   kind_early (Relates chosen) holds = record { live = record { phase = written_phase (writing_from setup.plan 0); waiting = is.waiting }; sent = (tt, tt) }
   kind_early (Writes number) holds = record { live = record { phase = written_phase (writing_from setup.plan (number + 1)); waiting = is.waiting }; sent = (tt, tt) }
   kind_early (Skips number refused status) holds = record { live = record { phase = written_phase (writing_from setup.plan (number + 1)); waiting = is.waiting }; sent = (tt, tt) }

@@ -106,16 +106,16 @@ module _ (size : ℕ) where
   stays_tells : (live : Live) → IsKept size live → Tells (sets_of live) (stays live)
   stays_tells live k = record { reported = tt; kept = k; same = refl }
 
-  asking_tells : (phase : State) (request : Request) (live : Live) → IsKept size live → Tells (sets_of live) (asking phase request live)
-  asking_tells phase request live k = record { reported = ((tt, k.device), tt); kept = k; same = refl }
+  asking_tells : (setup : Setup) (phase : State) (request : Request) (live : Live) → IsKept size live → Tells (sets_of live) (asking setup phase request live)
+  asking_tells setup phase request live k = record { reported = ((tt, k.device), tt); kept = k; same = refl }
 
   over_tells : (why : Cause) (live : Live) → IsKept size live → Tells (sets_of live) (stays (over why live))
   over_tells why live k = record { reported = tt; kept = k; same = refl }
 
   released_tells : (setup : Setup) (why : Cause) (live : Live) → IsKept size live → Tells (sets_of live) (released setup why live)
-  released_tells setup why live k = asking_tells (Ended why) (asks.Release (next_sequence setup.plan live.access.calls live.asked)) (over why live) k
+  released_tells setup why live k = asking_tells setup (Ended why) (asks.Release (next_sequence setup.plan live.access.calls live.asked)) (over why live) k
 
-  related_tells : (setup : Setup) (live : Live) (chosen : Chosen) → IsKept size live → Tells (sets_of live) (writing (writing_from setup.plan 0) (standing setup live chosen))
+  related_tells : (setup : Setup) (live : Live) (chosen : Chosen) → IsKept size live → Tells (sets_of live) (writing setup (writing_from setup.plan 0) (standing setup live chosen))
   related_tells setup live chosen k = record {
     reported = ((tt, k.device), tt);
     same = refl;
@@ -253,7 +253,7 @@ module _ (size : ℕ) where
     source_six source (inl same) = subst (λ (m : Mac). IsMac m) (sym same) k.device
     source_six source (inr heard) = subst (λ (c : Came). IsSixIn c) heard.1 six
 
-    met_tells : (phase : State) (request : Request) (source : Mac) → IsSought live came source → Tells (sets_of live) (asking phase request (record live { device = source }))
+    met_tells : (phase : State) (request : Request) (source : Mac) → IsSought live came source → Tells (sets_of live) (asking setup phase request (record live { device = source }))
     met_tells phase request source sought =
         let one = source_six source sought.known in
         record { reported = ((tt, one), tt); kept = record { device = one; way = k.way; size = k.size }; same = refl }
@@ -264,15 +264,16 @@ module _ (size : ℕ) where
     kind_tells : (kind : Kind) → IsKind setup live came kind → Tells (sets_of live) (turn_by setup live kind)
     kind_tells Rests holds = stays_tells live k
     kind_tells (Connects source) holds = met_tells Connecting asks.Connect source holds
-    kind_tells (Addresses source) holds = met_tells Addressing asks.Address source holds
-    kind_tells (sort.Ends why refusal refused) holds =
-        over_tells why (record live { refusal = refusal; refused_record = refused }) (record { device = k.device; way = k.way; size = k.size })
-    kind_tells (Releases why) holds = released_tells setup why live k
+    kind_tells (Addresses source) holds = met_tells Addressing asks.Address source holds.0
+    kind_tells (sort.Ends why refusal refused units) holds =
+        over_tells why (record live { refusal = refusal; refused_record = refused; units = units }) (record { device = k.device; way = k.way; size = k.size })
+    kind_tells (Releases why refusal refused units) holds =
+        released_tells setup why (record live { refusal = refusal; refused_record = refused; units = units }) (record { device = k.device; way = k.way; size = k.size })
     kind_tells (Relates chosen) holds = related_tells setup live chosen k
-    kind_tells (Writes number) holds = let next = writing_from setup.plan (number + 1) in asking_tells (phase_for next) next live k
+    kind_tells (Writes number) holds = let next = writing_from setup.plan (number + 1) in asking_tells setup (phase_for next) next live k
     kind_tells (Skips number refused status) holds =
         let next = writing_from setup.plan (number + 1) in
-        asking_tells (phase_for next) next (noted status refused live) (record { device = k.device; way = k.way; size = k.size })
+        asking_tells setup (phase_for next) next (noted status refused live) (record { device = k.device; way = k.way; size = k.size })
     kind_tells (Begins caller call block) holds = record { reported = ((tt, readied_tells caller call block holds.1), tt); kept = k; same = refl }
     kind_tells (Repeats caller call block) holds = record { reported = ((tt, readied_tells caller call block holds.1), tt); kept = k; same = refl }
     kind_tells (Follows source frame_id body) holds =

@@ -48,6 +48,7 @@ use Rattle.controller_frames.specs.Sent.{Sent}
 use Rattle.controller_state.specs.declared.event.Event.{Event}
 use Rattle.controller_state.specs.declared.event.Event.TheVariants as event
 use Rattle.controller_state.specs.declared.state.Cause.{Cause}
+use Rattle.controller_state.specs.declared.state.Cause.TheVariants.{NoProgress, Stopped}
 use Rattle.controller_state.specs.declared.state.State.{State}
 use Rattle.controller_state.specs.declared.state.State.TheVariants.{Looking, Addressing, Ending, Waiting, Exchanging, Ended}
 use Rattle.record_access.specs.Access.{Accessing, is_rejected, is_reply, record_in}
@@ -58,7 +59,7 @@ use Rattle.startup_answers.specs.declared.outcomes.Outcomes.{Outcomes}
 use Rattle.startup_answers.specs.declared.outcomes.Outcomes.TheVariants.{AllWritten, Unreadable}
 use Rattle.startup_answers.specs.declared.outcomes.Outcomes.TheVariants.{Refused as Denied}
 use Rattle.startup_answers.specs.Outcomes.{outcomes_of}
-use Rattle.controller_core.specs.Machine.{Turn, accesses_by, accessing, acked_under, after_write, past_record, acking, acks_in, acks_of, addressed, answered, behind_ack, behind_data, brings, brought, can_request, confirming, diagnosing, end_of, failed, granted, keeping, pending_by, pending_of, rejected, replied, replied_by, requested, with_end, called, come, connected, decided, denied, done, first, flow_later, flowed, found, given, is_again, handled, later, noted, noticed, outputs_of, over, rated, readied, refused, refused_by, related_by, released, requests_of, responded, standing, stays, stopped, taken, turn_of, turned, undone, where_due, writing}
+use Rattle.controller_core.specs.Machine.{Turn, accesses_by, accessing, acked_under, after_write, past_record, acking, acks_in, acks_of, addressed, answered, behind_ack, behind_data, brings, brought, can_request, confirming, diagnosing, end_of, failed, granted, keeping, pending_by, pending_of, rejected, replied, replied_by, requested, with_end, called, come, connected, decided, denied, done, first, flow_later, flowed, found, given, gone_on, is_again, is_spent, handled, later, noted, noticed, outputs_of, over, quit, rated, readied, refused, refused_by, related_by, released, requests_of, responded, standing, stays, taken, turn_of, turned, undone, where_due, writing}
 use Rattle.startup_answers.specs.Answers.{ready_in}
 use Rattle.controller_state.specs.State.{Live}
 use Rattle.end_laws.specs.sending.Sized.{Found}
@@ -120,7 +121,7 @@ module _ (setup : Setup) (mac : Mac) (apart : mac ≡ setup.plan.controller.mac 
       (record { live = record { plain = p.plain; partner = p.partner; asking = λ e. is; giving = λ e. is; addressing = λ e. is }; sent = (λ e. apart (sym is ∙ e), tt) }))
       (ends_placed _ live p)
 
-  addressed_placed : (live : Live) (answer : Answered) → live.device ≡ mac → IsPlaced mac live → PlacedTurn (addressed live answer)
+  addressed_placed : (live : Live) (answer : Answered) → live.device ≡ mac → IsPlaced mac live → PlacedTurn (addressed setup live answer)
   addressed_placed live answer is p =
       either (is_agreed answer) _ _
       (record { live = record { plain = p.plain; partner = p.partner; asking = λ e. is; giving = λ e. is; addressing = λ e. is }; sent = (tt, tt) })
@@ -134,7 +135,7 @@ module _ (setup : Setup) (mac : Mac) (apart : mac ≡ setup.plan.controller.mac 
   -- ---- responses
 
   -- the next request is a Write, or PrmEnd
-  writes_placed : (live : Live) (number : ℕ) (b : Bool) → IsPlaced mac live → PlacedTurn (writing (cond b (asks.Write number) asks.PrmEnd) live)
+  writes_placed : (live : Live) (number : ℕ) (b : Bool) → IsPlaced mac live → PlacedTurn (writing setup (cond b (asks.Write number) asks.PrmEnd) live)
   writes_placed live number true p = record { live = record { plain = p.plain; partner = p.partner; asking = λ e. absurd cc; giving = λ e. absurd cc; addressing = λ e. absurd cc }; sent = (tt, tt) }
   writes_placed live number false p = record { live = record { plain = p.plain; partner = p.partner; asking = λ e. absurd cc; giving = λ e. absurd cc; addressing = λ e. absurd cc }; sent = (tt, tt) }
 
@@ -165,7 +166,9 @@ module _ (setup : Setup) (mac : Mac) (apart : mac ≡ setup.plan.controller.mac 
   passed_placed live number refused status p =
       either setup.plan.continue_on_refused_record _ _
       (writes_placed (noted status refused live) (number + 1) (nat_lt (number + 1) (write_count setup.plan)) (noted_placed status refused live p))
-      (ends_placed _ (noted status refused live) (noted_placed status refused live p))
+      (either setup.plan.release_on_refused_record _ _
+      (released_placed _ (noted status refused live) (noted_placed status refused live p))
+      (ends_placed _ (noted status refused live) (noted_placed status refused live p)))
 
   wrote_placed : (live : Live) (number : ℕ) (outcomes : Outcomes) → IsPlaced mac live → PlacedTurn (after_write setup live number outcomes)
   wrote_placed live number AllWritten p = writes_placed live (number + 1) (nat_lt (number + 1) (write_count setup.plan)) p
@@ -179,7 +182,7 @@ module _ (setup : Setup) (mac : Mac) (apart : mac ≡ setup.plan.controller.mac 
   done_placed live blocks asks.Connect now well p = connected_placed live blocks (found_in 400 blocks nothing) refl (p.asking now) (well refl) p
   done_placed live blocks (asks.Write number) now well p = wrote_placed live number (outcomes_of setup.plan number blocks) p
   done_placed live blocks asks.PrmEnd now well p =
-      stays_placed (record live { phase = Waiting; asked = None }) (record { plain = p.plain; partner = p.partner; asking = λ e. absurd cc; giving = λ e. absurd cc; addressing = λ e. absurd cc })
+      stays_placed (record live { phase = Waiting; asked = None; left = setup.options.waiting_patience }) (record { plain = p.plain; partner = p.partner; asking = λ e. absurd cc; giving = λ e. absurd cc; addressing = λ e. absurd cc })
   done_placed live blocks (asks.Release sequence) now well p =
       stays_placed (record live { asked = None }) (record { plain = p.plain; partner = p.partner; asking = λ e. absurd cc; giving = p.giving; addressing = λ e. absurd cc })
 
@@ -391,6 +394,18 @@ module _ (setup : Setup) (mac : Mac) (apart : mac ≡ setup.plan.controller.mac 
     sent = due_placed (is_again live) _ (requests_placed live.device live.asked p.addressing);
   }
 
+  -- a controller that is ended for this cause
+  quit_placed : (cause : Cause) (live : Live) (phase : State) → IsPlaced mac live → PlacedTurn (quit setup cause live phase)
+  quit_placed cause live Looking p = ends_placed _ live p
+  quit_placed cause live Addressing p = ends_placed _ live p
+  quit_placed cause live (Ended before) p = stays_placed live p
+  quit_placed cause live other p = released_placed _ live p
+
+  -- the patience of the phase ends with a unit, or it does not
+  unit_placed : (live : Live) (b : Bool) → IsPlaced mac live → PlacedTurn (cond b (quit setup NoProgress (later live) live.phase) (gone_on (later live) (is_again live)))
+  unit_placed live true p = quit_placed NoProgress (later live) live.phase (record { plain = p.plain; partner = p.partner; asking = p.asking; giving = p.giving; addressing = p.addressing })
+  unit_placed live false p = ticked_placed live live.stands refl p
+
   -- ---- requests of the application
 
   accessing_placed : (live : Live) (request : RecordRequest) (octets : List ℕ) → IsPlaced mac live → PlacedTurn (accessing request octets live)
@@ -400,12 +415,6 @@ module _ (setup : Setup) (mac : Mac) (apart : mac ≡ setup.plan.controller.mac 
   requested_placed : (live : Live) (kind : RecordService) (slot subslot index : ℕ) (octets : List ℕ) → IsPlaced mac live → PlacedTurn (requested setup live kind slot subslot index octets)
   requested_placed live kind slot subslot index octets p = either (can_request live) _ _ (accessing_placed live _ octets p) (stays_placed live p)
 
-  stopped_placed : (live : Live) (phase : State) → IsPlaced mac live → PlacedTurn (stopped setup live phase)
-  stopped_placed live Looking p = ends_placed _ live p
-  stopped_placed live Addressing p = ends_placed _ live p
-  stopped_placed live (Ended cause) p = stays_placed live p
-  stopped_placed live other p = released_placed _ live p
-
   -- ---- events
 
   abbrev pub IsEventOf : Event → Type 0
@@ -414,7 +423,7 @@ module _ (setup : Setup) (mac : Mac) (apart : mac ≡ setup.plan.controller.mac 
 
   pub event_placed : (live : Live) (one : Event) → IsEventOf one → IsPlaced mac live → PlacedTurn (turn_of setup live one)
   event_placed live (event.Frame bytes) is p = heard_placed live (heard_of setup.plan.controller bytes.items) is p
-  event_placed live event.Tick is p = ticked_placed live live.stands refl p
+  event_placed live event.Tick is p = unit_placed live (is_spent live) p
   event_placed live (event.Give slot subslot value) is p =
       stays_placed (given live slot subslot value.items) (record { plain = p.plain; partner = p.partner; asking = p.asking; giving = p.giving; addressing = p.addressing })
   event_placed live (event.Status slot subslot is_good) is p =
@@ -422,7 +431,7 @@ module _ (setup : Setup) (mac : Mac) (apart : mac ≡ setup.plan.controller.mac 
   event_placed live (event.Read slot subslot index) is p = requested_placed live service.Read slot subslot index [] p
   event_placed live (event.Write slot subslot index octets) is p =
       either (nat_lt most_record_octets (length octets.items)) _ _ (stays_placed live p) (requested_placed live service.Write slot subslot index octets.items p)
-  event_placed live event.Stop is p = stopped_placed live live.phase p
+  event_placed live event.Stop is p = quit_placed Stopped live live.phase p
 
   -- a controller that was just made
   pub first_placed : (plan : Parts) → IsPlaced mac (first plan)

@@ -55,14 +55,14 @@ module _ (setup : Setup) (good : IsSetup setup) where
   numbered (asks.Release sequence) few = few
   numbered other few = tt
 
-  asking_right : (phase : State) (request : Request) (live : Live) → IsLive live → IsFew request → IsRight setup (asking phase request live)
+  asking_right : (phase : State) (request : Request) (live : Live) → IsLive live → IsFew request → IsRight setup (asking setup phase request live)
   asking_right phase request live is few = (
     record { device = is.device; asked = few; way = is.way; few = is.few; high = is.high; low = is.low; access = is.access },
     ((is.device, numbered request few), tt),
   )
 
-  unasked : (live : Live) (phase : State) → IsLive live → IsLive (record live { phase = phase; asked = None })
-  unasked live phase is = record { device = is.device; asked = tt; way = is.way; few = is.few; high = is.high; low = is.low; access = is.access }
+  unasked : (live : Live) (phase : State) (left : ℕ) → IsLive live → IsLive (record live { phase = phase; asked = None; left = left })
+  unasked live phase left is = record { device = is.device; asked = tt; way = is.way; few = is.few; high = is.high; low = is.low; access = is.access }
 
   over_live : (why : Cause) (live : Live) → IsLive live → IsLive (over why live)
   over_live why live is = record { device = is.device; asked = tt; way = is.way; few = is.few; high = is.high; low = is.low; access = tt }
@@ -90,7 +90,7 @@ module _ (setup : Setup) (good : IsSetup setup) where
       picked_few number (nat_lt number (write_count plan))
       (λ e. let below = ltb-true number (write_count plan) e in omega (arith, below, few_by plan.multiple_write (length plan.records.items) is.few_records))
 
-  writing_right : (number : ℕ) (live : Live) → IsLive live → IsRight setup (writing (writing_from setup.plan number) live)
+  writing_right : (number : ℕ) (live : Live) → IsLive live → IsRight setup (writing setup (writing_from setup.plan number) live)
   writing_right number live is = asking_right (phase_for (writing_from setup.plan number)) (writing_from setup.plan number) live is (writing_few setup.plan number good.plan)
 
   stands_live : (live : Live) (chosen : Chosen) → IsLive live → (chosen.frame_id < 65536) × (chosen.reference < 65536) → IsLive (standing setup live chosen)
@@ -126,7 +126,9 @@ module _ (setup : Setup) (good : IsSetup setup) where
   passed_right live number refused status is =
       either setup.plan.continue_on_refused_record _ _
       (λ goes. writing_right (number + 1) (noted status refused live) (noted_live status refused live is))
-      (λ ends. stays_right (over cause.Refused (noted status refused live)) (over_live cause.Refused (noted status refused live) (noted_live status refused live is)))
+      (λ ends. either setup.plan.release_on_refused_record _ _
+      (λ informs. released_right cause.Refused (noted status refused live) (noted_live status refused live is))
+      (λ silent. stays_right (over cause.Refused (noted status refused live)) (over_live cause.Refused (noted status refused live) (noted_live status refused live is))))
 
   wrote_right : (live : Live) (number : ℕ) (outcomes : Outcomes) → IsLive live → IsRight setup (after_write setup live number outcomes)
   wrote_right live number AllWritten is = writing_right (number + 1) live is
@@ -138,8 +140,8 @@ module _ (setup : Setup) (good : IsSetup setup) where
   done_right live blocks asks.Address is well = stays_right live is
   done_right live blocks asks.Connect is well = connected_right live blocks (found_in 400 blocks nothing) refl is (well refl)
   done_right live blocks (asks.Write number) is well = wrote_right live number (outcomes_of setup.plan number blocks) is
-  done_right live blocks asks.PrmEnd is well = stays_right _ (unasked live Waiting is)
-  done_right live blocks (asks.Release sequence) is well = stays_right _ (unasked live live.phase is)
+  done_right live blocks asks.PrmEnd is well = stays_right _ (unasked live Waiting setup.options.waiting_patience is)
+  done_right live blocks (asks.Release sequence) is well = stays_right _ (unasked live live.phase live.left is)
 
   undone_right : (live : Live) (status : Status) (request : Request) → IsLive live → IsRight setup (undone setup live status request)
   undone_right live status (asks.Write number) is = passed_right live number (first_of setup.plan number) status is
@@ -159,7 +161,7 @@ module _ (setup : Setup) (good : IsSetup setup) where
   decided_right live response asks.Connect is well = handled_right live response asks.Connect is well
   decided_right live response (asks.Write number) is well = handled_right live response (asks.Write number) is well
   decided_right live response asks.PrmEnd is well = handled_right live response asks.PrmEnd is well
-  decided_right live response (asks.Release sequence) is well = stays_right _ (unasked live live.phase is)
+  decided_right live response (asks.Release sequence) is well = stays_right _ (unasked live live.phase live.left is)
 
   -- the answer to a request of the application
   answered_live : (live : Live) (refusal : Option Status) (access : Accessing) → access.waiting ≡ None → IsLive live → IsLive (record live { refusal = refusal; access = access })

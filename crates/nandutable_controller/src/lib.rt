@@ -12,7 +12,7 @@ ghost use denote.RawPtr.{lies_at, room_at};
 ghost use Rattle.controller_station.specs.Served.{begun};
 ghost use Rattle.controller_abi.specs.State.{State, opened};
 ghost use Rattle.controller_abi.specs.contracts.port.Port.{the_row as Row};
-ghost use Rattle.controller_abi.specs.Plans.{fault_of, is_plan, parts_of, why_not_made};
+ghost use Rattle.controller_abi.specs.Plans.{fault_of, is_plan, options_in, parts_of, why_not_made};
 ghost use Rattle.controller_abi.specs.Serves.{Serves, operation_of};
 ghost use Rattle.c_layout.specs.Places.{place_in};
 ghost use Rattle.commissioning.specs.Named.{named_by};
@@ -57,7 +57,7 @@ pub unsafe extern "C" fn pn_controller_put(
     activity: &[u8; 16],
 )
     requires* { sem 𝓛 (room_at Row room) ∗ ⌜ is_plan plan.now ≡ true ⌝ }
-    ensures* { ex 𝓤 (λ (port : State). sem 𝓛 (lies_at Row full_share room port) ∗ ⌜ port.controller.setup ≡ record { plan = parts_of plan.now; ar = ar.now; activity = activity.now } ⌝) }
+    ensures* { ex 𝓤 (λ (port : State). sem 𝓛 (lies_at Row full_share room port) ∗ ⌜ port.controller.setup ≡ record { plan = parts_of plan.now; ar = ar.now; activity = activity.now; options = options_in plan.now } ⌝) }
 {
     unsafe { std::ptr::write(room as *mut Port, unstarted(plan, ar, activity)) };
 }
@@ -67,7 +67,7 @@ pub unsafe extern "C" fn pn_controller_put(
 pub unsafe extern "C" fn pn_controller_begin(room: *mut u8)
     ghost port: { State }
     requires* { sem 𝓛 (lies_at Row full_share room port) }
-    ensures* { ex 𝓤 (λ (new : State). sem 𝓛 (lies_at Row full_share room new) ∗ ⌜ new ≡ opened (begun port.controller.setup.plan port.controller.setup.ar port.controller.setup.activity) ⌝) }
+    ensures* { ex 𝓤 (λ (new : State). sem 𝓛 (lies_at Row full_share room new) ∗ ⌜ new ≡ opened (begun port.controller.setup) ⌝) }
 {
     start(unsafe { &mut *(room as *mut Port) });
 }
@@ -90,10 +90,10 @@ pub extern "C" fn pn_tool_find(tool: &WrittenTool, op: &mut Op, alias: &[u8]) ->
     find(tool, alias, op)
 }
 
-/// Hears a received frame: only an answer to that question counts.
+/// Hears a received frame: only an answer to that question counts, by the number of the tool's request.
 #[unsafe(no_mangle)]
 pub extern "C" fn pn_tool_hear(tool: &WrittenTool, search: &mut Search, given: &[u8])
-    ensures { place_of search.new ≡ after_frame (tool_in tool.now) (place_of search.old) (take 1519 given.now) }
+    ensures { place_of search.new ≡ after_frame (tool_in tool.now) tool.now.xid (place_of search.old) (take 1519 given.now) }
 {
     hear(tool, search, given);
 }
@@ -114,7 +114,7 @@ pub extern "C" fn pn_tool_outcome(
     op: &mut Op,
     given: &[u8],
 ) -> u32
-    ensures { IsOutcome (named_by (tool_in tool.now) (place_of search.now) (take 1519 given.now)) op.old result op.new }
+    ensures { IsOutcome (named_by (tool_in tool.now) tool.now.xid (place_of search.now) (take 1519 given.now)) op.old result op.new }
 {
     outcome(tool, search, given, op)
 }

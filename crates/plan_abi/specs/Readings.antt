@@ -102,6 +102,9 @@ pub record IsBlank (written : WrittenPlan) : Type 0 where
   pub records : written.records ≡ replicate 32 no_record
   pub continue_on_refused_record : written.continue_on_refused_record ≡ 0
   pub multiple_write : written.multiple_write ≡ 0
+  pub release_on_refused_record : written.release_on_refused_record ≡ 0
+  pub patience : written.patience ≡ 0
+  pub waiting_patience : written.waiting_patience ≡ 0
 
 -- the octets of a type of station: none if it has more than 28
 abbrev pub type_of : List ℕ → List ℕ
@@ -122,6 +125,9 @@ pub record IsFilled (parts : Parts) (station_type : List ℕ) (written : Written
   pub records : written.records ≡ over (replicate 32 no_record) (map written_record parts.records.items)
   pub continue_on_refused_record : written.continue_on_refused_record ≡ (if parts.continue_on_refused_record then 1 else 0)
   pub multiple_write : written.multiple_write ≡ (if parts.multiple_write then 1 else 0)
+  pub release_on_refused_record : written.release_on_refused_record ≡ (if parts.release_on_refused_record then 1 else 0)
+  pub patience : written.patience ≡ 0
+  pub waiting_patience : written.waiting_patience ≡ 0
 
 -- what was written is the plan of the text's catalogue, with its type of station
 pub record IsWritten (text : List ℕ) (written : WrittenPlan) : Type 0 where

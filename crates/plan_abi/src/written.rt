@@ -37,6 +37,9 @@ pub fn clear(written: &mut WrittenPlan)
     clear_records(&mut written.records);
     written.continue_on_refused_record = 0;
     written.multiple_write = 0;
+    written.release_on_refused_record = 0;
+    written.patience = 0;
+    written.waiting_patience = 0;
 }
 
 fn clear_modules(places: &mut [Module])
@@ -91,6 +94,7 @@ pub fn put(written: &mut WrittenPlan, plan: &Plan, station_type: &[u8])
     put_octets(&mut written.station_type, type_of(station_type));
     written.continue_on_refused_record = u32::from(plan.continues_on_refused_record());
     written.multiple_write = u32::from(plan.has_multiple_write());
+    written.release_on_refused_record = u32::from(plan.release_on_refused_record());
 }
 
 // The octets of a type of station: none if it has more than 28.

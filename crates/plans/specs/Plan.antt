@@ -1,5 +1,5 @@
 -- The plan of a station.
-use Rattle.std.specs.Prelude.{◌≡◌, ◌≤◌, ◌&&◌, Bool, true, not, List, length, nat_le, Result, Ok, Err, if◌then◌else◌}
+use Rattle.std.specs.Prelude.{◌≡◌, ◌≤◌, ◌&&◌, Bool, true, not, List, length, nat_le, Option, Some, None, Result, Ok, Err, if◌then◌else◌}
 use Rattle.std.specs.List.{AllByRecursion}
 use Rattle.connect_blocks.specs.declared.iocr.IocrType.TheVariants.{Input, Output}
 use Rattle.plans.specs.declared.parts.Parts.{Parts}
@@ -37,3 +37,8 @@ plan_of parts =
     if not (do_frames_fit parts) then Err Frame
     else if not (does_connect_fit parts) then Err Connect
     else Ok parts
+
+-- what is too long, if there is no plan
+abbrev pub long_of : {T : Type 0} → Result T TooLong → Option TooLong
+long_of (Ok plan) = None
+long_of (Err fault) = Some fault

@@ -186,7 +186,8 @@ pub(crate) fn write_iocr(out: &mut ArrayVec<u8, 1372>, parts: &Parts, direction:
     ensures read { IsIocrBlockReq (iocr_block parts.now direction) → IsRead (Block.IocrBlockReq (iocr_block parts.now direction)) }
 {
     let subs = data_of(&parts.real);
-    let places = Places::of(direction, subs.as_slice());
+    let mut places = Places::none();
+    places.fill(direction, subs.as_slice());
     let block = iocr_block(parts, direction, subs.as_slice(), &places);
     write_block(out, &Block::IocrBlockReq(block));
 }
@@ -197,7 +198,8 @@ fn iocr_len(parts: &Parts, direction: IocrType) -> usize
     ensures { result ≡ block_size (Block.IocrBlockReq (iocr_block parts.now direction)) }
 {
     let subs = data_of(&parts.real);
-    let places = Places::of(direction, subs.as_slice());
+    let mut places = Places::none();
+    places.fill(direction, subs.as_slice());
     let block = iocr_block(parts, direction, subs.as_slice(), &places);
     block_len(&Block::IocrBlockReq(block))
 }

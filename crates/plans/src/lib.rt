@@ -15,4 +15,4 @@ pub use numbers::{
     ALARM_REFERENCE, INPUT_FRAME_ID, RTA_RETRIES, RTA_TIMEOUT_FACTOR, SESSION_KEY, TAG_HIGH,
 };
 pub use parts::{Controller, Parts, PlanRecord, Station, Times};
-pub use plan::{Layouts, Plan, TooLong};
+pub use plan::{Layouts, Plan, TooLong, too_long};

@@ -60,6 +60,8 @@ pub struct Parts {
     pub records: ArrayVec<PlanRecord, 32>,
     /// Whether the start-up goes on after a record that the device refused.
     pub continue_on_refused_record: bool,
+    /// Whether the controller releases the relation when it ends because the device refused a record.
+    pub release_on_refused_record: bool,
     /// Whether a Write carries several records (MultipleWrite).
     pub multiple_write: bool,
 }

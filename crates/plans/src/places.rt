@@ -110,20 +110,35 @@ fn pack(
 }
 
 impl Places {
-    /// The places of at most 64 submodules: the data objects from offset 0 on, and the IOCS after them.
-    pub(crate) fn of(direction: IocrType, subs: &[ExpectedData]) -> Places
+    /// No places.
+    #[inline(always)]
+    pub(crate) fn none() -> Places
+        ensures io_data { result.io_data_objects.items ≡ [] }
+        ensures iocs { result.iocs.items ≡ [] }
+    {
+        Places {
+            io_data_objects: ArrayVec::new(),
+            iocs: ArrayVec::new(),
+        }
+    }
+
+    /// Appends to no places those of at most 64 submodules: the data objects from offset 0 on, and the IOCS after them. It is done in place,
+    /// since a compiler may keep room for a second list if it is returned.
+    pub(crate) fn fill(&mut self, direction: IocrType, subs: &[ExpectedData])
+        requires no_data { self.old.io_data_objects.items ≡ [] }
+        requires no_iocs { self.old.iocs.items ≡ [] }
         requires few { length subs.now ≤ 64 }
         requires short { frame_octets direction subs.now ≤ 1440 }
-        ensures io_data { result.io_data_objects.items ≡ map object_of (packed direction Data 0 subs.now) }
-        ensures iocs { result.iocs.items ≡ map object_of (packed direction Iocs (octets_of direction Data subs.now) subs.now) }
+        ensures io_data { self.new.io_data_objects.items ≡ map object_of (packed direction Data 0 subs.now) }
+        ensures iocs { self.new.iocs.items ≡ map object_of (packed direction Iocs (octets_of direction Data subs.now) subs.now) }
     {
-        let mut io_data_objects = ArrayVec::new();
-        let mut iocs = ArrayVec::new();
-        let behind = pack(&mut io_data_objects, 0, direction, PlaceKind::Data, subs);
-        let _ = pack(&mut iocs, behind, direction, PlaceKind::Iocs, subs);
-        Places {
-            io_data_objects,
-            iocs,
-        }
+        let behind = pack(
+            &mut self.io_data_objects,
+            0,
+            direction,
+            PlaceKind::Data,
+            subs,
+        );
+        let _ = pack(&mut self.iocs, behind, direction, PlaceKind::Iocs, subs);
     }
 }

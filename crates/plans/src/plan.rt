@@ -8,7 +8,7 @@ ghost use Rattle.wire.specs.Codec.{Gives};
 ghost use Rattle.plans.specs.Packed.{frame_octets, layout_in};
 ghost use Rattle.plans.specs.Parts.{AreOrdered, AreParts, data_of};
 ghost use Rattle.plans.specs.Connect.{IsRead, blocks_of, connect_of};
-ghost use Rattle.plans.specs.Plan.{AreShort, IsPlan, do_frames_fit, plan_of};
+ghost use Rattle.plans.specs.Plan.{AreShort, IsPlan, do_frames_fit, long_of, plan_of};
 
 use crate::blocks::{does_connect_fit, write_alarm, write_all_expected, write_ar, write_iocr};
 use crate::data::data_of;
@@ -83,7 +83,8 @@ fn layout_in(direction: IocrType, parts: &Parts) -> Layout
     ensures { result ≡ layout_in direction (data_of parts.now.real.modules.items) }
 {
     let subs = data_of(&parts.real);
-    let places = Places::of(direction, subs.as_slice());
+    let mut places = Places::none();
+    places.fill(direction, subs.as_slice());
     let checked = Layout::check(
         direction,
         data_length(direction, subs.as_slice()),
@@ -95,6 +96,21 @@ fn layout_in(direction: IocrType, parts: &Parts) -> Layout
         Ok(layout) => layout,
         Err(_) => unreachable!(),
     }
+}
+
+/// What is too long in parts that are in their ranges, if anything is: `Frame` is checked before `Connect`. It makes no plan, so a caller's
+/// stack holds the parts alone.
+pub fn too_long(parts: &Parts) -> Option<TooLong>
+    requires { AreParts parts.now }
+    ensures { result ≡ long_of (plan_of parts.now) }
+{
+    if !do_frames_fit(parts) {
+        return Some(TooLong::Frame);
+    }
+    if !does_connect_fit(parts) {
+        return Some(TooLong::Connect);
+    }
+    None
 }
 
 impl Plan {
@@ -161,6 +177,13 @@ impl Plan {
         ensures { result ≡ self.now.continue_on_refused_record }
     {
         self.parts.continue_on_refused_record
+    }
+
+    /// Whether the controller releases the relation when it ends because the device refused a record. If not, it sends no Release then.
+    pub fn release_on_refused_record(&self) -> bool
+        ensures { result ≡ self.now.release_on_refused_record }
+    {
+        self.parts.release_on_refused_record
     }
 
     /// Whether the records are written in lists: several in each Write (MultipleWrite). If not, each has a Write of its own.

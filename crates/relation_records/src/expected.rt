@@ -14,7 +14,7 @@ use records::{Level, put_identification};
 
 /// Appends the entries of the submodules that are asked for. There must be room. Returns their number.
 fn push_parts(
-    entries: &mut ArrayVec<FilterSubmodule, 256>,
+    entries: &mut ArrayVec<FilterSubmodule, 64>,
     level: Level,
     subslot: u16,
     parts: &[ExpectedSubmodule],
@@ -61,8 +61,8 @@ pub(crate) fn split_own(
 
 /// Appends the entry of a module, if it is asked for, and those of its submodules. There must be room.
 fn push_module(
-    modules: &mut ArrayVec<FilterModule, 256>,
-    submodules: &mut ArrayVec<FilterSubmodule, 256>,
+    modules: &mut ArrayVec<FilterModule, 64>,
+    submodules: &mut ArrayVec<FilterSubmodule, 64>,
     level: Level,
     slot: u16,
     subslot: u16,
@@ -93,8 +93,8 @@ fn push_module(
 
 /// Appends the entries of the modules that are asked for, and of their submodules, to empty lists.
 fn push_all(
-    modules: &mut ArrayVec<FilterModule, 256>,
-    submodules: &mut ArrayVec<FilterSubmodule, 256>,
+    modules: &mut ArrayVec<FilterModule, 64>,
+    submodules: &mut ArrayVec<FilterSubmodule, 64>,
     expected: &Expected,
     level: Level,
     slot: u16,
@@ -117,8 +117,8 @@ fn push_all(
     }
 }
 
-/// Puts ExpectedIdentificationData of what is asked for into an empty list. Its lists take four thousand octets of stack, so
-/// it is a function of its own.
+/// Puts ExpectedIdentificationData of what is asked for into an empty list. Its lists take a thousand octets of stack, so it
+/// is a function of its own.
 #[inline(never)]
 pub(crate) fn put_expected(
     out: &mut Own,

@@ -37,7 +37,7 @@ fn expects(own: &[ExpectedSubmodule], subslot: u16) -> bool
 
 /// Appends the entries of the submodules that are expected. There must be room. Returns their number.
 fn push_parts(
-    entries: &mut ArrayVec<FilterSubmodule, 256>,
+    entries: &mut ArrayVec<FilterSubmodule, 64>,
     own: &[ExpectedSubmodule],
     parts: &[RealSubmodule],
 ) -> u16
@@ -61,8 +61,8 @@ fn push_parts(
 /// Appends the entry of a module and those of its submodules, at most 4, if a module is expected in its slot. There must be
 /// room.
 fn push_module(
-    modules: &mut ArrayVec<FilterModule, 256>,
-    submodules: &mut ArrayVec<FilterSubmodule, 256>,
+    modules: &mut ArrayVec<FilterModule, 16>,
+    submodules: &mut ArrayVec<FilterSubmodule, 64>,
     entry: &RealModule,
     own: Option<&[ExpectedSubmodule]>,
 )
@@ -86,8 +86,8 @@ fn push_module(
 
 /// Appends the entries of the modules and submodules that are plugged and expected to empty lists.
 fn push_all(
-    modules: &mut ArrayVec<FilterModule, 256>,
-    submodules: &mut ArrayVec<FilterSubmodule, 256>,
+    modules: &mut ArrayVec<FilterModule, 16>,
+    submodules: &mut ArrayVec<FilterSubmodule, 64>,
     expected: &Expected,
     real: &Real,
 )
@@ -105,8 +105,8 @@ fn push_all(
     }
 }
 
-/// Puts RealIdentificationData of what is expected into an empty list. Its lists take four thousand octets of stack, so it
-/// is a function of its own.
+/// Puts RealIdentificationData of what is expected into an empty list. Its lists are large, so it is a function of its
+/// own.
 #[inline(never)]
 pub(crate) fn put_found(out: &mut Own, expected: &Expected, real: &Real)
     requires { out.old.items ≡ [] }

@@ -28,6 +28,7 @@ pub(crate) fn plan_copy(plan: &Plan) -> Plan
         real: real_copy(plan.real()),
         records: records_copy(plan.records()),
         continue_on_refused_record: plan.continues_on_refused_record(),
+        release_on_refused_record: plan.release_on_refused_record(),
         multiple_write: plan.has_multiple_write(),
     };
     match Plan::new(parts) {

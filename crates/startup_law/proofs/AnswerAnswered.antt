@@ -134,7 +134,7 @@ where_so is x y e = ap (λ (b : Bool). if b then x else y) e
 -- the controller goes on
 pub goes_on : (setup : Setup) (live : Controls) (octets blocks : List ℕ) (frame_id : ℕ) → IsAllThere blocks frame_id
     → heard_of setup.plan.controller octets ≡ Responds (answer_to (call_for setup asks.Connect) done blocks) → live.asked ≡ Some asks.Connect
-    → turn_of setup live (Frame (record { items = octets })) ≡ writing (writing_from setup.plan 0) (standing setup live (chosen_with frame_id))
+    → turn_of setup live (Frame (record { items = octets })) ≡ writing setup (writing_from setup.plan 0) (standing setup live (chosen_with frame_id))
 goes_on setup live octets blocks frame_id there heard asked =
     let answer = answer_to (call_for setup asks.Connect) done blocks in
     ap (λ (h : Heard). turned setup live h) heard

@@ -56,6 +56,6 @@ pub fn begin_world<F: Flash<S>, const S: usize>(
     World::new(
         alloc,
         device,
-        Controller::new(setup.plan, setup.ar, setup.activity),
+        Controller::new_with(setup.plan, setup.ar, setup.activity, setup.options),
     )
 }

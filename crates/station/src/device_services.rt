@@ -109,6 +109,7 @@ impl DeviceServices {
     }
 
     /// What the device is to be told, if the neighbour changed since it was told last: the owner gives it this event.
+    #[inline(never)]
     pub fn news(&self) -> Option<Event>
         ensures { result ≡ (if self.now.has_news then Some (news_in self.now) else None) }
     {

@@ -17,7 +17,7 @@ use relations::DeviceOptions;
 use station_port::ServedPort;
 
 /// The version of the header.
-const ABI: u32 = 3;
+const ABI: u32 = 4;
 
 /// The number of octets of the memory for a port.
 const ROOM: usize = 102400;

@@ -6,7 +6,7 @@ ghost use Rattle.world_monitor.specs.Lawful.{IsLawful};
 
 use arrayvec::ArrayVec;
 use configurator::plan_from_json;
-use controller_frames::Setup;
+use controller_frames::{ControllerOptions, Setup};
 use device_core::{Device, Event, Note};
 use flash_model::{MemoryFlash, Order};
 use frame_codec::{Bytes, Outbox};
@@ -156,6 +156,7 @@ pub fn fresh_world(alloc: Global, catalogue: &str, fault: Option<u32>) -> Option
         plan,
         ar: Uuid::from_bytes([1; 16]),
         activity: Uuid::from_bytes([2; 16]),
+        options: ControllerOptions::default(),
     };
     if !can_meet(&setup, &demo_identity()) {
         return None;

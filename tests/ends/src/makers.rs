@@ -6,7 +6,9 @@ use super::PUMP;
 use super::operations::{asked, taken};
 use configurator::plan_from_json;
 use controller_abi::{Port, serve};
-use controller_core::{Answer, Controller, Event, Priority, RecordService, State};
+use controller_core::{
+    Answer, Controller, ControllerOptions, Event, Priority, RecordService, State,
+};
 use frame_codec::Outbox;
 use rpc_core::Status;
 use rattle_std::alloc::Global;
@@ -105,7 +107,7 @@ impl Scene {
             .expect("there is a plan");
         let ar = Uuid::parse_str(AR).expect("a UUID");
         let activity = Uuid::parse_str(ACTIVITY).expect("a UUID");
-        let mut port = Port::unstarted(again, ar, activity);
+        let mut port = Port::unstarted(again, ar, activity, ControllerOptions::default());
         port.start();
         assert_eq!(taken(&mut port).len(), 1, "{name}");
         Scene {

@@ -6,6 +6,7 @@ use super::served::{
 };
 use configurator::plan_from_json;
 use controller_abi::{Port, serve};
+use controller_core::ControllerOptions;
 use c_layout::Op;
 use rattle_std::alloc::Global;
 use uuid::Uuid;
@@ -22,6 +23,7 @@ fn begun(alloc: Global) -> Port {
         plan,
         Uuid::from_bytes([0x11; 16]),
         Uuid::from_bytes([0x51; 16]),
+        ControllerOptions::default(),
     );
     port.start();
     port

@@ -20,11 +20,11 @@ const OTHER: &str = "0200000000020200000000038892feff05014e414d45000000100202000
     000000000000000000000000000000";
 
 /// The station has the name.
-const DONE: &str = "0200000000020200000000018892fefd04014e414d450000000805040003020200000000000000000000000000\
+const DONE: &str = "0200000000020200000000018892fefd04017c5e1a930000000805040003020200000000000000000000000000\
     000000000000000000000000000000";
 
 /// The station could not store it.
-const FAILED: &str = "0200000000020200000000018892fefd04014e414d450000000805040003020205000000000000000000000000\
+const FAILED: &str = "0200000000020200000000018892fefd04017c5e1a930000000805040003020205000000000000000000000000\
     000000000000000000000000000000";
 
 /// The Read Implicit of 0xF841.
@@ -47,10 +47,20 @@ const REFUSAL: &str = "020000000002020000000001080045000080000040004011b919c0a80
     6a6b6c6d6e6f70710000000000000001000000000005ffffffff001400000000de80b000000000000000055c00\
     00000000000000";
 
-const TOOL: WrittenTool = WrittenTool {
-    mac: [2, 0, 0, 0, 0, 2],
-    address: [192, 168, 0, 1],
-};
+/// The tool as it searches.
+const TOOL: WrittenTool = with_number(0x4E41_4D45);
+
+/// The tool as it sets the name.
+const SETS: WrittenTool = with_number(0x7C5E_1A93);
+
+/// The tool with a number of its request.
+const fn with_number(xid: u32) -> WrittenTool {
+    WrittenTool {
+        mac: [2, 0, 0, 0, 0, 2],
+        address: [192, 168, 0, 1],
+        xid,
+    }
+}
 
 const TARGET: WrittenTarget = WrittenTarget {
     mac: [2, 0, 0, 0, 0, 1],
@@ -93,7 +103,7 @@ fn a_name_by_the_place_is_asked_for() {
 #[test]
 fn the_only_nameless_station_gets_the_name() {
     let mut op = asked(0);
-    let wanted = "02000000000102000000000288 92fefd04004e414d450000000c 02020008000170756d702d31";
+    let wanted = "02000000000102000000000288 92fefd04007c5e1a930000000c 02020008000170756d702d31";
     // It answers twice; frames of others, and its answers to others, count for nothing.
     let mut to_another = spelled(NAMELESS);
     to_another[5] = 3;
@@ -102,27 +112,35 @@ fn the_only_nameless_station_gets_the_name() {
     let mut found = search(&[NAMELESS, NAMELESS, DONE, ANSWER]);
     hear(&TOOL, &mut found, &to_another);
     hear(&TOOL, &mut found, &of_another_request);
-    assert_eq!(name(&TOOL, &found, b"pump-1", &mut op), 0);
+    assert_eq!(name(&SETS, &found, b"pump-1", &mut op), 0);
     assert_eq!(told(&op), padded(&wanted.replace(' ', "")));
     for (frame, answer, error) in [(DONE, 0, 0), (FAILED, 0, 5), (NAMELESS, 27, 9)] {
         op.note = 9;
-        assert_eq!(outcome(&TOOL, &found, &spelled(frame), &mut op), answer);
+        assert_eq!(outcome(&SETS, &found, &spelled(frame), &mut op), answer);
         assert_eq!(op.note, error);
     }
     let mut of_another = spelled(DONE);
     of_another[11] = 3;
-    assert_eq!(outcome(&TOOL, &found, &of_another, &mut op), 27);
-    assert_eq!(outcome(&TOOL, &search(&[]), &spelled(DONE), &mut op), 27);
+    assert_eq!(outcome(&SETS, &found, &of_another, &mut op), 27);
+    assert_eq!(outcome(&SETS, &search(&[]), &spelled(DONE), &mut op), 27);
+    // The same station answers to the Set of somebody else, and to one with the number of the search.
+    let mut to_another_set = spelled(DONE);
+    to_another_set[21] = 0x92;
+    let mut by_the_search = spelled(DONE);
+    by_the_search[18..22].copy_from_slice(&TOOL.xid.to_be_bytes());
+    for frame in [to_another_set, by_the_search] {
+        assert_eq!(outcome(&SETS, &found, &frame, &mut op), 27);
+    }
     // A station that does not support the Set (ServiceType 5).
     let mut unsupported = spelled(DONE);
     unsupported[17] = 5;
-    assert_eq!(outcome(&TOOL, &found, &unsupported, &mut op), 0);
+    assert_eq!(outcome(&SETS, &found, &unsupported, &mut op), 0);
     assert_eq!(op.note, 1);
     // An answer to the Set that tells no outcome.
     let mut silent = spelled(DONE);
     silent[25] = 0;
     op.note = 9;
-    assert_eq!(outcome(&TOOL, &found, &silent, &mut op), 0);
+    assert_eq!(outcome(&SETS, &found, &silent, &mut op), 0);
     assert_eq!(op.note, 1);
 }
 

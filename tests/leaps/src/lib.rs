@@ -5,7 +5,7 @@
 #![cfg(test)]
 
 use configurator::plan_from_json;
-use controller_core::{Cause, Controller, State};
+use controller_core::{Cause, Controller, ControllerOptions, State};
 use device_core::{Device, Event, Note};
 use flash_model::MemoryFlash;
 use frame_codec::{Bytes, Outbox};
@@ -68,8 +68,8 @@ fn copied(real: &Real) -> Real {
     Real { modules }
 }
 
-/// The station "pump-1", and a controller of its plan.
-fn ends(catalogue: &str, ar: u8) -> (Station, Controller) {
+/// The station "pump-1", and a controller of its plan with these options.
+fn ends(catalogue: &str, ar: u8, options: ControllerOptions) -> (Station, Controller) {
     let plan = plan_from_json(Global, catalogue.as_bytes()).expect("a plan");
     let real = copied(plan.real());
     let mut named: Station =
@@ -77,7 +77,7 @@ fn ends(catalogue: &str, ar: u8) -> (Station, Controller) {
     let _ = named.step(&set_pump(b'1'), &mut Outbox::new());
     let device = Device::boot(demo_identity(), real, named.into_flash()).ok().expect("starts");
     let uuid = |octet| Uuid::from_bytes([octet; 16]);
-    (device, Controller::new(plan, uuid(ar), uuid(ar ^ 0x80)))
+    (device, Controller::new_with(plan, uuid(ar), uuid(ar ^ 0x80), options))
 }
 
 fn same_frames(one: &Outbox, other: &Outbox) -> bool {
@@ -101,6 +101,7 @@ struct Seen {
     device_ended: u64,
     data_hold: u64,
     alarm_retries: u64,
+    no_progress: u64,
     exchanging: u64,
     alarms: u64,
     readies: u64,
@@ -195,6 +196,7 @@ impl Controllers {
             match self.ticking.state() {
                 State::Ended(Cause::DataHold) if self.ticking.state() != state => seen.data_hold += 1,
                 State::Ended(Cause::AlarmRetries) if self.ticking.state() != state => seen.alarm_retries += 1,
+                State::Ended(Cause::NoProgress) if self.ticking.state() != state => seen.no_progress += 1,
                 _ => {}
             }
         }
@@ -256,9 +258,9 @@ struct Net {
 }
 
 impl Net {
-    fn new(catalogue: &str, ar: u8, seed: u64) -> Net {
-        let (leaping, leaping_controller) = ends(catalogue, ar);
-        let (ticking, ticking_controller) = ends(catalogue, ar);
+    fn new(catalogue: &str, ar: u8, seed: u64, options: ControllerOptions) -> Net {
+        let (leaping, leaping_controller) = ends(catalogue, ar, options);
+        let (ticking, ticking_controller) = ends(catalogue, ar, options);
         Net {
             devices: Devices { leaping, ticking },
             controllers: Controllers {
@@ -353,9 +355,18 @@ impl Net {
 /// A start-up, exchanges and ends, for at least this many units.
 fn run(catalogue: &str, seed: u64, units: u64) -> Seen {
     let mut total = Seen::default();
-    let mut random = Random(seed);
+    let (mut random, mut choices) = (Random(seed), Random(seed + 1_000));
     while total.units < units {
-        let mut net = Net::new(catalogue, 1 + random.below(100) as u8, u64::from(random.below(1 << 30)));
+        // Each second controller has no patience.
+        let most = [100, 3_000, 100_000][choices.below(3) as usize];
+        let options = match choices.below(2) {
+            0 => ControllerOptions::default(),
+            _ => ControllerOptions {
+                patience: 1 + choices.below(most),
+                waiting_patience: choices.below(most),
+            },
+        };
+        let mut net = Net::new(catalogue, 1 + random.below(100) as u8, u64::from(random.below(1 << 30)), options);
         let mut opening = Outbox::new();
         opening.put_copy(&net.controllers.leaping.opening());
         let _ = net.controllers.ticking.opening();
@@ -385,6 +396,7 @@ fn run(catalogue: &str, seed: u64, units: u64) -> Seen {
             device_ended: total.device_ended + seen.device_ended,
             data_hold: total.data_hold + seen.data_hold,
             alarm_retries: total.alarm_retries + seen.alarm_retries,
+            no_progress: total.no_progress + seen.no_progress,
             exchanging: total.exchanging + seen.exchanging,
             alarms: total.alarms + seen.alarms,
             readies: total.readies + seen.readies,
@@ -405,6 +417,7 @@ fn tries(clock: &str, ratio: &str, hold: &str, seed: u64, units: u64) {
     // Each kind of thing was tried.
     assert!(seen.exchanging > 0 && seen.device_ended > 0 && seen.alarms > 0);
     assert!(seen.data_hold > 0 && seen.readies > 0 && seen.never > 0);
+    assert!(seen.no_progress > 0);
 }
 
 #[test]

@@ -6,6 +6,8 @@
 //! connect HEX                         the blocks, with the ARUUID 11111111-2222-3333-4444-555555555555
 //! record SLOT SUBSLOT INDEX HEX       a record, in the order in which they are written
 //! continue                            the start-up goes on after a refused record
+//! release                             the controller releases the relation when it ends after a refused record
+//! lists                               the records are written in lists
 //! ```
 //!
 //! Layouts and faults of the first 160 lines come from a reference model that was written from the rules of the catalogue alone
@@ -25,7 +27,8 @@ use uuid::Uuid;
 /// The ARUUID of the Connects.
 const AR: Uuid = Uuid::from_u128(0x11111111_2222_3333_4444_555555555555);
 
-/// The Connect of a plan, its records, whether it goes on after a refused one, and whether it writes them in lists.
+/// The Connect of a plan, its records, whether it goes on after a refused one, whether it releases the relation when it ends after a refused
+/// one, and whether it writes them in lists.
 fn plan_lines(plan: &Plan) -> String {
     let connect = format!("connect {}\n", hex(plan.connect(&AR).as_slice()));
     let records = plan.records().iter().map(|record| {
@@ -39,11 +42,15 @@ fn plan_lines(plan: &Plan) -> String {
         true => "continue\n",
         false => "",
     };
+    let releases = match plan.release_on_refused_record() {
+        true => "release\n",
+        false => "",
+    };
     let lists = match plan.has_multiple_write() {
         true => "lists\n",
         false => "",
     };
-    connect + &records.collect::<String>() + goes_on + lists
+    connect + &records.collect::<String>() + goes_on + releases + lists
 }
 
 /// What a catalogue comes to.

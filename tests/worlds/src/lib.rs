@@ -4,6 +4,7 @@
 mod diagnosis;
 mod lists;
 mod otherwise;
+mod patience;
 mod played;
 mod requests;
 

@@ -3,8 +3,8 @@
 use crate::otherwise::{RECORDS, as_planned, station, station_with};
 use exchange_laws::play_both_ends;
 use configurator::plan_from_json;
-use controller_core::State;
-use controller_frames::Setup;
+use controller_core::{Cause, State};
+use controller_frames::{ControllerOptions, Setup};
 use pn_values::{ParameterRecord, Real, demo_identity};
 use network_world::{End, Move};
 use rattle_std::alloc::Global;
@@ -21,6 +21,10 @@ const AGAIN: usize = 32_000;
 const INTERVAL: usize = 32;
 
 fn setup(catalogue: &str) -> Setup {
+    setup_with(catalogue, ControllerOptions::default())
+}
+
+fn setup_with(catalogue: &str, options: ControllerOptions) -> Setup {
     let plan = plan_from_json(Global, catalogue.as_bytes())
         .ok()
         .expect("a plan");
@@ -28,6 +32,7 @@ fn setup(catalogue: &str) -> Setup {
         plan,
         ar: Uuid::from_bytes([1; 16]),
         activity: Uuid::from_bytes([2; 16]),
+        options,
     }
 }
 
@@ -43,7 +48,11 @@ fn played_with(real: Real, catalogue: &str, moves: &[Move]) -> Net {
 
 /// What comes of these moves, at this station and a controller of the plan of a catalogue.
 fn played_at(device: Station, catalogue: &str, moves: &[Move]) -> Net {
-    let setup = setup(catalogue);
+    played_by(device, setup(catalogue), moves)
+}
+
+/// What comes of these moves, at this station and a controller of this set-up.
+fn played_by(device: Station, setup: Setup, moves: &[Move]) -> Net {
     assert!(can_meet(&setup, &demo_identity()));
     let (world, result) = play_both_ends(Global, device, setup, &demo_identity(), moves);
     assert!(result.is_ok());
@@ -312,4 +321,31 @@ fn three_records_are_written_in_order() {
     );
     assert_eq!(world.controller().state(), State::Exchanging);
     assert_eq!(world.device().phase(), Some(Phase::Exchanging));
+}
+
+// ApplicationReady, frame 14, is lost for ever, as of a device that lost power. The world has all laws of both ends with this option
+// too: the controller ends with the unit that completes its patience, and releases the device.
+#[test]
+fn a_controller_with_patience_does_not_wait_for_ever() {
+    let options = ControllerOptions {
+        patience: 0,
+        waiting_patience: 1_000,
+    };
+    let mut moves = Vec::new();
+    for number in [0, 2, 4, 6, 8, 10] {
+        moves.extend([to_device(number), to_controller(number + 1)]);
+    }
+    wait(&mut moves, 999);
+    let setup = || setup_with(RECORDS, options);
+    let waits = played_by(station(as_planned()), setup(), &moves);
+    assert_eq!(waits.controller().state(), State::Waiting);
+    wait(&mut moves, 1);
+    let ended = played_by(station(as_planned()), setup(), &moves);
+    assert_eq!(ended.controller().state(), State::Ended(Cause::NoProgress));
+    let sent = (0..).take_while(|number| ended.sent(*number).is_some()).count();
+    assert_eq!(Kind::of(ended.sent(sent - 1).expect("a frame").as_slice()), Kind::Release);
+    assert!(ended.device().phase().is_some());
+    moves.push(to_device(sent - 1));
+    let released = played_by(station(as_planned()), setup(), &moves);
+    assert_eq!(released.device().phase(), None);
 }

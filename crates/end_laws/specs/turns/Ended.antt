@@ -3,6 +3,7 @@ use Rattle.std.specs.Prelude.{◌≡◌, ◌⊎◌, ℕ, Bool, true, false, List
 use Rattle.std.specs.List.{AllByRecursion}
 use Rattle.pn_values.specs.declared.mac.Mac.{Mac}
 use Rattle.rpc_core.specs.Response.{Answered as Response}
+use Rattle.plans.specs.declared.parts.Parts.{Parts}
 use Rattle.controller_frames.specs.declared.setup.Setup.{Setup}
 use Rattle.controller_frames.specs.declared.request.Request.{Request}
 use Rattle.controller_frames.specs.declared.request.Request.TheVariants as asks
@@ -34,11 +35,14 @@ release_in setup device _ = None
 abbrev pub release_of : Controlling → Option (List ℕ)
 release_of controller = release_in controller.setup controller.live.device controller.live.asked
 
--- The causes of which the device may be informed by a Release: modules that differ, and a stop by the application.
-abbrev pub may_release : Cause → Bool
-may_release why.ModuleDiff = true
-may_release why.Stopped = true
-may_release _ = false
+-- The causes of which the device may be informed by a Release: modules that differ, a stop by the application, a state that
+-- lasted too long, and, if the plan says so, a refused record.
+abbrev pub may_release : Parts → Cause → Bool
+may_release plan why.Refused = plan.release_on_refused_record
+may_release plan why.ModuleDiff = true
+may_release plan why.Stopped = true
+may_release plan why.NoProgress = true
+may_release plan _ = false
 
 -- ---- what comes
 
@@ -99,9 +103,9 @@ abbrev pub RepeatsItsRelease : Type 0
 RepeatsItsRelease = (controller : Controlling) (cause : Cause) (events : List Event) → HasEnded cause controller
     → AllByRecursion (λ frame. Some frame ≡ release_of controller) (frames_of events controller)
 
--- A controller that ended for another cause than modules that differ or a stop by the application sends nothing.
+-- A controller that ended for a cause of which the device is not informed sends nothing.
 abbrev pub IsSilent : Type 0
-IsSilent = (controller : Controlling) (cause : Cause) (events : List Event) → HasEnded cause controller → may_release cause ≡ false
+IsSilent = (controller : Controlling) (cause : Cause) (events : List Event) → HasEnded cause controller → may_release controller.setup.plan cause ≡ false
     → frames_of events controller ≡ []
 
 -- For an event other than a unit of time no frame is sent. It changes nothing, except that the response to the active

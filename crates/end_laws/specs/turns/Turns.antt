@@ -1,5 +1,5 @@
 -- Each turn of a controller is of one of these kinds: its next state, what it sends, and when it makes such a turn.
-use Rattle.std.specs.Prelude.{◌≡◌, ◌⊎◌, ◌+◌, ◌≤◌, ◌&&◌, ◌∷◌, [], ℕ, Bool, true, false, List, length, option_and_then, Option, Some, None}
+use Rattle.std.specs.Prelude.{◌≡◌, ◌⊎◌, ◌+◌, ◌%◌, ◌≤◌, ◌&&◌, ◌∷◌, [], ℕ, Bool, true, false, List, length, option_and_then, Option, Some, None}
 use Rattle.pn_values.specs.declared.mac.Mac.{Mac}
 use Rattle.frame_codec.specs.declared.udp.Caller.{Caller}
 use Rattle.dcp_core.specs.Response.{Answered}
@@ -17,6 +17,7 @@ use Rattle.pn_alarms.specs.Sending.{due}
 use Rattle.pn_alarms.specs.Sending.{is_again as is_repeated}
 use Rattle.cyclic_exchange.specs.Opening.{begun_of}
 use Rattle.cyclic_exchange.specs.Received.{behind_frame}
+use Rattle.plans.specs.declared.parts.Parts.{Parts}
 use Rattle.controller_frames.specs.declared.record_request.RecordRequest.{RecordRequest}
 use Rattle.controller_frames.specs.declared.record_request.RecordService.TheVariants as service
 use Rattle.controller_frames.specs.declared.setup.Setup.{Setup}
@@ -64,7 +65,7 @@ came_by setup Stop = Halts
 
 abbrev pub turn_for : Setup → Live → Came → Turn
 turn_for setup live (Hears heard) = turned setup live heard
-turn_for setup live Passes = ticked live
+turn_for setup live Passes = ticked setup live
 turn_for setup live (Gets slot subslot value) = stays (given live slot subslot value)
 turn_for setup live (GetsStatus slot subslot is_good) = stays (rated live slot subslot is_good)
 turn_for setup live (AsksRead slot subslot index) = requested setup live service.Read slot subslot index []
@@ -73,28 +74,34 @@ turn_for setup live Halts = stopped setup live live.phase
 
 -- ---- a complete end
 
--- The request after a controller ended for this cause: none, or the Release, if the device may be informed by one.
-abbrev pub IsReported : Cause → Option Request → Type 0
-IsReported cause None = Unit {0}
-IsReported cause (Some (asks.Release sequence)) = may_release cause ≡ true
-IsReported cause (Some _) = ⊥
+-- The request after a controller of this plan ended for this cause: none, or the Release, if the device may be informed by
+-- one.
+abbrev pub IsReported : Parts → Cause → Option Request → Type 0
+IsReported plan cause None = Unit {0}
+IsReported plan cause (Some (asks.Release sequence)) = may_release plan cause ≡ true
+IsReported plan cause (Some _) = ⊥
 
 -- It ended, its relation is over, and no request is active except its Release, also none of the application.
-pub record IsEnd (cause : Cause) (live : Live) : Type 0 where
+pub record IsEnd (plan : Parts) (cause : Cause) (live : Live) : Type 0 where
   pub phase : live.phase ≡ Ended cause
   pub down : live.stands ≡ false
-  pub asked : IsReported cause live.asked
+  pub asked : IsReported plan cause live.asked
   pub idle : live.access.waiting ≡ None
 
 -- It did not reach such an end.
-abbrev pub IsGoing : Live → Type 0
-IsGoing live = (cause : Cause) → IsEnd cause live → ⊥
+abbrev pub IsGoing : Parts → Live → Type 0
+IsGoing plan live = (cause : Cause) → IsEnd plan cause live → ⊥
+
+-- The units since the controller was made, modulo 65,536, after anything comes: only a unit counts.
+abbrev pub units_behind : Live → Came → ℕ
+units_behind live Passes = (live.units + 1) % 65536
+units_behind live came = live.units
 
 -- ---- the kinds
 
 -- Nothing changes, and nothing is sent; a station is asked for the relation, or its address is set; the controller
--- ends, and these are the last status of a refusal and the last refused record then, or ends and informs the device; the
--- relation is established with what the device chose, and the first Write is sent; the Write after this one is sent,
+-- ends, and these are the last status of a refusal, the last refused record and the units then, or ends and informs the device;
+-- the relation is established with what the device chose, and the first Write is sent; the Write after this one is sent,
 -- because all its records were accepted, or although one was refused; the controller waits for ApplicationReady; a Release
 -- is no longer active; ApplicationReady is answered, and data is exchanged from then on, or was before; a cyclic frame is
 -- received; an alarm is received, or the ACK of an AlarmAck of a priority; an output is set, or its status; the application
@@ -104,8 +111,8 @@ pub data Kind : Type 0 where
   Rests : Kind
   Connects : (source : Mac) → Kind
   Addresses : (source : Mac) → Kind
-  Ends : (cause : Cause) → (refusal : Option Status) → (refused : Option RefusedRecord) → Kind
-  Releases : (cause : Cause) → Kind
+  Ends : (cause : Cause) → (refusal : Option Status) → (refused : Option RefusedRecord) → (units : ℕ) → Kind
+  Releases : (cause : Cause) → (refusal : Option Status) → (refused : Option RefusedRecord) → (units : ℕ) → Kind
   Relates : (chosen : Chosen) → Kind
   Writes : (number : ℕ) → Kind
   Skips : (number refused : ℕ) → (status : Status) → Kind
@@ -127,17 +134,17 @@ pub data Kind : Type 0 where
 -- The turn of each kind.
 abbrev pub turn_by : Setup → Live → Kind → Turn
 turn_by setup live Rests = stays live
-turn_by setup live (Connects source) = asking Connecting asks.Connect (record live { device = source })
-turn_by setup live (Addresses source) = asking Addressing asks.Address (record live { device = source })
-turn_by setup live (Ends cause refusal refused) = stays (over cause (record live { refusal = refusal; refused_record = refused }))
-turn_by setup live (Releases cause) = released setup cause live
-turn_by setup live (Relates chosen) = writing (writing_from setup.plan 0) (standing setup live chosen)
-turn_by setup live (Writes number) = writing (writing_from setup.plan (number + 1)) live
-turn_by setup live (Skips number refused status) = writing (writing_from setup.plan (number + 1)) (noted status refused live)
-turn_by setup live Waits = stays (record live { phase = Waiting; asked = None })
+turn_by setup live (Connects source) = asking setup Connecting asks.Connect (record live { device = source })
+turn_by setup live (Addresses source) = asking setup Addressing asks.Address (record live { device = source })
+turn_by setup live (Ends cause refusal refused units) = stays (over cause (record live { refusal = refusal; refused_record = refused; units = units }))
+turn_by setup live (Releases cause refusal refused units) = released setup cause (record live { refusal = refusal; refused_record = refused; units = units })
+turn_by setup live (Relates chosen) = writing setup (writing_from setup.plan 0) (standing setup live chosen)
+turn_by setup live (Writes number) = writing setup (writing_from setup.plan (number + 1)) live
+turn_by setup live (Skips number refused status) = writing setup (writing_from setup.plan (number + 1)) (noted status refused live)
+turn_by setup live Waits = stays (record live { phase = Waiting; asked = None; left = setup.options.waiting_patience })
 turn_by setup live Forgets = stays (record live { asked = None })
 turn_by setup live (Begins caller call block) = record {
-  live = record live { phase = Exchanging; asked = None; cyclic = begun_of live.cyclic };
+  live = record live { phase = Exchanging; asked = None; left = 0; cyclic = begun_of live.cyclic };
   sent = Agrees caller (ready_answer call block) ∷ [];
 }
 turn_by setup live (Repeats caller call block) = record { live = live; sent = Agrees caller (ready_answer call block) ∷ [] }
@@ -201,9 +208,9 @@ pub record IsReadied (setup : Setup) (came : Came) (caller : Caller) (call : Cal
 abbrev pub IsKind : Setup → Live → Came → Kind → Type 0
 IsKind setup live came Rests = Unit {0}
 IsKind setup live came (Connects source) = IsSought live came source
-IsKind setup live came (Addresses source) = IsSought live came source
-IsKind setup live came (Ends cause refusal refused) = IsGoing live
-IsKind setup live came (Releases cause) = IsGoing live × (may_release cause ≡ true)
+IsKind setup live came (Addresses source) = IsSought live came source × (live.phase ≡ Looking)
+IsKind setup live came (Ends cause refusal refused units) = IsGoing setup.plan live × (units ≡ units_behind live came)
+IsKind setup live came (Releases cause refusal refused units) = IsGoing setup.plan live × (may_release setup.plan cause ≡ true) × (units ≡ units_behind live came)
 IsKind setup live came (Relates chosen) = (granted : IsGranted setup live came asks.Connect) × (chosen_in granted.response.blocks ≡ Some chosen)
 IsKind setup live came (Writes number) =
     (granted : IsGranted setup live came (asks.Write number)) × (are_written setup.plan number granted.response.blocks ≡ true)

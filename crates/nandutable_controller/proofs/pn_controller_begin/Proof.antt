@@ -48,7 +48,7 @@ pn_controller_begin_spec 𝓤 𝓛 𝓜 𝓡 wired =
     let vals : Ptr → List Val × Unit {0} = λ p. (rawptr_vals p, tt) in
     let y : Ptr → W.Ghost = λ p. ((κs, qs, bounds, (p, a.1), vals p), s) in
     let Params = RawPtr ∷ [] in
-    let IsStarted : State → Type 0 = λ new. new ≡ opened (begun s.controller.setup.plan s.controller.setup.ar s.controller.setup.activity) in
+    let IsStarted : State → Type 0 = λ new. new ≡ opened (begun s.controller.setup) in
     let Reported = λ (b o : ℕ) (new : State). sep 𝓤 (types.Logic.sem 𝓛 (lies_at R full_share (block_ptr b o) new)) (fact 𝓤 (IsStarted new)) in
     let reported : (b o : ℕ) (new : State) → IsStarted new → ent 𝓤 (types.Logic.sem 𝓛 (lies_at R full_share (block_ptr b o) new)) (ex 𝓤 (Reported b o)) = λ b o new started.
     qed 𝓛 (‵ (lies_at R full_share (block_ptr b o) new) ∷ []) ∵ show ! (Reported b o) new $ says ! started $ done ! in

@@ -28,7 +28,7 @@ use denote.Triple.Spec.{triple_of}
 use denote.Triple.Table.{framed}
 use denote.Triple.Walked.{Stays, walk_of, says, stay_dropped, Goes-dropped, ends_at}
 use borrow.Table.OneValue.{part_in}
-use Rattle.controller_abi.specs.Plans.{is_plan, parts_of}
+use Rattle.controller_abi.specs.Plans.{is_plan, options_in, parts_of}
 use Rattle.controller_abi.specs.State.{State}
 use Rattle.controller_abi.specs.contracts.plan.WrittenPlan.{the_row as S}
 use Rattle.controller_abi.specs.contracts.port.Port.{the_row as R}
@@ -63,7 +63,7 @@ pn_controller_put_spec 𝓤 𝓛 𝓜 𝓡 wired =
     let y : Ptr → W.Ghost = λ p. ((κs, qs, bounds, (p, a.1), vals p), tt) in
     let Params = RawPtr ∷ ShrRef (named 0) κ S ∷ ShrRef (named 1) η Number ∷ ShrRef (named 2) θ Number ∷ [] in
     let Tokens = ‵ (flft κ qs.0) ⊛ (‵ (flft η qs.1.0) ⊛ (‵ (flft θ qs.1.1.0) ⊛ ‵ ftrue)) in
-    let IsUnstarted : State → Type 0 = λ port. port.controller.setup ≡ record { plan = parts_of plan.now; ar = ar.now; activity = activity.now } in
+    let IsUnstarted : State → Type 0 = λ port. port.controller.setup ≡ record { plan = parts_of plan.now; ar = ar.now; activity = activity.now; options = options_in plan.now } in
     let Reported = λ (b o : ℕ) (port : State). sep 𝓤 (types.Logic.sem 𝓛 (lies_at R full_share (block_ptr b o) port)) (fact 𝓤 (IsUnstarted port)) in
     let reported : (b o : ℕ) (port : State) → IsUnstarted port → ent 𝓤 (types.Logic.sem 𝓛 (lies_at R full_share (block_ptr b o) port)) (ex 𝓤 (Reported b o)) = λ b o port made.
     qed 𝓛 (‵ (lies_at R full_share (block_ptr b o) port) ∷ []) ∵ show ! (Reported b o) port $ says ! made $ done ! in

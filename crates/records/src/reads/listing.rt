@@ -192,12 +192,12 @@ pub fn listing_of(real: &Real, request: &IodReadReq) -> Option<(Level, Listing)>
 
 /// Appends the entries of the submodules of a module that are asked for. There must be room. Returns their number.
 fn push_parts(
-    entries: &mut ArrayVec<FilterSubmodule, 256>,
+    entries: &mut ArrayVec<FilterSubmodule, 64>,
     level: Level,
     subslot: u16,
     parts: &[RealSubmodule],
 ) -> u16
-    requires room { array_vec_len entries.old + length parts.now ≤ 256 }
+    requires room { array_vec_len entries.old + length parts.now ≤ 64 }
     ensures items { entries.new.items ≡ entries.old.items ++ parts_at level subslot parts.now }
     ensures few { array_vec_len entries.new ≤ array_vec_len entries.old + length parts.now }
     ensures count { result ≡ length (parts_at level subslot parts.now) }
@@ -216,8 +216,8 @@ fn push_parts(
 
 /// Appends the entries of the modules that are asked for, and of their submodules, to empty lists.
 fn push_all(
-    modules: &mut ArrayVec<FilterModule, 256>,
-    submodules: &mut ArrayVec<FilterSubmodule, 256>,
+    modules: &mut ArrayVec<FilterModule, 16>,
+    submodules: &mut ArrayVec<FilterSubmodule, 64>,
     real: &Real,
     level: Level,
     slot: u16,
@@ -260,7 +260,7 @@ pub fn put_identification<const N: usize>(
     put_filter_data(out, listed);
 }
 
-/// RealIdentificationData of what is asked for. Its lists take four thousand octets of stack, so it is a function of its own.
+/// RealIdentificationData of what is asked for. Its octets and lists are large, so it is a function of its own.
 #[inline(never)]
 fn identification_of(real: &Real, level: Level, slot: u16, subslot: u16) -> ArrayVec<u8, 1024>
     ensures { result.items ≡ identification_bytes 0x0013 (plugged_of real.now level slot subslot) }

@@ -62,7 +62,7 @@ pub fn connect_answer_is_read(setup: &Setup, identity: &Identity, address: [u8; 
     // first record is written, or PrmEnd is sent.
     ensures goes_on { is_some_uuid setup.now.ar ≡ true → (live : Live) → live.asked ≡ Some Request.Connect
         → turn_of setup.now live (Frame (record { items = answer_frame setup.now identity.now address }))
-        ≡ writing (writing_from setup.now.plan 0) (standing setup.now live (chosen_with 0xC000)) }
+        ≡ writing setup.now (writing_from setup.now.plan 0) (standing setup.now live (chosen_with 0xC000)) }
 {
     connect_is_taken(&setup.plan, &setup.ar);
     let relation = ArBlockRes {

@@ -13,4 +13,4 @@ unreachable-requires c = not_long _ c.in_default.field-0 (planned_in c.args.writ
 pub returns : goal.returns
 returns c =
     let plan = plan_is (parts_of c.args.written.now) c.in-Ok.plan c.in-Ok.ensures in
-    c.unstarted.ensures ∙ (λ i. record { plan = plan i; ar = c.from_bytes.ensures i; activity = c.from_bytes-2.ensures i })
+    c.unstarted.ensures ∙ (λ i. record { plan = plan i; ar = c.from_bytes.ensures i; activity = c.from_bytes-2.ensures i; options = c.options_in.ensures i })

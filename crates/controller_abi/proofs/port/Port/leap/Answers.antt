@@ -10,4 +10,4 @@ returns c was_over free =
     let port = c.self.inside in
     let there : is_stopped was_over (the_view port) ≡ false = subst (λ p. is_stopped was_over p ≡ false) (sym c.self.view_is) free in
     let idle : has_frames (the_view port).frames ≡ false = subst (λ p. has_frames p.frames ≡ false) (sym c.self.view_is) c.requires.idle in
-    rw (← c.self.view_is) (rw (c.elapse.ensures.state, c.elapse.ensures.frames) (ticks_all was_over c.args.units (the_view port) idle there c.elapse.ensures.last))
+    rw (← c.self.view_is) (rw (c.elapse.ensures.state, c.elapse.ensures.frames) (ticks_all was_over c.args.units (the_view port) idle there c.elapse.ensures.last c.elapse.ensures.ends))

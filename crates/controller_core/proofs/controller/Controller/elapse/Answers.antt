@@ -1,6 +1,6 @@
 -- A leap: units with which nothing is due, and then one more.
 use Rattle.std.proofs.Common.{◌≡◌, ◌-◌, suc, refl, arith}
-use Rattle.controller_core.proofs.Leaping.{leap_frames, leap_last, leap_state}
+use Rattle.controller_core.proofs.Leaping.{leap_ends, leap_frames, leap_last, leap_state}
 use Rattle.controller_core.proofs.controller.Controller.elapse.Goals as goal
 
 pub returns-then-units-eq0-clause-state : goal.returns-then-units-eq0-clause-state
@@ -11,6 +11,9 @@ returns-then-units-eq0-clause-frames c = rw (c.if-units-eq0.true, c.clear.ensure
 
 pub returns-then-units-eq0-clause-last : goal.returns-then-units-eq0-clause-last
 returns-then-units-eq0-clause-last c before earlier = absurd (omega (arith, c.if-units-eq0.true, earlier))
+
+pub returns-then-units-eq0-clause-ends : goal.returns-then-units-eq0-clause-ends
+returns-then-units-eq0-clause-ends c before earlier = absurd (omega (arith, c.if-units-eq0.true, earlier))
 
 pub returns-clause-state : goal.returns-clause-state
 returns-clause-state c =
@@ -26,3 +29,8 @@ pub returns-clause-last : goal.returns-clause-last
 returns-clause-last c =
     let count : c.args.units ≡ suc (c.args.units - 1) = omega arith in
     leap_last c.args.self.now c.args.units (c.args.units - 1) count c.leap.ensures.none
+
+pub returns-clause-ends : goal.returns-clause-ends
+returns-clause-ends c =
+    let count : c.args.units ≡ suc (c.args.units - 1) = omega arith in
+    leap_ends c.args.self.now c.args.units (c.args.units - 1) count c.leap.ensures.phase

@@ -3,7 +3,7 @@ use Rattle.std.proofs.Common.{◌≡◌, Bool, true, List, ℕ, map, sym, ap, �
 use Rattle.controller_frames.specs.Sent.{bytes_of}
 use Rattle.controller_core.specs.Machine.{gone_on, later}
 use Rattle.controller_state.specs.State.{Controlling}
-use Rattle.controller_core.proofs.controller.Controller.tick.Goals as goal
+use Rattle.controller_core.proofs.controller.Controller.go_on_ticking.Goals as goal
 
 pub returns-then-pass-clause-frames : goal.returns-then-pass-clause-frames
 returns-then-pass-clause-frames c =
