@@ -463,7 +463,12 @@ class SignalTests:
             found, _, text = text.rpartition(b"\n")
             lines.extend(found.decode().splitlines())
             text = b""
-        controller.expect("state exchanging", 60)
+        # The exchange may have begun before this program was there to read of it.
+        while not re.search(rb"pump-1\.bit_1 = (true|false) good\n", text):
+            awake.sendall(b"get bit_1\n")
+            text += awake.recv(65536)
+            time.sleep(0.02)
+        text = b""
         asleep.sendall(b"names\nget *\n" * 20)
         for number in range(1, 200):
             device.ask(f"input 1 1 {number * 257 & 0xFFFF:04x}", "note done")
