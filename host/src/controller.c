@@ -24,6 +24,10 @@
 #define IDLE_MOST 32000u /* units */
 /* Of several relations frames are due at many units: those of this many go out together. */
 #define APART 8u
+#define UNITS_A_SECOND 32000u
+/* How long a state of the start-up lasts at most, and the wait for ApplicationReady, if --patience does not say it. */
+#define PATIENCE (10 * UNITS_A_SECOND)
+#define WAITING_PATIENCE (60 * UNITS_A_SECOND)
 /* How often to write the status. */
 #define STATUS_EACH (SECOND / 4)
 
@@ -42,6 +46,8 @@ struct options {
     char **words;     /* the whole command line, */
     int count;        /* and the number of its words */
     uint64_t pause; /* after which a controller that ended is started again, in nanoseconds; 0: it is not */
+    uint32_t patience;         /* for how many units a state of the start-up lasts at most; 0: no limit */
+    uint32_t waiting_patience; /* the same for the wait for ApplicationReady */
     int has_signals;
     int is_without_octets; /* --signals=only */
     struct signals_options signals;
@@ -432,6 +438,7 @@ static const struct command commands_of_several[] = {
 static void usage(void)
 {
     puts("Usage: nandutable-controller IFACE PLAN.json [PLAN.json ..] [--assign MAC [--force] | --replace PORT.STATION] [--retry SECONDS]\n"
+         "                             [--patience SECONDS]\n"
          "                             [--signals[=only] [--deadband NAME=NUMBER ..] [--every MS] [--times]]\n"
          "                             [--socket PATH] [--socket-group GROUP] [--period US] [--realtime N]\n"
          "       nandutable-controller IFACE [PLAN.json] --list\n"
@@ -461,6 +468,8 @@ static void usage(void)
          "  --deadband NAME=NUMBER  prints this signal only if it differs by at least NUMBER from what was printed last\n"
          "  --every MS            prints a signal at most once in 1 to 60000 milliseconds\n"
          "  --times               the time of the change follows each signal: seconds since 1970\n"
+         "  --patience SECONDS    ends a controller whose start-up makes no progress: a state other than looking and exchanging lasts at most this\n"
+         "                        long, 0 to 3600 (0: without a limit; default: 10, and 60 for the wait for ApplicationReady)\n"
          "  --socket PATH         lines go in and out over this unix socket, and not over the standard streams\n"
          "  --socket-group GROUP  the members of this group may use the socket too, not only its owner\n"
          "  --period US           hands in time in this period, 31 to 10000 microseconds, and not only when something is due; choose at most the\n"
@@ -487,7 +496,7 @@ static void usage(void)
          "plans the name of a station and a blank are in front of each line that it prints about this station, and of the lines `give`,\n"
          "`status`, `read`, `write`, `diagnosis`, `restart`, `show`, `statistics` and `stop` that are for one station. On SIGUSR1 it prints its statistics; SIGTERM stops it, and a second one\n"
          "ends it at once. Its status is the cause of its end (with several plans the lowest): 1 another device, 2 refused, 3 other\n"
-         "modules, 4 data hold, 5 ended by the device, 6 an alarm without answer, 7 stopped; 64 and more: it did not start (64: the plans do\n"
+         "modules, 4 data hold, 5 ended by the device, 6 an alarm without answer, 7 stopped, 8 no progress (--patience); 64 and more: it did not start (64: the plans do\n"
          "not fit together; 66: no station answers; 69: the station does not answer a call, or has no address for it; 75: another station has the\n"
          "name or the address, or the station at the place has a name).");
 }
@@ -515,6 +524,14 @@ static void take_every(struct options *options, const char *word)
     if (!words_number(word, 60000, &number) || number < 1)
         options_misused("--every takes 1 to 60000 milliseconds: ", word);
     options->signals.every = number * (SECOND / 1000);
+}
+
+static void take_patience(struct options *options, const char *word)
+{
+    unsigned long number;
+    if (!words_number(word, 3600, &number))
+        options_misused("--patience takes 0 to 3600 seconds: ", word);
+    options->patience = options->waiting_patience = (uint32_t)number * UNITS_A_SECOND;
 }
 
 /* A name by a place has a dot between the port and the station. */
@@ -547,6 +564,7 @@ static int take_option(void *context, int option, const char *word)
     case 'm': options->from = word; return 1;
     case 'f': options->is_forced = 1; return 1;
     case 't': take_pause(options, word); return 1;
+    case 'E': take_patience(options, word); return 1;
     case 'n': take_signals(options, word); return 1;
     case 'b': options->signals.deadbands[options->signals.deadband_count++] = optarg; return 1;
     case 'e': take_every(options, word); return 1;
@@ -590,6 +608,7 @@ static void read_words(struct options *options, int count, char *words[])
                                           {"force", no_argument, NULL, 'f'},
                                           {"replace", required_argument, NULL, 'c'},
                                           {"retry", required_argument, NULL, 't'},
+                                          {"patience", required_argument, NULL, 'E'},
                                           {"signals", optional_argument, NULL, 'n'},
                                           {"deadband", required_argument, NULL, 'b'},
                                           {"every", required_argument, NULL, 'e'},
@@ -600,6 +619,8 @@ static void read_words(struct options *options, int count, char *words[])
     memset(options, 0, sizeof *options);
     options->words = words;
     options->count = count;
+    options->patience = PATIENCE;
+    options->waiting_patience = WAITING_PATIENCE;
     options->signals.deadbands = calloc((size_t)count + 1, sizeof *options->signals.deadbands);
     if (options->signals.deadbands == NULL)
         fail(STATUS_SYSTEM, "out of memory");
@@ -784,6 +805,9 @@ static void open_relations(struct controller *controller, const struct options *
     controller->relations[0].serves = 1;
     for (unsigned i = 0; i < controller->count; i++) {
         relation_open(&controller->relations[i], options->plans[i]);
+        controller->relations[i].plan.patience = options->patience;
+        controller->relations[i].plan.waiting_patience = options->waiting_patience;
+        controller->relations[i].plan.release_on_refused_record = 1;
         controller->relations[i].has_octets = !options->is_without_octets;
         for (unsigned k = 0; k < i; k++) {
             check_stations(&controller->relations[k], &controller->relations[i]);
@@ -921,13 +945,15 @@ static void begin(struct controller *controller)
     look_at_states(controller);
 }
 
-/* The cause of the end; of several controllers the lowest, which is 7 only if all were stopped. */
+/* The cause of the end; of several controllers the lowest of those that were not stopped, or 7 if all were. */
 static int cause_of_end(const struct controller *controller)
 {
     uint32_t cause = PN_STOPPED;
-    for (unsigned i = 0; i < controller->count; i++)
-        if (controller->relations[i].cause < cause)
-            cause = controller->relations[i].cause;
+    for (unsigned i = 0; i < controller->count; i++) {
+        uint32_t other = controller->relations[i].cause;
+        if (other != PN_STOPPED && (cause == PN_STOPPED || other < cause))
+            cause = other;
+    }
     return (int)cause;
 }
 

@@ -34,13 +34,13 @@ static const char *const causes[] = {
     "the device ended the relation",
     "the device did not acknowledge an alarm's AlarmAck",
     "stopped",
+    "no progress within the patience",
 };
+#define CAUSES (sizeof causes / sizeof causes[0])
 
 /* Notes a Release that is sent. */
-static void note_release(struct relation *relation, const uint8_t *octets, size_t length)
+static void note_release(struct relation *relation, const uint8_t *octets)
 {
-    if (!calls_is_release(octets, length))
-        return;
     relation->release = calls_sequence(octets);
     relation->releases++;
     if (relation->releases >= RELEASES && relation->ends_at != 0)
@@ -65,8 +65,10 @@ static int transmit(void *context, const uint8_t *octets, uint32_t length)
         memcpy(relation->device, octets, sizeof relation->device);
         relation->has_device = 1;
     } else {
-        note_release(relation, octets, length);
-        waiting_sent(&relation->waiting, octets, length);
+        if (calls_is_release(octets, length))
+            note_release(relation, octets);
+        else
+            waiting_sent(&relation->waiting, octets, length);
         duplicate_sent(&relation->duplicate, &relation->loop->wire, octets, length);
     }
     return wire_send(&relation->loop->wire, octets, length);
@@ -260,8 +262,11 @@ static void tell_end(struct relation *relation)
     uint8_t status[4];
     uint32_t place = 0;
     const uint8_t *refused = is_of_list(relation, &place, status) ? status : NULL;
-    reasons_words(&relation->reasons, &relation->plan, relation->cause, place, refused, why, sizeof why);
-    lines_tell(&relation->loop->lines, "ended %u: %s%s", (unsigned)relation->cause, causes[relation->cause < 8 ? relation->cause : 0], why);
+    if (relation->cause == PN_NO_PROGRESS)
+        snprintf(why, sizeof why, ": %s", relation->stuck);
+    else
+        reasons_words(&relation->reasons, &relation->plan, relation->cause, place, refused, why, sizeof why);
+    lines_tell(&relation->loop->lines, "ended %u: %s%s", (unsigned)relation->cause, causes[relation->cause < CAUSES ? relation->cause : 0], why);
 }
 
 void relation_status(const struct relation *relation, char *text, size_t size)
@@ -459,6 +464,8 @@ int relation_is_changed(struct relation *relation)
     loop_must(pn_controller_state(&relation->room, &relation->op), "pn_controller_state");
     if (relation->op.phase == relation->state)
         return 0;
+    if (relation->op.phase == PN_ENDED)
+        waiting_words(&relation->waiting, &relation->loop->wire, relation->stuck, sizeof relation->stuck);
     relation->state = relation->op.phase;
     relation->cause = relation->op.note;
     waiting_state(&relation->waiting, relation->state);

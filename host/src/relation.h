@@ -48,6 +48,7 @@ struct relation {
     struct places outputs;
     int providers[STATION_PLACES]; /* of each input, what was reported last: its IOPS, and 256 if the device runs; -1: nothing yet */
     struct reasons reasons;
+    char stuck[WAITING_WORDS]; /* what the controller waited for when it ended */
     struct holders holders; /* of the plan's name */
     uint8_t device[6];      /* the other end of the relation, to which the cyclic frames go */
     int has_device;

@@ -117,16 +117,21 @@ static void words_of_state(const struct waiting *waiting, char *text, size_t siz
     }
 }
 
+void waiting_words(const struct waiting *waiting, const struct wire *wire, char *text, size_t size)
+{
+    if (wire->is_up)
+        words_of_state(waiting, text, size);
+    else
+        snprintf(text, size, "the link of %s is down", wire->name);
+}
+
 int waiting_line(struct waiting *waiting, const struct wire *wire, char *text, size_t size)
 {
     uint64_t passed = ticker_now() - waiting->since;
-    char words[384]; /* a name has up to 240 letters */
+    char words[WAITING_WORDS];
     if (waiting->state < PN_LOOKING || waiting->state > PN_WAITING || passed < waiting->pause)
         return 0;
-    if (wire->is_up)
-        words_of_state(waiting, words, sizeof words);
-    else
-        snprintf(words, sizeof words, "the link of %s is down", wire->name);
+    waiting_words(waiting, wire, words, sizeof words);
     snprintf(text, size, "waiting %" PRIu64 " s: %s", passed / SECOND, words);
     waiting->pause *= 2;
     waiting->is_asked = 0;

@@ -34,6 +34,10 @@ void waiting_hear(struct waiting *waiting, const uint8_t *octets, size_t length)
 /* Sends an ARP request for the plan's address a second before a line whose text depends on the answer. */
 void waiting_ask(struct waiting *waiting, struct wire *wire);
 
+/* Writes what it waits for. */
+#define WAITING_WORDS 384 /* a name has up to 240 letters */
+void waiting_words(const struct waiting *waiting, const struct wire *wire, char *text, size_t size);
+
 /* Writes a line if one is due. Returns whether it is. */
 int waiting_line(struct waiting *waiting, const struct wire *wire, char *text, size_t size);
 

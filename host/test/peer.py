@@ -73,6 +73,7 @@ class Station(threading.Thread):
         self.rejects, self.differs, self.reference = rejects or {}, differs, reference
         self.place, self.is_coy = place.encode() if place else None, is_coy
         self.silences = {}
+        self.kinds = []  # of each call that came
         self.named = []  # each name that came in a Set
         self.is_over = False
         self.start()
@@ -138,6 +139,7 @@ class Station(threading.Thread):
     def call(self, came):
         kind = struct.unpack_from(">H", came, BLOCKS_AT)[0]
         index = int.from_bytes(came[BLOCKS_AT + 34:BLOCKS_AT + 36], "big")  # of a Write
+        self.kinds.append(kind)
         status = self.calls.get((kind, index), self.calls.get(kind))
         if self.silences.get(kind):
             self.silences[kind] -= 1
@@ -366,9 +368,9 @@ class Opener:
             blocks = self.header(0xFFFF, 0xFFFF, 0xE040, len(blocks), 0xFFFFFFFF) + blocks
         return self.call(3, arguments(blocks), pieces, seconds)
 
-    def read_implicit(self, index):
-        """Sends a Read Implicit at slot 0, subslot 1, and waits for no answer."""
-        self.send(5, arguments(block_of(9, struct.pack(">H16sIHHHHI24s", 1, bytes(16), 0, 0, 1, 0, index, 4096, bytes(24))), 4096))
+    def read_implicit(self, index, ar):
+        """Sends a Read Implicit at slot 0, subslot 1, that names a relation, and waits for no answer."""
+        self.send(5, arguments(block_of(9, struct.pack(">H16sIHHHHI24s", 1, ar, 0, 0, 1, 0, index, 4096, bytes(24))), 4096))
 
     def release(self):
         return self.call(1, arguments(block_of(RELEASE, bytes(2) + self.ar + struct.pack(">4H", 1, 0, 4, 0))))
