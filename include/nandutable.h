@@ -99,7 +99,9 @@ enum {
     PN_OP_PROVIDER = 18,
     PN_OP_DIAGNOSIS = 19,
     PN_OP_CONFLICTS = 20,
-    PN_OP_LINK = 21
+    PN_OP_LINK = 21,
+    PN_OP_PASSED = 22,
+    PN_OP_PASSED_ON = 23
 };
 
 /* A parameter record that a submodule accepts: its index, 0 to 32,767 and no other record's of the submodule, and its exact length, 1 to
@@ -149,11 +151,15 @@ typedef struct pn_station {
     uint8_t order_id[20];
     uint8_t serial_number[16];
     uint8_t software_revision[4]; /* a letter and three numbers */
-    /* What the application decides. Zeros: any interval, inputs that are good from the start, ready when the parameters have ended, and
-     * services beside the device. */
+    /* What the application decides. Zeros: any interval, inputs that are good from the start, ready when the parameters have ended, any
+     * station may hold a relation, each parameter record is kept, and services beside the device. */
     uint32_t smallest_interval;    /* of cyclic frames, in units of PN_UNIT_NS, at most 65,536: a Connect with a smaller one is refused */
     uint16_t inputs_begin_bad;     /* not 0: the IOPS of a submodule with inputs is bad until its first pn_input in the relation */
     uint16_t ready_by_application; /* not 0: ApplicationReady is sent at pn_ready, and not with the answer to PrmEnd */
+    uint32_t only_own_controller;  /* not 0: a Connect for another controller than its sender is refused, and only calls of the controller
+                                    * (its MAC and IP address) keep a relation alive that does not exchange data yet */
+    uint32_t records_passed_on;    /* not 0: records that are written while data is exchanged are passed on (pn_passed) and not kept
+                                    * (pn_taken): without it a relation accepts 64 records in all */
     uint32_t without_services;     /* not 0: the device alone, without the services of its IP address */
     uint32_t module_count;         /* at most PN_MODULES */
     pn_module modules[PN_MODULES];
@@ -194,9 +200,9 @@ typedef struct pn_device {
 
 /* The sizes that the library was built with. */
 #if defined(__cplusplus)
-static_assert(offsetof(pn_op, data) == PN_OP_LENGTH && sizeof(pn_station) == 1512, "another layout than the library's");
+static_assert(offsetof(pn_op, data) == PN_OP_LENGTH && sizeof(pn_station) == 1520, "another layout than the library's");
 #else
-_Static_assert(offsetof(pn_op, data) == PN_OP_LENGTH && sizeof(pn_station) == 1512, "another layout than the library's");
+_Static_assert(offsetof(pn_op, data) == PN_OP_LENGTH && sizeof(pn_station) == 1520, "another layout than the library's");
 #endif
 
 /* The settings that survive a power failure. */
@@ -585,6 +591,29 @@ static inline uint32_t pn_taken(const pn_device *device, pn_op *op, uint32_t num
     return pn_read(device, op, PN_OP_RECORD);
 }
 
+/* With `records_passed_on`: how many parameter records were passed on and not kept in the relation, modulo 2^32 (`*count`; 0 without a
+ * relation). */
+static inline uint32_t pn_passed_on(const pn_device *device, pn_op *op, uint32_t *count)
+{
+    uint32_t answer;
+    if (count == NULL)
+        return PN_NULL;
+    answer = pn_read(device, op, PN_OP_PASSED_ON);
+    if (answer == PN_OK)
+        *count = op->units;
+    return answer;
+}
+
+/* A parameter record that was passed on and not kept, counted back from the last one, which is 0: the last 16 are there, and one Write has
+ * at most 16. It is reported as pn_taken reports a record. May return PN_NO_RECORD. */
+static inline uint32_t pn_passed(const pn_device *device, pn_op *op, uint32_t back)
+{
+    if (op == NULL)
+        return PN_NULL;
+    op->place = back;
+    return pn_read(device, op, PN_OP_PASSED);
+}
+
 /* Octets of settings before the name, and the longest name. */
 #define PN_SETTINGS_SIZE 190u
 #define PN_NAME_SIZE 240u
@@ -657,6 +686,8 @@ enum {
     PN_PARAMETERS_END = 8, /* PrmEnd was accepted: the records are complete. With `ready_by_application`, call pn_ready when they are in use */
     PN_NEW_NAME = 16,      /* the running name (`settings`) */
     PN_NEW_ADDRESS = 32,   /* the running address, mask or gateway */
+    PN_NEW_PASSED = 128,   /* parameter records were passed on and not kept: the last `new_passed` ones (pn_passed, the oldest of them first:
+                            * from `new_passed` - 1 down to 0) */
     PN_RESET = 64          /* a reset was accepted: FactoryReset, or ResetToFactory of any kind (needs pn_watch_frame) */
 };
 
@@ -664,7 +695,9 @@ typedef struct pn_watch {
     pn_settings settings; /* the running settings */
     uint32_t phase;
     uint32_t first_record;
-    uint32_t records;  /* how many the relation has accepted */
+    uint32_t records;  /* how many the relation has accepted and keeps */
+    uint32_t passed;   /* how many the relation has passed on, modulo 2^32 */
+    uint32_t new_passed; /* how many of the last ones are new: at most 16 */
     uint32_t left;     /* commits that the flash still accepts */
     uint32_t is_begun; /* 0 before the first call */
     uint32_t is_asked; /* 1 if a frame asked for a reset since the call before */
@@ -723,6 +756,18 @@ static inline uint32_t pn_count_taken(const pn_device *device, pn_op *op, uint32
     return count;
 }
 
+/* Compares the number of records that were passed on with that in `watch`, and puts it there. Returns what changed. */
+static inline uint32_t pn_passed_news(const pn_device *device, pn_op *op, int is_other, pn_watch *watch)
+{
+    uint32_t count = 0, more;
+    if (pn_passed_on(device, op, &count) != PN_OK)
+        count = 0;
+    more = is_other ? count : count - watch->passed;
+    watch->passed = count;
+    watch->new_passed = more < 16 ? more : 16;
+    return more != 0 ? PN_NEW_PASSED : 0;
+}
+
 /* Compares the phase and the records with those in `watch`, and puts them there. Returns what changed. */
 static inline uint32_t pn_relation_news(const pn_device *device, pn_op *op, pn_watch *watch)
 {
@@ -738,6 +783,7 @@ static inline uint32_t pn_relation_news(const pn_device *device, pn_op *op, pn_w
         news |= PN_NEW_RECORDS;
     if (phase >= PN_AWAITING && (watch->phase < PN_AWAITING || is_other))
         news |= PN_PARAMETERS_END;
+    news |= pn_passed_news(device, op, is_other || phase == PN_NONE, watch);
     watch->phase = phase;
     watch->records = records;
     return news;

@@ -35,7 +35,7 @@ static void keep(uint32_t answer)
 static void ask_all(const char *when)
 {
     static pn_op asked, told;
-    for (uint32_t what = 0; what < 24; what++) {
+    for (uint32_t what = 0; what < 26; what++) {
         memset(&asked, 0xA5, sizeof asked);
         asked.what = what, asked.units = 5;
         told = asked;
@@ -188,6 +188,8 @@ int main(void)
     wants("settings before the start", pn_running(&device, &op, &settings), PN_NOT_BOOTED);
     wants("what is stored before the start", pn_stored(&device, &op, &settings), PN_NOT_BOOTED);
     wants("a record before the start", pn_taken(&device, &op, 0), PN_NOT_BOOTED);
+    wants("a record that was passed on before the start", pn_passed(&device, &op, 0), PN_NOT_BOOTED);
+    wants("their number before the start", pn_passed_on(&device, &op, &left), PN_NOT_BOOTED);
     wants("commits before the start", pn_left(&device, &op, &left), PN_NOT_BOOTED);
     wants("a loss before the start", pn_lose(&device, &op), PN_NOT_BOOTED);
     wants("what is due before the start", pn_due(&device, &op, &left), PN_NOT_BOOTED);
@@ -211,7 +213,7 @@ int main(void)
         return 1;
     wants("a second start", pn_boot(&device, &op, erased, erased), PN_IS_BOOTED);
     wants("no operation", pn_ask(&device, &op, 0, NULL, 0), PN_UNKNOWN);
-    wants("another operation", pn_ask(&device, &op, 22, NULL, 0), PN_UNKNOWN);
+    wants("another operation", pn_ask(&device, &op, 24, NULL, 0), PN_UNKNOWN);
     wants("no operation's room", pn_frame(&device, NULL, set, sizeof set), PN_NULL);
     wants("no octets", pn_frame(&device, &op, NULL, 1), PN_NULL);
     wants("no device for a frame", pn_frame(NULL, &op, set, sizeof set), PN_NULL);
@@ -251,6 +253,12 @@ int main(void)
     if (settings.name_length != 240)
         return 1;
     wants("a record that was not taken", pn_taken(&device, &op, 0), PN_NO_RECORD);
+    wants("a record that was not passed on", pn_passed(&device, &op, 0), PN_NO_RECORD);
+    wants("a record for no operation", pn_passed(&device, NULL, 0), PN_NULL);
+    wants("no place for their number", pn_passed_on(&device, &op, NULL), PN_NULL);
+    keep(pn_passed_on(&device, &op, &left));
+    if (left != 0)
+        return 1;
     keep(pn_frame(&device, &op, octets, sizeof octets));
     keep(pn_frame(&device, &op, octets, 0));
     keep(pn_input(&device, &op, 0, 1, octets, sizeof octets));
@@ -300,6 +308,7 @@ int main(void)
     wants("settings after a loss", pn_running(&device, &op, &settings), PN_LOST);
     wants("what is stored after a loss", pn_stored(&device, &op, &settings), PN_LOST);
     wants("a record after a loss", pn_taken(&device, &op, 0), PN_LOST);
+    wants("a record that was passed on after a loss", pn_passed(&device, &op, 0), PN_LOST);
     wants("commits after a loss", pn_left(&device, &op, &left), PN_LOST);
     wants("what is due after a loss", pn_due(&device, &op, &left), PN_LOST);
     wants("a status after a loss", pn_status(&device, &op, 0, 1, 1), PN_LOST);

@@ -52,7 +52,7 @@ use Rattle.relations.specs.declared.farewell.Farewell.{Farewell}
 use Rattle.relations.specs.Timers.{Due, due_of}
 use Rattle.relations.specs.RelationState.{RelationState, uuid_of, flow_of, is_alarm_of, is_preparing, phase_of}
 use Rattle.device_exchange.specs.Frames.{Frame, alarm_frame, low_alarm_frame}
-use Rattle.relations.specs.Phases.{Parameterized, Prepared, Exchanged, answered, keeping, passing, updated}
+use Rattle.relations.specs.Phases.{Named, Parameterized, Prepared, Exchanged, answered, keeping, passing, updated}
 use Rattle.relations.specs.Calls.{prm_end_of, prm_end_answer, release_answer}
 use Rattle.relations.specs.Diagnosed.{begin_one, beginning, diagnose_one, diagnosing, has_sent_low, heard_low, hearing_low, is_full_in, report_one, reporting}
 use Rattle.relations.specs.Ready.{handled_by}
@@ -62,7 +62,7 @@ use Rattle.device_frames.specs.Sent.{Sent, IdentifyAnswer, GetAnswer, SetAnswer,
 use Rattle.rpc_core.specs.Response.{answer_to}
 use Rattle.device_core.specs.State.{Station, Live, alias_in, counter_of, units_after}
 use Rattle.device_core.specs.Several.{judged_each}
-use Rattle.device_core.specs.Handled.{Handled, is_running, is_request, answer_from, kept_for, kept_answer, outcome_of, ready_behind, handled_request, handled_effect, handled_write, handled_new, handled_looked, handled_blocks, handled_call, handled_answer, handled_said, handled_pdu, handled_received, handled_input, handled_notice, kept_status, handled, known_of, handled_alarm, handled_change, handled_low, handled_low_pdu}
+use Rattle.device_core.specs.Handled.{Handled, is_running, is_request, answer_from, kept_for, kept_answer, outcome_of, partner_of, ready_behind, handled_request, handled_effect, handled_write, handled_new, handled_looked, handled_blocks, handled_call, handled_answer, handled_said, handled_pdu, handled_received, handled_input, handled_notice, kept_status, handled, known_of, handled_alarm, handled_change, handled_low, handled_low_pdu}
 use Rattle.device_core.specs.Machine.{farewells_at, items_in, first_answer, resets, several_answer, written_as, finished, heard_step, handled_step}
 use Rattle.dcp_core.specs.Set.{plan_of}
 use Rattle.answer_laws.specs.Whole.{AreStoredWhole, IsAnsweredWhole, IsOneDatagram}
@@ -201,7 +201,7 @@ module _ (datagrams : DatagramsAreRead) (reads : ResponsesAreRead) (station : St
 
   new_good : (caller : Caller) (call : Called) (blocks : List ℕ) (operation : Operation) → IsGood (handled_new station live caller call blocks operation)
   new_good caller call blocks Connect =
-      served caller call Connect (connect_answer station.identity station.real station.options.smallest_interval live.rest.link blocks) [] tt
+      served caller call Connect (connect_answer station.identity station.real station.options caller.mac live.rest.link blocks) [] tt
   new_good caller call blocks Release = served caller call Release (release_answer live.rest.link blocks) [] tt
   new_good caller call blocks Read =
       served caller call Read (relation_read (known_of station live) station.identity station.real live.values.running blocks) [] tt
@@ -209,7 +209,7 @@ module _ (datagrams : DatagramsAreRead) (reads : ResponsesAreRead) (station : St
   new_good caller call blocks Control =
       let by_application = station.options.ready_by_application in
       let ended = prm_end_of live.rest.link blocks in
-      let link = updated (answered (Parameterized by_application) ended) live.rest.link in
+      let link = updated (answered (Named (partner_of caller)) ended) (updated (answered (Parameterized by_application) ended) live.rest.link) in
       served caller call Control (prm_end_answer live.rest.link blocks) (ready_behind by_application live.values.running.suite.address link ended)
       (ready_other by_application live.values.running.suite.address link ended)
   new_good caller call blocks ReadImplicit =

@@ -3,6 +3,7 @@
 use Rattle.std.specs.Prelude.{◌+◌, ◌*◌, ◌==◌, ◌&&◌, ◌||◌, ℕ, Bool, true, false, not, List, [], ◌∷◌, ◌++◌, length, nat_eq, nat_lt, replicate, Option, Some, None, is_some, Result, Ok, Err, if◌then◌else◌}
 use Rattle.std.specs.List.{list_any}
 use Rattle.std.specs.Cmp.Lexicographic.{pointwise}
+use Rattle.pn_values.specs.declared.mac.Mac.{Mac}
 use Rattle.wire.specs.Checks.{or_fault}
 use Rattle.wire.specs.Codec.{◌>>=◌}
 use Rattle.block_fields.specs.declared.fault.BlockFault.{BlockFault}
@@ -79,6 +80,14 @@ uuid_in (Err fault) = replicate 16 0
 
 unfoldable pub asked_uuid : List ℕ → List ℕ
 asked_uuid blocks = uuid_in (ar_in (piece_at blocks))
+
+-- CMInitiatorMacAdd of a Connect, if its first block can be read.
+abbrev pub initiator_in : Result Ar CallFault → Option Mac
+initiator_in (Ok ar) = Some ar.initiator
+initiator_in (Err fault) = None
+
+unfoldable pub asked_initiator : List ℕ → Option Mac
+asked_initiator blocks = initiator_in (ar_in (piece_at blocks))
 
 -- ---- the other blocks
 

@@ -14,4 +14,4 @@ mod request;
 
 pub use laws::{intervals_are_kept, layouts_are_taken};
 pub use parts::{AlarmCr, Ar, Iocr};
-pub use request::{ConnectRequest, asked_uuid, refuse};
+pub use request::{ConnectRequest, asked_initiator, asked_uuid, refuse};

@@ -3,7 +3,7 @@ ghost use Rattle.std.specs.Prelude.{◌≡◌, ℕ, None, Some, Err, IfOk};
 ghost use Rattle.wire.specs.Codec.{Gives};
 ghost use Rattle.block_codec.specs.Block.{block_of};
 ghost use Rattle.connect_requests.specs.Pieces.{behind, piece_at, pieces_in};
-ghost use Rattle.connect_requests.specs.Handled.{asked_uuid, conflict, ar_in, request_with, request_within};
+ghost use Rattle.connect_requests.specs.Handled.{asked_initiator, asked_uuid, conflict, ar_in, request_with, request_within};
 ghost use Rattle.connect_requests.specs.Drafts.{AreAccepted, behind_within, pieces_within, sofar_of};
 ghost use Rattle.connect_requests.specs.Request.{IsAlarmCr, IsAr, IsIocr};
 
@@ -15,6 +15,7 @@ use arrayvec::ArrayVec;
 use block_codec::{Block, BlockType};
 use block_fields::Uuid;
 use module_diff::Expected;
+use pn_values::Mac;
 use records::CallFault;
 use std::marker::Model;
 use wire::u16_at;
@@ -130,6 +131,17 @@ fn add_all<'a>(
 {
     let mut room = Room::new();
     draft.add_pieces(smallest, others, most, &mut room, expected)
+}
+
+/// CMInitiatorMacAdd of a Connect with these blocks, if its first block can be read.
+#[tactic(auto, unfolding(crate::specs::Handled::asked_initiator))]
+pub fn asked_initiator(blocks: &[u8]) -> Option<Mac>
+    ensures { result ≡ asked_initiator blocks.now }
+{
+    match first_block(blocks) {
+        Ok((ar, _others)) => Some(ar.initiator),
+        Err(_) => None,
+    }
 }
 
 impl ConnectRequest {

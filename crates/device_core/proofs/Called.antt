@@ -98,7 +98,7 @@ write_called station live answers caller call (Err fault) is_new = served_called
 new_called : (station : Station) (live : Live) (answers : List BlockError) (caller : Caller) (call : Called) (blocks : List ℕ) (operation : Operation)
     → looked call.header.activity call.header.sequence live.rest.calls ≡ new → IsKept station live answers (handled_new station live caller call blocks operation)
 new_called station live answers caller call blocks Connect is_new =
-    served_called station live caller call Connect (connect_answer station.identity station.real station.options.smallest_interval live.rest.link blocks) is_new
+    served_called station live caller call Connect (connect_answer station.identity station.real station.options caller.mac live.rest.link blocks) is_new
 new_called station live answers caller call blocks Release is_new =
     served_called station live caller call Release (release_answer live.rest.link blocks) is_new
 new_called station live answers caller call blocks Read is_new =

@@ -9,12 +9,11 @@ use Rattle.records.specs.declared.status.operation.Operation.TheVariants as oper
 use Rattle.records.specs.declared.writes.write.Effect.{Effect}
 use Rattle.records.specs.declared.writes.write.Effect.TheVariants.{Stores, Keeps}
 use Rattle.records.specs.declared.writes.write.Write.{Write}
-use Rattle.records.specs.declared.writes.taken.TakenRecord.{TakenRecord}
 use Rattle.records.specs.writes.Answer.{outcome_of, outcomes_of}
 use Rattle.records.specs.writes.Entry.{Entry}
 use Rattle.records.specs.writes.Handled.{handled_request}
 use Rattle.relations.specs.RelationState.{RelationState, uuid_of}
-use Rattle.relations.specs.Phases.{keeping, taking, updated}
+use Rattle.relations.specs.Phases.{Records, keeping, taking, updated}
 use Rattle.device_core.specs.Handled.{outcome_of as came_as}
 use Rattle.device_core.specs.Several.{judged_each, texts_by, texts_in}
 use Rattle.device_core.specs.Machine.{effect_link, link_behind, one_answers, one_link, one_outcome, statuses_of}
@@ -53,7 +52,7 @@ module _ (uuid : Option (List ℕ)) (real : Real) where
   link_end left link all none so_far = ap (λ (entries : List Entry). link_behind (judged_each uuid real entries) link) (sym none) ∙ so_far
 
 -- A record that is written leaves the relation the one that it is.
-taken_names : (kept : Result (List TakenRecord) CallFault) (link : Option RelationState) → uuid_of (updated (taking kept) link) ≡ uuid_of link
+taken_names : (kept : Result Records CallFault) (link : Option RelationState) → uuid_of (updated (taking kept) link) ≡ uuid_of link
 taken_names (Ok taken) None = refl
 taken_names (Ok taken) (Some link) = refl
 taken_names (Err fault) None = refl

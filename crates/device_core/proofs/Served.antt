@@ -5,10 +5,9 @@ use Rattle.settings_store.specs.Carries.{Holds}
 use Rattle.records.specs.declared.status.operation.Operation.{Operation}
 use Rattle.records.specs.declared.status.call_fault.CallFault.{CallFault}
 use Rattle.record_blocks.specs.declared.write_record.IodWriteReq.{IodWriteReq}
-use Rattle.records.specs.declared.writes.taken.TakenRecord.{TakenRecord}
 use Rattle.records.specs.writes.Answer.{answer_of}
 use Rattle.rpc_core.specs.Call.{Asked as Call}
-use Rattle.relations.specs.Phases.{Handled as Moving, answered}
+use Rattle.relations.specs.Phases.{Handled as Moving, Records, answered}
 use Rattle.frame_codec.specs.declared.udp.Caller.{Caller}
 use Rattle.device_frames.specs.Heard.{Heard}
 use Rattle.device_frames.specs.Sendable.{AreSendable}
@@ -22,14 +21,14 @@ use Rattle.device_core.proofs.Machine.{is_asking}
 use Rattle.device_core.proofs.Steps.{inactive_steps}
 
 -- A parameter record that is kept, or not: how it is answered, and what it does to the relation.
-pub kept_as : (came : Result (Unit {0}) CallFault) (kept : Result (List TakenRecord) CallFault) (header : IodWriteReq)
+pub kept_as : (came : Result (Unit {0}) CallFault) (kept : Result Records CallFault) (header : IodWriteReq)
     → OnOk came (IsOk kept) → IfErr came (λ fault. kept ≡ Err fault) → came_with came (answer_of header) ≡ kept_answer header kept
 kept_as (Ok it) (Ok taken) header is refused = refl
 kept_as (Ok it) (Err fault) header is refused = cc
 kept_as (Err fault) (Ok taken) header is refused = cc
 kept_as (Err fault) (Err other) header is refused = cc
 
-pub kept_moving : (moving : Moving) (came : Result (Unit {0}) CallFault) (kept : Result (List TakenRecord) CallFault)
+pub kept_moving : (moving : Moving) (came : Result (Unit {0}) CallFault) (kept : Result Records CallFault)
     → OnOk came (IsOk kept) → IfErr came (λ fault. kept ≡ Err fault) → answered moving came ≡ answered moving kept
 kept_moving moving (Ok it) (Ok taken) is refused = refl
 kept_moving moving (Ok it) (Err fault) is refused = cc

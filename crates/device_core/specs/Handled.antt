@@ -26,7 +26,6 @@ use Rattle.records.specs.status.Status.{done, status_of}
 use Rattle.connect_blocks.specs.declared.control.ControlBlock.{ControlBlock}
 use Rattle.record_blocks.specs.declared.write_record.IodWriteReq.{IodWriteReq}
 use Rattle.records.specs.reads.Within.{names_relation}
-use Rattle.records.specs.declared.writes.taken.TakenRecord.{TakenRecord}
 use Rattle.records.specs.declared.writes.write.Effect.{Effect}
 use Rattle.records.specs.declared.writes.write.Effect.TheVariants.{Stores, Keeps}
 use Rattle.records.specs.declared.writes.writing.Writing.{Writing}
@@ -59,7 +58,7 @@ use Rattle.relations.specs.Calls.{prm_end_of, release_of, prm_end_answer, releas
 use Rattle.relations.specs.Connect.{connect_within, connect_answer, making}
 use Rattle.relations.specs.Ready.{answer_of as ready_answer, handled_by}
 use Rattle.relations.specs.Timers.{due_of}
-use Rattle.relations.specs.Phases.{Handled as Moving, Parameterized, Prepared, Named, Ended, Exchanged, Unmoved, answered, keeping, updated, passing, taking}
+use Rattle.relations.specs.Phases.{Handled as Moving, Records, Parameterized, Prepared, Named, Ended, Exchanged, Unmoved, answered, keeping, updated, passing, taking}
 use Rattle.device_frames.specs.declared.note.Note.{Note}
 use Rattle.device_frames.specs.declared.note.Note.TheVariants as note
 use Rattle.frame_codec.specs.declared.udp.Caller.{Caller}
@@ -157,20 +156,21 @@ ready_behind by_application address link (Err fault) = []
 abbrev pub partner_of : Caller → Partner
 partner_of caller = record { mac = caller.mac; address = caller.endpoint.address }
 
--- What a Read Implicit does to the relation: it names the relation or not.
-abbrev pub implicitly : Option RelationState → List ℕ → Moving
-implicitly link blocks = if names_relation (uuid_of link) blocks then Named else Unmoved
+-- What a Read Implicit of this station does to the relation: it names the relation or not.
+abbrev pub implicitly : Partner → Option RelationState → List ℕ → Moving
+implicitly source link blocks = if names_relation (uuid_of link) blocks then Named source else Unmoved
 
--- A Write of a parameter record: it is kept if there is room, and shows that the controller is alive.
-abbrev pub kept_answer : IodWriteReq → Result (List TakenRecord) CallFault → Result (List ℕ) CallFault
-kept_answer header (Ok taken) = Ok (answer_of header)
+-- A Write of a parameter record: it is kept if there is room, or passed on, and shows that the controller is alive.
+abbrev pub kept_answer : IodWriteReq → Result Records CallFault → Result (List ℕ) CallFault
+kept_answer header (Ok records) = Ok (answer_of header)
 kept_answer header (Err fault) = Err fault
 
 abbrev pub handled_effect : Station → Live → Caller → Call → IodWriteReq → Effect → Handled
 handled_effect station live caller call header (Stores value) = Writes caller live.values.running.suite.address call header value
 handled_effect station live caller call header (Keeps parameter) =
     let kept = keeping parameter live.rest.link in
-    served station live caller call Write (kept_answer header kept) (updated (answered Named kept) (updated (taking kept) live.rest.link)) []
+    served station live caller call Write (kept_answer header kept)
+    (updated (answered (Named (partner_of caller)) kept) (updated (taking kept) live.rest.link)) []
 
 abbrev pub handled_write : Station → Live → Caller → Call → Result Writing CallFault → Handled
 handled_write station live caller call (Ok (One write)) = handled_effect station live caller call write.request write.effect
@@ -198,27 +198,27 @@ known_of station live = record {
 -- A new call, by its operation.
 abbrev pub handled_new : Station → Live → Caller → Call → List ℕ → Operation → Handled
 handled_new station live caller call blocks Connect =
-    let smallest = station.options.smallest_interval in
-    let answer = connect_answer station.identity station.real smallest live.rest.link blocks in
+    let options = station.options in
+    let answer = connect_answer station.identity station.real options caller.mac live.rest.link blocks in
     served station (but_rest live (with_log (connect_log blocks answer) live.rest)) caller call Connect answer
-    (updated (making station.real (partner_of caller) (starting_of station live) (connect_within smallest live.rest.link blocks)) live.rest.link) []
+    (updated (making station.real (partner_of caller) options (starting_of station live) (connect_within options caller.mac live.rest.link blocks)) live.rest.link) []
 handled_new station live caller call blocks Release =
     let answer = release_answer live.rest.link blocks in
     served station (but_rest live (with_log (release_log (uuid_of live.rest.link) answer) live.rest)) caller call Release answer
     (updated (answered Ended (release_of live.rest.link blocks)) live.rest.link) []
 handled_new station live caller call blocks Read =
     let read = relation_read (known_of station live) station.identity station.real live.values.running blocks in
-    served station live caller call Read read (updated (answered Named read) live.rest.link) []
+    served station live caller call Read read (updated (answered (Named (partner_of caller)) read) live.rest.link) []
 handled_new station live caller call blocks Write = handled_write station live caller call (writing_of (uuid_of live.rest.link) station.real blocks)
 handled_new station live caller call blocks Control =
     let ended = prm_end_of live.rest.link blocks in
     let by_application = station.options.ready_by_application in
-    let link = updated (answered (Parameterized by_application) ended) live.rest.link in
+    let link = updated (answered (Named (partner_of caller)) ended) (updated (answered (Parameterized by_application) ended) live.rest.link) in
     served station live caller call Control (prm_end_answer live.rest.link blocks) link
     (ready_behind by_application live.values.running.suite.address link ended)
 handled_new station live caller call blocks ReadImplicit =
     let read = implicit_read (known_of station live) station.identity station.real live.values.running blocks in
-    served station live caller call ReadImplicit read (updated (answered (implicitly live.rest.link blocks) read) live.rest.link) []
+    served station live caller call ReadImplicit read (updated (answered (implicitly (partner_of caller) live.rest.link blocks) read) live.rest.link) []
 
 -- A call by the result of the cache: it is answered as new, or again with the same frame, or it is older than an
 -- answered call of its activity.

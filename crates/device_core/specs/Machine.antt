@@ -31,7 +31,7 @@ use Rattle.device_frames.specs.Relation.{farewells_in}
 use Rattle.device_frames.specs.Sent.{Sent, SetAnswer, bytes_of}
 use Rattle.device_frames.specs.Heard.{Heard, heard_of}
 use Rattle.device_core.specs.Several.{Judged, texts_in}
-use Rattle.device_core.specs.Handled.{Handled, Refuses, Sets, Writes, WritesEach, Moves, answer_from, kept_answer, kept_behind, handled, outcome_of}
+use Rattle.device_core.specs.Handled.{Handled, Refuses, Sets, Writes, WritesEach, Moves, answer_from, kept_answer, kept_behind, handled, outcome_of, partner_of}
 use Rattle.device_core.specs.Log.{err_log, with_log}
 
 -- What is asked of the settings: the blocks of a Set, in order, the one I&M text of a Write, or those of its several
@@ -178,10 +178,10 @@ finished identity rest (Sets asker request in_operation) answers =
 finished identity rest (Writes caller address call header value) answers =
     let outcome = written_as header (first_answer answers) in
     let answer = answer_from address caller call Write outcome in
-    record { rest = kept_behind identity rest call answer (updated (answered Named outcome) rest.link); sent = answer ∷ []; note = note.Done }
+    record { rest = kept_behind identity rest call answer (updated (answered (Named (partner_of caller)) outcome) rest.link); sent = answer ∷ []; note = note.Done }
 finished identity rest (WritesEach caller address call header judged) answers =
     let answer = answer_from address caller call Write (Ok (several_answer header judged answers rest.link)) in
-    record { rest = kept_behind identity rest call answer (updated Named (link_behind judged rest.link)); sent = answer ∷ []; note = note.Done }
+    record { rest = kept_behind identity rest call answer (updated (Named (partner_of caller)) (link_behind judged rest.link)); sent = answer ∷ []; note = note.Done }
 finished identity rest (Moves later sent) answers = record { rest = later; sent = sent; note = note.Done }
 
 -- The same if nothing is asked of the settings.

@@ -15,7 +15,7 @@ ghost use Rattle.records.specs.status.Operation.{operation_of};
 ghost use Rattle.device_frames.specs.Heard.{Heard as Hears, Reported, said_by};
 ghost use Rattle.device_frames.specs.Sendable.{IsSendable};
 ghost use Rattle.device_frames.specs.Sent.{bytes_of};
-ghost use Rattle.device_core.specs.Handled.{Writes, WritesEach, answer_from, came_with, kept_for, handled, handled_call, outcome_of};
+ghost use Rattle.device_core.specs.Handled.{Writes, WritesEach, answer_from, came_with, kept_for, handled, handled_call, outcome_of, partner_of};
 ghost use Rattle.device_core.specs.Behind.{CanSend, answer_to, behind, brings, called, frames_of, responded, wrote};
 ghost use Rattle.device_core.specs.Log.{arguments_log, with_log};
 ghost use Rattle.device_core.specs.State.{with_rest};
@@ -186,10 +186,7 @@ impl<F: Flash<S>, const S: usize> Device<F, S> {
         ensures sendable { CanSend self.old (called self.old serving.now operation.Connect) }
         ensures note { result ≡ Note.Done }
     {
-        let partner = Partner {
-            mac: serving.caller.mac,
-            address: serving.caller.endpoint.address,
-        };
+        let partner = source_of(serving.caller);
         let application = Application {
             options: &self.options,
             statuses: self.statuses.as_slice(),
@@ -250,6 +247,8 @@ impl<F: Flash<S>, const S: usize> Device<F, S> {
         let came = self
             .relation
             .control(by_application, serving.blocks, &mut self.answers.blocks);
+        self.relation
+            .hear_controller(&source_of(serving.caller), true, came);
         self.answers
             .give(&self.identity, address, serving, came, outbox);
         let is_due = is_ready_due(came, by_application);
@@ -285,7 +284,8 @@ impl<F: Flash<S>, const S: usize> Device<F, S> {
             serving.blocks,
             &mut self.answers.blocks,
         );
-        self.relation.hear_controller(true, came);
+        self.relation
+            .hear_controller(&source_of(serving.caller), true, came);
         let address = self.store.running().suite.address();
         self.answers
             .give(&self.identity, address, serving, came, outbox);
@@ -323,14 +323,15 @@ impl<F: Flash<S>, const S: usize> Device<F, S> {
         );
         let is_named = names_relation(self.relation.uuid(), serving.blocks);
         // The reader need not be the controller; only a call that names the relation shows that it is alive.
-        self.relation.hear_controller(is_named, came);
+        self.relation
+            .hear_controller(&source_of(serving.caller), is_named, came);
         let address = self.store.running().suite.address();
         self.answers
             .give(&self.identity, address, serving, came, outbox);
         Note::Done
     }
 
-    // A Write: an I&M text is stored in the flash, a parameter record is kept in the relation.
+    // A Write: an I&M text is stored in the flash, a parameter record is kept in the relation or passed on.
     #[inline(never)]
     fn write(&mut self, serving: &Serving<'_>, outbox: &mut Outbox) -> Note
         requires operation { serving.now.operation ≡ operation.Write }
@@ -397,7 +398,8 @@ impl<F: Flash<S>, const S: usize> Device<F, S> {
             &mut self.relation,
             &mut self.answers.blocks,
         );
-        self.relation.hear_controller(true, Ok(()));
+        self.relation
+            .hear_controller(&source_of(serving.caller), true, Ok(()));
         self.answers
             .give(&self.identity, address, serving, Ok(()), outbox);
         Note::Done
@@ -438,7 +440,8 @@ impl<F: Flash<S>, const S: usize> Device<F, S> {
         let address = self.store.running().suite.address();
         let came = written_as(self.store.carry(&SetItem::Ask(Command::SetIm(value))));
         put_written(&mut self.answers.blocks, header, came);
-        self.relation.hear_controller(true, came);
+        self.relation
+            .hear_controller(&source_of(serving.caller), true, came);
         self.answers
             .give(&self.identity, address, serving, came, outbox);
         Note::Done
@@ -462,7 +465,8 @@ impl<F: Flash<S>, const S: usize> Device<F, S> {
     {
         let came = self.relation.keep(parameter);
         put_written(&mut self.answers.blocks, header, came);
-        self.relation.hear_controller(true, came);
+        self.relation
+            .hear_controller(&source_of(serving.caller), true, came);
         let address = self.store.running().suite.address();
         self.answers
             .give(&self.identity, address, serving, came, outbox);
@@ -477,6 +481,16 @@ struct Serving<'a> {
     call: &'a Call<'a>,
     operation: Operation,
     blocks: &'a [u8],
+}
+
+// The station that sent a call.
+fn source_of(caller: &Caller) -> Partner
+    ensures { result ≡ partner_of caller.now }
+{
+    Partner {
+        mac: caller.mac,
+        address: caller.endpoint.address,
+    }
 }
 
 // The answers to calls: those that are kept, and room for the blocks of the next one.

@@ -7,7 +7,7 @@ ghost use Rattle.pn_values.specs.declared.settings.Settings.{Settings};
 ghost use Rattle.settings_journal.specs.Commit.{HasBootCause};
 ghost use Rattle.settings_journal.specs.Image.{StartsWith, IsAmple, capacity, commits_left, IsForeign, LeftByDevice};
 ghost use Rattle.relations.specs.Exchanged.{output_in, provider_in};
-ghost use Rattle.relations.specs.RelationState.{is_parameterized, phase_of, taken_of, uuid_of};
+ghost use Rattle.relations.specs.RelationState.{is_parameterized, passed_of, phase_of, taken_of, uuid_of};
 ghost use Rattle.relations.specs.Outputs.{output_of};
 ghost use Rattle.device_core.specs.Cycle.{started};
 ghost use Rattle.device_core.specs.State.{plain};
@@ -181,11 +181,27 @@ impl<F: Flash<S>, const S: usize> Device<F, S> {
         self.relation.parameters_end()
     }
 
-    /// The parameter records that the relation accepted, in order.
+    /// The parameter records that the relation accepted and keeps, in order.
     pub fn taken(&self) -> &[TakenRecord]
         ensures { result.now ≡ taken_of self.now.live.rest.link }
     {
         self.relation.taken()
+    }
+
+    /// The last parameter records that the relation passed on and does not keep, at most 16, the oldest first. With the option
+    /// `records_passed_on` these are the records that are written while data is exchanged. One Write has at most 16.
+    pub fn passed(&self) -> &[TakenRecord]
+        ensures value { result.now ≡ (passed_of self.now.live.rest.link).last }
+        ensures few { length result.now ≤ 16 }
+    {
+        self.relation.passed()
+    }
+
+    /// How many parameter records the relation passed on and does not keep, modulo 2^32.
+    pub fn passed_on(&self) -> u32
+        ensures { result ≡ (passed_of self.now.live.rest.link).count }
+    {
+        self.relation.passed_on()
     }
 
     /// The output of a submodule, from the last accepted cyclic frame. All zeros if no frame was accepted yet, if the

@@ -1,5 +1,5 @@
 -- Several units of time at once, before the next one that brings something to an exchange.
-use Rattle.std.proofs.Common.{◌≡◌, ℕ, zero, suc, Bool, false, refl, ap, ◌∙◌, Option, Some, None, if◌then◌else◌}
+use Rattle.std.proofs.Common.{◌≡◌, ◌<◌, ℕ, zero, suc, arith, Bool, false, refl, ap, ◌∙◌, Option, Some, None, if◌then◌else◌}
 use Rattle.pn_alarms.specs.declared.abort.Abort.{Abort}
 use Rattle.pn_alarms.specs.declared.abort.Abort.TheVariants.{DataHold}
 use Rattle.pn_alarms.specs.declared.repeats.Due.{Due as AlarmDue}
@@ -21,11 +21,6 @@ use Rattle.device_exchange.specs.Units.{flow_later, tick_of}
 abbrev with_ends : Flow → Cyclic → DeviceEnd → DeviceEnd → Flow
 with_ends flow cyclic alarms low = record flow { cyclic = cyclic; alarms = alarms; low = record flow.low { alarms = low } }
 
-pub flow_after : (flow : Flow) (units : ℕ)
-    → after flow_later units flow ≡ with_ends flow (after cyclic_later units flow.cyclic) (after end_later units flow.alarms) (after end_later units flow.low.alarms)
-flow_after flow zero = refl
-flow_after flow (suc units) = ap flow_later (flow_after flow units)
-
 abbrev only_cyclic : Bool → Brought
 only_cyclic is_cyclic = record { ending = None; is_alarm = false; is_cyclic = is_cyclic }
 
@@ -37,12 +32,52 @@ tick_nothing cyclic alarm heard frame none =
 both_nothing : (one other : AlarmDue) → one ≡ Nothing → other ≡ Nothing → either_due one other ≡ Nothing
 both_nothing one other a b = rw (a, b) refl
 
+-- Of several units none of which brings anything.
+abbrev AreQuiet : ℕ → Flow → Type 0
+AreQuiet units flow = IsQuietFor units flow.cyclic × NothingDue device_due end_later units flow.alarms × NothingDue device_due end_later units flow.low.alarms
+
+abbrev later_ends : Flow → ℕ → Flow
+later_ends flow units = with_ends flow (after cyclic_later units flow.cyclic) (after end_later units flow.alarms) (after end_later units flow.low.alarms)
+
+fewer : (flow : Flow) (units : ℕ) → AreQuiet (suc units) flow → AreQuiet units flow
+fewer flow units are = (
+  λ before earlier. are.0 before (omega (arith, earlier)),
+  λ before earlier. are.1 before (omega (arith, earlier)),
+  λ before earlier. are.2 before (omega (arith, earlier)),
+)
+
+ends_nothing : (flow : Flow) (units before : ℕ) → before < units → AreQuiet units flow → tick_of (later_ends flow before) ≡ nothing_brought
+ends_nothing flow units before earlier are =
+    let heard = are.0 before earlier in
+    let high_due = device_due (after end_later before flow.alarms) in
+    let low_due = device_due (after end_later before flow.low.alarms) in
+    tick_nothing (after cyclic_later before flow.cyclic) (either_due high_due low_due) heard.0 heard.1
+    (both_nothing high_due low_due (are.1 before earlier) (are.2 before earlier))
+
+unsent : (flow : Flow) (units : ℕ) → tick_of (later_ends flow units) ≡ nothing_brought → flow_later (later_ends flow units) ≡ later_ends flow (suc units)
+unsent flow units none =
+    ap (λ (b : Brought). let next : Flow = record (later_ends flow (suc units)) { problem_sent = if b.is_cyclic then flow.low.has_problem else flow.problem_sent } in next) none
+
+-- Then only the ends and their timers move.
+flow_within : (flow : Flow) (units : ℕ) → AreQuiet units flow → after flow_later units flow ≡ later_ends flow units
+flow_within flow zero are = refl
+flow_within flow (suc units) are =
+    ap flow_later (flow_within flow units (fewer flow units are)) ∙ unsent flow units (ends_nothing flow (suc units) units (omega arith) are)
+
+pub flow_after : (flow : Flow) (units : ℕ) → IsQuietFor units flow.cyclic → NothingDue device_due end_later units flow.alarms
+    → NothingDue device_due end_later units flow.low.alarms
+    → after flow_later units flow ≡ with_ends flow (after cyclic_later units flow.cyclic) (after end_later units flow.alarms) (after end_later units flow.low.alarms)
+flow_after flow units quiet none low = flow_within flow units (quiet, none, low)
+
+until : (flow : Flow) (units before : ℕ) → before < units → AreQuiet units flow → AreQuiet before flow
+until flow units before earlier are = (
+  λ first sooner. are.0 first (omega (arith, earlier, sooner)),
+  λ first sooner. are.1 first (omega (arith, earlier, sooner)),
+  λ first sooner. are.2 first (omega (arith, earlier, sooner)),
+)
+
 pub brings_nothing : (flow : Flow) (units : ℕ) → IsQuietFor units flow.cyclic → NothingDue device_due end_later units flow.alarms
     → NothingDue device_due end_later units flow.low.alarms → BringNothing units flow
 brings_nothing flow units quiet none low before earlier =
-    let heard = quiet before earlier in
-    let high_due = device_due (after end_later before flow.alarms) in
-    let low_due = device_due (after end_later before flow.low.alarms) in
-    ap tick_of (flow_after flow before)
-    ∙ tick_nothing (after cyclic_later before flow.cyclic) (either_due high_due low_due) heard.0 heard.1
-    (both_nothing high_due low_due (none before earlier) (low before earlier))
+    let are : AreQuiet units flow = (quiet, none, low) in
+    ap tick_of (flow_within flow before (until flow units before earlier are)) ∙ ends_nothing flow units before earlier are

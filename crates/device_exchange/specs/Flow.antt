@@ -1,14 +1,16 @@
 -- What a relation exchanges with its partner.
-use Rattle.std.specs.Prelude.{List}
+use Rattle.std.specs.Prelude.{Bool, List}
 use Rattle.cyclic_exchange.specs.Cyclic.{Cyclic}
 use Rattle.pn_alarms.specs.Ends.{DeviceEnd}
 use Rattle.diagnosis_alarms.specs.Alarms.{Low}
 use Rattle.device_exchange.specs.declared.marks.Mark.{Mark}
 
 -- An exchange: the device's end of cyclic data, which sends inputs and accepts outputs, its end of the alarms of high
--- priority, and those of low priority, and why the IOPS of inputs are not good.
+-- priority, those of low priority, why the IOPS of inputs are not good, and whether the last frame of inputs said that a
+-- submodule of the relation has a diagnosis.
 pub record Flow : Type 0 where
   pub cyclic : Cyclic
   pub alarms : DeviceEnd
   pub low : Low
   pub marks : List Mark
+  pub problem_sent : Bool

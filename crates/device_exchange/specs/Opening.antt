@@ -1,5 +1,5 @@
 -- The exchange of a relation that is established now, with the answer to its Connect (IEC 61158-6-10, 5.2.4).
-use Rattle.std.specs.Prelude.{◌*◌, ℕ, List, None, map, if◌then◌else◌}
+use Rattle.std.specs.Prelude.{◌*◌, ℕ, List, None, false, map, if◌then◌else◌}
 use Rattle.block_fields.specs.modules.Lists.{Listed}
 use Rattle.module_blocks.specs.declared.module_diff.DiffModule.{DiffModule}
 use Rattle.module_blocks.specs.declared.module_diff.DiffSubmodule.{DiffSubmodule}
@@ -64,6 +64,7 @@ opened request rows starting = record {
   alarms = idle request.alarm.timeout_factor request.alarm.retries;
   low = low_opened (terms_of request) request.expected rows starting.diagnoses;
   marks = first_marks request rows starting;
+  problem_sent = false;
 }
 
 -- ApplicationReady was answered: data is exchanged, and the data hold time runs from now on.

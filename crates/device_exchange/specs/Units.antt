@@ -1,5 +1,5 @@
 -- What a unit of time, 31.25 microseconds, brings to an exchange.
-use Rattle.std.specs.Prelude.{Bool, Option}
+use Rattle.std.specs.Prelude.{Bool, Option, if◌then◌else◌}
 use Rattle.pn_alarms.specs.declared.abort.Abort.{Abort}
 use Rattle.pn_alarms.specs.declared.repeats.Due.{Due}
 use Rattle.pn_alarms.specs.Device.{end_later}
@@ -34,10 +34,16 @@ ending_of flow = cyclic_ending flow.cyclic (alarm_due flow)
 abbrev pub tick_of : Flow → Brought
 tick_of flow = cyclic_tick flow.cyclic (alarm_due flow)
 
+-- DataStatus of the last frame of inputs: a frame that is sent with this unit says whether a submodule of the relation has a
+-- diagnosis.
+abbrev pub problem_later : Flow → Bool
+problem_later flow = if (tick_of flow).is_cyclic then flow.low.has_problem else flow.problem_sent
+
 -- The state after a unit of time.
 abbrev pub flow_later : Flow → Flow
 flow_later flow = record flow {
   cyclic = cyclic_later flow.cyclic;
   alarms = end_later flow.alarms;
   low = low_later flow.low;
+  problem_sent = problem_later flow;
 }

@@ -39,11 +39,22 @@ impl DataExchange {
         ensures state { self.new ≡ flow_later self.old }
     {
         let (high, low) = (self.alarms.tick(), self.low.tick());
-        match high.or(low) {
+        let tick = match high.or(low) {
             // Usually no alarm is due: then the checks for alarms are skipped.
             Due::Nothing => self.cyclic.tick(Due::Nothing),
             due => self.cyclic.tick(due),
+        };
+        if tick.is_cyclic() {
+            self.problem_sent = self.low.has_problem();
         }
+        tick
+    }
+
+    /// Whether the last frame of inputs said that a submodule of the relation has a diagnosis.
+    pub fn problem_sent(&self) -> bool
+        ensures { result ≡ self.now.problem_sent }
+    {
+        self.problem_sent
     }
 
     /// Which alarms are sent again after the unit that passed last.

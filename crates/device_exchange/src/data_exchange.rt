@@ -23,6 +23,8 @@ pub struct DataExchange {
     pub(crate) low: DiagnosisAlarms,
     /// Why the IOPS of inputs are not good, for each place.
     pub(crate) marks: ArrayVec<Mark, 128>,
+    /// Whether the last frame of inputs said that a submodule of the relation has a diagnosis.
+    pub(crate) problem_sent: bool,
 }
 
 // Its model: one value for each place, and the states of the sender and of the receiver.
@@ -31,7 +33,7 @@ impl Model for DataExchange {
 
     ghost Value = { Flow };
 
-    ghost view = { λ exchange. record { cyclic = exchange.cyclic; alarms = exchange.alarms; low = exchange.low; marks = exchange.marks.items } };
+    ghost view = { λ exchange. record { cyclic = exchange.cyclic; alarms = exchange.alarms; low = exchange.low; marks = exchange.marks.items; problem_sent = exchange.problem_sent } };
 }
 
 impl DataExchange {
@@ -48,6 +50,7 @@ impl DataExchange {
             alarms: DeviceAlarms::new(1, 1),
             low: DiagnosisAlarms::new(),
             marks: ArrayVec::new(),
+            problem_sent: false,
         }
     }
 
@@ -79,6 +82,7 @@ impl DataExchange {
         };
         self.low
             .open(terms, request.expected(), rows, starting.diagnoses);
+        self.problem_sent = false;
     }
 
     /// Begins the exchange when ApplicationReady is answered: data is exchanged, and the data hold time runs from now

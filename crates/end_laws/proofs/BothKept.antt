@@ -59,7 +59,8 @@ module _ {T Q : Type 0} (rules : Rules T Q) where
 
   pub may_come : (ask : Ask) (positive : Bool) (link after : Option (RelationState T Q)) → Comes rules positive ask link after → MayCome ask link after
   may_come ask false link after comes = comes
-  may_come (Writes number) true link after comes =
+  may_come (Writes number) true link after (inr passes) = inl passes.same
+  may_come (Writes number) true link after (inl comes) =
       inr (record { link = comes.link; values = rules.group number; was = comes.was; part = part_all (rules.group number); becomes = comes.becomes })
   may_come Connects true link after comes = inr comes
   may_come Parameterized true link after comes = inr comes
@@ -181,11 +182,14 @@ module _ {T Q : Type 0} (rules : Rules T Q) where
 
   -- a positive response says what was accepted, unless records may be skipped
   reported_by : (sequence : ℕ) (ask : Ask) (kept : Option Kept) (link after : Option (RelationState T Q))
-      → IsCall rules sequence ask kept link → Comes rules true ask link after → sequence ≤ rules.count → rules.skips ≡ false → TookIn (size sequence) after
-  reported_by sequence Connects kept link after (inr asked) comes few strict =
+      → IsCall rules sequence ask kept link → Comes rules true ask link after → Unconfirmed link → sequence ≤ rules.count → rules.skips ≡ false → TookIn (size sequence) after
+  reported_by sequence Connects kept link after (inr asked) comes unconfirmed few strict =
       let none : size sequence ≤ 0 = subst (λ (n : ℕ). size n ≤ 0) (sym asked.0) (omega arith) in
       subst (λ (l : Option (RelationState T Q)). TookIn (size sequence) l) (sym comes) none
-  reported_by sequence (Writes number) kept link after (inr asked) comes few strict =
+  reported_by sequence (Writes number) kept link after (inr asked) (inr passes) unconfirmed few strict =
+      let none : Unconfirmed (Some passes.link) = subst (λ (l : Option (RelationState T Q)). Unconfirmed l) passes.was unconfirmed in
+      absurd (none passes.exchanges)
+  reported_by sequence (Writes number) kept link after (inr asked) (inl comes) unconfirmed few strict =
       let is : sequence ≡ suc number = omega (arith, asked.0.1) in
       let took = behind_suc sequence number kept link is asked.1 strict in
       let there : TookIn (size number) (Some comes.link) = subst (λ (l : Option (RelationState T Q)). TookIn (size number) l) comes.was took.taken in
@@ -193,10 +197,10 @@ module _ {T Q : Type 0} (rules : Rules T Q) where
       omega (arith, there, length-append comes.link.taken (rules.group number), length-append (records_before rules number) (rules.group number)) in
       subst (λ (l : Option (RelationState T Q)). TookIn (size sequence) l) (sym comes.becomes)
       (subst (λ (n : ℕ). size n ≤ length (comes.link.taken ++ rules.group number)) (sym is) enough)
-  reported_by sequence Parameterized kept link after (inr asked) comes few strict = absurd (omega (arith, asked.0, few))
-  reported_by sequence Releases kept link after call comes few strict = subst (λ (l : Option (RelationState T Q)). TookIn (size sequence) l) (sym comes) tt
-  reported_by sequence Accesses kept link after (inr asked) comes few strict = absurd asked.0
-  reported_by sequence other kept link after (inl releases) comes few strict = absurd cc
+  reported_by sequence Parameterized kept link after (inr asked) comes unconfirmed few strict = absurd (omega (arith, asked.0, few))
+  reported_by sequence Releases kept link after call comes unconfirmed few strict = subst (λ (l : Option (RelationState T Q)). TookIn (size sequence) l) (sym comes) tt
+  reported_by sequence Accesses kept link after (inr asked) comes unconfirmed few strict = absurd asked.0
+  reported_by sequence other kept link after (inl releases) comes unconfirmed few strict = absurd cc
 
   -- while ApplicationReady waits for its response, all records were accepted, unless records may be skipped
   past_ready : (sequence : ℕ) (link : RelationState T Q) → link.phase ≡ Awaiting → IsPast rules sequence link → rules.skips ≡ false → link.taken ≡ records_of rules
@@ -277,10 +281,11 @@ module _ {T Q : Type 0} (rules : Rules T Q) where
         subst (λ (l : Option (RelationState T Q)). Unconfirmed l) (sym takes.becomes) (subst (λ (l : Option (RelationState T Q)). Unconfirmed l) takes.was unconfirmed)
 
     answer_tells : (sequence : ℕ) (ask : Ask) (positive : Bool) (kept : Option Kept) (link : Option (RelationState T Q)) (answer : Kept) (after : Option (RelationState T Q)) (frame : List ℕ)
-        → IsCall rules sequence ask kept link → Comes rules positive ask link after
+        → IsCall rules sequence ask kept link → Comes rules positive ask link after → Unconfirmed link
         → TellsController rules GoodNow (Some answer) after frame (Answers sequence positive)
-    answer_tells sequence ask true kept link answer after frame call comes = λ few strict. record { called = tt; taken = reported_by sequence ask kept link after call comes few strict }
-    answer_tells sequence ask false kept link answer after frame call comes = tt
+    answer_tells sequence ask true kept link answer after frame call comes unconfirmed =
+        λ few strict. record { called = tt; taken = reported_by sequence ask kept link after call comes unconfirmed few strict }
+    answer_tells sequence ask false kept link answer after frame call comes unconfirmed = tt
 
     module _ (before after : Device T Q) (frames : List (List ℕ)) (held : HoldsAt rules before.kept before.link)
         (kept : KeepsFine rules Good before.kept before.link before.kept) (unconfirmed : Unconfirmed before.link) where
@@ -292,7 +297,7 @@ module _ {T Q : Type 0} (rules : Rules T Q) where
           let may = may_come ask answered.positive before.link after.link does in
           let fine : IsFine rules GoodNow (Some answer) after.link answered.frame =
           fine_at_most rules GoodNow (Some answer) after.link answered.frame (Answers sequence answered.positive) answered.to_device answered.to_controller
-          (answer_tells sequence ask answered.positive before.kept before.link answer after.link answered.frame call does) in
+          (answer_tells sequence ask answered.positive before.kept before.link answer after.link answered.frame call does unconfirmed) in
           let behind : AreGood after (answered.frame ∷ answered.others) = subst (λ (fs : List (List ℕ)). AreGood after fs) answered.sent good in
           record {
             grows = λ count took. record {

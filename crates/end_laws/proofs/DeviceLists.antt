@@ -1,6 +1,6 @@
 -- The several records of one Write of a start-up: those that the relation accepts are some of them, in order, and all if
 -- the response says so.
-use Rattle.std.proofs.Common.{◌≡◌, inl, ◌+◌, ℕ, Bool, true, false, cond, List, [], ◌∷◌, ◌++◌, Option, Some, None, Result, Ok, Err, refl, sym, ap, subst, ◌∙◌, append_assoc}
+use Rattle.std.proofs.Common.{◌≡◌, ◌⊎◌, inl, inr, ◌+◌, ℕ, Bool, true, false, cond, List, [], ◌∷◌, ◌++◌, Option, Some, None, Result, Ok, Err, refl, sym, ap, subst, ◌∙◌, append_assoc}
 use Rattle.std.proofs.lemmas.Bool.{false≢true}
 use Rattle.std.proofs.lemmas.List.{append-nil}
 use Rattle.wire.specs.Checks.{or_fault}
@@ -29,8 +29,9 @@ use Rattle.records.specs.writes.Entry.{Entry}
 use Rattle.records.specs.writes.Handled.{handled_request}
 use Rattle.records.specs.writes.Several.{is_several, list_behind}
 use Rattle.records.specs.writes.Taken.{keep_of}
-use Rattle.relations.specs.RelationState.{RelationState}
-use Rattle.relations.specs.Phases.{keeping, taking, updated, with_taken}
+use Rattle.relations.specs.Passed.{PassedOn}
+use Rattle.relations.specs.RelationState.{RelationState, passes_on}
+use Rattle.relations.specs.Phases.{Records, keeping, taking, updated, with_records}
 use Rattle.device_core.specs.Handled.{kept_answer, outcome_of}
 use Rattle.device_core.specs.Several.{Judged, judged_each}
 use Rattle.device_core.specs.Machine.{first_answer, link_behind, one_answers, one_link, one_outcome, statuses_of}
@@ -38,7 +39,7 @@ use Rattle.end_laws.specs.both.Steps.{IsPart}
 use Rattle.end_laws.specs.device.Small.{AreDone, AreKeeping, AreOutcomesOf}
 use Rattle.end_laws.proofs.BothEach.{part_more}
 use Rattle.end_laws.proofs.DeviceOwing.{IsPlainIn, bind_ok, keeping_plain, kept_plain, outcome_sized, request_plain, stored_plain}
-use Rattle.end_laws.proofs.DeviceWalk.{kept_is}
+use Rattle.end_laws.proofs.DeviceWalk.{holding, keeping_is}
 
 -- ---- without a relation no list is accepted
 
@@ -95,12 +96,18 @@ outcomes_are standing real (entry ∷ entries) answers link =
 
 -- ---- what the relation accepts
 
--- some of these records, in order; and all, if each outcome is positive
+-- some of these records, in order; all, if each outcome is positive and they are kept; and none, if they are passed on
 pub record TakesOf (judged : List Judged) (group : List TakenRecord) (answers : List BlockError) (link : RelationState) : Type 0 where
   pub values : List TakenRecord
-  pub becomes : link_behind judged (Some link) ≡ Some (with_taken (link.taken ++ values) link)
+  pub passed : PassedOn
+  pub becomes : link_behind judged (Some link) ≡ Some (holding (link.taken ++ values) passed link)
   pub part : IsPart values group
-  pub whole : AreDone (statuses_of judged answers (Some link)) → values ≡ group
+  pub whole : passes_on link ≡ false → AreDone (statuses_of judged answers (Some link)) → values ≡ group
+  pub none : passes_on link ≡ true → values ≡ []
+
+not_both : (b : Bool) → b ≡ false → b ≡ true → ⊥
+not_both true is other = cc is
+not_both false is other = cc other
 
 module _ (refusals_are_not_done : (operation_is : Operation) (why : CallFault) → is_done (status_of operation_is why) ≡ false) where
   module _ (header : IodWriteReq) (others : List Judged) (value : TakenRecord) (values : List TakenRecord)
@@ -110,39 +117,59 @@ module _ (refusals_are_not_done : (operation_is : Operation) (why : CallFault) �
         let there = later answers link in
         record {
           values = there.values;
+          passed = there.passed;
           becomes = there.becomes;
           part = part_more there.values value values there.part;
-          whole = λ done. absurd (false≢true (sym (refusals_are_not_done operation.Write why) ∙ done.0));
+          whole = λ keeps done. absurd (false≢true (sym (refusals_are_not_done operation.Write why) ∙ done.0));
+          none = there.none;
         }
 
     keeps_one : (write : Write) (answers : List BlockError) (link : RelationState) → TakesOf ((header, Ok (record write { effect = Keeps value })) ∷ others) (value ∷ values) answers link
-    keeps_one write answers link = by_keeping (keep_of value link.taken) refl
+    keeps_one write answers link = by_keeping (keeping value (Some link)) refl
       where
-        by_keeping : (kept : Result (List TakenRecord) CallFault) → keep_of value link.taken ≡ kept
+        by_kind : (more : Records) → keeping value (Some link) ≡ Ok more
+            → ((passes_on link ≡ false) × (more.taken ≡ link.taken ++ value ∷ [])) ⊎ ((passes_on link ≡ true) × (more.taken ≡ link.taken))
+            → TakesOf ((header, Ok (record write { effect = Keeps value })) ∷ others) (value ∷ values) answers link
+        by_kind more is (inl kept) =
+            let there = later answers (with_records more link) in
+            let all : more.taken ++ there.values ≡ link.taken ++ (value ∷ there.values) =
+            ap (λ (records : List TakenRecord). records ++ there.values) kept.1 ∙ append_assoc link.taken (value ∷ []) there.values in
+            record {
+              values = value ∷ there.values;
+              passed = there.passed;
+              becomes = ap (λ (k : Result Records CallFault). link_behind others (updated (taking k) (Some link))) is ∙ (there.becomes ∙ ap (λ (records : List TakenRecord). Some (holding records there.passed link)) all);
+              part = inl (refl, there.part);
+              whole = λ keeps done.
+                  let rest = subst (λ (k : Result Records CallFault). AreDone (statuses_of others answers (updated (taking k) (Some link)))) is done.1 in
+                  ap (λ (more : List TakenRecord). value ∷ more) (there.whole keeps rest);
+              none = λ passes. absurd (not_both (passes_on link) kept.0 passes);
+            }
+        by_kind more is (inr passed) =
+            let there = later answers (with_records more link) in
+            record {
+              values = there.values;
+              passed = there.passed;
+              becomes = ap (λ (k : Result Records CallFault). link_behind others (updated (taking k) (Some link))) is ∙ (there.becomes ∙ ap (λ (records : List TakenRecord). Some (holding (records ++ there.values) there.passed link)) passed.1);
+              part = part_more there.values value values there.part;
+              whole = λ keeps done. absurd (not_both (passes_on link) keeps passed.0);
+              none = there.none;
+            }
+
+        by_keeping : (kept : Result Records CallFault) → keeping value (Some link) ≡ kept
             → TakesOf ((header, Ok (record write { effect = Keeps value })) ∷ others) (value ∷ values) answers link
         by_keeping (Err why) is =
             let there = later answers link in
             record {
               values = there.values;
-              becomes = ap (λ (k : Result (List TakenRecord) CallFault). link_behind others (updated (taking k) (Some link))) is ∙ there.becomes;
+              passed = there.passed;
+              becomes = ap (λ (k : Result Records CallFault). link_behind others (updated (taking k) (Some link))) is ∙ there.becomes;
               part = part_more there.values value values there.part;
-              whole = λ done.
-                  let no = ap (λ (k : Result (List TakenRecord) CallFault). is_done (outcome_of operation.Write (kept_answer header k)).0) is in
+              whole = λ keeps done.
+                  let no = ap (λ (k : Result Records CallFault). is_done (outcome_of operation.Write (kept_answer header k)).0) is in
                   absurd (false≢true (sym (refusals_are_not_done operation.Write why) ∙ (sym no ∙ done.0)));
+              none = there.none;
             }
-        by_keeping (Ok taken) is =
-            let there = later answers (with_taken taken link) in
-            let all : taken ++ there.values ≡ link.taken ++ (value ∷ there.values) =
-            ap (λ (records : List TakenRecord). records ++ there.values) (kept_is value link.taken taken is) ∙ append_assoc link.taken (value ∷ []) there.values in
-            record {
-              values = value ∷ there.values;
-              becomes = ap (λ (k : Result (List TakenRecord) CallFault). link_behind others (updated (taking k) (Some link))) is
-                  ∙ (there.becomes ∙ ap (λ (records : List TakenRecord). Some (with_taken records link)) all);
-              part = inl (refl, there.part);
-              whole = λ done.
-                  let rest = subst (λ (k : Result (List TakenRecord) CallFault). AreDone (statuses_of others answers (updated (taking k) (Some link)))) is done.1 in
-                  ap (λ (more : List TakenRecord). value ∷ more) (there.whole rest);
-            }
+        by_keeping (Ok more) is = by_kind more is (keeping_is value link more is)
 
     one_take : (one : Result Write CallFault) → ((write : Write) → one ≡ Ok write → write.effect ≡ Keeps value) → (answers : List BlockError) (link : RelationState)
         → TakesOf ((header, one) ∷ others) (value ∷ values) answers link
@@ -151,8 +178,14 @@ module _ (refusals_are_not_done : (operation_is : Operation) (why : CallFault) �
         subst (λ (effect : Effect). TakesOf ((header, Ok (record write { effect = effect })) ∷ others) (value ∷ values) answers link) (sym (keeps write refl)) (keeps_one write answers link)
 
   pub keeps_take : (judged : List Judged) (group : List TakenRecord) → AreKeeping judged group → (answers : List BlockError) (link : RelationState) → TakesOf judged group answers link
-  keeps_take [] [] keeps answers link =
-      record { values = []; becomes = ap (λ (taken : List TakenRecord). Some (with_taken taken link)) (sym (append-nil link.taken)); part = refl; whole = λ done. refl }
+  keeps_take [] [] keeps answers link = record {
+    values = [];
+    passed = link.passed;
+    becomes = ap (λ (taken : List TakenRecord). Some (holding taken link.passed link)) (sym (append-nil link.taken));
+    part = refl;
+    whole = λ keeps done. refl;
+    none = λ passes. refl;
+  }
   keeps_take [] (value ∷ values) keeps answers link = absurd keeps
   keeps_take (one ∷ others) [] keeps answers link = absurd keeps
   keeps_take (one ∷ others) (value ∷ values) keeps answers link = one_take one.0 others value values (keeps_take others values keeps.1) one.1 keeps.0 answers link

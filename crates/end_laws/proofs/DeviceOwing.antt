@@ -46,13 +46,16 @@ use Rattle.records.specs.writes.Asked.{handled_writing, several_of, writing_of}
 use Rattle.records.specs.writes.Handled.{effect_of, is_known, handled_request as write_handled, targeted, written}
 use Rattle.records.specs.writes.Several.{is_several, list_behind}
 use Rattle.records.specs.writes.Taken.{keep_of}
-use Rattle.relations.specs.RelationState.{RelationState, differing_in, is_named, is_session, is_started, phase_of, uuid_of}
-use Rattle.relations.specs.Phases.{keeping}
+use Rattle.relations.specs.RelationState.{RelationState, differing_in, is_named, is_session, is_started, passes_on, phase_of, uuid_of}
+use Rattle.relations.specs.Phases.{Records, keeping, kept_in}
+use Rattle.relations.specs.Passed.{passed_more}
+use Rattle.relations.specs.declared.options.DeviceOptions.{DeviceOptions}
 use Rattle.relations.specs.Calls.{control_block, in_control, in_started, named_of, prm_end_of, release_of}
-use Rattle.relations.specs.Connect.{connect_within}
+use Rattle.relations.specs.Connect.{connect_within, is_foreign}
 use Rattle.device_core.specs.Handled.{outcome_of, kept_answer}
 use Rattle.device_core.specs.Machine.{written_as}
 use Rattle.pn_values.specs.declared.identity.Identity.{Identity}
+use Rattle.pn_values.specs.declared.mac.Mac.{Mac}
 use Rattle.pn_values.specs.declared.settings.Settings.{Settings}
 use Rattle.pn_values.specs.declared.set_item.BlockError.{BlockError}
 use Rattle.pn_values.specs.declared.set_item.BlockError.TheVariants as error
@@ -219,10 +222,18 @@ keep_plain value records = by_room (nat_lt (length records) 64)
 
 pub keeping_plain : (value : TakenRecord) (link : Option RelationState) → IsPlainIn (keeping value link)
 keeping_plain value None = tt
-keeping_plain value (Some link) = keep_plain value link.taken
+keeping_plain value (Some link) = by_option (passes_on link)
+  where
+    by_room : (kept : Result (List TakenRecord) CallFault) → IsPlainIn kept → IsPlainIn (kept_in link.passed kept)
+    by_room (Ok taken) plain = tt
+    by_room (Err why) plain = plain
 
-pub kept_plain : (header : IodWriteReq) (kept : Result (List TakenRecord) CallFault) → IsPlainIn kept → IsPlainIn (kept_answer header kept)
-kept_plain header (Ok taken) plain = tt
+    by_option : (b : Bool) → IsPlainIn (cond b (Ok (record { taken = link.taken; passed = passed_more value link.passed })) (kept_in link.passed (keep_of value link.taken)))
+    by_option true = tt
+    by_option false = by_room (keep_of value link.taken) (keep_plain value link.taken)
+
+pub kept_plain : (header : IodWriteReq) (kept : Result Records CallFault) → IsPlainIn kept → IsPlainIn (kept_answer header kept)
+kept_plain header (Ok records) plain = tt
 kept_plain header (Err why) plain = plain
 
 -- ---- a Read
@@ -333,8 +344,14 @@ within_plain : (short : Bool) (read : Result Request CallFault) → IsPlainIn re
 within_plain true read plain = omega arith
 within_plain false read plain = plain
 
-pub connect_plain : (smallest : ℕ) (link : Option RelationState) (blocks : List ℕ) (request : Request) → request_of None blocks ≡ Ok request
-    → IsPlainIn (connect_within smallest link blocks)
+foreign_plain : (foreign : Bool) (read : Result Request CallFault) → IsPlainIn read → IsPlainIn (cond foreign (Err (fault.ArField 7)) read)
+foreign_plain true read plain = omega arith
+foreign_plain false read plain = plain
+
+pub connect_plain : (options : DeviceOptions) (source : Mac) (link : Option RelationState) (blocks : List ℕ) (request : Request) → request_of None blocks ≡ Ok request
+    → IsPlainIn (connect_within options source link blocks)
 unfolding request_of request_within
-connect_plain smallest link blocks request reads =
-    within_plain (any_short smallest (uuid_of link) (pieces_of blocks)) (request_in (uuid_of link) (pieces_of blocks)) (pieces_plain (uuid_of link) (pieces_of blocks) request reads)
+connect_plain options source link blocks request reads =
+    let smallest = options.smallest_interval in
+    foreign_plain (is_foreign options source link blocks) (request_within smallest (uuid_of link) blocks)
+    (within_plain (any_short smallest (uuid_of link) (pieces_of blocks)) (request_in (uuid_of link) (pieces_of blocks)) (pieces_plain (uuid_of link) (pieces_of blocks) request reads))

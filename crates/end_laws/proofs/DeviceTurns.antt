@@ -1,5 +1,5 @@
 -- Each turn of a device, as far as a start-up is concerned: drawn from what the turn does.
-use Rattle.std.proofs.Common.{◌≡◌, ◌⊎◌, inl, inr, ◌-◌, ◌<◌, ◌==◌, ℕ, Bool, true, false, cond, List, [], ◌∷◌, ◌++◌, map, take, Option, Some, None, option_map, Result, Ok, Err, refl, sym, ap, subst, ◌∙◌, arith}
+use Rattle.std.proofs.Common.{◌≡◌, ◌⊎◌, inl, inr, ◌-◌, ◌<◌, ◌==◌, ℕ, Bool, true, false, cond, List, [], ◌∷◌, ◌++◌, map, take, Option, Some, None, option_map, Result, Ok, Err, refl, sym, ap, subst, ◌∙◌, append-nil, arith}
 use Rattle.std.specs.Prelude.{◌&&◌, nat_lt, nat_eq, unwrap_or}
 use Rattle.std.specs.List.{AllByRecursion}
 use Rattle.std.specs.Cmp.Lexicographic.{pointwise, other_text}
@@ -19,7 +19,11 @@ use Rattle.records.specs.declared.writes.write.Effect.TheVariants.{Stores, Keeps
 use Rattle.records.specs.declared.writes.write.Write.{Write}
 use Rattle.records.specs.declared.writes.writing.Writing.TheVariants.{One, Each}
 use Rattle.relations.specs.declared.ready.Ready.{Ready}
-use Rattle.relations.specs.RelationState.{RelationState, uuid_of}
+use Rattle.relations.specs.declared.phase.Partner.{Partner}
+use Rattle.relations.specs.declared.phase.Phase.{Phase}
+use Rattle.relations.specs.declared.phase.Phase.TheVariants.{Started, Preparing, Awaiting, Exchanging}
+use Rattle.relations.specs.Passed.{PassedOn}
+use Rattle.relations.specs.RelationState.{RelationState, is_exchanging, passes_on, uuid_of}
 use Rattle.pn_values.specs.declared.im_value.ImValue.{ImValue}
 use Rattle.device_frames.specs.Heard.{Heard, Reported, Calls}
 use Rattle.device_frames.specs.Sent.{Sent, CallAnswer, Again, Exchanges, ReadyCall, bytes_of}
@@ -30,13 +34,14 @@ use Rattle.device_core.specs.Several.{judged_each}
 use Rattle.device_core.specs.Handled.{outcome_of, answer_from, kept_for}
 use Rattle.end_laws.specs.both.Small as small
 use Rattle.end_laws.specs.both.Small.{Rules, ToDevice}
-use Rattle.end_laws.specs.both.Steps.{IsNew, Carries, Comes, SaysAtMost, IsReady, IsDull, DeviceSteps}
+use Rattle.end_laws.specs.both.Steps.{IsNew, Carries, Comes, PassesOn, TakesAny, TakesRecords, SaysAtMost, IsReady, IsDull, DeviceSteps}
 use Rattle.relations.specs.Phases.{Named, parameterized_from, restarted, updated}
 use Rattle.end_laws.specs.device.Small.{Planned, phase_in, link_of, kept_in, small_of, written_by, asked_by, heard_as, IsPlannedAs, IsPlannedCall, IsPlanned, IsHeardAs, IsWritingOf}
 use Rattle.end_laws.specs.device.Does.{AreReadied, Confirms, Does, GoesBy, IsEffect, IsExchange, IsOther, IsReadied, Repeats, Rests, Serves, Stored, Written, WrittenEach, readied_from, with_more}
 use Rattle.end_laws.proofs.BothKept.{may_come}
 use Rattle.end_laws.proofs.DeviceLists.{TakesOf, keeps_take, none_listed, outcomes_are}
 use Rattle.end_laws.proofs.DeviceOwing.{same_request}
+use Rattle.end_laws.proofs.DeviceWalk.{keeping_is}
 
 some_is : {A : Type 0} (x y : A) → Some x ≡ Some y → x ≡ y
 some_is x y e = cc
@@ -197,20 +202,32 @@ module _ (refusals_are_not_done : RefusalsAreNotDone) (rules : Rules TakenRecord
     same_kept x y e = cc
 
     -- after PrmEnd, a start-up awaits the response to ApplicationReady
-    parameterized_small : (link : RelationState) (by_application : Bool)
-        → option_map link_of (Some (parameterized_from by_application link)) ≡ Some (record (link_of link) { phase = small.Awaiting })
-    parameterized_small link true = refl
-    parameterized_small link false = refl
+    parameterized_small : (source : Partner) (link : RelationState) (by_application : Bool)
+        → option_map link_of (Some (restarted source (parameterized_from by_application link))) ≡ Some (record (link_of link) { phase = small.Awaiting })
+    parameterized_small source link true = refl
+    parameterized_small source link false = refl
 
     -- a call that names the relation changes nothing of a start-up
-    restarted_small : (link : Option RelationState) → option_map link_of (option_map restarted link) ≡ option_map link_of link
-    restarted_small None = refl
-    restarted_small (Some link) = refl
+    restarted_small : (source : Partner) (link : Option RelationState) → option_map link_of (option_map (restarted source) link) ≡ option_map link_of link
+    restarted_small source None = refl
+    restarted_small source (Some link) = refl
+
+    -- records are passed on only while data is exchanged
+    exchanging_small : (only : Bool) (phase : Phase) → (only && is_exchanging phase) ≡ true → phase_in phase ≡ small.Exchanging
+    exchanging_small true Exchanging passes = refl
+    exchanging_small true Started passes = cc passes
+    exchanging_small true Preparing passes = cc passes
+    exchanging_small true Awaiting passes = cc passes
+    exchanging_small false phase passes = cc passes
+
+    passes_small : (link : RelationState) → passes_on link ≡ true → (link_of link).phase ≡ small.Exchanging
+    passes_small link passes = exchanging_small link.options.records_passed_on link.phase passes
 
     -- the records of several that a relation accepts
-    takes_more : (values : List TakenRecord) (link : Option RelationState) → Comes rules true small.Accesses (option_map link_of link) (option_map link_of (option_map (with_more values) link))
-    takes_more values None = inl refl
-    takes_more values (Some link) = inr (record { link = link_of link; values = values; was = refl; becomes = refl })
+    takes_more : (source : Partner) (passed : PassedOn) (values : List TakenRecord) (link : Option RelationState)
+        → Comes rules true small.Accesses (option_map link_of link) (option_map link_of (option_map (with_more source passed values) link))
+    takes_more source passed values None = inl refl
+    takes_more source passed values (Some link) = inr (record { link = link_of link; values = values; was = refl; becomes = refl })
 
     stores_none : (value : ImValue) (planned : TakenRecord) → Stores value ≡ Keeps planned → ⊥
     stores_none value planned e = absurd cc
@@ -219,6 +236,10 @@ module _ (refusals_are_not_done : RefusalsAreNotDone) (rules : Rules TakenRecord
     comes_so : (granted : Bool) (ask : small.Ask) (before now : Option (small.RelationState TakenRecord Request)) → Carries rules ask before now → Comes rules granted ask before now
     comes_so true ask before now carries = carries
     comes_so false ask before now carries = may_come rules ask true before now carries
+
+    -- a relation that has accepted these records, as a start-up sees it
+    abbrev taking_now : RelationState → List TakenRecord → Option (small.RelationState TakenRecord Request)
+    taking_now link taken = Some (record (link_of link) { taken = taken })
 
     -- the records of a Write of the start-up
     each_comes : (before now : Option RelationState) (sequence number : ℕ) (blocks octets : List ℕ) (it : WrittenEach station blocks octets before now)
@@ -230,20 +251,72 @@ module _ (refusals_are_not_done : RefusalsAreNotDone) (rules : Rules TakenRecord
         takes : TakesOf (judged_each (uuid_of (Some link)) station.real it.entries) (rules.group number) it.answers link
         takes = keeps_take refusals_are_not_done (judged_each (uuid_of (Some link)) station.real it.entries) (rules.group number) keeps.0 it.answers link
 
-        behind : option_map link_of now ≡ Some (record (link_of link) { taken = link.taken ++ takes.values })
-        behind = ap (λ (l : Option RelationState). option_map link_of l) (it.carried ∙ ap (updated Named) takes.becomes)
+        behind : option_map link_of now ≡ taking_now link (link.taken ++ takes.values)
+        behind = ap (λ (l : Option RelationState). option_map link_of l) (it.carried ∙ ap (updated (Named it.source)) takes.becomes)
+
+        -- they are kept, or passed on
+        by_option : (b : Bool) → passes_on link ≡ b → AreDone (statuses_of (judged_each (uuid_of (Some link)) station.real it.entries) it.answers (Some link))
+            → TakesRecords rules number (Some (link_of link)) (option_map link_of now) ⊎ PassesOn (Some (link_of link)) (option_map link_of now)
+        by_option false keeps done =
+            let all = takes.whole keeps done in
+            inl (record { link = link_of link; was = refl; becomes = behind ∙ ap (λ (values : List TakenRecord). taking_now link (link.taken ++ values)) all })
+        by_option true passes done =
+            let none = takes.none passes in
+            inr (record {
+              link = link_of link;
+              was = refl;
+              exchanges = passes_small link passes;
+              same = behind ∙ (ap (λ (values : List TakenRecord). taking_now link (link.taken ++ values)) none ∙ ap (taking_now link) (append-nil link.taken));
+            })
 
         by_granted : (b : Bool) → rules.grants sequence octets ≡ b → Comes rules b (small.Writes number) (Some (link_of link)) (option_map link_of now)
         by_granted true f =
             let judged = judged_each (uuid_of (Some link)) station.real it.entries in
             let says = sym (ap (λ (o : List ℕ). rules.grants sequence o) it.tells) ∙ f in
-            let all = takes.whole (keeps.1 (statuses_of judged it.answers (Some link)) (outcomes_are (uuid_of (Some link)) station.real it.entries it.answers (Some link)) says) in
-            record {
-              link = link_of link;
-              was = refl;
-              becomes = behind ∙ ap (λ (values : List TakenRecord). let o : Option (small.RelationState TakenRecord Request) = Some (record (link_of link) { taken = link.taken ++ values }) in o) all;
-            }
+            let done = keeps.1 (statuses_of judged it.answers (Some link)) (outcomes_are (uuid_of (Some link)) station.real it.entries it.answers (Some link)) says in
+            by_option (passes_on link) refl done
         by_granted false f = inr (record { link = link_of link; values = takes.values; was = refl; part = takes.part; becomes = behind })
+
+    -- a record of the start-up is kept, or passed on while data is exchanged
+    written_carries : (before now : Option RelationState) (number : ℕ) (blocks : List ℕ) (it : Written station blocks before now) → it.value ∷ [] ≡ rules.group number
+        → Carries rules (small.Writes number) (option_map link_of before) (option_map link_of now)
+    written_carries before now number blocks it values = by_kind (keeping_is it.value it.link it.more it.kept)
+      where
+        was : option_map link_of before ≡ Some (link_of it.link)
+        was = ap (λ (l : Option RelationState). option_map link_of l) it.was
+
+        behind : option_map link_of now ≡ taking_now it.link it.more.taken
+        behind = ap (λ (l : Option RelationState). option_map link_of l) it.becomes
+
+        by_kind : ((passes_on it.link ≡ false) × (it.more.taken ≡ it.link.taken ++ it.value ∷ [])) ⊎ ((passes_on it.link ≡ true) × (it.more.taken ≡ it.link.taken))
+            → TakesRecords rules number (option_map link_of before) (option_map link_of now) ⊎ PassesOn (option_map link_of before) (option_map link_of now)
+        by_kind (inl kept) = inl (record {
+          link = link_of it.link;
+          was = was;
+          becomes = behind ∙ (ap (taking_now it.link) kept.1 ∙ ap (λ (more : List TakenRecord). taking_now it.link (it.link.taken ++ more)) values);
+        })
+        by_kind (inr passed) = inr (record {
+          link = link_of it.link;
+          was = was;
+          exchanges = passes_small it.link passed.0;
+          same = behind ∙ (ap (taking_now it.link) passed.1 ∙ sym was);
+        })
+
+    -- any other record is kept or passed on too
+    written_accesses : (before now : Option RelationState) (blocks : List ℕ) (it : Written station blocks before now)
+        → Carries rules small.Accesses (option_map link_of before) (option_map link_of now)
+    written_accesses before now blocks it = by_kind (keeping_is it.value it.link it.more it.kept)
+      where
+        was : option_map link_of before ≡ Some (link_of it.link)
+        was = ap (λ (l : Option RelationState). option_map link_of l) it.was
+
+        behind : option_map link_of now ≡ taking_now it.link it.more.taken
+        behind = ap (λ (l : Option RelationState). option_map link_of l) it.becomes
+
+        by_kind : ((passes_on it.link ≡ false) × (it.more.taken ≡ it.link.taken ++ it.value ∷ [])) ⊎ ((passes_on it.link ≡ true) × (it.more.taken ≡ it.link.taken))
+            → (option_map link_of now ≡ option_map link_of before) ⊎ TakesAny (option_map link_of before) (option_map link_of now)
+        by_kind (inl kept) = inr (record { link = link_of it.link; values = it.value ∷ []; was = was; becomes = behind ∙ ap (taking_now it.link) kept.1 })
+        by_kind (inr passed) = inl (behind ∙ (ap (taking_now it.link) passed.1 ∙ sym was))
 
     -- what a Write does, which is one of the start-up or not
     writes : (sequence : ℕ) (blocks octets : List ℕ) (b : Bool) → rules.is_planned sequence blocks ≡ b → IsPlannedAs rules station.real sequence blocks (Some operation.Write)
@@ -255,12 +328,8 @@ module _ (refusals_are_not_done : RefusalsAreNotDone) (rules : Rules TakenRecord
         let number : sequence - 1 ≡ plan.number = omega (arith, plan.is) in
         let values : it.value ∷ [] ≡ rules.group (sequence - 1) =
         ap (λ (v : TakenRecord). v ∷ []) (same_kept it.value keeps.0 (sym it.keeps ∙ keeps.2)) ∙ (sym keeps.1 ∙ ap rules.group (sym number)) in
-        comes_so granted (small.Writes (sequence - 1)) (option_map link_of live.rest.link) (option_map link_of after.link) (record {
-          link = link_of it.link;
-          was = ap (λ (l : Option RelationState). option_map link_of l) it.was;
-          becomes = ap (λ (l : Option RelationState). option_map link_of l) it.becomes
-              ∙ ap (λ (more : List TakenRecord). let o : Option (small.RelationState TakenRecord Request) = Some (record (link_of it.link) { taken = it.link.taken ++ more }) in o) values;
-        })
+        comes_so granted (small.Writes (sequence - 1)) (option_map link_of live.rest.link) (option_map link_of after.link)
+        (written_carries live.rest.link after.link (sequence - 1) blocks it values)
     writes sequence blocks octets true e asks (inr (inl it)) granted g =
         let plan = asks e in
         let keeps = plan.keeps (uuid_of live.rest.link) (One it.write) it.judged in
@@ -271,17 +340,13 @@ module _ (refusals_are_not_done : RefusalsAreNotDone) (rules : Rules TakenRecord
         let number : plan.number ≡ sequence - 1 = omega (arith, plan.is) in
         subst (λ (n : ℕ). Comes rules granted (small.Writes n) (option_map link_of live.rest.link) (option_map link_of after.link)) number
         (each_comes live.rest.link after.link sequence plan.number blocks octets it keeps granted g)
-    writes sequence blocks octets false e asks (inl it) granted g = comes_so granted small.Accesses (option_map link_of live.rest.link) (option_map link_of after.link) (inr (record {
-      link = link_of it.link;
-      values = it.value ∷ [];
-      was = ap (λ (l : Option RelationState). option_map link_of l) it.was;
-      becomes = ap (λ (l : Option RelationState). option_map link_of l) it.becomes;
-    }))
+    writes sequence blocks octets false e asks (inl it) granted g =
+        comes_so granted small.Accesses (option_map link_of live.rest.link) (option_map link_of after.link) (written_accesses live.rest.link after.link blocks it)
     writes sequence blocks octets false e asks (inr (inl it)) granted g =
         comes_so granted small.Accesses (option_map link_of live.rest.link) (option_map link_of after.link)
-        (inl (ap (λ (l : Option RelationState). option_map link_of l) it.same ∙ restarted_small live.rest.link))
+        (inl (ap (λ (l : Option RelationState). option_map link_of l) it.same.1 ∙ restarted_small it.same.0 live.rest.link))
     writes sequence blocks octets false e asks (inr (inr it)) granted g =
-        let taken = takes_more it.values live.rest.link in
+        let taken = takes_more it.source it.passed it.values live.rest.link in
         comes_so granted small.Accesses (option_map link_of live.rest.link) (option_map link_of after.link)
         (subst (λ (l : Option RelationState). Comes rules true small.Accesses (option_map link_of live.rest.link) (option_map link_of l)) (sym it.becomes) taken)
 
@@ -302,14 +367,14 @@ module _ (refusals_are_not_done : RefusalsAreNotDone) (rules : Rules TakenRecord
           link = link_of it.link;
           was = ap (λ (l : Option RelationState). option_map link_of l) it.was;
           started = ap phase_in it.started;
-          becomes = ap (λ (l : Option RelationState). option_map link_of l) it.becomes ∙ parameterized_small it.link it.by_application;
+          becomes = ap (λ (l : Option RelationState). option_map link_of l) it.becomes ∙ parameterized_small it.source it.link it.by_application;
         })
     comes caller sequence blocks (Ok octets) operation.Release plan it =
         comes_so (rules.grants sequence octets) small.Releases (option_map link_of live.rest.link) (option_map link_of after.link)
         (ap (λ (l : Option RelationState). option_map link_of l) it.gone)
     comes caller sequence blocks (Ok octets) operation.Read plan it =
         comes_so (rules.grants sequence octets) small.Accesses (option_map link_of live.rest.link) (option_map link_of after.link)
-        (inl (ap (λ (l : Option RelationState). option_map link_of l) it ∙ restarted_small live.rest.link))
+        (inl (ap (λ (l : Option RelationState). option_map link_of l) it.1 ∙ restarted_small it.0 live.rest.link))
     comes caller sequence blocks (Ok octets) operation.ReadImplicit plan it = absurd plan
 
     module _ (it : Serves station live heard after sent) where

@@ -46,8 +46,10 @@ use Rattle.device_exchange.specs.Diagnosis.{begins_with_one, behind_low, diagnos
 use Rattle.device_exchange.specs.Frames.{Frame, alarm_frame, low_alarm_frame}
 use Rattle.relations.specs.declared.hearing.ReadyAnswer.{ReadyAnswer}
 use Rattle.relations.specs.declared.hearing.ReadyAnswer.TheVariants as to_ready
-use Rattle.relations.specs.RelationState.{RelationState, flow_of, is_alarm_of, uuid_of, is_started, is_awaiting, is_exchanging, is_preparing, phase_of}
-use Rattle.relations.specs.Phases.{Ended, Exchanged, Named, Parameterized, Prepared, answered, keeping, parameterized_from, updated, passing, passing_by, taking, Confirmed, exchanging_from, made_of, with_flow, restarted, with_taken}
+use Rattle.relations.specs.RelationState.{RelationState, flow_of, is_alarm_of, uuid_of, is_started, is_awaiting, is_exchanging, is_preparing, passes_on, phase_of}
+use Rattle.relations.specs.declared.phase.Partner.{Partner}
+use Rattle.relations.specs.Passed.{PassedOn, none_passed, passed_more}
+use Rattle.relations.specs.Phases.{Ended, Exchanged, Named, Parameterized, Prepared, Records, answered, keeping, kept_in, parameterized_from, updated, passing, passing_by, taking, Confirmed, exchanging_from, made_of, with_flow, restarted, with_records}
 use Rattle.relations.specs.Calls.{done_of, prm_end_of, release_of, control_block, in_started, named_of}
 use Rattle.relations.specs.Connect.{connect_blocks, connect_within, differing_of, making, rows_of}
 use Rattle.relations.specs.Diagnosed.{diagnose_one, diagnosing, has_sent_low, heard_low, hearing_low, is_full_in}
@@ -244,30 +246,60 @@ kept_is value records taken e = by_room (nat_lt (length records) 64) e
     by_room true f = sym (same_ok (records ++ value ∷ []) taken f)
     by_room false f = absurd cc
 
+-- a record of a relation is one more, or data is exchanged and it is passed on
+pub keeping_is : (value : TakenRecord) (link : RelationState) (more : Records) → keeping value (Some link) ≡ Ok more
+    → ((passes_on link ≡ false) × (more.taken ≡ link.taken ++ value ∷ [])) ⊎ ((passes_on link ≡ true) × (more.taken ≡ link.taken))
+keeping_is value link more e = by_option (passes_on link) refl e
+  where
+    by_room : (kept : Result (List TakenRecord) CallFault) → keep_of value link.taken ≡ kept → kept_in link.passed kept ≡ Ok more → more.taken ≡ link.taken ++ value ∷ []
+    by_room (Ok taken) is f =
+        let same = same_ok (record { taken = taken; passed = link.passed }) more f in
+        ap (λ (r : Records). r.taken) (sym same) ∙ kept_is value link.taken taken is
+    by_room (Err why) is f = absurd cc
+
+    by_option : (b : Bool) → passes_on link ≡ b
+        → cond b (Ok (record { taken = link.taken; passed = passed_more value link.passed })) (kept_in link.passed (keep_of value link.taken)) ≡ Ok more
+        → ((passes_on link ≡ false) × (more.taken ≡ link.taken ++ value ∷ [])) ⊎ ((passes_on link ≡ true) × (more.taken ≡ link.taken))
+    by_option true is f = inr (is, ap (λ (r : Records). r.taken) (sym (same_ok (record { taken = link.taken; passed = passed_more value link.passed }) more f)))
+    by_option false is f = inl (is, by_room (keep_of value link.taken) refl f)
+
 -- ---- several records of one Write
+
+-- the relation with these records after its others, and with these passed on
+abbrev pub holding : List TakenRecord → PassedOn → RelationState → RelationState
+holding taken passed link = with_records (record { taken = taken; passed = passed }) link
 
 -- the relation has these records after its others
 abbrev Takes : List Judged → Option RelationState → RelationState → Type 0
-Takes judged after link = (values : List TakenRecord) × (link_behind judged after ≡ Some (with_taken (link.taken ++ values) link))
+Takes judged after link = (values : List TakenRecord) × (passed : PassedOn) × (link_behind judged after ≡ Some (holding (link.taken ++ values) passed link))
 
 -- the records that were accepted after one, or after none
 one_takes : (others : List Judged) (link : RelationState) → ((next : RelationState) → Takes others (Some next) next) → (one : Result Write CallFault) → Takes others (one_link one (Some link)) link
 one_takes others link later (Err why) = later link
 one_takes others link later (Ok write) = by_effect write.effect
   where
-    by_keeping : (value : TakenRecord) (kept : Result (List TakenRecord) CallFault) → keep_of value link.taken ≡ kept → Takes others (updated (taking kept) (Some link)) link
+    by_kind : (value : TakenRecord) (more : Records)
+        → ((passes_on link ≡ false) × (more.taken ≡ link.taken ++ value ∷ [])) ⊎ ((passes_on link ≡ true) × (more.taken ≡ link.taken))
+        → Takes others (Some (with_records more link)) link
+    by_kind value more (inl kept) =
+        let there = later (with_records more link) in
+        let all : more.taken ++ there.0 ≡ link.taken ++ (value ∷ there.0) =
+        ap (λ (records : List TakenRecord). records ++ there.0) kept.1 ∙ append_assoc link.taken (value ∷ []) there.0 in
+        (value ∷ there.0, there.1, there.2 ∙ ap (λ (records : List TakenRecord). Some (holding records there.1 link)) all)
+    by_kind value more (inr passed) =
+        let there = later (with_records more link) in
+        (there.0, there.1, there.2 ∙ ap (λ (records : List TakenRecord). Some (holding (records ++ there.0) there.1 link)) passed.1)
+
+    by_keeping : (value : TakenRecord) (kept : Result Records CallFault) → keeping value (Some link) ≡ kept → Takes others (updated (taking kept) (Some link)) link
     by_keeping value (Err why) is = later link
-    by_keeping value (Ok taken) is =
-        let there = later (with_taken taken link) in
-        let all : taken ++ there.0 ≡ link.taken ++ (value ∷ there.0) = ap (λ (records : List TakenRecord). records ++ there.0) (kept_is value link.taken taken is) ∙ append_assoc link.taken (value ∷ []) there.0 in
-        (value ∷ there.0, there.1 ∙ ap (λ (records : List TakenRecord). Some (with_taken records link)) all)
+    by_keeping value (Ok more) is = by_kind value more (keeping_is value link more is)
 
     by_effect : (effect : Effect) → Takes others (effect_link effect (Some link)) link
     by_effect (Stores value) = later link
-    by_effect (Keeps value) = by_keeping value (keep_of value link.taken) refl
+    by_effect (Keeps value) = by_keeping value (keeping value (Some link)) refl
 
 link_takes : (judged : List Judged) (link : RelationState) → Takes judged (Some link) link
-link_takes [] link = ([], ap (λ (taken : List TakenRecord). Some (with_taken taken link)) (sym (append-nil link.taken)))
+link_takes [] link = ([], link.passed, ap (λ (taken : List TakenRecord). Some (holding taken link.passed link)) (sym (append-nil link.taken)))
 link_takes (one ∷ others) link = one_takes others link (link_takes others) one.1
 
 one_none : (one : Result Write CallFault) → one_link one None ≡ None
@@ -282,11 +314,12 @@ link_none : (judged : List Judged) → link_behind judged None ≡ None
 link_none [] = refl
 link_none (one ∷ others) = ap (link_behind others) (one_none one.1) ∙ link_none others
 
-each_takes : (judged : List Judged) (link : Option RelationState) → (values : List TakenRecord) × (updated Named (link_behind judged link) ≡ option_map (with_more values) link)
-each_takes judged None = ([], ap (updated Named) (link_none judged))
-each_takes judged (Some link) =
+each_takes : (source : Partner) (judged : List Judged) (link : Option RelationState)
+    → (values : List TakenRecord) × (passed : PassedOn) × (updated (Named source) (link_behind judged link) ≡ option_map (with_more source passed values) link)
+each_takes source judged None = ([], none_passed, ap (updated (Named source)) (link_none judged))
+each_takes source judged (Some link) =
     let takes = link_takes judged link in
-    (takes.0, ap (updated Named) takes.1)
+    (takes.0, takes.1, ap (updated (Named source)) takes.2)
 
 again_is : (sequence : ℕ) (kept : Option Answer) (frame : List ℕ) → reported_by sequence kept ≡ again frame
     → (answer : Answer) × (kept ≡ Some answer) × (answer.sequence ≡ sequence) × (answer.frame ≡ frame)
@@ -716,21 +749,23 @@ module _ (rules : Rules TakenRecord Request) (activity : List ℕ) (station : St
     abbrev heard : Heard
     heard = Reported caller address (Calls call)
 
-    restarted_same : (link : Option RelationState) → option_map standing_of (option_map restarted link) ≡ option_map standing_of link
-    restarted_same None = refl
-    restarted_same (Some link) = refl
+    restarted_same : (source : Partner) (link : Option RelationState) → option_map standing_of (option_map (restarted source) link) ≡ option_map standing_of link
+    restarted_same source None = refl
+    restarted_same source (Some link) = refl
 
-    more_same : (values : List TakenRecord) (link : Option RelationState) → option_map standing_of (option_map (with_more values) link) ≡ option_map standing_of link
-    more_same values None = refl
-    more_same values (Some link) = refl
+    more_same : (source : Partner) (passed : PassedOn) (values : List TakenRecord) (link : Option RelationState)
+        → option_map standing_of (option_map (with_more source passed values) link) ≡ option_map standing_of link
+    more_same source passed values None = refl
+    more_same source passed values (Some link) = refl
 
-    parameterized_same : (link : RelationState) (by_application : Bool) → link.phase ≡ Started → standing_of (parameterized_from by_application link) ≡ standing_of link
-    parameterized_same link true started = ap (λ (b : Bool). record (standing_of link) { exchanges = b }) (sym (ap is_exchanging started))
-    parameterized_same link false started = ap (λ (b : Bool). record (standing_of link) { exchanges = b }) (sym (ap is_exchanging started))
+    parameterized_same : (source : Partner) (link : RelationState) (by_application : Bool) → link.phase ≡ Started
+        → standing_of (restarted source (parameterized_from by_application link)) ≡ standing_of link
+    parameterized_same source link true started = ap (λ (b : Bool). record (standing_of link) { exchanges = b }) (sym (ap is_exchanging started))
+    parameterized_same source link false started = ap (λ (b : Bool). record (standing_of link) { exchanges = b }) (sym (ap is_exchanging started))
 
     restarted_turns : (link : Option RelationState) (sent : List Sent) → IsRestarted before link → AreCalm before sent
         → IsTurn station.real.modules.items live.rest.calls live.rest.diagnoses live.rest.diagnoses before heard link sent
-    restarted_turns link sent same calm = inl (record { link = inl (ap (λ (l : Option RelationState). option_map standing_of l) same ∙ restarted_same before); calm = calm })
+    restarted_turns link sent same calm = inl (record { link = inl (ap (λ (l : Option RelationState). option_map standing_of l) same.1 ∙ restarted_same same.0 before); calm = calm })
 
     -- what a call does, for outputs and alarms
     effect_turns : (blocks : List ℕ) (outcome : Result (List ℕ) CallFault) (which : Operation) (link : Option RelationState) (sent : List Sent) → operation_of call.header.operation ≡ Some which
@@ -749,6 +784,7 @@ module _ (rules : Rules TakenRecord Request) (activity : List ℕ) (station : St
       request = it.request;
       partner = partner_of caller;
       rows = rows_of it.request station.real;
+      options = it.options;
       starting = it.starting;
       read = it.read;
       made = it.made;
@@ -759,12 +795,12 @@ module _ (rules : Rules TakenRecord Request) (activity : List ℕ) (station : St
     effect_turns blocks (Ok octets) operation.ReadImplicit link sent asks counted fresh it calm = absurd it
     effect_turns blocks (Ok octets) operation.Write link sent asks counted fresh (inr (inl it)) calm = restarted_turns link sent it.same calm
     effect_turns blocks (Ok octets) operation.Write link sent asks counted fresh (inr (inr it)) calm =
-        inl (record { link = inl (ap (λ (l : Option RelationState). option_map standing_of l) it.becomes ∙ more_same it.values before); calm = calm })
+        inl (record { link = inl (ap (λ (l : Option RelationState). option_map standing_of l) it.becomes ∙ more_same it.source it.passed it.values before); calm = calm })
     effect_turns blocks (Ok octets) operation.Write link sent asks counted fresh (inl it) calm =
         inl (record { link = inl (ap (λ (l : Option RelationState). option_map standing_of l) it.becomes ∙ sym (ap (λ (l : Option RelationState). option_map standing_of l) it.was)); calm = calm })
     effect_turns blocks (Ok octets) operation.Control link sent asks counted fresh it calm = inl (record {
       link = inl (ap (λ (l : Option RelationState). option_map standing_of l) it.becomes
-          ∙ (ap (λ (x : Standing). Some x) (parameterized_same it.link it.by_application it.started) ∙ sym (ap (λ (l : Option RelationState). option_map standing_of l) it.was)));
+          ∙ (ap (λ (x : Standing). Some x) (parameterized_same it.source it.link it.by_application it.started) ∙ sym (ap (λ (l : Option RelationState). option_map standing_of l) it.was)));
       calm = calm;
     })
 
@@ -820,20 +856,20 @@ module _ (rules : Rules TakenRecord Request) (activity : List ℕ) (station : St
       abbrev unlogged : List LogEntry
       unlogged = live.rest.log
 
-      connects_as : (request : Result Request CallFault) → operation_of call.header.operation ≡ Some operation.Connect → connect_within station.options.smallest_interval before blocks ≡ request → IsPlainIn request
+      connects_as : (request : Result Request CallFault) → operation_of call.header.operation ≡ Some operation.Connect → connect_within station.options caller.mac before blocks ≡ request → IsPlainIn request
           → Comes_to heard (served station (logging (connect_log blocks (request >>= λ r. Ok (connect_blocks station.identity r (differing_of r station.real))) live.rest.units live.rest.log)) caller call operation.Connect (request >>= λ r. Ok (connect_blocks station.identity r (differing_of r station.real)))
-          (updated (making station.real (partner_of caller) (starting_of station live) request) before) [])
+          (updated (making station.real (partner_of caller) station.options (starting_of station live) request) before) [])
       connects_as (Ok request) asks read plain =
-          serves unlogged operation.Connect (Ok (connect_blocks station.identity request (differing_of request station.real))) (Some (made_of request (partner_of caller) (rows_of request station.real) (starting_of station live))) None asks tt
-          (record { request = request; starting = starting_of station live; read = unlimited station.options.smallest_interval before blocks request read; made = refl; answer = refl }) tt
+          serves unlogged operation.Connect (Ok (connect_blocks station.identity request (differing_of request station.real))) (Some (made_of request (partner_of caller) (rows_of request station.real) station.options (starting_of station live))) None asks tt
+          (record { request = request; options = station.options; starting = starting_of station live; read = unlimited station.options caller.mac before blocks request read; made = refl; answer = refl }) tt
       connects_as (Err why) asks read plain = fails (connect_log {A = List ℕ} blocks (Err why) live.rest.units live.rest.log) operation.Connect why before asks plain refl
 
-      keeps_as : (header : IodWriteReq) (write : Write) (value : TakenRecord) (link : Option RelationState) (kept : Result (List TakenRecord) CallFault) → operation_of call.header.operation ≡ Some operation.Write
+      keeps_as : (header : IodWriteReq) (write : Write) (value : TakenRecord) (link : Option RelationState) (kept : Result Records CallFault) → operation_of call.header.operation ≡ Some operation.Write
           → writing_of (uuid_of before) station.real blocks ≡ Ok (One write) → write.effect ≡ Keeps value → before ≡ link → keeping value link ≡ kept → IsPlainIn kept
-          → Comes_to heard (served station live caller call operation.Write (kept_answer header kept) (updated (answered Named kept) (updated (taking kept) link)) [])
+          → Comes_to heard (served station live caller call operation.Write (kept_answer header kept) (updated (answered (Named (partner_of caller)) kept) (updated (taking kept) link)) [])
       keeps_as header write value link (Err why) asks judged keeps was is plain = fails unlogged operation.Write why link asks plain was
-      keeps_as header write value None (Ok taken) asks judged keeps was is plain = absurd cc
-      keeps_as header write value (Some link) (Ok taken) asks judged keeps was is plain = serves unlogged operation.Write (Ok (answer_of header)) (Some (restarted (with_taken taken link))) None asks tt
+      keeps_as header write value None (Ok more) asks judged keeps was is plain = absurd cc
+      keeps_as header write value (Some link) (Ok more) asks judged keeps was is plain = serves unlogged operation.Write (Ok (answer_of header)) (Some (restarted (partner_of caller) (with_records more link))) None asks tt
           (inl (record {
             link = link;
             was = was;
@@ -841,15 +877,19 @@ module _ (rules : Rules TakenRecord Request) (activity : List ℕ) (station : St
             judged = judged;
             value = value;
             keeps = keeps;
-            becomes = ap (λ (records : List TakenRecord). Some (restarted (with_taken records link))) (kept_is value link.taken taken is);
+            source = partner_of caller;
+            more = more;
+            kept = is;
+            becomes = refl;
           })) tt
 
       -- a record that the settings store, or do not
       stores_as : (write : Write) (value : ImValue) (outcome : Result (List ℕ) CallFault) → operation_of call.header.operation ≡ Some operation.Write
           → writing_of (uuid_of before) station.real blocks ≡ Ok (One write) → write.effect ≡ Stores value → IsPlainIn outcome
-          → Comes_to heard (served station live caller call operation.Write outcome (updated (answered Named outcome) before) [])
+          → Comes_to heard (served station live caller call operation.Write outcome (updated (answered (Named (partner_of caller)) outcome) before) [])
       stores_as write value (Ok octets) asks judged is plain =
-          serves unlogged operation.Write (Ok octets) (updated Named before) None asks tt (inr (inl (record { write = write; judged = judged; value = value; stores = is; same = refl }))) tt
+          serves unlogged operation.Write (Ok octets) (updated (Named (partner_of caller)) before) None asks tt
+          (inr (inl (record { write = write; judged = judged; value = value; stores = is; same = (partner_of caller, refl) }))) tt
       stores_as write value (Err why) asks judged is plain = fails unlogged operation.Write why before asks plain refl
 
       effect_as : (write : Write) (effect : Effect) → operation_of call.header.operation ≡ Some operation.Write → writing_of (uuid_of before) station.real blocks ≡ Ok (One write)
@@ -864,9 +904,9 @@ module _ (rules : Rules TakenRecord Request) (activity : List ℕ) (station : St
           → writing_of (uuid_of before) station.real blocks ≡ Ok (Each header entries) → Comes_to heard (handled_write station live caller call (Ok (Each header entries)))
       each_as header entries asks judged = λ answers.
           let each = judged_each (uuid_of before) station.real entries in
-          let takes = each_takes each before in
-          serves unlogged operation.Write (Ok (several_answer header each answers before)) (updated Named (link_behind each before)) None asks tt
-          (inr (inr (record { header = header; entries = entries; judged = judged; answers = answers; tells = refl; carried = refl; values = takes.0; becomes = takes.1 }))) tt answers
+          let takes = each_takes (partner_of caller) each before in
+          serves unlogged operation.Write (Ok (several_answer header each answers before)) (updated (Named (partner_of caller)) (link_behind each before)) None asks tt
+          (inr (inr (record { header = header; entries = entries; judged = judged; answers = answers; tells = refl; source = partner_of caller; carried = refl; passed = takes.1; values = takes.0; becomes = takes.2 }))) tt answers
 
       writes_as : (writing : Result Writing CallFault) → operation_of call.header.operation ≡ Some operation.Write → writing_of (uuid_of before) station.real blocks ≡ writing → IsPlainIn writing
           → Comes_to heard (handled_write station live caller call writing)
@@ -875,22 +915,26 @@ module _ (rules : Rules TakenRecord Request) (activity : List ℕ) (station : St
       writes_as (Err why) asks judged plain = fails unlogged operation.Write why before asks plain refl
 
       reads_as : (read : Result (List ℕ) CallFault) → operation_of call.header.operation ≡ Some operation.Read → IsPlainIn read
-          → Comes_to heard (served station live caller call operation.Read read (updated (answered Named read) before) [])
-      reads_as (Ok octets) asks plain = serves unlogged operation.Read (Ok octets) (updated Named before) None asks tt refl tt
+          → Comes_to heard (served station live caller call operation.Read read (updated (answered (Named (partner_of caller)) read) before) [])
+      reads_as (Ok octets) asks plain = serves unlogged operation.Read (Ok octets) (updated (Named (partner_of caller)) before) None asks tt (partner_of caller, refl) tt
       reads_as (Err why) asks plain = fails unlogged operation.Read why before asks plain refl
 
+      -- a relation after PrmEnd
+      abbrev controlled : Bool → Option RelationState → Result ControlBlock CallFault → Option RelationState
+      controlled by_application link ended = updated (answered (Named (partner_of caller)) ended) (updated (answered (Parameterized by_application) ended) link)
+
       controls_as : (by_application : Bool) (link : Option RelationState) (ended : Result ControlBlock CallFault) → operation_of call.header.operation ≡ Some operation.Control → before ≡ link → prm_end_of link blocks ≡ ended → IsPlainIn ended
-          → Comes_to heard (served station live caller call operation.Control (ended >>= λ block. Ok (block_bytes (variant.PrmEndRes (done_of block)))) (updated (answered (Parameterized by_application) ended) link)
-          (ready_behind by_application from (updated (answered (Parameterized by_application) ended) link) ended))
+          → Comes_to heard (served station live caller call operation.Control (ended >>= λ block. Ok (block_bytes (variant.PrmEndRes (done_of block)))) (controlled by_application link ended)
+          (ready_behind by_application from (controlled by_application link ended) ended))
       controls_as by_application link (Err why) asks was is plain = fails unlogged operation.Control why link asks plain was
       controls_as by_application None (Ok block) asks was is plain = absurd (prm_started None blocks block is)
       controls_as true (Some link) (Ok block) asks was is plain =
-          serves unlogged operation.Control (Ok (block_bytes (variant.PrmEndRes (done_of block)))) (Some (parameterized_from true link)) None asks tt
-          (record { link = link; was = was; started = prm_started (Some link) blocks block is; by_application = true; becomes = refl }) tt
+          serves unlogged operation.Control (Ok (block_bytes (variant.PrmEndRes (done_of block)))) (Some (restarted (partner_of caller) (parameterized_from true link))) None asks tt
+          (record { link = link; was = was; started = prm_started (Some link) blocks block is; by_application = true; source = partner_of caller; becomes = refl }) tt
       controls_as false (Some link) (Ok block) asks was is plain =
-          let after = parameterized_from false link in
+          let after = restarted (partner_of caller) (parameterized_from false link) in
           serves unlogged operation.Control (Ok (block_bytes (variant.PrmEndRes (done_of block)))) (Some after) (Some (ready_of after)) asks tt
-          (record { link = link; was = was; started = prm_started (Some link) blocks block is; by_application = false; becomes = refl })
+          (record { link = link; was = was; started = prm_started (Some link) blocks block is; by_application = false; source = partner_of caller; becomes = refl })
           (record { link = link; is = was; header = refl; block = refl }, record { link = after; is = refl; awaits = refl })
 
       releases_as : (link : Option RelationState) (ended : Result ControlBlock CallFault) → operation_of call.header.operation ≡ Some operation.Release → before ≡ link → release_of link blocks ≡ ended → IsPlainIn ended
@@ -902,8 +946,8 @@ module _ (rules : Rules TakenRecord Request) (activity : List ℕ) (station : St
 
       new_call : (which : Operation) → operation_of call.header.operation ≡ Some which → IsPlannedAs rules station.real call.header.sequence blocks (Some which)
           → Comes_to heard (handled_new station live caller call blocks which)
-      new_call operation.Connect asks plan = connects_as (connect_within station.options.smallest_interval before blocks) asks refl
-          (connect_plain station.options.smallest_interval before blocks rules.request plan)
+      new_call operation.Connect asks plan = connects_as (connect_within station.options caller.mac before blocks) asks refl
+          (connect_plain station.options caller.mac before blocks rules.request plan)
       new_call operation.Release asks plan = releases_as before (release_of before blocks) asks refl refl (release_plain before blocks)
       new_call operation.Write asks plan = writes_as (writing_of (uuid_of before) station.real blocks) asks refl (writing_plain (uuid_of before) station.real blocks)
       new_call operation.Control asks plan = controls_as station.options.ready_by_application before (prm_end_of before blocks) asks refl refl (prm_plain before blocks)

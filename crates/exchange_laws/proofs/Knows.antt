@@ -189,8 +189,8 @@ module _ (elsewhere : ElsewhereSo) (real : List RealModule) (before : Option Rel
     told = λ l is on. absurd (false≢true (ap (λ (k : RelationState). is_exchanging k.phase) (made l is) ∙ on));
   }
     where
-      made : (l : RelationState) → after ≡ Some l → made_of makes.request makes.partner makes.rows makes.starting ≡ l
-      made l is = some_is (made_of makes.request makes.partner makes.rows makes.starting) l (sym makes.made ∙ is)
+      made : (l : RelationState) → after ≡ Some l → made_of makes.request makes.partner makes.rows makes.options makes.starting ≡ l
+      made l is = some_is (made_of makes.request makes.partner makes.rows makes.options makes.starting) l (sym makes.made ∙ is)
 
       silent : raised ++ reported_by before after ≡ raised
       silent = ap (λ (xs : List AlarmNotification). raised ++ xs)

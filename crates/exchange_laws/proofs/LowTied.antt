@@ -191,7 +191,7 @@ module _ (setup : Setup) (r : Relation) (real : List RealModule) (before : Optio
       → Told setup r before after sent
   makes_on calls heard after sent none makes fresh =
       nothing_on setup r before after sent
-      (tied_by low_priority setup r after (made_of makes.request makes.partner makes.rows makes.starting) makes.made (made_end low_priority r calls before heard after sent makes (fresh makes)))
+      (tied_by low_priority setup r after (made_of makes.request makes.partner makes.rows makes.options makes.starting) makes.made (made_end low_priority r calls before heard after sent makes (fresh makes)))
       (ap (λ (l : Option RelationState). number_in l) makes.made ∙ sym (ap (λ (l : Option RelationState). number_in l) none))
       (all_calm_none low_priority before sent makes.calm)
 

@@ -304,7 +304,7 @@ module _ (setup : Setup) (station : Station) where
           let same : plan.blocks ≡ makes.blocks = some_is plan.blocks makes.blocks (sym plan.counted ∙ makes.counted) in
           let request : makes.request ≡ request_for setup.plan setup.ar =
           made_from live.rest.link makes.blocks makes.request (request_for setup.plan setup.ar) makes.read (ap (λ (b : List ℕ). request_of None b) (sym same) ∙ asks) in
-          subst (λ (l : Option RelationState). ShowsSo l) (sym (makes.made ∙ ap (λ (r : Request). Some (made_of r makes.partner makes.rows makes.starting)) request))
+          subst (λ (l : Option RelationState). ShowsSo l) (sym (makes.made ∙ ap (λ (r : Request). Some (made_of r makes.partner makes.rows makes.options makes.starting)) request))
           (inr (inl (refl, refl)), record { route = refl; size = refl; places = λ octets. refl })
 
       takes_so : (after : Option RelationState) (sent : List Sent) → Takes live.rest.link heard after sent → ShowsSo after

@@ -438,7 +438,7 @@ module _ (identity : Identity) (plan : Parts) (ar : List ℕ) (apart : identity.
   turn_sized real calls diagnoses later before heard after sent all sized planned (inl stays) =
       record { link = same_sized before after stays.link sized; messages = all_calm before sent sized stays.calm }
   turn_sized real calls diagnoses later before heard after sent all sized planned (inr (inl makes)) = record {
-    link = becomes_sized after (made_of makes.request makes.partner makes.rows makes.starting) makes.made (record {
+    link = becomes_sized after (made_of makes.request makes.partner makes.rows makes.options makes.starting) makes.made (record {
       same = planned makes;
       routed = ap route_of (planned makes);
       alarms = record { last = tt; seen = tt; specifier = omega arith; standing = tt };

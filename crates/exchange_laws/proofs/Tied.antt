@@ -435,7 +435,7 @@ again_due false due_now e = absurd cc
 
 -- a relation that is made now
 pub made_end : (priority : Priority) (r : Relation) (calls : List Answer) (before : Option RelationState) (heard : Heard) (after : Option RelationState) (sent : List Sent) (makes : Makes calls before heard after sent)
-    → idle makes.request.alarm.timeout_factor makes.request.alarm.retries ≡ r.device → end_at priority (made_of makes.request makes.partner makes.rows makes.starting) ≡ r.device
+    → idle makes.request.alarm.timeout_factor makes.request.alarm.retries ≡ r.device → end_at priority (made_of makes.request makes.partner makes.rows makes.options makes.starting) ≡ r.device
 made_end High r calls before heard after sent makes e = e
 made_end low_priority r calls before heard after sent makes e = e
 
@@ -549,7 +549,7 @@ module _ (setup : Setup) (r : Relation) (real : List RealModule) (before : Optio
   turn_on calls diagnoses later heard after sent is unraised fresh (inl stays) = rests High setup r before after sent (same_tied High setup r before after stays.link tied) (all_calm_none High before sent stays.calm)
   turn_on calls diagnoses later heard after sent is unraised fresh (inr (inl makes)) =
       rests High setup r before after sent
-      (tied_by High setup r after (made_of makes.request makes.partner makes.rows makes.starting) makes.made (made_end High r calls before heard after sent makes (fresh makes)))
+      (tied_by High setup r after (made_of makes.request makes.partner makes.rows makes.options makes.starting) makes.made (made_end High r calls before heard after sent makes (fresh makes)))
       (all_calm_none High before sent makes.calm)
   turn_on calls diagnoses later heard after sent is unraised fresh (inr (inr (inl raises))) = absurd (subst (λ (h : Heard). IsUnraised h) raises.is unraised)
   turn_on calls diagnoses later heard after sent is unraised fresh (inr (inr (inr (inl acked)))) = acks_on heard after sent acked

@@ -17,11 +17,11 @@ abbrev pub last_sent : ℕ → ℕ → ℕ → Option ℕ
 last_sent began units interval =
     if nat_lt (units - began) interval then None else Some ((units - (units - began) % interval) % 65536)
 
--- The fields after its data, zeros before the first one. DataStatus tells whether a submodule of the relation has a diagnosis
--- now: a change since the last frame is told as if it were in it.
+-- The fields after its data, zeros before the first one. DataStatus is that of the frame: whether a submodule of the relation had a
+-- diagnosis when it was sent.
 abbrev pub sent_tail : Option ℕ → Bool → CyclicTail
-sent_tail (Some counter) has_problem = tail_at has_problem counter
-sent_tail None has_problem = record { counter = 0; data_status = record { 0 = 0 }; transfer_status = 0 }
+sent_tail (Some counter) problem_sent = tail_at problem_sent counter
+sent_tail None problem_sent = record { counter = 0; data_status = record { 0 = 0 }; transfer_status = 0 }
 
 -- A communication relation of cyclic frames: IOCRType, IOCRProperties, FrameID, CycleCounter, DataStatus and TransferStatus of
 -- the last frame, and the UDP ports of both stations, 0x8892.
@@ -48,8 +48,8 @@ alarm_bytes request =
 
 -- The relation with this Connect, this cyclic data, and this beginning: NumberOfIOCRs 2.
 abbrev pub relation_bytes : ℕ → Request → Cyclic → ℕ → Bool → List ℕ
-relation_bytes units request cyclic began has_problem = ar_bytes request ++ big_bytes 2 2
-    ++ iocrs_bytes request (sent_tail (last_sent began units (request.input.send_clock_factor * request.input.reduction_ratio)) has_problem) (taken_tail cyclic)
+relation_bytes units request cyclic began problem_sent = ar_bytes request ++ big_bytes 2 2
+    ++ iocrs_bytes request (sent_tail (last_sent began units (request.input.send_clock_factor * request.input.reduction_ratio)) problem_sent) (taken_tail cyclic)
     ++ alarm_bytes request
 
 -- ARData, of version 1.0: NumberOfARs, and the relation, if there is one, which has 104 octets and its station name.

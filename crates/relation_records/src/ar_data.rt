@@ -34,11 +34,11 @@ fn last_sent(began: u64, units: u64, interval: u64) -> Option<u16>
 }
 
 /// The fields after the data of the last frame of inputs.
-fn sent_tail(counter: Option<u16>, has_problem: bool) -> CyclicTail
-    ensures { result ≡ sent_tail counter has_problem }
+fn sent_tail(counter: Option<u16>, problem_sent: bool) -> CyclicTail
+    ensures { result ≡ sent_tail counter problem_sent }
 {
     match counter {
-        Some(counter) => CyclicTail::running(counter, has_problem),
+        Some(counter) => CyclicTail::running(counter, problem_sent),
         None => CyclicTail {
             counter: 0,
             data_status: DataStatus(0),
@@ -117,11 +117,11 @@ fn put_relation(out: &mut Own, units: u64, parts: RelationParts<'_>)
     requires room { array_vec_len out.old ≤ 100 }
     requires few { length parts.request.now.ar.name.items ≤ 240 }
     ensures { out.new.items ≡ out.old.items
-        ++ relation_bytes units parts.entry.request.now parts.entry.cyclic.now parts.entry.began parts.entry.has_problem }
+        ++ relation_bytes units parts.entry.request.now parts.entry.cyclic.now parts.entry.began parts.entry.problem_sent }
 {
     let request = parts.request;
     let interval = u64::from(request.input().interval());
-    let sent = sent_tail(last_sent(parts.began, units, interval), parts.has_problem);
+    let sent = sent_tail(last_sent(parts.began, units, interval), parts.problem_sent);
     put_ar(out, request);
     append_u16(out, 2);
     put_iocrs(out, request, sent, parts.cyclic.taken_tail());

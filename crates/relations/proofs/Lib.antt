@@ -1,5 +1,6 @@
 pub mod Kept
 mod Held
 mod Moves
+mod Own
 mod Waiting
 pub mod Leaps

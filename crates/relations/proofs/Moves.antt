@@ -33,8 +33,8 @@ from_awaiting Exchanging next was is = cc was
 
 -- From Started on.
 to_awaiting : (handled : Handled) (link : Option RelationState) → phase_of link ≡ Some Started → phase_of (updated handled link) ≡ Some Awaiting → handled ≡ Parameterized false
-to_awaiting (Made request partner rows starting) None was is = cc was
-to_awaiting (Made request partner rows starting) (Some link) was is = cc is
+to_awaiting (Made request partner rows options starting) None was is = cc was
+to_awaiting (Made request partner rows options starting) (Some link) was is = cc is
 to_awaiting (Parameterized by_application) None was is = cc was
 to_awaiting (Parameterized true) (Some link) was is = cc is
 to_awaiting (Parameterized false) (Some link) was is = refl
@@ -42,10 +42,10 @@ to_awaiting Prepared None was is = cc was
 to_awaiting Prepared (Some link) was is = let no = from_started link.phase Awaiting was (sym (prepared_phase link) ∙ is) in cc no
 to_awaiting Confirmed None was is = cc was
 to_awaiting Confirmed (Some link) was is = cc is
-to_awaiting Named None was is = cc was
-to_awaiting Named (Some link) was is = cc (was, is)
-to_awaiting (Took taken) None was is = cc was
-to_awaiting (Took taken) (Some link) was is = cc (was, is)
+to_awaiting (Named source) None was is = cc was
+to_awaiting (Named source) (Some link) was is = cc (was, is)
+to_awaiting (Took records) None was is = cc was
+to_awaiting (Took records) (Some link) was is = cc (was, is)
 to_awaiting (Exchanged flow) None was is = cc was
 to_awaiting (Exchanged flow) (Some link) was is = cc (was, is)
 to_awaiting Passed None was is = cc was
@@ -56,8 +56,8 @@ to_awaiting Unmoved None was is = cc was
 to_awaiting Unmoved (Some link) was is = cc (was, is)
 
 to_preparing : (handled : Handled) (link : Option RelationState) → phase_of link ≡ Some Started → phase_of (updated handled link) ≡ Some Preparing → handled ≡ Parameterized true
-to_preparing (Made request partner rows starting) None was is = cc was
-to_preparing (Made request partner rows starting) (Some link) was is = cc is
+to_preparing (Made request partner rows options starting) None was is = cc was
+to_preparing (Made request partner rows options starting) (Some link) was is = cc is
 to_preparing (Parameterized by_application) None was is = cc was
 to_preparing (Parameterized true) (Some link) was is = refl
 to_preparing (Parameterized false) (Some link) was is = cc is
@@ -65,10 +65,10 @@ to_preparing Prepared None was is = cc was
 to_preparing Prepared (Some link) was is = let no = from_started link.phase Preparing was (sym (prepared_phase link) ∙ is) in cc no
 to_preparing Confirmed None was is = cc was
 to_preparing Confirmed (Some link) was is = cc is
-to_preparing Named None was is = cc was
-to_preparing Named (Some link) was is = cc (was, is)
-to_preparing (Took taken) None was is = cc was
-to_preparing (Took taken) (Some link) was is = cc (was, is)
+to_preparing (Named source) None was is = cc was
+to_preparing (Named source) (Some link) was is = cc (was, is)
+to_preparing (Took records) None was is = cc was
+to_preparing (Took records) (Some link) was is = cc (was, is)
 to_preparing (Exchanged flow) None was is = cc was
 to_preparing (Exchanged flow) (Some link) was is = cc (was, is)
 to_preparing Passed None was is = cc was
@@ -83,8 +83,8 @@ is_by_prm_end handled link was = (to_awaiting handled link was, to_preparing han
 
 -- From Preparing on.
 pub is_by_application : IsByApplication
-is_by_application (Made request partner rows starting) None was is = absurd (cc was)
-is_by_application (Made request partner rows starting) (Some link) was is = absurd (cc is)
+is_by_application (Made request partner rows options starting) None was is = absurd (cc was)
+is_by_application (Made request partner rows options starting) (Some link) was is = absurd (cc is)
 is_by_application (Parameterized by_application) None was is = absurd (cc was)
 is_by_application (Parameterized true) (Some link) was is = absurd (cc is)
 is_by_application (Parameterized false) (Some link) was is = inr refl
@@ -92,10 +92,10 @@ is_by_application Prepared None was is = absurd (cc was)
 is_by_application Prepared (Some link) was is = inl refl
 is_by_application Confirmed None was is = absurd (cc was)
 is_by_application Confirmed (Some link) was is = absurd (cc is)
-is_by_application Named None was is = absurd (cc was)
-is_by_application Named (Some link) was is = absurd (cc (was, is))
-is_by_application (Took taken) None was is = absurd (cc was)
-is_by_application (Took taken) (Some link) was is = absurd (cc (was, is))
+is_by_application (Named source) None was is = absurd (cc was)
+is_by_application (Named source) (Some link) was is = absurd (cc (was, is))
+is_by_application (Took records) None was is = absurd (cc was)
+is_by_application (Took records) (Some link) was is = absurd (cc (was, is))
 is_by_application (Exchanged flow) None was is = absurd (cc was)
 is_by_application (Exchanged flow) (Some link) was is = absurd (cc (was, is))
 is_by_application Passed None was is = absurd (cc was)
@@ -107,8 +107,8 @@ is_by_application Unmoved (Some link) was is = absurd (cc (was, is))
 
 -- From Awaiting on.
 pub is_by_ready : IsByReady
-is_by_ready (Made request partner rows starting) None was is = cc was
-is_by_ready (Made request partner rows starting) (Some link) was is = cc is
+is_by_ready (Made request partner rows options starting) None was is = cc was
+is_by_ready (Made request partner rows options starting) (Some link) was is = cc is
 is_by_ready (Parameterized by_application) None was is = cc was
 is_by_ready (Parameterized true) (Some link) was is = cc is
 is_by_ready (Parameterized false) (Some link) was is = cc is
@@ -116,10 +116,10 @@ is_by_ready Prepared None was is = cc was
 is_by_ready Prepared (Some link) was is = let no = from_awaiting link.phase Exchanging was (sym (prepared_phase link) ∙ is) in cc no
 is_by_ready Confirmed None was is = refl
 is_by_ready Confirmed (Some link) was is = refl
-is_by_ready Named None was is = cc was
-is_by_ready Named (Some link) was is = cc (was, is)
-is_by_ready (Took taken) None was is = cc was
-is_by_ready (Took taken) (Some link) was is = cc (was, is)
+is_by_ready (Named source) None was is = cc was
+is_by_ready (Named source) (Some link) was is = cc (was, is)
+is_by_ready (Took records) None was is = cc was
+is_by_ready (Took records) (Some link) was is = cc (was, is)
 is_by_ready (Exchanged flow) None was is = cc was
 is_by_ready (Exchanged flow) (Some link) was is = cc (was, is)
 is_by_ready Passed None was is = cc was

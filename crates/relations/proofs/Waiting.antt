@@ -1,7 +1,7 @@
 -- For any events while a relation waits for the answer to ApplicationReady.
 use Rattle.std.proofs.Common.{◌≡◌, ◌+◌, ◌%◌, ℕ, true, List, [], ◌∷◌, Some, ap, arith, subst, ◌∙◌}
 use Rattle.relations.specs.RelationState.{RelationState, is_awaiting}
-use Rattle.relations.specs.Phases.{Handled, Made, Parameterized, Prepared, Confirmed, Named, Took, Exchanged, Passed, Ended, Unmoved, restarted, with_flow, with_taken}
+use Rattle.relations.specs.Phases.{Handled, Made, Parameterized, Prepared, Confirmed, Named, Took, Exchanged, Passed, Ended, Unmoved, restarted, with_flow, with_records}
 use Rattle.relations.specs.Timers.{unit_later}
 use Rattle.relations.specs.Runs.{AreWaiting, IsDueWhateverComes, all_updated, units_of}
 use Rattle.relations.proofs.Kept.{again_with, waited_next}
@@ -14,17 +14,17 @@ waits_on [] link now units waits so still e =
     let count : units ≡ units_of [] + units = omega arith in
     subst (λ (l : RelationState). (is_awaiting l.phase ≡ true) × (l.waited ≡ (units_of [] + units) % 32000)) same
     (waits, so ∙ ap (λ (n : ℕ). n % 32000) count)
-waits_on (Made request partner rows starting ∷ more) link now units waits so still e = absurd (let no = still.0 in cc)
+waits_on (Made request partner rows options starting ∷ more) link now units waits so still e = absurd (let no = still.0 in cc)
 waits_on (Parameterized by_application ∷ more) link now units waits so still e = absurd (let no = still.0 in cc)
 waits_on (Prepared ∷ more) link now units waits so still e = absurd (let no = still.0 in cc)
 waits_on (Confirmed ∷ more) link now units waits so still e = absurd (let no = still.0 in cc)
-waits_on (Named ∷ more) link now units waits so still e =
-    let on = waits_on more (restarted link) now units waits so still.1 e in
-    let count : units_of more + units ≡ units_of (Named ∷ more) + units = omega arith in
+waits_on (Named source ∷ more) link now units waits so still e =
+    let on = waits_on more (restarted source link) now units waits so still.1 e in
+    let count : units_of more + units ≡ units_of (Named source ∷ more) + units = omega arith in
     (on.0, on.1 ∙ ap (λ (n : ℕ). n % 32000) count)
-waits_on (Took taken ∷ more) link now units waits so still e =
-    let on = waits_on more (with_taken taken link) now units waits so still.1 e in
-    let count : units_of more + units ≡ units_of (Took taken ∷ more) + units = omega arith in
+waits_on (Took records ∷ more) link now units waits so still e =
+    let on = waits_on more (with_records records link) now units waits so still.1 e in
+    let count : units_of more + units ≡ units_of (Took records ∷ more) + units = omega arith in
     (on.0, on.1 ∙ ap (λ (n : ℕ). n % 32000) count)
 waits_on (Exchanged flow ∷ more) link now units waits so still e =
     let on = waits_on more (with_flow flow link) now units waits so still.1 e in

@@ -1,5 +1,7 @@
 -- Connect: which relation a device establishes, and what it answers (IEC 61158-6-10, 5.2.4).
-use Rattle.std.specs.Prelude.{◌++◌, ℕ, List, Option, Result, Ok, Err, if◌then◌else◌}
+use Rattle.std.specs.Prelude.{◌++◌, ◌&&◌, ℕ, Bool, false, nat_eq, not, List, Option, Some, None, Result, Ok, Err, if◌then◌else◌}
+use Rattle.std.specs.Cmp.Lexicographic.{pointwise}
+use Rattle.pn_values.specs.declared.mac.Mac.{Mac}
 use Rattle.pn_values.specs.declared.identity.Identity.{Identity}
 use Rattle.pn_values.specs.declared.real.Real.{Real}
 use Rattle.wire.specs.Codec.{◌>>=◌}
@@ -10,9 +12,11 @@ use Rattle.module_diff.specs.Diff.{diff_of}
 use Rattle.block_codec.specs.declared.block.Block.TheVariants as is
 use Rattle.block_codec.specs.Block.{block_bytes}
 use Rattle.records.specs.declared.status.call_fault.CallFault.{CallFault}
+use Rattle.records.specs.declared.status.call_fault.CallFault.TheVariants as fault
 use Rattle.connect_requests.specs.declared.parts.Iocr.{Iocr}
 use Rattle.connect_requests.specs.Request.{Request}
-use Rattle.connect_requests.specs.Handled.{request_of, request_within}
+use Rattle.connect_requests.specs.Handled.{asked_initiator, request_of, request_within}
+use Rattle.relations.specs.declared.options.DeviceOptions.{DeviceOptions}
 use Rattle.relations.specs.declared.phase.Partner.{Partner}
 use Rattle.device_exchange.specs.Marks.{Starting}
 use Rattle.relations.specs.RelationState.{RelationState, uuid_of}
@@ -53,18 +57,31 @@ connect_blocks identity request differing =
 
 -- ---- the call
 
--- What is asked for, or why it is refused: of any device, and of one with a smallest interval.
+-- Whether CMInitiatorMacAdd of a Connect, if it can be read, is another address than that of the sender.
+abbrev pub is_other : Mac → Option Mac → Bool
+is_other source None = false
+is_other source (Some initiator) = not (pointwise nat_eq initiator.octets source.octets)
+
+-- Whether a Connect is refused for that. While a relation exists, it is refused for the relation.
+abbrev pub is_foreign : DeviceOptions → Mac → Option RelationState → List ℕ → Bool
+is_foreign options source None blocks = options.only_own_controller && is_other source (asked_initiator blocks)
+is_foreign options source (Some link) blocks = false
+
+-- What is asked for, or why it is refused: of any device, and of one with these options, by a station with this MAC address. If
+-- CMInitiatorMacAdd is another one, that is the fault of its field, after each other fault of the ARBlockReq and before those of
+-- later blocks.
 abbrev pub connect_of : Option RelationState → List ℕ → Result Request CallFault
 connect_of link blocks = request_of (uuid_of link) blocks
 
-abbrev pub connect_within : ℕ → Option RelationState → List ℕ → Result Request CallFault
-connect_within smallest link blocks = request_within smallest (uuid_of link) blocks
+abbrev pub connect_within : DeviceOptions → Mac → Option RelationState → List ℕ → Result Request CallFault
+connect_within options source link blocks =
+    if is_foreign options source link blocks then Err (fault.ArField 7) else request_within options.smallest_interval (uuid_of link) blocks
 
-abbrev pub connect_answer : Identity → Real → ℕ → Option RelationState → List ℕ → Result (List ℕ) CallFault
-connect_answer identity real smallest link blocks =
-    connect_within smallest link blocks >>= λ request. Ok (connect_blocks identity request (differing_of request real))
+abbrev pub connect_answer : Identity → Real → DeviceOptions → Mac → Option RelationState → List ℕ → Result (List ℕ) CallFault
+connect_answer identity real options source link blocks =
+    connect_within options source link blocks >>= λ request. Ok (connect_blocks identity request (differing_of request real))
 
--- The outcome of the Connect.
-abbrev pub making : Real → Partner → Starting → Result Request CallFault → Handled
-making real partner starting (Ok request) = Made request partner (rows_of request real) starting
-making real partner starting (Err fault) = Unmoved
+-- The outcome of the Connect, at a device with these options.
+abbrev pub making : Real → Partner → DeviceOptions → Starting → Result Request CallFault → Handled
+making real partner options starting (Ok request) = Made request partner (rows_of request real) options starting
+making real partner options starting (Err fault) = Unmoved

@@ -2,6 +2,13 @@
 use Rattle.std.specs.Prelude.{false}
 use Rattle.relations.specs.declared.options.DeviceOptions.{DeviceOptions}
 
--- The default: any interval is accepted, inputs begin good, and the device is ready as soon as its parameters have ended.
+-- The default: any interval is accepted, inputs begin good, the device is ready as soon as its parameters have ended, any station
+-- may hold a relation, and each record is kept.
 abbrev pub default_options : DeviceOptions
-default_options = record { smallest_interval = 1; inputs_begin_bad = false; ready_by_application = false }
+default_options = record {
+  smallest_interval = 1;
+  inputs_begin_bad = false;
+  ready_by_application = false;
+  only_own_controller = false;
+  records_passed_on = false;
+}

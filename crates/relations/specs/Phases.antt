@@ -17,21 +17,28 @@ use Rattle.device_exchange.specs.Opening.{begun_of, opened}
 use Rattle.relations.specs.declared.phase.Phase.{Phase}
 use Rattle.relations.specs.declared.phase.Phase.TheVariants.{Started, Preparing, Awaiting, Exchanging}
 use Rattle.relations.specs.declared.phase.Partner.{Partner}
-use Rattle.relations.specs.RelationState.{RelationState, is_preparing}
+use Rattle.relations.specs.declared.options.DeviceOptions.{DeviceOptions}
+use Rattle.relations.specs.Passed.{PassedOn, none_passed, passed_more}
+use Rattle.relations.specs.RelationState.{RelationState, is_alive, is_preparing, passes_on}
 use Rattle.relations.specs.Timers.{ending_of, unit_later}
 
+-- The parameter records of a relation: those that it keeps, and those that it passed on.
+pub record Records : Type 0 where
+  pub taken : List TakenRecord
+  pub passed : PassedOn
+
 -- The outcome of an event. A Connect is accepted; PrmEnd is accepted, and the application says when it is ready or not;
--- the application says that it is ready; ApplicationReady was confirmed; another call that names the relation is answered positively;
--- one more parameter record is accepted, after which the records are these; the exchange became this; a unit of time is
+-- the application says that it is ready; ApplicationReady was confirmed; a call of this station that names the relation is answered
+-- positively; one more parameter record is accepted, after which the records are these; the exchange became this; a unit of time is
 -- over and ends nothing; the relation ended, by Release, a timeout, a reset, the ERR of the controller, or because
 -- ApplicationReady was refused; or none of these.
 pub data Handled : Type 0 where
-  Made : (request : Request) → (partner : Partner) → (rows : Listed DiffModule DiffSubmodule) → (starting : Starting) → Handled
+  Made : (request : Request) → (partner : Partner) → (rows : Listed DiffModule DiffSubmodule) → (options : DeviceOptions) → (starting : Starting) → Handled
   Parameterized : (by_application : Bool) → Handled
   Prepared : Handled
   Confirmed : Handled
-  Named : Handled
-  Took : (taken : List TakenRecord) → Handled
+  Named : (source : Partner) → Handled
+  Took : (records : Records) → Handled
   Exchanged : (flow : Flow) → Handled
   Passed : Handled
   Ended : Handled
@@ -41,16 +48,19 @@ pub data Handled : Type 0 where
 abbrev pub differing_octets : Listed DiffModule DiffSubmodule → List ℕ
 differing_octets rows = if length rows.modules == 0 then [] else block_bytes (is.ModuleDiffBlock (record { api = 0; modules = rows }))
 
--- A relation that is established now, if these modules differ, and if the application says this of its inputs.
-abbrev pub made_of : Request → Partner → Listed DiffModule DiffSubmodule → Starting → RelationState
-made_of request partner rows starting = record {
+-- A relation that is established now, if these modules differ, at a device with these options, and if the application says this
+-- of its inputs.
+abbrev pub made_of : Request → Partner → Listed DiffModule DiffSubmodule → DeviceOptions → Starting → RelationState
+made_of request partner rows options starting = record {
   phase = Started;
   request = request;
   partner = partner;
+  options = options;
   began = starting.units;
   inactive = 0;
   waited = 0;
   taken = [];
+  passed = none_passed;
   differing = differing_octets rows;
   flow = opened request rows starting;
 }
@@ -60,7 +70,7 @@ abbrev pub phase_behind : Bool → Phase
 phase_behind by_application = if by_application then Preparing else Awaiting
 
 abbrev pub parameterized_from : Bool → RelationState → RelationState
-parameterized_from by_application link = record link { phase = phase_behind by_application; inactive = 0; waited = 0 }
+parameterized_from by_application link = record link { phase = phase_behind by_application; waited = 0 }
 
 -- If it waited for its application, the application is ready, and ApplicationReady is sent. The activity timer goes on.
 abbrev pub prepared_from : RelationState → RelationState
@@ -70,13 +80,13 @@ prepared_from link = if is_preparing (Some link.phase) then record link { phase 
 abbrev pub exchanging_from : RelationState → RelationState
 exchanging_from link = record link { phase = Exchanging; flow = begun_of link.flow }
 
--- The activity timer restarts.
-abbrev pub restarted : RelationState → RelationState
-restarted link = record link { inactive = 0 }
+-- The activity timer restarts, if a call of this station shows that the controller is alive.
+abbrev pub restarted : Partner → RelationState → RelationState
+restarted source link = record link { inactive = if is_alive source link then 0 else link.inactive }
 
 -- It has accepted these parameter records.
-abbrev pub with_taken : List TakenRecord → RelationState → RelationState
-with_taken taken link = record link { taken = taken }
+abbrev pub with_records : Records → RelationState → RelationState
+with_records records link = record link { taken = records.taken; passed = records.passed }
 
 -- Its exchange became this.
 abbrev pub with_flow : Flow → RelationState → RelationState
@@ -84,12 +94,12 @@ with_flow flow link = record link { flow = flow }
 
 -- The outcome moves the relation.
 abbrev pub updated : Handled → Option RelationState → Option RelationState
-updated (Made request partner rows starting) link = Some (made_of request partner rows starting)
+updated (Made request partner rows options starting) link = Some (made_of request partner rows options starting)
 updated (Parameterized by_application) link = option_map (parameterized_from by_application) link
 updated Prepared link = option_map prepared_from link
 updated Confirmed link = option_map exchanging_from link
-updated Named link = option_map restarted link
-updated (Took taken) link = option_map (with_taken taken) link
+updated (Named source) link = option_map (restarted source) link
+updated (Took records) link = option_map (with_records records) link
 updated (Exchanged flow) link = option_map (with_flow flow) link
 updated Passed link = option_map unit_later link
 updated Ended link = None
@@ -110,10 +120,18 @@ abbrev pub answered : {A : Type 0} → Handled → Result A CallFault → Handle
 answered handled (Ok answer) = handled
 answered handled (Err fault) = Unmoved
 
-abbrev pub keeping : TakenRecord → Option RelationState → Result (List TakenRecord) CallFault
-keeping parameter None = Err fault.UnknownRelation
-keeping parameter (Some link) = keep_of parameter link.taken
+-- It is kept, if there is room, or passed on.
+abbrev pub kept_in : PassedOn → Result (List TakenRecord) CallFault → Result Records CallFault
+kept_in passed (Ok taken) = Ok (record { taken = taken; passed = passed })
+kept_in passed (Err fault) = Err fault
 
-abbrev pub taking : Result (List TakenRecord) CallFault → Handled
-taking (Ok taken) = Took taken
+abbrev pub keeping : TakenRecord → Option RelationState → Result Records CallFault
+keeping parameter None = Err fault.UnknownRelation
+keeping parameter (Some link) =
+    if passes_on link
+    then Ok (record { taken = link.taken; passed = passed_more parameter link.passed })
+    else kept_in link.passed (keep_of parameter link.taken)
+
+abbrev pub taking : Result Records CallFault → Handled
+taking (Ok records) = Took records
 taking (Err fault) = Unmoved

@@ -1,5 +1,5 @@
 -- The state of an application relation.
-use Rattle.std.specs.Prelude.{◌≡◌, ◌==◌, ◌&&◌, ℕ, Bool, true, false, nat_eq, List, [], Option, Some, None, option_map}
+use Rattle.std.specs.Prelude.{◌≡◌, ◌==◌, ◌&&◌, ◌||◌, ℕ, Bool, true, false, not, nat_eq, List, [], Option, Some, None, option_map}
 use Rattle.std.specs.Cmp.Lexicographic.{pointwise}
 use Rattle.pn_values.specs.declared.mac.Mac.{Mac}
 use Rattle.records.specs.calls.Naming.{is_relation}
@@ -7,21 +7,26 @@ use Rattle.connect_requests.specs.Request.{Request}
 use Rattle.records.specs.declared.writes.taken.TakenRecord.{TakenRecord}
 use Rattle.cyclic_exchange.specs.Cyclic.{Cyclic}
 use Rattle.device_exchange.specs.Flow.{Flow}
+use Rattle.relations.specs.declared.options.DeviceOptions.{DeviceOptions}
 use Rattle.relations.specs.declared.phase.Phase.{Phase}
 use Rattle.relations.specs.declared.phase.Phase.TheVariants.{Started, Preparing, Awaiting, Exchanging}
 use Rattle.relations.specs.declared.phase.Partner.{Partner}
+use Rattle.relations.specs.Passed.{PassedOn, none_passed}
 
--- A relation: its phase, what its Connect asked for and who sent that, the units from the start of the device to the answer to
--- the Connect, how many units the activity timer has run, how many units have passed since ApplicationReady was sent, the
--- parameter records that were accepted, the octets of its ModuleDiffBlock, none if no module differs, and its exchange.
+-- A relation: its phase, what its Connect asked for and who sent that, the options of the device, the units from the start of
+-- the device to the answer to the Connect, how many units the activity timer has run, how many units have passed since
+-- ApplicationReady was sent, the parameter records that were accepted and are kept, those that were passed on, the octets of its
+-- ModuleDiffBlock, none if no module differs, and its exchange.
 pub record RelationState : Type 0 where
   pub phase : Phase
   pub request : Request
   pub partner : Partner
+  pub options : DeviceOptions
   pub began : ℕ
   pub inactive : ℕ
   pub waited : ℕ
   pub taken : List TakenRecord
+  pub passed : PassedOn
   pub differing : List ℕ
   pub flow : Flow
 
@@ -37,15 +42,19 @@ phase_of link = option_map (λ l. l.phase) link
 abbrev pub uuid_of : Option RelationState → Option (List ℕ)
 uuid_of link = option_map (λ l. l.request.ar.uuid) link
 
--- The content that is read of it: what its Connect asked for, its end of cyclic data, when it began, and whether one of its
--- submodules has a diagnosis.
+-- The content that is read of it: what its Connect asked for, its end of cyclic data, when it began, and whether its last frame
+-- of inputs said that one of its submodules has a diagnosis.
 abbrev pub parts_of : Option RelationState → Option (Request × Cyclic × ℕ × Bool)
-parts_of link = option_map (λ l. (l.request, l.flow.cyclic, l.began, l.flow.low.has_problem)) link
+parts_of link = option_map (λ l. (l.request, l.flow.cyclic, l.began, l.flow.problem_sent)) link
 
--- The records that it accepted, and its ModuleDiffBlock.
+-- The records that it accepted and keeps, those that it passed on, and its ModuleDiffBlock.
 abbrev pub taken_of : Option RelationState → List TakenRecord
 taken_of None = []
 taken_of (Some link) = link.taken
+
+abbrev pub passed_of : Option RelationState → PassedOn
+passed_of None = none_passed
+passed_of (Some link) = link.passed
 
 abbrev pub differing_in : Option RelationState → List ℕ
 differing_in None = []
@@ -109,6 +118,24 @@ HasBegunIn (Some phase) flow = flow.cyclic.begun ≡ is_exchanging phase
 abbrev pub IsInStep : Option RelationState → Type 0
 IsInStep None = Unit {0}
 IsInStep (Some link) = HasBegunIn (Some link.phase) link.flow
+
+-- Whether two stations are the same: their MAC addresses and their IP addresses.
+abbrev pub is_from : Partner → Partner → Bool
+is_from source other = pointwise nat_eq source.mac.octets other.mac.octets && pointwise nat_eq source.address other.address
+
+-- Whether a call from this station shows that the controller of the relation is alive: any station, or only its own.
+abbrev pub is_alive_by : DeviceOptions → Partner → Partner → Bool
+is_alive_by options own source = not options.only_own_controller || is_from source own
+
+abbrev pub is_alive : Partner → RelationState → Bool
+is_alive source link = is_alive_by link.options link.partner source
+
+-- Whether parameter records are passed on and not kept: while data is exchanged, if the device has that option.
+abbrev pub passes_on_in : DeviceOptions → Phase → Bool
+passes_on_in options phase = options.records_passed_on && is_exchanging phase
+
+abbrev pub passes_on : RelationState → Bool
+passes_on link = passes_on_in link.options link.phase
 
 -- Whether an alarm frame with this source, to this endpoint and from this one, belongs to it.
 abbrev pub is_alarm_of : Mac → ℕ → ℕ → Option RelationState → Bool

@@ -1,11 +1,12 @@
 -- Relations over many units of time.
-use Rattle.std.specs.Prelude.{◌≡◌, ◌+◌, ◌%◌, ◌==◌, ◌<◌, ◌⊎◌, ℕ, Bool, zero, suc, true, false, List, [], ◌∷◌, Option, Some, None}
+use Rattle.std.specs.Prelude.{◌≡◌, ◌+◌, ◌%◌, ◌==◌, ◌<◌, ◌⊎◌, ℕ, Bool, zero, suc, true, false, not, List, [], ◌∷◌, Option, Some, None}
 use Rattle.pn_alarms.specs.declared.abort.Abort.{Abort}
 use Rattle.pn_alarms.specs.declared.abort.Abort.TheVariants.{Activity, DataHold, Other}
 use Rattle.pn_alarms.specs.Sending.{Sending}
 use Rattle.device_exchange.specs.Flow.{Flow}
 use Rattle.relations.specs.declared.phase.Phase.TheVariants.{Started, Preparing, Awaiting, Exchanging}
-use Rattle.relations.specs.RelationState.{RelationState, phase_of, is_awaiting}
+use Rattle.relations.specs.declared.phase.Partner.{Partner}
+use Rattle.relations.specs.RelationState.{RelationState, phase_of, is_awaiting, is_from}
 use Rattle.relations.specs.Farewells.{farewell_of}
 use Rattle.relations.specs.Timers.{due_of, is_again, is_timed, limit_of}
 use Rattle.relations.specs.Phases.{Handled, Made, Parameterized, Prepared, Confirmed, Named, Took, Exchanged, Passed, Ended, Unmoved, updated, passing}
@@ -39,12 +40,12 @@ IsDueEachSecond = (link : RelationState) (units : ℕ) → is_awaiting link.phas
 -- The events that leave a relation in its phase: a unit that ends nothing, a call that is answered or refused, a record
 -- that is written, a frame.
 abbrev pub leaves_waiting : Handled → Bool
-leaves_waiting (Made request partner rows starting) = false
+leaves_waiting (Made request partner rows options starting) = false
 leaves_waiting (Parameterized by_application) = false
 leaves_waiting Prepared = false
 leaves_waiting Confirmed = false
-leaves_waiting Named = true
-leaves_waiting (Took taken) = true
+leaves_waiting (Named source) = true
+leaves_waiting (Took records) = true
 leaves_waiting (Exchanged flow) = true
 leaves_waiting Passed = true
 leaves_waiting Ended = false
@@ -73,6 +74,32 @@ units_of (handled ∷ more) = units_in handled + units_of more
 abbrev pub IsDueWhateverComes : Type 0
 IsDueWhateverComes = (link now : RelationState) (events : List Handled) → is_awaiting link.phase ≡ true → link.waited ≡ 0 → AreWaiting events
     → all_updated events (Some link) ≡ Some now → is_again now ≡ ((units_of events + 1) % 32000 == 0)
+
+-- ---- who holds a relation
+
+-- The events that are no call of this station and that leave the activity timer running: a call of another station that is
+-- answered, PrmEnd included, a record that is written, a frame, a unit.
+abbrev pub leaves_timer : Partner → Handled → Bool
+leaves_timer own (Made request partner rows options starting) = false
+leaves_timer own (Parameterized by_application) = true
+leaves_timer own Prepared = true
+leaves_timer own Confirmed = false
+leaves_timer own (Named source) = not (is_from source own)
+leaves_timer own (Took records) = true
+leaves_timer own (Exchanged flow) = true
+leaves_timer own Passed = true
+leaves_timer own Ended = false
+leaves_timer own Unmoved = true
+
+abbrev pub AreOfOthers : Partner → List Handled → Type 0
+AreOfOthers own [] = Unit {0}
+AreOfOthers own (handled ∷ more) = (leaves_timer own handled ≡ true) × AreOfOthers own more
+
+-- With the option that a relation is held by its own controller alone, the activity timer has run for each unit of time,
+-- whatever other stations call.
+abbrev pub IsHeldByItsOwn : Type 0
+IsHeldByItsOwn = (link now : RelationState) (events : List Handled) → link.options.only_own_controller ≡ true → is_timed link.phase ≡ true
+    → AreOfOthers link.partner events → all_updated events (Some link) ≡ Some now → now.inactive ≡ link.inactive + units_of events
 
 -- ---- while data is exchanged
 

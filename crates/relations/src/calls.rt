@@ -99,7 +99,6 @@ impl Relation {
         let _size = control_len(&done);
         write_block(answer, &Block::PrmEndRes(done));
         self.phase = Some(phase_behind(by_application));
-        self.inactive = 0;
         self.waited = 0;
         Ok(())
     }

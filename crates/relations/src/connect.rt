@@ -1,18 +1,19 @@
 //! Connect (IEC 61158-6-10, 5.2.4.1 to 5.2.4.11).
-ghost use Rattle.std.specs.Prelude.{◌≡◌, ◌+◌, ◌≤◌, ◌++◌, [], length, IfErr, IfOk, Err, Ok};
+ghost use Rattle.std.specs.Prelude.{◌≡◌, ◌+◌, ◌≤◌, ◌++◌, [], length, None, IfErr, IfOk, Err, Ok};
 ghost use Rattle.arrayvec.specs.ArrayVec.{array_vec_len};
-ghost use Rattle.relations.specs.Connect.{connect_answer, connect_blocks, connect_within, iocr_answer, iocrs_answer, making};
+ghost use Rattle.connect_requests.specs.Handled.{asked_initiator};
+ghost use Rattle.relations.specs.Connect.{connect_answer, connect_blocks, connect_within, iocr_answer, iocrs_answer, is_foreign, is_other, making};
 ghost use Rattle.relations.specs.Phases.{differing_octets, updated};
 
-use crate::{Application, Partner, Phase, Relation};
+use crate::{Application, DeviceOptions, Partner, Phase, Relation};
 use arrayvec::ArrayVec;
 use block_codec::{AlarmCrBlockRes, ArBlockRes, Block, IocrBlockRes, write_block};
 use connect_blocks::{alarm_cr_block_res_len, ar_block_res_len, iocr_block_res_len};
-use connect_requests::{ConnectRequest, Iocr, refuse};
+use connect_requests::{ConnectRequest, Iocr, asked_initiator, refuse};
 use device_exchange::Starting;
 use module_blocks::module_diff_len;
 use module_diff::{DiffRows, diff};
-use pn_values::{Identity, Real};
+use pn_values::{Identity, Mac, Real};
 use records::CallFault;
 use wire::append;
 
@@ -20,6 +21,26 @@ use wire::append;
 const INPUT: u16 = 1;
 /// IOCRType of outputs.
 const OUTPUT: u16 = 2;
+
+/// The number of the field CMInitiatorMacAdd in ARBlockReq.
+const INITIATOR: u8 = 7;
+
+/// Whether CMInitiatorMacAdd of a Connect, if it can be read, is another address than this one.
+fn is_other(source: &Mac, blocks: &[u8]) -> bool
+    ensures { result ≡ is_other source.now (asked_initiator blocks.now) }
+{
+    match asked_initiator(blocks) {
+        Some(initiator) => !initiator.is(source),
+        None => false,
+    }
+}
+
+/// Whether a Connect from this address is refused for that, while there is no relation.
+fn is_foreign(options: &DeviceOptions, source: &Mac, blocks: &[u8]) -> bool
+    ensures { result ≡ is_foreign options.now source.now None blocks.now }
+{
+    options.only_own_controller && is_other(source, blocks)
+}
 
 /// Replaces the ModuleDiffBlock by one with these rows; it is empty if no module differs.
 #[tactic(auto, unfolding(block_codec::specs::Block::block_size, block_codec::specs::Block::fields_of, block_fields::specs::Fields::body, block_fields::specs::Fields::version))]
@@ -98,8 +119,8 @@ fn put_answer<const N: usize>(
 
 impl Relation {
     /// Handles Connect (operation 0), with which a station asks for a relation. Writes the blocks of the answer into an
-    /// empty list, or returns why the call is refused. While a relation exists, each Connect is refused. One that asks for
-    /// a smaller interval than the options say is refused too.
+    /// empty list, or returns why the call is refused. While a relation exists, each Connect is refused. By the options one
+    /// for another controller than its sender is refused too, and one that asks for a smaller interval.
     pub fn connect<const N: usize>(
         &mut self,
         identity: &Identity,
@@ -111,19 +132,23 @@ impl Relation {
     ) -> Result<(), CallFault>
         requires empty { answer.old.items ≡ [] }
         requires room { 1236 ≤ N }
-        ensures done { IfOk result (λ _. connect_answer identity.now real.now application.entry.options.now.smallest_interval self.old blocks.now
+        ensures done { IfOk result (λ _. connect_answer identity.now real.now application.entry.options.now partner.mac self.old blocks.now
             ≡ Ok answer.new.items) }
         ensures refused { IfErr result (λ fault.
-            (connect_answer identity.now real.now application.entry.options.now.smallest_interval self.old blocks.now ≡ Err fault)
+            (connect_answer identity.now real.now application.entry.options.now partner.mac self.old blocks.now ≡ Err fault)
             × (answer.new.items ≡ [])) }
-        ensures state { self.new ≡ updated (making real.now partner
+        ensures state { self.new ≡ updated (making real.now partner application.entry.options.now
             (record { begin_bad = application.entry.options.now.inputs_begin_bad; statuses = application.entry.statuses.now; units = application.entry.units; diagnoses = application.entry.diagnoses.now })
-            (connect_within application.entry.options.now.smallest_interval self.old blocks.now)) self.old }
+            (connect_within application.entry.options.now partner.mac self.old blocks.now)) self.old }
     {
         // Only one relation, and the controller that has it keeps it: a second controller must not take a running
         // station from the first.
         if let Some(_) = self.phase {
             return Err(refuse(&self.request.ar().uuid, blocks));
+        }
+        // The cyclic frames and alarms of the relation go to CMInitiatorMacAdd, which need not be the sender of the Connect.
+        if is_foreign(application.options, &partner.mac, blocks) {
+            return Err(CallFault::ArField(INITIATOR));
         }
         self.request
             .read(application.options.smallest_interval, blocks)?;
@@ -138,7 +163,9 @@ impl Relation {
         self.exchange.open(&self.request, &rows, starting);
         // Parameters of an earlier relation do not belong to this one.
         self.taken.clear();
+        self.passed.clear();
         self.partner = partner;
+        self.options = *application.options;
         self.began = application.units;
         self.inactive = 0;
         self.waited = 0;

@@ -1,6 +1,6 @@
 //! What holds for relations over many events.
 ghost use Rattle.relations.specs.Runs.{StandsUntil, EndsAt, IsByApplication, IsByPrmEnd, IsByReady, IsDueEachSecond, IsDueWhateverComes, IsGivenUp};
-ghost use Rattle.relations.specs.Runs.{IsHeldFor};
+ghost use Rattle.relations.specs.Runs.{IsHeldByItsOwn, IsHeldFor};
 
 /// The timers over any number of units without other events, and ApplicationReady with other events between. These are
 /// laws of the definitions that specify `Relation::elapse`; the function has no code.
@@ -15,6 +15,9 @@ pub fn time_is_kept()
     // While a relation waits for the answer to ApplicationReady, ApplicationReady is due again with each 32,000th unit
     // since it was sent, and with no other unit, for any calls and frames between.
     ensures whatever { IsDueWhateverComes }
+    // With the option `only_own_controller`, the activity timer has run for each unit since the last call of its own controller,
+    // for any calls of other stations between.
+    ensures own { IsHeldByItsOwn }
     // While data is exchanged, a relation that receives nothing exists until the last unit of its data hold time, which
     // ends it with ERR, if no alarm is given up before.
     ensures hold { IsHeldFor }

@@ -13,6 +13,7 @@ mod hearing;
 mod laws;
 mod options;
 mod output;
+mod passed;
 mod phase;
 mod ready;
 mod relation;

@@ -27,6 +27,12 @@ pub struct DeviceOptions {
     pub inputs_begin_bad: bool,
     /// Whether the application says when it is ready: ApplicationReady is sent then, and not with the answer to PrmEnd.
     pub ready_by_application: bool,
+    /// Whether a relation is held by its own controller alone. A Connect is refused whose CMInitiatorMacAdd is not the source
+    /// MAC address of its frame, and only calls from that MAC address and that IP address restart the activity timer.
+    pub only_own_controller: bool,
+    /// Whether parameter records that are written while data is exchanged are passed on and not kept: they take no place among
+    /// the 64 records of a relation.
+    pub records_passed_on: bool,
 }
 
 impl Default for DeviceOptions {
@@ -35,12 +41,15 @@ impl Default for DeviceOptions {
 
     ghost is_default = { λ options. options ≡ default_options };
 
-    /// Any interval is accepted, inputs begin good, and the device is ready as soon as its parameters have ended.
+    /// Any interval is accepted, inputs begin good, the device is ready as soon as its parameters have ended, any station may
+    /// hold a relation, and each record is kept.
     fn default() -> DeviceOptions {
         DeviceOptions {
             smallest_interval: 1,
             inputs_begin_bad: false,
             ready_by_application: false,
+            only_own_controller: false,
+            records_passed_on: false,
         }
     }
 }

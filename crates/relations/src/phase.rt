@@ -1,4 +1,7 @@
 //! What a relation waits for, and who asked for it.
+ghost use Rattle.std.specs.Prelude.{◌≡◌};
+ghost use Rattle.relations.specs.RelationState.{is_from};
+
 use pn_values::Mac;
 
 /// What an established relation waits for.
@@ -22,4 +25,13 @@ pub struct Partner {
     pub mac: Mac,
     /// Its source address, in network byte order.
     pub address: [u8; 4],
+}
+
+impl Partner {
+    /// Whether this is the same station: its MAC address and its IP address.
+    pub(crate) fn is(&self, other: &Partner) -> bool
+        ensures { result ≡ is_from self.now other.now }
+    {
+        self.mac.is(&other.mac) && self.address == other.address
+    }
 }

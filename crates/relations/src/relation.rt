@@ -2,9 +2,10 @@
 ghost use Rattle.std.specs.Prelude.{◌≡◌, ◌≤◌, Err, IfErr, IsOk, None, OnOk, if◌then◌else◌, length, option_map};
 ghost use Rattle.relations.specs.Phases.{Ended, Named, Unmoved, answered, keeping, updated, taking};
 ghost use Rattle.relations.specs.Farewells.{farewell_of};
-ghost use Rattle.relations.specs.RelationState.{IsInStep, differing_in, is_alarm_of, is_named, is_parameterized, parts_of, phase_of, taken_of, uuid_of};
+ghost use Rattle.relations.specs.RelationState.{IsInStep, differing_in, is_alarm_of, is_alive_by, is_named, is_parameterized, parts_of, passed_of, passes_on_in, phase_of, taken_of, uuid_of};
 
-use crate::{Farewell, Partner, Phase};
+use crate::passed::PassedRecords;
+use crate::{DeviceOptions, Farewell, Partner, Phase};
 use arrayvec::ArrayVec;
 use connect_requests::ConnectRequest;
 use cyclic_exchange::CyclicExchange;
@@ -22,6 +23,8 @@ pub struct Relation {
     pub(crate) phase: Option<Phase>,
     pub(crate) request: ConnectRequest,
     pub(crate) partner: Partner,
+    /// The options of the device.
+    pub(crate) options: DeviceOptions,
     /// The units from the start of the device to the answer to the Connect.
     pub(crate) began: u64,
     /// Units since the activity timer was started.
@@ -29,6 +32,8 @@ pub struct Relation {
     /// Units since ApplicationReady was sent.
     pub(crate) waited: u32,
     pub(crate) taken: TakenRecords,
+    /// The parameter records that are passed on.
+    pub(crate) passed: PassedRecords,
     /// The ModuleDiffBlock, if there is one.
     pub(crate) differing: ArrayVec<u8, 1166>,
     /// The data exchange.
@@ -49,10 +54,12 @@ impl Model for Relation {
       phase = phase;
       request = relation.request;
       partner = relation.partner;
+      options = relation.options;
       began = relation.began;
       inactive = relation.inactive;
       waited = relation.waited;
       taken = relation.taken;
+      passed = relation.passed;
       differing = relation.differing.items;
       flow = relation.exchange;
     }) };
@@ -70,8 +77,8 @@ pub struct RelationParts<'a> {
     pub cyclic: &'a CyclicExchange,
     /// The units from the start of the device to the answer to its Connect.
     pub began: u64,
-    /// Whether one of its submodules has a diagnosis.
-    pub has_problem: bool,
+    /// Whether its last frame of inputs said that one of its submodules has a diagnosis.
+    pub problem_sent: bool,
 }
 
 impl Relation {
@@ -86,10 +93,12 @@ impl Relation {
                 mac: Mac { octets: [0; 6] },
                 address: [0; 4],
             },
+            options: DeviceOptions::default(),
             began: 0,
             inactive: 0,
             waited: 0,
             taken: TakenRecords::new(),
+            passed: PassedRecords::new(),
             differing: ArrayVec::new(),
             exchange: DataExchange::new(),
         }
@@ -116,14 +125,14 @@ impl Relation {
 
     /// The content of the relation, if there is one.
     pub fn parts(&self) -> Option<RelationParts<'_>>
-        ensures { option_map (λ parts. (parts.request.now, parts.cyclic.now, parts.began, parts.has_problem)) result ≡ parts_of self.now }
+        ensures { option_map (λ parts. (parts.request.now, parts.cyclic.now, parts.began, parts.problem_sent)) result ≡ parts_of self.now }
     {
         match self.phase {
             Some(_) => Some(RelationParts {
                 request: &self.request,
                 cyclic: self.exchange.cyclic(),
                 began: self.began,
-                has_problem: self.exchange.has_problem(),
+                problem_sent: self.exchange.problem_sent(),
             }),
             None => None,
         }
@@ -139,13 +148,34 @@ impl Relation {
         }
     }
 
-    /// The parameter records that the relation accepted, in order. Empty if there is no relation.
+    /// The parameter records that the relation accepted and keeps, in order. Empty if there is no relation.
     pub fn taken(&self) -> &[TakenRecord]
         ensures { result.now ≡ taken_of self.now }
     {
         match self.phase {
             Some(_) => self.taken.as_slice(),
             None => &[],
+        }
+    }
+
+    /// The last parameter records that were passed on and not kept, at most 16, the oldest first. Empty if there is no relation.
+    pub fn passed(&self) -> &[TakenRecord]
+        ensures value { result.now ≡ (passed_of self.now).last }
+        ensures few { length result.now ≤ 16 }
+    {
+        match self.phase {
+            Some(_) => self.passed.as_slice(),
+            None => &[],
+        }
+    }
+
+    /// How many parameter records were passed on and not kept in the relation, modulo 2^32. 0 if there is no relation.
+    pub fn passed_on(&self) -> u32
+        ensures { result ≡ (passed_of self.now).count }
+    {
+        match self.phase {
+            Some(_) => self.passed.count(),
+            None => 0,
         }
     }
 
@@ -161,14 +191,20 @@ impl Relation {
         }
     }
 
-    /// Appends a parameter record that was written. Returns TooManyRecords if there are 64 already.
+    /// Appends a parameter record that was written. Returns TooManyRecords if there are 64 already. While data is exchanged, a
+    /// device with that option passes it on instead, and keeps none.
     pub fn keep(&mut self, parameter: TakenRecord) -> Result<(), CallFault>
         ensures kept { OnOk result (IsOk (keeping parameter self.old)) }
         ensures refused { IfErr result (λ fault. keeping parameter self.old ≡ Err fault) }
         ensures state { self.new ≡ updated (taking (keeping parameter self.old)) self.old }
     {
-        if self.phase.is_none() {
+        let Some(phase) = self.phase else {
             return Err(CallFault::UnknownRelation);
+        };
+        // The records of the start-up stay as they are: they are those that the relation began to exchange data with.
+        if passes_on(&self.options, phase) {
+            self.passed.add(parameter);
+            return Ok(());
         }
         self.taken.keep(parameter)
     }
@@ -192,14 +228,15 @@ impl Relation {
             && endpoint == self.request.alarm().reference
     }
 
-    /// Records that a call was answered. If it names the relation and the answer is positive, the controller is alive:
-    /// the activity timer restarts.
-    pub fn hear_controller(&mut self, is_named: bool, came: Result<(), CallFault>)
-        ensures { self.new ≡ updated (answered (if is_named then Named else Unmoved) came) self.old }
+    /// Records that a call of this station was answered. If it names the relation and the answer is positive, the controller is
+    /// alive: the activity timer restarts. With the option `only_own_controller` it does so for calls of its own controller
+    /// alone.
+    pub fn hear_controller(&mut self, source: &Partner, is_named: bool, came: Result<(), CallFault>)
+        ensures { self.new ≡ updated (answered (if is_named then Named source.now else Unmoved) came) self.old }
     {
         // A refused call shows that somebody is there, but not that it is the controller at work.
         if is_named && came.is_ok() {
-            self.inactive = 0;
+            self.inactive = inactive_after(&self.options, &self.partner, source, self.inactive);
         }
     }
 
@@ -217,5 +254,24 @@ impl Relation {
         };
         self.phase = None;
         farewell
+    }
+}
+
+/// Whether parameter records are passed on in this phase, and not kept.
+fn passes_on(options: &DeviceOptions, phase: Phase) -> bool
+    ensures { result ≡ passes_on_in options.now phase }
+{
+    options.records_passed_on && matches!(phase, Phase::Exchanging)
+}
+
+/// The units that the activity timer of a relation with this partner has run, after a call from this station.
+fn inactive_after(options: &DeviceOptions, own: &Partner, source: &Partner, inactive: u32) -> u32
+    ensures value { result ≡ (if is_alive_by options.now own.now source.now then 0 else inactive) }
+    ensures most { inactive ≤ 209712000 → result ≤ 209712000 }
+{
+    if !options.only_own_controller || source.is(own) {
+        0
+    } else {
+        inactive
     }
 }

@@ -20,6 +20,7 @@ use Rattle.connect_requests.specs.Request.{Request}
 use Rattle.connect_requests.specs.Handled.{request_within}
 use Rattle.rpc_core.specs.Response.{Answered, answer_to}
 use Rattle.wire.specs.Codec.{◌>>=◌}
+use Rattle.relations.specs.Options.{default_options}
 use Rattle.relations.specs.RelationState.{RelationState}
 use Rattle.relations.specs.Phases.{differing_octets, updated}
 use Rattle.relations.specs.Connect.{connect_answer, connect_blocks, connect_within, differing_of, making}
@@ -47,15 +48,15 @@ answers_so setup identity device none =
     let blocks = blocks_of setup asks.Connect in
     let address = device.values.running.suite.address in
     let link = device.rest.link in
-    let logged = with_log (connect_log blocks (connect_answer identity setup.plan.real 1 link blocks)) device.rest in
-    let rest = kept_behind identity logged call (answer_from address caller call Connect (connect_answer identity setup.plan.real 1 link blocks))
-    (updated (making setup.plan.real (partner_of caller) (record { begin_bad = false; statuses = device.rest.statuses; units = device.rest.units; diagnoses = device.rest.diagnoses }) (connect_within 1 link blocks)) link) in
-    (rest, ap (λ (l : Option RelationState). Moves rest (answer_from address caller call Connect (connect_answer identity setup.plan.real 1 l blocks) ∷ [])) none)
+    let logged = with_log (connect_log blocks (connect_answer identity setup.plan.real default_options caller.mac link blocks)) device.rest in
+    let rest = kept_behind identity logged call (answer_from address caller call Connect (connect_answer identity setup.plan.real default_options caller.mac link blocks))
+    (updated (making setup.plan.real (partner_of caller) default_options (record { begin_bad = false; statuses = device.rest.statuses; units = device.rest.units; diagnoses = device.rest.diagnoses }) (connect_within default_options caller.mac link blocks)) link) in
+    (rest, ap (λ (l : Option RelationState). Moves rest (answer_from address caller call Connect (connect_answer identity setup.plan.real default_options caller.mac l blocks) ∷ [])) none)
 
 -- if the device reads the plan's request and no module differs, it responds with these blocks
 blocks_by : (setup : Setup) (identity : Identity) → request_within 1 None (blocks_of setup asks.Connect) ≡ Ok (request_for setup.plan setup.ar)
     → diff_of (request_for setup.plan setup.ar).expected setup.plan.real.modules.items ≡ no_rows
-    → connect_answer identity setup.plan.real 1 None (blocks_of setup asks.Connect) ≡ Ok (answer_blocks setup identity)
+    → connect_answer identity setup.plan.real default_options setup.plan.controller.mac None (blocks_of setup asks.Connect) ≡ Ok (answer_blocks setup identity)
 blocks_by setup identity read same =
     ap (λ (r : Result Request CallFault). r >>= λ request. Ok (connect_blocks identity request (differing_of request setup.plan.real))) read
     ∙ ap (λ (rows : Listed DiffModule DiffSubmodule). Ok (connect_blocks identity (request_for setup.plan setup.ar) (differing_octets rows))) same

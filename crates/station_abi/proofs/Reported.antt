@@ -10,7 +10,7 @@ use Rattle.station_port.specs.State.{Served, barred_both, due_both, or_own, wait
 use Rattle.station_port.specs.Steps.{PassesBoth}
 use Rattle.pn_values.specs.declared.settings.Settings.{Settings}
 use Rattle.c_layout.specs.Reported.{with_octets}
-use Rattle.station_abi.specs.Serves.{IsConflicts, IsDue, IsHanded, IsLeft, IsNumber, IsSettings, IsTick, IsValue, IsValueOf, settings_octets, with_frame, with_nothing, with_passed}
+use Rattle.station_abi.specs.Serves.{IsConflicts, IsDue, IsHanded, IsLeft, IsNumber, IsPassedOn, IsSettings, IsTick, IsValue, IsValueOf, settings_octets, with_frame, with_nothing, with_passed}
 
 -- The next piece of work, as it is reported, is what is handed out.
 pub handed_nothing : (calls : List Call) (frames : List (List ℕ)) (asked : Op) (octets : List ℕ) (reported : Op) → calls ≡ [] → frames ≡ [] → octets ≡ [] → reported ≡ with_nothing asked
@@ -59,6 +59,10 @@ settings_refused why known refusal asked answer reported is at same = rw is (at,
 pub due_told : (why : Option Refusal) (due : ℕ) (asked : Op) (answer new : ℕ) → IsNumber why due asked.units answer new → IsDue why due asked answer (record asked { units = new })
 due_told (Some refusal) due asked answer new is = (is.0, ap (λ (n : ℕ). record asked { units = n }) is.1)
 due_told None due asked answer new is = (is.0, ap (λ (n : ℕ). record asked { units = n }) is.1)
+
+pub passed_told : (why : Option Refusal) (count : ℕ) (asked : Op) (answer new : ℕ) → IsNumber why count asked.units answer new → IsPassedOn why count asked answer (record asked { units = new })
+passed_told (Some refusal) count asked answer new is = (is.0, ap (λ (n : ℕ). record asked { units = n }) is.1)
+passed_told None count asked answer new is = (is.0, ap (λ (n : ℕ). record asked { units = n }) is.1)
 
 pub left_told : (why : Option Refusal) (left : ℕ) (asked : Op) (answer new : ℕ) → IsNumber why left asked.place answer new → IsLeft why left asked answer (record asked { place = new })
 left_told (Some refusal) left asked answer new is = (is.0, ap (λ (n : ℕ). record asked { place = n }) is.1)

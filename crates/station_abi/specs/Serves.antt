@@ -2,7 +2,7 @@
 -- afterwards: an equation of the whole operation says which fields are written, and with what. All other fields are
 -- unchanged, and so are the octets after those that are written. A refused operation changes nothing, neither in the
 -- port nor in the operation.
-use Rattle.std.specs.Prelude.{◌≡◌, ◌==◌, ◌++◌, ℕ, Bool, not, min, if◌then◌else◌, List, [], ◌∷◌, drop, length, take, slice_get, slice_index, Option, Some, None, Result, Ok, Err, MatchResult}
+use Rattle.std.specs.Prelude.{◌≡◌, ◌==◌, ◌++◌, ◌-◌, ℕ, Bool, nat_lt, not, min, if◌then◌else◌, List, [], ◌∷◌, drop, length, take, slice_get, slice_index, Option, Some, None, Result, Ok, Err, MatchResult}
 use Rattle.std.specs.Int.{w16, from_be_bytes}
 use Rattle.flash_model.specs.Calls.{Call, Programs, Erases, Arms}
 use Rattle.flash_model.specs.declared.flash.Sector.{Sector}
@@ -14,7 +14,7 @@ use Rattle.records.specs.declared.writes.taken.TakenRecord.{TakenRecord}
 use Rattle.relations.specs.declared.phase.Phase.{Phase}
 use Rattle.relations.specs.declared.phase.Phase.TheVariants.{Started, Preparing, Awaiting, Exchanging}
 use Rattle.relations.specs.Exchanged.{output_in, provider_in}
-use Rattle.relations.specs.RelationState.{phase_of, taken_of}
+use Rattle.relations.specs.RelationState.{passed_of, phase_of, taken_of}
 use Rattle.relations.specs.Outputs.{output_of}
 use Rattle.device_frames.specs.declared.event.Event.{Event}
 use Rattle.device_frames.specs.declared.event.Event.TheVariants.{Frame, Input, Alarm, Status, Diagnosis, Ready}
@@ -55,7 +55,9 @@ operation_of what =
     if what == 18 then Some operation.Provider else
     if what == 19 then Some operation.Diagnosis else
     if what == 20 then Some operation.Conflicts else
-    if what == 21 then Some operation.Link else None
+    if what == 21 then Some operation.Link else
+    if what == 22 then Some operation.Passed else
+    if what == 23 then Some operation.PassedOn else None
 
 -- The result of what was done, or of what was refused.
 abbrev pub answer_of : {T : Type 0} → Result T Refusal → ℕ
@@ -256,6 +258,15 @@ abbrev pub IsRecordOf : Option Refusal → Option TakenRecord → Op → ℕ →
 IsRecordOf (Some refusal) taken asked answer reported = (answer ≡ refusal_number refusal) × (reported ≡ asked)
 IsRecordOf None taken asked answer reported = IsRecordAt taken asked answer reported
 
+-- The record that is this many before the last one.
+abbrev pub back_at : List TakenRecord → ℕ → Option TakenRecord
+back_at records back = if nat_lt back (length records) then slice_get records (length records - 1 - back) else None
+
+-- How many parameter records the relation passed on, modulo 2^32.
+abbrev pub IsPassedOn : Option Refusal → ℕ → Op → ℕ → Op → Type 0
+IsPassedOn (Some refusal) count asked answer reported = (answer ≡ refusal_number refusal) × (reported ≡ asked)
+IsPassedOn None count asked answer reported = (answer ≡ 0) × (reported ≡ record asked { units = count })
+
 -- How many conflicts of the running IP address were heard, at most the maximum of 32 bits; 0 without services.
 abbrev pub IsConflicts : Option Refusal → ℕ → Op → ℕ → Op → Type 0
 IsConflicts (Some refusal) conflicts asked answer reported = (answer ≡ refusal_number refusal) × (reported ≡ asked)
@@ -320,4 +331,8 @@ Serves (Some operation.Provider) old asked given answer new reported =
 Serves (Some operation.Conflicts) old asked given answer new reported =
     (new ≡ old) × IsConflicts (closed old.port.stage) (conflicts_of old.services) asked answer reported
 Serves (Some operation.Link) old asked given answer new reported = (reported ≡ asked) × IsLink (link_of given) old asked answer new
+Serves (Some operation.Passed) old asked given answer new reported =
+    (new ≡ old) × IsRecordOf (closed old.port.stage) (back_at (passed_of old.port.device.live.rest.link).last asked.place) asked answer reported
+Serves (Some operation.PassedOn) old asked given answer new reported =
+    (new ≡ old) × IsPassedOn (closed old.port.stage) (passed_of old.port.device.live.rest.link).count asked answer reported
 Serves None old asked given answer new reported = (answer ≡ 10) × (new ≡ old) × (reported ≡ asked)

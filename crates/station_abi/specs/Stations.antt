@@ -111,6 +111,8 @@ options_of station = record {
   smallest_interval = station.smallest_interval;
   inputs_begin_bad = not (station.inputs_begin_bad == 0);
   ready_by_application = not (station.ready_by_application == 0);
+  only_own_controller = not (station.only_own_controller == 0);
+  records_passed_on = not (station.records_passed_on == 0);
 }
 
 -- The identity, the modules that are plugged, and the options.

@@ -47,6 +47,10 @@ pub struct Station {
     pub inputs_begin_bad: u16,
     /// Not 0: the application says when it is ready.
     pub ready_by_application: u16,
+    /// Not 0: a relation is held by its own controller alone.
+    pub only_own_controller: u32,
+    /// Not 0: records that are written while data is exchanged are passed on and not kept.
+    pub records_passed_on: u32,
     /// Not 0: the device has no services beside it.
     pub without_services: u32,
     pub module_count: u32,
@@ -171,6 +175,8 @@ fn options_in(station: &Station) -> DeviceOptions
         smallest_interval: station.smallest_interval,
         inputs_begin_bad: station.inputs_begin_bad != 0,
         ready_by_application: station.ready_by_application != 0,
+        only_own_controller: station.only_own_controller != 0,
+        records_passed_on: station.records_passed_on != 0,
     }
 }
 

@@ -25,6 +25,8 @@ pub enum Operation {
     Diagnosis,
     Conflicts,
     Link,
+    Passed,
+    PassedOn,
 }
 
 // The operation of this number, if it exists.
@@ -52,6 +54,8 @@ pub(crate) fn operation_of(what: u32) -> Option<Operation>
         19 => Some(Operation::Diagnosis),
         20 => Some(Operation::Conflicts),
         21 => Some(Operation::Link),
+        22 => Some(Operation::Passed),
+        23 => Some(Operation::PassedOn),
         _ => None,
     }
 }

@@ -3,7 +3,7 @@ ghost use Rattle.std.specs.Prelude.{◌≡◌, ℕ, Ok, Option, Some, [], min, s
 ghost use Rattle.device_frames.specs.declared.event.Event.TheVariants.{Frame as Framed, Ready as IsReady};
 ghost use Rattle.device_abi.specs.recorded.Entry.{call_of};
 ghost use Rattle.relations.specs.Exchanged.{provider_in};
-ghost use Rattle.relations.specs.RelationState.{phase_of, taken_of};
+ghost use Rattle.relations.specs.RelationState.{passed_of, phase_of, taken_of};
 ghost use Rattle.std.specs.Prelude.{⊤};
 ghost use mathlib.Core.Option.{none};
 ghost use types.Logic.{sem};
@@ -14,7 +14,7 @@ ghost use Rattle.station_port.specs.State.{advanced_both, conflicts_of, due_both
 ghost use Rattle.c_layout.specs.Places.{place_in};
 ghost use Rattle.c_layout.specs.Reported.{with_octets};
 ghost use Rattle.station_abi.specs.Serves.{IsAlarm, IsBoot, IsCall, IsDiagnosis, IsEvent, IsInput, IsLink, IsLoss, HandsOut, IsHanded, IsOutput, with_frame, with_nothing};
-ghost use Rattle.station_abi.specs.Serves.{IsNumber, IsRead, IsRecordAt, IsRecordOf, IsProvider, IsProviderAt, IsProviderOf, IsSector, IsSettings, IsState, IsStatus, IsTick, IsValueOf, Serves, answer_of, link_of};
+ghost use Rattle.station_abi.specs.Serves.{IsNumber, IsRead, IsRecordAt, IsRecordOf, IsProvider, IsProviderAt, IsProviderOf, IsSector, IsSettings, IsState, IsStatus, IsTick, IsValueOf, Serves, answer_of, back_at, link_of};
 ghost use Rattle.station_abi.specs.Serves.{noted as is_noted, operation_of as operation_in, with_passed, phase_number};
 ghost use Rattle.station_abi.specs.Serves.{sector_number as number_of, sector_of, settings_octets, value_of};
 
@@ -87,6 +87,8 @@ fn perform(operation: Operation, port: &mut ServedPort, op: &mut Op, given: &[u8
         Operation::Diagnosis => diagnosis(port, op),
         Operation::Conflicts => tell_number(conflicts(port), &mut op.units),
         Operation::Link => link(port, op, given),
+        Operation::Passed => tell_passed_record(port.port(), op),
+        Operation::PassedOn => tell_number(port.port().passed_on(), &mut op.units),
     }
 }
 
@@ -637,4 +639,27 @@ fn tell_record(records: &[TakenRecord], op: &mut Op) -> u32
         }
         None => NO_RECORD,
     }
+}
+
+// A parameter record that the relation passed on, counted back from the last one.
+#[inline(never)]
+fn tell_passed_record(port: &Port, op: &mut Op) -> u32
+    ensures { IsRecordOf (closed port.now.stage) (back_at (passed_of port.now.device.live.rest.link).last op.old.place) op.old result op.new }
+{
+    match port.passed() {
+        Ok(records) => tell_back(records, op),
+        Err(refusal) => refusal.number(),
+    }
+}
+
+// One of these records, counted back from the last one.
+fn tell_back(records: &[TakenRecord], op: &mut Op) -> u32
+    ensures { IsRecordAt (back_at records.now op.old.place) op.old result op.new }
+{
+    let back = op.place as usize;
+    if back >= records.len() {
+        return NO_RECORD;
+    }
+    op.place = (records.len() - 1 - back) as u32;
+    tell_record(records, op)
 }

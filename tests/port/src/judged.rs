@@ -31,6 +31,8 @@ fn station() -> Station {
         smallest_interval: 0,
         inputs_begin_bad: 0,
         ready_by_application: 0,
+        only_own_controller: 0,
+        records_passed_on: 0,
         without_services: 0,
         module_count: 3,
         modules: std::array::from_fn(|slot| Module {

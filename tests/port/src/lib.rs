@@ -8,6 +8,7 @@ mod cycles;
 mod host;
 mod judged;
 mod operations;
+mod passed;
 mod refusals;
 mod served;
 mod stations;

@@ -31,7 +31,7 @@ const OTHER_SWITCH: &str = "0180c200000e0200000000aa88cc02050773772d31040907706f
 const BY_ALIAS: &str = "010ecf0000000200000000028892fefe050000000005000100120206000d706f72742d3030332e73772d3100";
 const GET_ALIAS: &str = "0200000000010200000000028892fefd0300000000060000000202060000000000000000000000000000000000000000000000000000000000000000";
 
-fn octets(digits: &str) -> Vec<u8> {
+pub(crate) fn octets(digits: &str) -> Vec<u8> {
     (0..digits.len()).step_by(2).map(|place| u8::from_str_radix(&digits[place..place + 2], 16).expect("a digit")).collect()
 }
 

@@ -150,3 +150,52 @@ fn a_place_where_nothing_is_plugged_has_no_record() {
     assert_eq!(read(&mut device, 1, (3, 1), 0x8000).0, [0xDE, 0x80, 0xB2, 0]);
     assert_eq!(read(&mut device, 2, (3, 1), 0xC000).0, [0xDE, 0x80, 0xB2, 0]);
 }
+
+/// DataStatus of the inputs in ARData: that of their communication relation, which was asked for first.
+fn told_status(device: &mut Tried, sequence: u8) -> u8 {
+    let (status, record) = read(device, sequence, (9, 9), 0xF820);
+    assert_eq!(status, [0; 4]);
+    let record = octets(&record);
+    let name = usize::from(record[47]);
+    let first = &record[48 + name..];
+    // NumberOfIOCRs, and IOCRType.
+    assert_eq!(first[..4], [0, 2, 0, 1]);
+    first[12]
+}
+
+/// Lets units of time go by until a frame of inputs is sent. Returns its DataStatus.
+fn sent_status(device: &mut Tried) -> u8 {
+    for _ in 0..1_000 {
+        device.notes(&Event::Tick, Note::Done);
+        if let Some(sent) = device.last.as_slice().iter().find(|sent| sent.as_slice()[16..18] == [0x88, 0x92] && sent.as_slice()[18] == 0xC0) {
+            return sent.as_slice()[sent.len() - 2];
+        }
+    }
+    unreachable!("no frame of inputs in 1,000 units")
+}
+
+#[test]
+fn the_status_of_the_last_frame_is_read() {
+    let mut device = Tried::new(related(600, THREE));
+    // No frame was sent yet, whatever diagnosis exists.
+    assert_eq!(told_status(&mut device, 1), 0);
+    device.notes(&Event::Diagnosis(1, 1, 0x8000, 1, true), Note::Done);
+    assert_eq!(told_status(&mut device, 2), 0);
+    assert_eq!(sent_status(&mut device), 0x15);
+    assert_eq!(told_status(&mut device, 3), 0x15);
+    // A change is in the next frame, and not in the last one.
+    device.notes(&Event::Diagnosis(1, 1, 0x8000, 1, false), Note::Done);
+    assert_eq!(told_status(&mut device, 4), 0x15);
+    device.notes(&Event::Diagnosis(1, 1, 0x8000, 2, true), Note::Done);
+    device.notes(&Event::Diagnosis(1, 1, 0x8000, 2, false), Note::Done);
+    assert_eq!(told_status(&mut device, 5), 0x15);
+    assert_eq!(sent_status(&mut device), 0x35);
+    device.notes(&Event::Diagnosis(1, 1, 0x8000, 3, true), Note::Done);
+    assert_eq!(told_status(&mut device, 6), 0x35);
+    // The next relation has sent none.
+    let _ = crate::requests::served(&mut device.station, &call(1, 7, 100, &test_stations::END));
+    let again = crate::connects::connect(0x11, 600, THREE);
+    let _ = crate::requests::served(&mut device.station, &call(0, 7, 101, again.as_slice()));
+    assert_eq!(told_status(&mut device, 102), 0);
+    assert_eq!(sent_status(&mut device), 0x15);
+}

@@ -1,12 +1,25 @@
 //! A station with options.
-use crate::connects::{THREE, connect};
-use crate::requests::served;
-use device_core::Device;
+use crate::Tried;
+use crate::connects::{Blocks, THREE, connect};
+use crate::records::many;
+use crate::requests::{served, write};
+use device_core::{Device, Note};
 use flash_model::MemoryFlash;
-use frame_codec::Outbox;
-use pn_values::demo_identity;
+use frame_codec::{Bytes, Outbox};
+use pn_values::{Real, demo_identity};
 use relations::{DeviceOptions, Phase};
-use test_stations::{CONNECT, Station, call, plugged, set_address};
+use test_stations::{
+    CONNECT, CONTROL, PRM_END, READ, Station, WRITE, call, mend, plugged, response, set, set_address,
+};
+
+/// A station with an address and these options, in which these modules are plugged.
+fn with_options(options: DeviceOptions, real: Real) -> Tried {
+    let mut device = Device::unstarted(demo_identity(), real, options, MemoryFlash::blank());
+    device.load().expect("starts");
+    let mut tried = Tried::new(Some(device));
+    tried.notes(&set_address(), Note::Done);
+    tried
+}
 
 /// A station with an address and this smallest interval.
 fn hasty(smallest_interval: u32) -> Option<Station> {
@@ -34,4 +47,232 @@ fn an_interval_that_is_too_small_makes_no_relation() {
     );
     assert_eq!(connected(32), started);
     assert_eq!(connected(33), ([0xDB, 0x81, 0x02, 0x0A], None));
+}
+
+// ---- who holds a relation
+
+/// Whether a relation is held by its own controller alone.
+fn held(only_own_controller: bool) -> Tried {
+    let options = DeviceOptions { only_own_controller, ..DeviceOptions::default() };
+    with_options(options, plugged())
+}
+
+/// The MAC address and the IP address of the controller, and of others.
+const OWN: ([u8; 6], [u8; 4]) = ([2, 0, 0, 0, 0, 1], [192, 168, 0, 1]);
+const OTHER_MAC: ([u8; 6], [u8; 4]) = ([2, 0, 0, 0, 0, 9], [192, 168, 0, 1]);
+const OTHER_ADDRESS: ([u8; 6], [u8; 4]) = ([2, 0, 0, 0, 0, 1], [192, 168, 0, 9]);
+const OTHER: ([u8; 6], [u8; 4]) = ([2, 0, 0, 0, 0, 9], [192, 168, 0, 9]);
+
+/// The same call from another station.
+fn from((mac, address): ([u8; 6], [u8; 4]), mut bytes: Bytes) -> Bytes {
+    for (place, octet) in (6..).zip(mac).chain((26..).zip(address)) {
+        set(&mut bytes, place, octet);
+    }
+    mend(&mut bytes);
+    bytes
+}
+
+/// The blocks of a Connect with this ARUUID of the controller at 02-00-00-00-00-01.
+fn own(uuid: u8) -> Blocks {
+    let mut blocks = connect(uuid, 3, THREE);
+    blocks.as_mut_slice()[26..32].copy_from_slice(&OWN.0);
+    blocks
+}
+
+impl Tried {
+    /// A Connect of the controller at 02-00-00-00-00-01, 3 times 100 ms for its activity timer, from this station gets this status.
+    fn is_asked_by(&mut self, station: ([u8; 6], [u8; 4]), status: [u8; 4]) {
+        let asked = from(station, call(CONNECT, 7, 0, own(0x11).as_slice()));
+        assert_eq!(served(&mut self.station, &asked).2, status);
+    }
+
+    /// A Read Implicit of I&M0 that names the relation, from this station, is answered positively.
+    fn is_read_by(&mut self, station: ([u8; 6], [u8; 4]), sequence: u8) {
+        let mut blocks = write(sequence, 0, 1, 0xAFF0, &[]);
+        for (place, octet) in [(1, 9), (38, 2)] {
+            blocks.as_mut_slice()[place] = octet;
+        }
+        let read = from(station, call(5, 8, u16::from(sequence), blocks.as_slice()));
+        assert_eq!(served(&mut self.station, &read).2, [0; 4]);
+    }
+
+    /// A PrmEnd from this station is answered positively.
+    fn is_parameterized_by(&mut self, station: ([u8; 6], [u8; 4])) {
+        let ended = from(station, call(CONTROL, 7, 1, &PRM_END));
+        assert_eq!(served(&mut self.station, &ended).2, [0; 4]);
+    }
+}
+
+/// The unit with which the activity timer ends the relation, which another call is made of each 4,000 units. `None` if there
+/// still is a relation after 40,000 units.
+fn ends_after(only_own: bool, station: ([u8; 6], [u8; 4])) -> Option<u32> {
+    let mut device = held(only_own);
+    device.is_asked_by(OWN, [0; 4]);
+    for unit in 1..40_000 {
+        crate::requests::sent_in(&mut device.station, 1);
+        if device.station.phase().is_none() {
+            return Some(unit);
+        }
+        if unit % 4_000 == 0 {
+            device.is_read_by(station, (unit / 4_000) as u8);
+        }
+    }
+    None
+}
+
+#[test]
+fn only_its_own_controller_keeps_a_relation() {
+    // 3 times 100 ms are 9,600 units.
+    for station in [OTHER_MAC, OTHER_ADDRESS, OTHER] {
+        assert_eq!(ends_after(true, station), Some(9_600));
+        assert_eq!(ends_after(false, station), None);
+    }
+    assert_eq!(ends_after(true, OWN), None);
+}
+
+#[test]
+fn the_prm_end_of_another_station_does_not_keep_a_relation() {
+    for (only_own, station, units) in [
+        (true, OTHER, 9_600 - 5_000),
+        (true, OWN, 9_600),
+        (false, OTHER, 9_600),
+    ] {
+        let mut device = held(only_own);
+        device.is_asked_by(OWN, [0; 4]);
+        crate::requests::sent_in(&mut device.station, 5_000);
+        device.is_parameterized_by(station);
+        device.is_at(Some(Phase::Awaiting));
+        crate::requests::sent_in(&mut device.station, units - 1);
+        device.is_at(Some(Phase::Awaiting));
+        crate::requests::sent_in(&mut device.station, 1);
+        device.is_at(None);
+    }
+}
+
+#[test]
+fn a_connect_for_another_controller_makes_no_relation() {
+    // CMInitiatorMacAdd is field 7 of ARBlockReq.
+    let refused = [0xDB, 0x81, 0x01, 0x07];
+    for (only_own, station, status) in [
+        (true, OWN, [0; 4]),
+        (true, OTHER_ADDRESS, [0; 4]),
+        (true, OTHER_MAC, refused),
+        (true, OTHER, refused),
+        (false, OTHER, [0; 4]),
+    ] {
+        let mut device = held(only_own);
+        device.is_asked_by(station, status);
+        device.is_at((status == [0; 4]).then_some(Phase::Started));
+    }
+}
+
+#[test]
+fn another_fault_of_a_connect_is_reported_first() {
+    let mut device = held(true);
+    // ARType 2, field 4.
+    let mut blocks = own(0x11);
+    blocks.as_mut_slice()[7] = 2;
+    let asked = from(OTHER, call(CONNECT, 8, 0, blocks.as_slice()));
+    assert_eq!(served(&mut device.station, &asked).2, [0xDB, 0x81, 0x01, 0x04]);
+    // A relation exists already.
+    device.is_asked_by(OWN, [0; 4]);
+    let asked = from(OTHER, call(CONNECT, 9, 0, own(0x22).as_slice()));
+    assert_eq!(served(&mut device.station, &asked).2, [0xDB, 0x81, 0x40, 0x04]);
+}
+
+// ---- records that are passed on
+
+/// A station with 128 parameter records that exchanges data, after this many of them were written.
+fn exchanging(records_passed_on: bool, written: u8) -> Tried {
+    let options = DeviceOptions { records_passed_on, ..DeviceOptions::default() };
+    let mut device = with_options(options, many());
+    let blocks = connect(0x11, 600, THREE);
+    let _ = served(&mut device.station, &call(CONNECT, 7, 0, blocks.as_slice()));
+    for number in 0..written {
+        device.writes_parameter(number, [0; 4]);
+    }
+    let _ = served(&mut device.station, &call(CONTROL, 7, 200, &PRM_END));
+    let _ = served(&mut device.station, &response());
+    device.is_at(Some(Phase::Exchanging));
+    device
+}
+
+impl Tried {
+    /// The parameter record of this number is written while data is exchanged, with this value.
+    fn is_given(&mut self, sequence: u16, number: u8, value: u8, status: [u8; 4]) {
+        let (slot, subslot) = (u16::from(number / 8), u16::from(number / 2 % 4) + 1);
+        let blocks = write(1, slot, subslot, u16::from(number % 2) + 1, &[value]);
+        let written = call(WRITE, 9, sequence, blocks.as_slice());
+        assert_eq!(served(&mut self.station, &written).2, status);
+    }
+
+    /// The values that are kept, those that were passed on last, and how many were passed on.
+    fn records(&self) -> (Vec<u8>, Vec<u8>, u32) {
+        let kept = self.station.taken().iter().map(|record| record.value.as_slice()[0]);
+        let passed = self.station.passed().iter().map(|record| record.value.as_slice()[0]);
+        (kept.collect(), passed.collect(), self.station.passed_on())
+    }
+}
+
+#[test]
+fn records_of_an_exchange_are_passed_on() {
+    let mut device = exchanging(true, 64);
+    let kept: Vec<u8> = (0..64).collect();
+    assert_eq!(device.records(), (kept.clone(), vec![], 0));
+    for (sequence, value) in (0..200).zip(50..250) {
+        device.is_given(sequence, 127, value, [0; 4]);
+    }
+    assert_eq!(device.records(), (kept, (234..250).collect(), 200));
+    let last = device.station.passed().last().expect("was passed on");
+    assert_eq!((last.slot, last.subslot, last.index), (15, 4, 2));
+}
+
+#[test]
+fn without_the_option_records_of_an_exchange_are_kept() {
+    let mut device = exchanging(false, 62);
+    device.is_given(0, 127, 200, [0; 4]);
+    device.is_given(1, 126, 201, [0; 4]);
+    device.is_given(2, 126, 202, [0xDF, 0x80, 0xB5, 6]);
+    let (kept, passed, count) = device.records();
+    assert_eq!((kept.len(), &kept[62..], passed, count), (64, [200, 201].as_slice(), vec![], 0));
+}
+
+#[test]
+fn records_of_the_start_up_are_kept() {
+    let options = DeviceOptions { records_passed_on: true, ..DeviceOptions::default() };
+    let mut device = with_options(options, many());
+    let blocks = connect(0x11, 600, THREE);
+    let _ = served(&mut device.station, &call(CONNECT, 7, 0, blocks.as_slice()));
+    for number in 0..64 {
+        device.writes_parameter(number, [0; 4]);
+    }
+    device.writes_parameter(64, [0xDF, 0x80, 0xB5, 6]);
+    // PrmEnd was accepted, and ApplicationReady waits for its answer.
+    let _ = served(&mut device.station, &call(CONTROL, 7, 200, &PRM_END));
+    device.is_given(0, 3, 9, [0xDF, 0x80, 0xB5, 6]);
+    assert_eq!(device.records(), ((0..64).collect(), vec![], 0));
+}
+
+#[test]
+fn the_next_relation_has_passed_on_nothing() {
+    let mut device = exchanging(true, 1);
+    device.is_given(0, 127, 7, [0; 4]);
+    assert_eq!(device.records(), (vec![0], vec![7], 1));
+    let _ = served(&mut device.station, &call(1, 7, 201, &test_stations::END));
+    assert_eq!(device.records(), (vec![], vec![], 0));
+    let blocks = connect(0x11, 600, THREE);
+    let _ = served(&mut device.station, &call(CONNECT, 7, 202, blocks.as_slice()));
+    assert_eq!(device.records(), (vec![], vec![], 0));
+}
+
+#[test]
+fn a_record_that_is_passed_on_is_not_read_back() {
+    let mut device = exchanging(true, 0);
+    device.is_given(0, 127, 7, [0; 4]);
+    let mut blocks = write(1, 15, 4, 2, &[]);
+    for (place, octet) in [(1, 9), (38, 2)] {
+        blocks.as_mut_slice()[place] = octet;
+    }
+    let read = call(READ, 9, 1, blocks.as_slice());
+    assert_eq!(served(&mut device.station, &read).2, [0xDE, 0x80, 0xB6, 0]);
 }

@@ -161,7 +161,7 @@ fn with_parameters(subslot: u16) -> RealSubmodule {
 }
 
 // 128 parameter records: two in each of four submodules of each of sixteen slots.
-fn many() -> Real {
+pub(crate) fn many() -> Real {
     let mut real = no_modules();
     for slot in 0..16 {
         let mut module = RealModule {
@@ -178,7 +178,7 @@ fn many() -> Real {
 
 impl Tried {
     // A Write of the parameter record of this number, which is its value too, gets this status.
-    fn writes_parameter(&mut self, number: u8, status: [u8; 4]) {
+    pub(crate) fn writes_parameter(&mut self, number: u8, status: [u8; 4]) {
         let place = (
             u16::from(number / 8),
             u16::from(number / 2 % 4) + 1,

@@ -68,7 +68,11 @@ impl Device {
                 )
             }
             Operation::Release => self.relation.release(blocks, answer),
-            Operation::Control => self.relation.control(false, blocks, answer),
+            Operation::Control => {
+                self.relation.control(false, blocks, answer)?;
+                self.restart_timer();
+                Ok(())
+            }
             Operation::Write => self.write(blocks, answer),
             Operation::Read => self.read(blocks, answer),
             Operation::ReadImplicit => self.read_implicit(blocks, answer),
@@ -142,6 +146,6 @@ impl Device {
 
     /// A call that names the relation was answered positively.
     fn restart_timer(&mut self) {
-        self.relation.hear_controller(true, Ok(()));
+        self.relation.hear_controller(&PARTNER, true, Ok(()));
     }
 }

@@ -9,7 +9,7 @@ ghost use Rattle.device_abi.specs.recorded.Entry.{call_of};
 ghost use Rattle.device_abi.specs.recorded.Record.{image_of, record_of};
 ghost use Rattle.device_frames.specs.declared.event.Event.TheVariants.{Alarm, Call as Joined, Diagnosis, Frame as Framed, Input, Ready, Status};
 ghost use Rattle.relations.specs.Exchanged.{output_in, provider_in};
-ghost use Rattle.relations.specs.RelationState.{phase_of, taken_of};
+ghost use Rattle.relations.specs.RelationState.{passed_of, phase_of, taken_of};
 ghost use Rattle.relations.specs.Outputs.{output_of};
 ghost use Rattle.device_abi.specs.port.State.{IsIdle, IsNext, IsUnreported, advanced, barred, closed, has_some, has_work as is_left, kind_of, lost, waiting as kind_in, work_kind};
 ghost use Rattle.device_abi.specs.port.State.{past_start as too_late};
@@ -495,6 +495,28 @@ impl Port {
         match why_closed(self.stage) {
             Some(refusal) => Err(refusal),
             None => Ok(self.device.taken()),
+        }
+    }
+
+    /// The last parameter records that the relation passed on and does not keep, at most 16, the oldest first.
+    pub fn passed(&self) -> Result<&[TakenRecord], Refusal>
+        ensures { MatchResult result (λ passed. (closed self.now.stage ≡ None)
+            × (passed.now ≡ (passed_of self.now.device.live.rest.link).last)) (λ refusal. closed self.now.stage ≡ Some refusal) }
+    {
+        match why_closed(self.stage) {
+            Some(refusal) => Err(refusal),
+            None => Ok(self.device.passed()),
+        }
+    }
+
+    /// How many parameter records the relation passed on and does not keep, modulo 2^32.
+    pub fn passed_on(&self) -> Result<u32, Refusal>
+        ensures { MatchResult result (λ count. (closed self.now.stage ≡ None)
+            × (count ≡ (passed_of self.now.device.live.rest.link).count)) (λ refusal. closed self.now.stage ≡ Some refusal) }
+    {
+        match why_closed(self.stage) {
+            Some(refusal) => Err(refusal),
+            None => Ok(self.device.passed_on()),
         }
     }
 

@@ -75,6 +75,13 @@ module _ {T Q : Type 0} where
     pub was : before ≡ Some link
     pub becomes : after ≡ Some (record link { taken = link.taken ++ rules.group number })
 
+  -- a relation passes on the records of a Write, and keeps none: data is exchanged
+  pub record PassesOn (before after : Option (RelationState T Q)) : Type 0 where
+    pub link : RelationState T Q
+    pub was : before ≡ Some link
+    pub exchanges : link.phase ≡ Exchanging
+    pub same : after ≡ before
+
   -- a relation accepts some of them, in order
   pub record TakesSome (rules : Rules T Q) (number : ℕ) (before after : Option (RelationState T Q)) : Type 0 where
     pub link : RelationState T Q
@@ -100,7 +107,7 @@ module _ {T Q : Type 0} where
   -- the effect of a call that succeeds
   abbrev pub Carries : Rules T Q → Ask → Option (RelationState T Q) → Option (RelationState T Q) → Type 0
   Carries rules Connects before after = after ≡ Some (made rules)
-  Carries rules (Writes number) before after = TakesRecords rules number before after
+  Carries rules (Writes number) before after = TakesRecords rules number before after ⊎ PassesOn before after
   Carries rules Parameterized before after = IsParameterized before after
   Carries rules Releases before after = after ≡ None
   Carries rules Accesses before after = (after ≡ before) ⊎ TakesAny before after

@@ -19,10 +19,13 @@ use Rattle.record_blocks.specs.declared.write_record.IodWriteReq.{IodWriteReq}
 use Rattle.records.specs.declared.writes.writing.Writing.TheVariants.{One, Each}
 use Rattle.records.specs.writes.Asked.{writing_of}
 use Rattle.records.specs.writes.Entry.{Entry}
+use Rattle.relations.specs.declared.options.DeviceOptions.{DeviceOptions}
+use Rattle.relations.specs.declared.phase.Partner.{Partner}
+use Rattle.relations.specs.Passed.{PassedOn}
 use Rattle.relations.specs.declared.phase.Phase.TheVariants.{Started, Awaiting}
 use Rattle.relations.specs.declared.ready.Ready.{Ready}
 use Rattle.relations.specs.Connect.{connect_blocks, connect_of, differing_of, rows_of}
-use Rattle.relations.specs.Phases.{Named, exchanging_from, made_of, parameterized_from, restarted, updated, with_taken}
+use Rattle.relations.specs.Phases.{Named, Records, exchanging_from, keeping, made_of, parameterized_from, restarted, updated, with_records}
 use Rattle.relations.specs.RelationState.{RelationState, uuid_of}
 use Rattle.device_exchange.specs.Marks.{Starting}
 use Rattle.device_frames.specs.Heard.{Heard, Calls, Reported}
@@ -103,14 +106,15 @@ pub record Repeats (live : Live) (heard : Heard) (after : Rest) (sent : List Sen
 -- a Connect is accepted, and its response says what differs
 pub record Connected (station : Station) (caller : Caller) (blocks octets : List ℕ) (before after : Option RelationState) : Type 0 where
   pub request : Request
+  pub options : DeviceOptions
   pub starting : Starting
   pub read : connect_of before blocks ≡ Ok request
-  pub made : after ≡ Some (made_of request (partner_of caller) (rows_of request station.real) starting)
+  pub made : after ≡ Some (made_of request (partner_of caller) (rows_of request station.real) options starting)
   pub answer : octets ≡ connect_blocks station.identity request (differing_of request station.real)
 
--- a call that names the relation is accepted, and changes nothing else
+-- a call that names the relation is accepted, of its own controller or of another station, and changes nothing else
 abbrev pub IsRestarted : Option RelationState → Option RelationState → Type 0
-IsRestarted before after = after ≡ option_map restarted before
+IsRestarted before after = (source : Partner) × (after ≡ option_map (restarted source) before)
 
 -- a Write is accepted whose record the settings store
 pub record Stored (station : Station) (blocks : List ℕ) (before after : Option RelationState) : Type 0 where
@@ -120,7 +124,7 @@ pub record Stored (station : Station) (blocks : List ℕ) (before after : Option
   pub stores : write.effect ≡ Stores value
   pub same : IsRestarted before after
 
--- a Write is accepted, and the relation has one more record
+-- a Write is accepted, and the relation has one more record, or passes it on
 pub record Written (station : Station) (blocks : List ℕ) (before after : Option RelationState) : Type 0 where
   pub link : RelationState
   pub was : before ≡ Some link
@@ -128,23 +132,28 @@ pub record Written (station : Station) (blocks : List ℕ) (before after : Optio
   pub judged : writing_of (uuid_of before) station.real blocks ≡ Ok (One write)
   pub value : TakenRecord
   pub keeps : write.effect ≡ Keeps value
-  pub becomes : after ≡ Some (restarted (with_taken (link.taken ++ value ∷ []) link))
+  pub source : Partner
+  pub more : Records
+  pub kept : keeping value (Some link) ≡ Ok more
+  pub becomes : after ≡ Some (restarted source (with_records more link))
 
--- a relation that was named has these records after its others
-abbrev pub with_more : List TakenRecord → RelationState → RelationState
-with_more values link = restarted (with_taken (link.taken ++ values) link)
+-- a relation that was named has these records after its others, and these were passed on
+abbrev pub with_more : Partner → PassedOn → List TakenRecord → RelationState → RelationState
+with_more source passed values link = restarted source (with_records (record { taken = link.taken ++ values; passed = passed }) link)
 
--- A Write of several records is accepted, and the relation has more records, if it accepted any: each record is carried
--- out and answered by itself, in order.
+-- A Write of several records is accepted, and the relation has more records, if it accepted and kept any: each record is
+-- carried out and answered by itself, in order.
 pub record WrittenEach (station : Station) (blocks octets : List ℕ) (before after : Option RelationState) : Type 0 where
   pub header : IodWriteReq
   pub entries : List Entry
   pub judged : writing_of (uuid_of before) station.real blocks ≡ Ok (Each header entries)
   pub answers : List BlockError
   pub tells : octets ≡ several_answer header (judged_each (uuid_of before) station.real entries) answers before
-  pub carried : after ≡ updated Named (link_behind (judged_each (uuid_of before) station.real entries) before)
+  pub source : Partner
+  pub carried : after ≡ updated (Named source) (link_behind (judged_each (uuid_of before) station.real entries) before)
+  pub passed : PassedOn
   pub values : List TakenRecord
-  pub becomes : after ≡ option_map (with_more values) before
+  pub becomes : after ≡ option_map (with_more source passed values) before
 
 -- a PrmEnd is accepted, by a device whose application says when it is ready, or by another
 pub record Parameterized (before after : Option RelationState) : Type 0 where
@@ -152,7 +161,8 @@ pub record Parameterized (before after : Option RelationState) : Type 0 where
   pub was : before ≡ Some link
   pub started : link.phase ≡ Started
   pub by_application : Bool
-  pub becomes : after ≡ Some (parameterized_from by_application link)
+  pub source : Partner
+  pub becomes : after ≡ Some (restarted source (parameterized_from by_application link))
 
 -- a Release is accepted
 pub record Released (before after : Option RelationState) : Type 0 where

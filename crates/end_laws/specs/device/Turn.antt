@@ -36,6 +36,7 @@ use Rattle.device_exchange.specs.Marks.{Starting}
 use Rattle.device_exchange.specs.Notices.{behind_message, raised_at}
 use Rattle.device_exchange.specs.Received.{behind_frame, received_as}
 use Rattle.device_exchange.specs.Units.{flow_later, repeated_of, tick_of}
+use Rattle.relations.specs.declared.options.DeviceOptions.{DeviceOptions}
 use Rattle.relations.specs.declared.phase.Partner.{Partner}
 use Rattle.relations.specs.declared.phase.Phase.TheVariants.{Awaiting}
 use Rattle.relations.specs.Connect.{connect_of}
@@ -127,9 +128,10 @@ pub record Makes (calls : List Kept) (before : Option RelationState) (heard : He
   pub request : Request
   pub partner : Partner
   pub rows : Listed DiffModule DiffSubmodule
+  pub options : DeviceOptions
   pub starting : Starting
   pub read : connect_of before blocks ≡ Ok request
-  pub made : after ≡ Some (made_of request partner rows starting)
+  pub made : after ≡ Some (made_of request partner rows options starting)
   pub calm : AreCalm before sent
 
 -- an alarm is raised

@@ -5,6 +5,7 @@ use Rattle.frame_codec.specs.declared.udp.Caller.{Caller}
 use Rattle.records.specs.declared.status.operation.Operation.TheVariants.{Connect}
 use Rattle.plans.specs.declared.parts.Controller.{Controller}
 use Rattle.startup_law.specs.request.Request.{request_for}
+use Rattle.relations.specs.Options.{default_options}
 use Rattle.relations.specs.Connect.{connect_answer, connect_blocks}
 use Rattle.device_frames.specs.Sent.{Sent, bytes_of}
 use Rattle.device_core.specs.State.{Live, Rest, plain}
@@ -24,7 +25,7 @@ caller_of controller = record { mac = controller.mac; endpoint = calls_at contro
 abbrev pub answer_message : Setup → Identity → List ℕ → Sent
 answer_message setup identity address =
     answer_from address (caller_of setup.plan.controller) (call_for setup asks.Connect) Connect
-    (connect_answer identity setup.plan.real 1 None (blocks_of setup asks.Connect))
+    (connect_answer identity setup.plan.real default_options setup.plan.controller.mac None (blocks_of setup asks.Connect))
 
 -- The frame of that message.
 abbrev pub answer_frame : Setup → Identity → List ℕ → List ℕ

@@ -1,8 +1,9 @@
 -- Values that are read of a port, which stays as it is.
 use Rattle.std.proofs.Common.{refl, subst}
 use Rattle.device_abi.specs.port.State.{State, closed}
-use Rattle.station_abi.specs.Serves.{IsLeft, IsSettings}
-use Rattle.station_abi.proofs.Reported.{conflicts_told, due_told, left_told}
+use Rattle.relations.specs.RelationState.{passed_of}
+use Rattle.station_abi.specs.Serves.{IsLeft, IsPassedOn, IsSettings}
+use Rattle.station_abi.proofs.Reported.{conflicts_told, due_told, left_told, passed_told}
 use Rattle.station_abi.proofs.serving.perform.Goals as goal
 
 pub returns-in-Running : goal.returns-in-Running
@@ -26,3 +27,9 @@ returns-in-Due c = rw c.in-Due.is (c.due.ensures.same, due_told _ _ c.args.op.no
 
 pub returns-in-Conflicts : goal.returns-in-Conflicts
 returns-in-Conflicts c = rw c.in-Conflicts.is (refl, conflicts_told _ _ c.args.op.now _ _ (c.tell_number-in-Conflicts.ensures _ _ c.conflicts.ensures))
+
+pub returns-in-PassedOn : goal.returns-in-PassedOn
+returns-in-PassedOn c =
+    let told = c.tell_number-in-PassedOn in
+    let op = c.args.op.now in
+    rw c.in-PassedOn.is (refl, subst (λ (p : State). IsPassedOn (closed p.stage) (passed_of p.device.live.rest.link).count op told.result (record op { units = told.new.place })) c.port-in-PassedOn.ensures (passed_told _ _ op _ _ (told.ensures _ _ c.passed_on.ensures)))

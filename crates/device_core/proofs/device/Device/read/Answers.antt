@@ -1,6 +1,7 @@
 -- A Read is answered, and shows that the controller is alive.
 use Rattle.std.proofs.Common.{◌≡◌, refl, sym, ap, ◌∙◌}
 use Rattle.relations.specs.Phases.{Named, answered}
+use Rattle.device_core.specs.Handled.{partner_of}
 use Rattle.device_core.proofs.Served.{came_as, same_moving}
 use Rattle.device_core.proofs.device.Device.read.Goals as goal
 
@@ -10,9 +11,9 @@ returns-clause-state g c =
     let blocks = c.read_within-came.new.answer.items in
     let out = rw c.running-settings.ensures at (came_as came _ blocks c.read_within-came.ensures.done c.read_within-came.ensures.refused) in
     let calls = rw (c.address-address.ensures.value, c.running.ensures, c.requires.operation, out) at c.give.ensures.kept in
-    let moving = Named in
+    let moving = Named (partner_of c.args.serving.now.caller.now) in
     let named = sym (same_moving moving came blocks) ∙ ap (answered moving) out in
-    let link = rw named at c.hear_controller.ensures in
+    let link = rw (c.source_of.ensures, named) at c.hear_controller.ensures in
     rw (← c.self.view_is) (rw (calls, link) refl)
 
 pub returns-clause-frames : goal.returns-clause-frames

@@ -1,7 +1,7 @@
 -- A Read Implicit is answered; one that names the relation shows that the controller is alive.
 use Rattle.std.proofs.Common.{◌≡◌, refl, sym, ap, ◌∙◌}
 use Rattle.relations.specs.Phases.{answered}
-use Rattle.device_core.specs.Handled.{implicitly}
+use Rattle.device_core.specs.Handled.{implicitly, partner_of}
 use Rattle.device_core.proofs.Served.{came_as, same_moving}
 use Rattle.device_core.proofs.device.Device.read_implicit.Goals as goal
 
@@ -11,9 +11,9 @@ returns-clause-state g c =
     let blocks = c.read_implicit-came.new.answer.items in
     let out = rw c.running-settings.ensures at (came_as came _ blocks c.read_implicit-came.ensures.done c.read_implicit-came.ensures.refused) in
     let calls = rw (c.address-address.ensures.value, c.running.ensures, c.requires.operation, out) at c.give.ensures.kept in
-    let moving = implicitly c.self.inside.relation c.args.serving.now.blocks.now in
+    let moving = implicitly (partner_of c.args.serving.now.caller.now) c.self.inside.relation c.args.serving.now.blocks.now in
     let named = sym (same_moving moving came blocks) ∙ ap (answered moving) out in
-    let link = rw (c.names_relation-is_named.ensures, c.uuid.ensures, named) at c.hear_controller.ensures in
+    let link = rw (c.source_of.ensures, c.names_relation-is_named.ensures, c.uuid.ensures, named) at c.hear_controller.ensures in
     rw (← c.self.view_is) (rw (calls, link) refl)
 
 pub returns-clause-frames : goal.returns-clause-frames

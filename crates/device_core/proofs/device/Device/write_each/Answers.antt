@@ -20,7 +20,7 @@ returns-clause-steps g c =
     let calls = rw (c.address-address.ensures.value, c.running.ensures, blocks) at c.give.ensures.kept in
     let frames = rw (c.address-address.ensures.value, c.running.ensures, blocks) at c.give.ensures.frames in
     let sendable = rw (c.address-address.ensures.value, c.running.ensures, blocks) at c.give.ensures.sendable in
-    let named = rw link at c.hear_controller.ensures in
+    let named = rw (c.source_of.ensures, link) at c.hear_controller.ensures in
     rw (← c.self.view_is) (λ heard is.
     settled_steps g.F.Flash _ _ heard
     (WritesEach c.args.serving.now.caller.now c.self.inside.store.values.running.suite.address (asked c.args.serving.now.call.now) header judged) answers _ _ is

@@ -6,7 +6,11 @@ use Rattle.device_exchange.proofs.Leaps.{brings_nothing, flow_after}
 use Rattle.device_exchange.proofs.data_exchange.DataExchange.pass.Goals as goal
 
 pub returns-clause-state : goal.returns-clause-state
-returns-clause-state c = rw (flow_after c.args.self.now c.args.units) (rw (← c.self.view_is, c.pass.ensures.state, c.pass-2.ensures.state, c.pass-3.ensures.state) refl)
+returns-clause-state c =
+    let quiet : IsQuietFor c.args.units c.args.self.now.cyclic = rw (← c.self.view_is) c.pass.ensures.quiet in
+    let nothing : NothingDue device_due end_later c.args.units c.args.self.now.alarms = rw (← c.self.view_is) c.pass-2.ensures.nothing in
+    let low : NothingDue device_due end_later c.args.units c.args.self.now.low.alarms = rw (← c.self.view_is) c.pass-3.ensures.nothing in
+    rw (flow_after c.args.self.now c.args.units quiet nothing low) (rw (← c.self.view_is, c.pass.ensures.state, c.pass-2.ensures.state, c.pass-3.ensures.state) refl)
 
 pub returns-clause-nothing : goal.returns-clause-nothing
 returns-clause-nothing c =

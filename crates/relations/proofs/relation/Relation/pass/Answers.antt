@@ -20,10 +20,12 @@ returns-clause-state c =
       phase = c.in-Some.phase;
       request = c.self.inside.request;
       partner = c.self.inside.partner;
+      options = c.self.inside.options;
       began = c.self.inside.began;
       inactive = c.self.inside.inactive;
       waited = c.self.inside.waited;
       taken = c.self.inside.taken;
+      passed = c.self.inside.passed;
       differing = c.self.inside.differing.items;
       flow = c.self.inside.exchange;
     } in
@@ -37,10 +39,12 @@ returns-clause-nothing c =
       phase = c.in-Some.phase;
       request = c.self.inside.request;
       partner = c.self.inside.partner;
+      options = c.self.inside.options;
       began = c.self.inside.began;
       inactive = c.self.inside.inactive;
       waited = c.self.inside.waited;
       taken = c.self.inside.taken;
+      passed = c.self.inside.passed;
       differing = c.self.inside.differing.items;
       flow = c.self.inside.exchange;
     } in
