@@ -3,3 +3,4 @@ pub mod Line
 pub mod Read
 pub mod Text
 pub mod Show
+pub mod Reports

@@ -19,8 +19,9 @@ use Rattle.script_lines.specs.declared.command.Words.TheVariants.{One, Two, Thre
 -- order the flash to fail, set the input of the submodule in a slot and subslot, raise an alarm of it with these octets, say
 -- whether its inputs are good, let a diagnosis of it appear or disappear, or show what the controller says of its output; make
 -- a plan, start a controller with this ARUUID and activity UUID at the other end, set an output of the controller or say
--- whether it is good, end the relation, show the diagnoses that the controller knows of, hand over the frames that wait, start
--- the services beside the device.
+-- whether it is good, end the relation, show the diagnoses that the controller knows of, or the alarms that it accepted, read
+-- the record with this index of the submodule in a slot and subslot, write these octets to it, show what the last of these
+-- requests was answered with, hand over the frames that wait, start the services beside the device.
 pub data Command : Type 0 where
   Frame : (bytes : List ℕ) → Command
   Restart : Command
@@ -42,6 +43,10 @@ pub data Command : Type 0 where
   OutputStatus : (slot : ℕ) → (subslot : ℕ) → (is_good : Bool) → Command
   Stop : Command
   Stands : Command
+  Told : Command
+  Read : (slot : ℕ) → (subslot : ℕ) → (index : ℕ) → Command
+  Write : (slot : ℕ) → (subslot : ℕ) → (index : ℕ) → (octets : List ℕ) → Command
+  Reply : Command
   Deliver : Command
   Serve : Command
 
@@ -67,7 +72,8 @@ AreWords line (One first) = words_of line ≡ first.now ∷ []
 AreWords line (Two first second) = words_of line ≡ first.now ∷ second.now ∷ []
 AreWords line (Three first second third) = words_of line ≡ first.now ∷ second.now ∷ third.now ∷ []
 AreWords line (Four first second third fourth) = words_of line ≡ first.now ∷ second.now ∷ third.now ∷ fourth.now ∷ []
-AreWords line Five = (first second third fourth fifth : List ℕ) × (words_of line ≡ first ∷ second ∷ third ∷ fourth ∷ fifth ∷ [])
+AreWords line (Five first second third fourth fifth) =
+    words_of line ≡ first.now ∷ second.now ∷ third.now ∷ fourth.now ∷ fifth.now ∷ []
 AreWords line (Six first second third fourth fifth sixth) =
     words_of line ≡ first.now ∷ second.now ∷ third.now ∷ fourth.now ∷ fifth.now ∷ sixth.now ∷ []
 AreWords line More = (first second third fourth fifth sixth seventh : List ℕ) × (more : List (List ℕ))
@@ -89,7 +95,9 @@ bytes_of digits = if length digits == 0 then None else if_decoded (decode_of dig
 abbrev pub bare_of_both : List ℕ → Option Command
 bare_of_both word =
     if is_text word (codes "deliver") then Some Deliver
-    else (if is_text word (codes "stop") then Some Stop else (if is_text word (codes "stands") then Some Stands else None))
+    else (if is_text word (codes "stop") then Some Stop
+    else (if is_text word (codes "stands") then Some Stands
+    else (if is_text word (codes "told") then Some Told else (if is_text word (codes "reply") then Some Reply else None))))
 
 abbrev pub bare : List ℕ → Option Command
 bare word =
@@ -171,17 +179,31 @@ targeted word slot subslot (Some bytes) =
     if is_text word (codes "input") then Some (Input slot subslot bytes)
     else (if is_text word (codes "alarm") then Some (Alarm slot subslot bytes) else (if is_text word (codes "give") then Some (Give slot subslot bytes) else None))
 
--- The command of a word with a slot, a subslot, and bytes or a status.
+-- The command of a word with a slot, a subslot, and bytes, a status or the index of a record.
 abbrev pub placed : List ℕ → Option ℕ → Option ℕ → List ℕ → Option Command
 placed word None subslot third = None
 placed word (Some slot) None third = None
 placed word (Some slot) (Some subslot) third =
     if is_text word (codes "status") then option_map (Status slot subslot) (one_of (codes "good") (codes "bad") third)
     else (if is_text word (codes "output-status") then option_map (OutputStatus slot subslot) (one_of (codes "good") (codes "bad") third)
-    else targeted word slot subslot (bytes_of third))
+    else (if is_text word (codes "read") then option_map (Read slot subslot) (number_of 65535 third)
+    else targeted word slot subslot (bytes_of third)))
 
 abbrev pub with_three : List ℕ → List ℕ → List ℕ → List ℕ → Option Command
 with_three word first second third = placed word (number_of 65535 first) (number_of 65535 second) third
+
+-- The command that writes these octets to the record with this index of the submodule in a slot and subslot.
+abbrev pub write_of : Option ℕ → Option ℕ → Option ℕ → Option (List ℕ) → Option Command
+write_of (Some slot) (Some subslot) (Some index) octets = option_map (Write slot subslot index) octets
+write_of (Some slot) (Some subslot) None octets = None
+write_of (Some slot) None index octets = None
+write_of None subslot index octets = None
+
+abbrev pub with_four : List ℕ → List ℕ → List ℕ → List ℕ → List ℕ → Option Command
+with_four word first second third fourth =
+    if is_text word (codes "write")
+    then write_of (number_of 65535 first) (number_of 65535 second) (number_of 65535 third) (bytes_of fourth)
+    else None
 
 -- The command of a word with a slot, a subslot, a channel, an error, and whether the diagnosis appears.
 abbrev pub diagnosis_of : Option ℕ → Option ℕ → Option ℕ → Option ℕ → Option Bool → Option Command
@@ -206,7 +228,7 @@ command_of (word ∷ []) = bare word
 command_of (word ∷ first ∷ []) = with_one word first
 command_of (word ∷ first ∷ second ∷ []) = with_two word first second
 command_of (word ∷ first ∷ second ∷ third ∷ []) = with_three word first second third
-command_of (word ∷ first ∷ second ∷ third ∷ fourth ∷ []) = None
+command_of (word ∷ first ∷ second ∷ third ∷ fourth ∷ []) = with_four word first second third fourth
 command_of (word ∷ first ∷ second ∷ third ∷ fourth ∷ fifth ∷ []) = with_five word first second third fourth fifth
 command_of (word ∷ first ∷ second ∷ third ∷ fourth ∷ fifth ∷ sixth ∷ more) = None
 

@@ -6,8 +6,8 @@ ghost use Rattle.std.specs.Str.Lines.{lines, strip_carriage_return};
 ghost use Rattle.hex.specs.Hex.{decode_of};
 ghost use Rattle.uuid.specs.Text.{parsed};
 ghost use Rattle.script_lines.specs.Line.{behind, AreWords, bytes_of, catalogue_in, command_in, command_of, meaning_of, words_of, bare};
-ghost use Rattle.script_lines.specs.Line.{bare_of_both, with_one, with_two, with_five, with_three, ordered, start_of, units_of, mask_of, strike_of};
-ghost use Rattle.script_lines.specs.Line.{Choose, Elapse, OutputStatus, Status, Tick, choice_of, one_of, provider_of, services_of, targeted};
+ghost use Rattle.script_lines.specs.Line.{bare_of_both, with_one, with_two, with_five, with_four, with_three, ordered, start_of, units_of, mask_of, strike_of};
+ghost use Rattle.script_lines.specs.Line.{Choose, Elapse, OutputStatus, Read, Status, Tick, choice_of, one_of, provider_of, services_of, targeted};
 ghost use Rattle.script_lines.specs.Numbers.{number_of};
 ghost use Rattle.script_lines.specs.Read.{command_read, line_read};
 
@@ -67,8 +67,16 @@ pub enum Command<'a> {
     OutputStatus(u16, u16, bool),
     /// Makes the controller end the relation.
     Stop,
-    /// Show the diagnoses that the controller knows of.
+    /// Shows the diagnoses that the controller knows of.
     Stands,
+    /// Shows the alarms that the controller accepted since its start.
+    Told,
+    /// Makes the controller read the record with this index of the submodule in this slot and subslot.
+    Read(u16, u16, u16),
+    /// Makes the controller write these octets to the record with this index of the submodule in this slot and subslot.
+    Write(u16, u16, u16, &'a [u8]),
+    /// Shows what the last request of the controller's application was answered with.
+    Reply,
     /// Hands over the frames that wait: those for the device, then those for the controller.
     Deliver,
     /// Starts the services beside the device.
@@ -105,8 +113,7 @@ enum Words<'a> {
     Two(&'a [u8], &'a [u8]),
     Three(&'a [u8], &'a [u8], &'a [u8]),
     Four(&'a [u8], &'a [u8], &'a [u8], &'a [u8]),
-    /// Five words, which no line has.
-    Five,
+    Five(&'a [u8], &'a [u8], &'a [u8], &'a [u8], &'a [u8]),
     Six(&'a [u8], &'a [u8], &'a [u8], &'a [u8], &'a [u8], &'a [u8]),
     /// More words than any line has.
     More,
@@ -179,7 +186,7 @@ fn words_in(line: &[u8]) -> Words<'_>
     };
     let (fifth, rest) = cut_at(rest, b' ');
     let Some(rest) = rest else {
-        return Words::Five;
+        return Words::Five(first, second, third, fourth, fifth);
     };
     let (sixth, rest) = cut_at(rest, b' ');
     match rest {
@@ -258,10 +265,13 @@ fn asked_by<'a>(
         Words::Two(word, first) => with_one(word, first, buffer),
         Words::Three(word, first, second) => with_two(word, first, second, buffer),
         Words::Four(word, first, second, third) => with_three(word, first, second, third, buffer),
+        Words::Five(word, first, second, third, fourth) => {
+            with_four(word, first, second, third, fourth, buffer)
+        }
         Words::Six(word, first, second, third, fourth, fifth) => {
             Ok(with_five(word, first, second, third, fourth, fifth))
         }
-        Words::Five | Words::More => Ok(None),
+        Words::More => Ok(None),
     }
 }
 
@@ -291,6 +301,10 @@ fn bare_of_both(word: &[u8]) -> Option<Command<'static>>
         Some(Command::Stop)
     } else if word == b"stands".as_slice() {
         Some(Command::Stands)
+    } else if word == b"told".as_slice() {
+        Some(Command::Told)
+    } else if word == b"reply".as_slice() {
+        Some(Command::Reply)
     } else {
         None
     }
@@ -491,8 +505,39 @@ fn with_three<'a>(
         Ok(status(slot, subslot, third))
     } else if word == b"output-status".as_slice() {
         Ok(output_status(slot, subslot, third))
+    } else if word == b"read".as_slice() {
+        Ok(reading(slot, subslot, third))
     } else {
         targeted(word, slot, subslot, third, buffer)
+    }
+}
+
+/// The command of a word and four others: a record that the controller writes.
+fn with_four<'a>(
+    word: &[u8],
+    first: &[u8],
+    second: &[u8],
+    third: &[u8],
+    fourth: &[u8],
+    buffer: &'a mut Vec<u8>,
+) -> Result<Option<Command<'a>>, AllocError>
+    ensures { IfOk result (λ command. option_map command_read command ≡ with_four word.now first.now second.now third.now fourth.now) }
+{
+    if word != b"write".as_slice() {
+        return Ok(None);
+    }
+    let Some(slot) = place_number(first) else {
+        return Ok(None);
+    };
+    let Some(subslot) = place_number(second) else {
+        return Ok(None);
+    };
+    let Some(index) = place_number(third) else {
+        return Ok(None);
+    };
+    match decoded(fourth, buffer)? {
+        Some(octets) => Ok(Some(Command::Write(slot, subslot, index, octets))),
+        None => Ok(None),
     }
 }
 
@@ -547,6 +592,14 @@ fn output_status(slot: u16, subslot: u16, word: &[u8]) -> Option<Command<'static
     Some(Command::OutputStatus(slot, subslot, is_good))
 }
 
+/// The command that makes the controller read a record.
+fn reading(slot: u16, subslot: u16, digits: &[u8]) -> Option<Command<'static>>
+    ensures { option_map command_read result ≡ option_map (Read slot subslot) (number_of 65535 digits.now) }
+{
+    let index = place_number(digits)?;
+    Some(Command::Read(slot, subslot, index))
+}
+
 /// The command with the bytes of an input, of an alarm or of an output.
 fn targeted<'a>(
     word: &[u8],
@@ -571,7 +624,7 @@ fn targeted<'a>(
     }
 }
 
-/// The number of a slot or a subslot.
+/// The number of a slot or a subslot, or the index of a record.
 fn place_number(digits: &[u8]) -> Option<u16>
     ensures { result ≡ number_of 65535 digits.now }
 {

@@ -1,6 +1,6 @@
 // Reads and writes hex digits. Most of a script is hex, so the loops have no branch: the compiler then handles many bytes
 // in one step.
-ghost use Rattle.std.specs.Prelude.{◌≡◌, ◌<◌, ◌+◌, ◌*◌, ◌/◌, ◌%◌, ℕ, IsErr, Ok, Some, true, false, length, slice_index};
+ghost use Rattle.std.specs.Prelude.{◌≡◌, ◌∷◌, [], ◌<◌, ◌+◌, ◌*◌, ◌/◌, ◌%◌, ℕ, IsErr, Ok, Some, true, false, length, slice_index};
 ghost use Rattle.std.specs.List.{AllPass};
 ghost use Rattle.hex.specs.Hex.{decode_of, encode_lower, hex_digit_value, is_hex_digit, lower_digits};
 
@@ -69,6 +69,14 @@ fn digit(value: u8) -> u8
     } else {
         value - 10 + b'a'
     }
+}
+
+/// The two digits of a byte.
+#[tactic(auto, unfolding(hex::specs::Hex::encode_with))]
+pub(crate) fn pair(byte: u8) -> [u8; 2]
+    ensures { result ≡ encode_lower (byte ∷ []) }
+{
+    [digit(byte / 16), digit(byte % 16)]
 }
 
 /// Writes two digits for each of the bytes.

@@ -5,6 +5,7 @@ mod command;
 mod digits;
 mod numbers;
 pub mod render;
+pub mod reports;
 pub mod show;
 
 pub use command::{Choice, Command, Line, first_line, meaning};

@@ -1,5 +1,5 @@
 -- The outcome of lines that are valid only at some times, of units of time, and of frames that wait.
-use Rattle.std.proofs.Common.{◌≡◌, ◌⊎◌, inl, inr, ℕ, List, ◌++◌, codes, Bool, true, false, Option, Some, None, Result, Ok, OnOk, IsErr, MatchResult, length, is_some, replicate, append_assoc, refl, sym, ap, subst, ◌∙◌}
+use Rattle.std.proofs.Common.{◌≡◌, ◌⊎◌, inl, inr, ℕ, List, ◌++◌, codes, Bool, true, false, Option, Some, None, Result, Ok, OnOk, IsErr, MatchResult, length, is_some, option_map, replicate, append_assoc, refl, sym, ap, subst, ◌∙◌}
 use Rattle.std.proofs.lemmas.Bool.{false≢true}
 use Rattle.std.proofs.lemmas.Result.{on_ok_weaker}
 use Rattle.plans.specs.declared.parts.Parts.{Parts}
@@ -14,9 +14,9 @@ use Rattle.script_lines.specs.Show.{controller_shown}
 use Rattle.script_lines.specs.Text.{moved_line, note_line, printed}
 use Rattle.script_session.specs.declared.power.Power.{Power}
 use Rattle.script_session.specs.declared.power.Power.TheVariants.{On}
-use Rattle.script_session.specs.Ends.{Hears, IsRightFor, Network, Other, Running, Starts, arrived_at, device_run, frames_for_device, printed_for, ticked_by, with_ends, with_plan, with_sent}
+use Rattle.script_session.specs.Ends.{Hears, IsRightFor, Network, Other, Running, Starts, arrived_at, device_run, frames_for_device, may_request, printed_for, ticked_by, with_ends, with_plan, with_sent}
 use Rattle.script_session.specs.Power.{Held, IsRunning}
-use Rattle.script_session.specs.Said.{config_outcome, deliver_answer, deliver_outcome, handed_over, heard_outcome, start_outcome, tick_answer}
+use Rattle.script_session.specs.Said.{config_outcome, deliver_answer, deliver_outcome, handed_over, heard_outcome, record_outcome, start_outcome, tick_answer}
 use Rattle.script_session.specs.Session.{Comes, IsDone, IsHandedOver, IsObeyed, IsRunOf, IsWithoutPlan, Obeys}
 use Rattle.script_session.proofs.Obeying.{always_obeys}
 
@@ -81,6 +81,12 @@ hear_refused network far other event held before now same hears = hear_none netw
 pub hear_answered : (network : Network) (far other : Other) (event : ControllerEvent) (power : Power) (before now : List ℕ) → far ≡ network.other → Hears far.controller far event other true → IsRunning network.station power → now ≡ before ++ controller_shown other.controller
     → Comes (heard_outcome network event network.other.controller) (record { power = power; other = other }) before now true
 hear_answered network far other event power before now same hears = hear_some network.other.controller network other event power before now (hear_is network far other event true same hears)
+
+-- A request that is not refused is an event of the controller's application like any other.
+pub record_passes : (network : Network) (event : ControllerEvent) (fits : Bool) (controller : Option Controlling) → fits ≡ true → option_map may_request controller ≡ Some true → record_outcome network event fits controller ≡ heard_outcome network event controller
+record_passes network event fits None fit may = cc may
+record_passes network event fits (Some controller) fit may =
+    let can : may_request controller ≡ true = cc may in rw (fit, can) refl
 
 -- ---- frames that wait are handed over
 

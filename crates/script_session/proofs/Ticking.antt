@@ -1,5 +1,5 @@
 -- Events at either end, one after the other.
-use Rattle.std.proofs.Common.{◌≡◌, ℕ, ◌+◌, ◌-◌, ◌<◌, ◌≤◌, List, [], ◌∷◌, ◌++◌, zero, suc, replicate, length, drop, append_assoc, append-nil, arith, refl, ap, subst, sym, ◌∙◌, Option, Some, None, Result, Ok, Err, OnOk}
+use Rattle.std.proofs.Common.{◌≡◌, ℕ, ◌+◌, ◌-◌, ◌<◌, ◌≤◌, List, [], ◌∷◌, ◌++◌, zero, suc, replicate, flat_map, length, drop, append_assoc, append-nil, arith, refl, ap, subst, sym, ◌∙◌, Option, Some, None, Result, Ok, Err, OnOk}
 use Rattle.std.proofs.lemmas.Grind.{flat_map-append}
 use Rattle.std.proofs.lemmas.List.{drop_all}
 use Rattle.arrayvec.specs.ArrayVec.{ArrayVec}
@@ -7,7 +7,8 @@ use Rattle.device_frames.specs.declared.event.Event.{Event}
 use Rattle.controller_state.specs.declared.event.Event.{Event as ControllerEvent}
 use Rattle.controller_core.specs.Machine.{Stepped as ControllerRun, step_of as controller_step}
 use Rattle.controller_state.specs.State.{Controlling}
-use Rattle.script_session.specs.Ends.{Station, Running, station_step, Other, DeviceRun, IsRun, controller_run, device_run, frames_for_device, kept, octets_of, printed_for, with_sent}
+use Rattle.script_lines.specs.Reports.{told_line}
+use Rattle.script_session.specs.Ends.{Station, Running, station_step, Other, DeviceRun, IsRun, alarms_in, controller_run, device_run, frames_for_device, kept, news_of, octets_of, printed_for, with_sent}
 use Rattle.script_session.specs.Power.{Runs}
 use Rattle.script_session.specs.Session.{IsHandedTo, IsRunOf, IsTurned}
 
@@ -239,3 +240,21 @@ heard_all whole left now before waiting none hearing = (
   sym (hearing.controller ∙ ap (λ events. (controller_run now events).controller) none),
   sym (hearing.frames ∙ ap (λ events. octets_of waiting ++ (controller_run now events).frames) none ∙ append-nil (octets_of waiting)),
 )
+
+-- Between two events: the lines so far, with those of the alarms in the remaining events, are the whole.
+pub record IsTelling (whole : List ℕ) (left : List ControllerEvent) (now : Controlling) (lines : List ℕ) : Type 0 where
+  pub told : whole ≡ lines ++ flat_map told_line (alarms_in now left)
+
+pub telling_on : (whole : List ℕ) (event : ControllerEvent) (left : List ControllerEvent) (now after : Controlling) (lines more : List ℕ) → IsTelling whole (event ∷ left) now lines → after ≡ (controller_step now event).controller → more ≡ lines ++ flat_map told_line (news_of now (controller_step now event).controller) → IsTelling whole left after more
+telling_on whole event left now after lines more telling step told =
+    let next = (controller_step now event).controller in
+    let later = flat_map told_line (alarms_in next left) in
+    record {
+      told = telling.told ∙ ap (λ t. lines ++ t) (flat_map-append told_line (news_of now next) (alarms_in next left))
+          ∙ sym (append_assoc lines (flat_map told_line (news_of now next)) later) ∙ ap (λ t. t ++ later) (sym told)
+          ∙ ap (λ c. more ++ flat_map told_line (alarms_in c left)) (sym step);
+    }
+
+pub told_all : (whole : List ℕ) (left : List ControllerEvent) (now : Controlling) (lines : List ℕ) → left ≡ [] → IsTelling whole left now lines → lines ≡ whole
+told_all whole left now lines none telling =
+    sym (telling.told ∙ ap (λ events. lines ++ flat_map told_line (alarms_in now events)) none ∙ append-nil lines)

@@ -1,5 +1,5 @@
 -- The two ends of the wire between two lines, and the frames that wait between them.
-use Rattle.std.specs.Prelude.{◌≡◌, ◌≢◌, ◌⊎◌, ℕ, Bool, true, false, Result, Ok, Err, List, [], ◌∷◌, ◌++◌, map, replicate, Option, Some, None}
+use Rattle.std.specs.Prelude.{◌≡◌, ◌≢◌, ◌⊎◌, ℕ, Bool, true, false, Result, Ok, Err, List, [], ◌∷◌, ◌++◌, map, replicate, flat_map, if◌then◌else◌, Option, Some, None}
 use Rattle.arrayvec.specs.ArrayVec.{ArrayVec}
 use Rattle.plans.specs.declared.parts.Parts.{Parts}
 use Rattle.configurator.specs.declared.fault.PlanFault.{PlanFault}
@@ -19,12 +19,17 @@ use Rattle.station.specs.Leaps.{due_beside, told_at}
 use Rattle.controller_state.specs.declared.event.Event.{Event as ControllerEvent}
 use Rattle.controller_state.specs.declared.event.Event.TheVariants as heard
 use Rattle.controller_state.specs.State.{Controlling}
-use Rattle.controller_core.specs.Machine.{Stepped as ControllerRun, step_of as controller_step, fresh, opening_of}
+use Rattle.pn_alarms.specs.Numbers.{is_last}
+use Rattle.alarm_reports.specs.declared.priority.Priority.{Priority}
+use Rattle.alarm_reports.specs.declared.priority.Priority.TheVariants.{High, Low}
+use Rattle.alarm_reports.specs.declared.report.Report.{Report}
+use Rattle.controller_core.specs.Machine.{Stepped as ControllerRun, step_of as controller_step, can_request, end_of, fresh, opening_of, report_in}
 use Rattle.relations.specs.Options.{default_options}
 use Rattle.relations.specs.declared.options.DeviceOptions.{DeviceOptions}
 use Rattle.script_lines.specs.declared.command.Choice.{Choice}
 use Rattle.script_lines.specs.declared.command.Choice.TheVariants.{InputsBad, ReadyLater, Interval}
 use Rattle.script_lines.specs.Text.{out_lines}
+use Rattle.script_lines.specs.Reports.{told_line}
 
 -- A device without its flash: what is fixed, and what changes; and the services beside it, once there are any.
 pub record Station : Type 0 where
@@ -88,12 +93,14 @@ station_step station event =
     let ready = ready_of station in turned ready.services ready.device event (step_of [] ready.device ready.live event)
 
 -- What is kept besides the station: the options of its next start, whether services begin with that, and the other end: the
--- plan of the next controller, the controller once there is one, and the frames that wait at either end, in order.
+-- plan of the next controller, the controller once there is one, the lines of the alarms that it accepted since its start, and
+-- the frames that wait at either end, in order.
 pub record Other : Type 0 where
   pub options : DeviceOptions
   pub serves : Bool
   pub plan : Option Parts
   pub controller : Option Controlling
+  pub told : List ℕ
   pub to_device : List (List ℕ)
   pub to_controller : List (List ℕ)
 
@@ -122,7 +129,7 @@ KnowsTheRefusal = (plans : List ℕ → Option Parts) (catalogue : List ℕ) (fa
 
 -- The other end before a catalogue was read. All options have their defaults.
 abbrev pub nobody : Other
-nobody = record { options = default_options; serves = false; plan = None; controller = None; to_device = []; to_controller = [] }
+nobody = record { options = default_options; serves = false; plan = None; controller = None; told = []; to_device = []; to_controller = [] }
 
 -- ---- events, one after another, and the frames that they send
 
@@ -162,6 +169,29 @@ controller_run controller (event ∷ events) =
     let later = controller_run step.controller events in
     record { controller = later.controller; frames = step.frames ++ later.frames }
 
+-- The alarm of a priority that was accepted last, if another one was before: its SendSeqNum is another one then.
+abbrev pub news_by : Option ℕ → Option ℕ → Option Report → List Report
+news_by before None alarm = []
+news_by before (Some number) None = []
+news_by before (Some number) (Some alarm) = if is_last before number then [] else alarm ∷ []
+
+abbrev pub news_at : Priority → Controlling → Controlling → List Report
+news_at priority before after = news_by (end_of before.live priority).seen (end_of after.live priority).seen (report_in after.live priority)
+
+-- The alarms that the controller accepts in an event: at most one, of either priority.
+abbrev pub news_of : Controlling → Controlling → List Report
+news_of before after = news_at High before after ++ news_at Low before after
+
+-- The alarms that the controller accepts in a run of events, in order.
+abbrev pub alarms_in : Controlling → List ControllerEvent → List Report
+alarms_in controller [] = []
+alarms_in controller (event ∷ events) =
+    let next = (controller_step controller event).controller in news_of controller next ++ alarms_in next events
+
+-- Whether the controller's application can read or write a record.
+abbrev pub may_request : Controlling → Bool
+may_request controller = can_request controller.live
+
 -- Frames that come from the network, as events of either end.
 abbrev pub frames_for_device : List (List ℕ) → List Event
 frames_for_device frames = map (λ frame. event.Frame (record { items = frame })) frames
@@ -192,7 +222,7 @@ ticked_by (Some controller) other units = with_run other (controller_run control
 abbrev pub with_fresh : Other → Parts → List ℕ → List ℕ → Other
 with_fresh other plan ar activity =
     let controller = fresh plan ar activity in
-    record other { controller = Some controller; to_device = other.to_device ++ opening_of controller ∷ [] }
+    record other { controller = Some controller; told = []; to_device = other.to_device ++ opening_of controller ∷ [] }
 
 -- The other end with a plan for the next controller.
 abbrev pub with_plan : Other → Parts → Other
@@ -215,10 +245,16 @@ serving other = record other { serves = true }
 abbrev pub cleared : Other → Other
 cleared other = record other { to_device = []; to_controller = [] }
 
+-- The alarms that these frames brought to a controller were told to its application.
+abbrev pub with_told : Other → List Report → Other
+with_told other alarms = record other { told = other.told ++ flat_map told_line alarms }
+
 -- The frames that waited for the controller were handed over, if there is one.
 abbrev pub arrived_at : Option Controlling → Other → Other
 arrived_at None other = other
-arrived_at (Some controller) other = with_run (record other { to_controller = [] }) (controller_run controller (frames_for_controller other.to_controller))
+arrived_at (Some controller) other =
+    let frames = frames_for_controller other.to_controller in
+    with_run (with_told (record other { to_controller = [] }) (alarms_in controller frames)) (controller_run controller frames)
 
 -- Frames that the device sends are printed as long as there is no controller.
 abbrev pub printed_for : Option Controlling → List (List ℕ) → List ℕ

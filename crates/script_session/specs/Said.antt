@@ -1,5 +1,5 @@
 -- The effect of a line: a command to the demo device, whose flash never fails, or to the other end.
-use Rattle.std.specs.Prelude.{ℕ, Bool, true, false, List, [], ◌++◌, codes, length, replicate, take, Option, Some, None}
+use Rattle.std.specs.Prelude.{ℕ, Bool, true, false, ◌&&◌, nat_le, List, [], ◌++◌, codes, length, replicate, take, if◌then◌else◌, Option, Some, None}
 use Rattle.arrayvec.specs.ArrayVec.{ArrayVec}
 use Rattle.pn_values.specs.Settings.{factory_settings}
 use Rattle.pn_values.specs.declared.settings.Settings.{Settings}
@@ -12,17 +12,21 @@ use Rattle.plans.specs.declared.parts.Parts.{Parts}
 use Rattle.device_frames.specs.declared.event.Event.{Event}
 use Rattle.device_frames.specs.declared.event.Event.TheVariants as event
 use Rattle.device_frames.specs.declared.note.Note.TheVariants.{Done}
+use Rattle.device_frames.specs.declared.note.Note.TheVariants.{Refused as Declined}
 use Rattle.device_core.specs.Cycle.{started}
 use Rattle.controller_state.specs.declared.event.Event.{Event as ControllerEvent}
 use Rattle.controller_state.specs.declared.event.Event.TheVariants as heard
 use Rattle.controller_core.specs.Machine.{step_of as controller_step}
 use Rattle.controller_state.specs.State.{Controlling}
+use Rattle.record_access.specs.Access.{record_of}
+use Rattle.controller_frames.specs.RecordRequests.{most_record_octets}
 use Rattle.script_session.specs.Demo.{demo_device}
-use Rattle.script_session.specs.Ends.{Station, Turned, due_of, serving, services_at, station_step, Other, Network, DeviceRun, with_ends, arrived_at, chosen, cleared, device_run, frames_for_device, nobody, printed_for, ticked_by, with_fresh, with_plan, with_run, with_sent}
+use Rattle.script_session.specs.Ends.{Station, Turned, due_of, serving, services_at, station_step, Other, Network, DeviceRun, with_ends, arrived_at, chosen, cleared, device_run, frames_for_device, may_request, nobody, printed_for, ticked_by, with_fresh, with_plan, with_run, with_sent}
 use Rattle.station.specs.Serving.{Serving}
-use Rattle.script_lines.specs.Line.{Command, Frame, Restart, Tick, Elapse, Show, Due, Choose, Ready, Arm, Input, Alarm, Status, Diagnosis, Provider, Config, Start, Give, OutputStatus, Stop, Stands, Deliver, Serve, Line, Unfit, Skipped, Asks, Unknown}
+use Rattle.script_lines.specs.Line.{Command, Frame, Restart, Tick, Elapse, Show, Due, Choose, Ready, Arm, Input, Alarm, Status, Diagnosis, Provider, Config, Start, Give, OutputStatus, Stop, Stands, Told, Read, Write, Reply, Deliver, Serve, Line, Unfit, Skipped, Asks, Unknown}
 use Rattle.script_lines.specs.declared.command.Choice.{Choice}
 use Rattle.script_lines.specs.Show.{shown, outputs_shown, controller_shown, diagnoses_shown, due_line, provider_line}
+use Rattle.script_lines.specs.Reports.{reply_line, told_shown}
 use Rattle.script_lines.specs.Text.{boot_line, moved_line, note_line, printed}
 
 -- The demo device, started with these options from these settings, with services that begin with it or without any.
@@ -129,6 +133,35 @@ abbrev pub stands_outcome : Network → Option Controlling → Outcome
 stands_outcome network (Some controller) = Answers (record { network = network; text = diagnoses_shown controller.live.diagnosis.existing })
 stands_outcome network None = Refuses
 
+-- The alarms that the controller accepted since its start are shown.
+abbrev pub told_outcome : Network → Option Controlling → Outcome
+told_outcome network (Some controller) = Answers (record { network = network; text = told_shown network.other.told })
+told_outcome network None = Refuses
+
+-- What the last request of its application was answered with is shown.
+abbrev pub reply_shown : Option Controlling → List ℕ
+reply_shown (Some controller) =
+    let access = controller.live.access in reply_line access.waiting access.answer (record_of access)
+reply_shown None = []
+
+abbrev pub reply_outcome : Network → Option Controlling → Outcome
+reply_outcome network (Some controller) = Answers (record { network = network; text = reply_shown (Some controller) })
+reply_outcome network None = Refuses
+
+-- A record is read or written, or the request is refused: it is, unless data is exchanged, no other request waits for its
+-- answer, and the octets fit a call.
+abbrev pub declined : Network → Answer
+declined network = record { network = network; text = note_line Declined }
+
+abbrev pub record_outcome : Network → ControllerEvent → Bool → Option Controlling → Outcome
+record_outcome network event fits (Some controller) =
+    if fits && may_request controller then heard_outcome network event (Some controller) else Answers (declined network)
+record_outcome network event fits None = Refuses
+
+-- Whether a call has room for the octets of a record.
+abbrev pub fits_record : List ℕ → Bool
+fits_record octets = nat_le (length octets) most_record_octets
+
 -- The frames that waited for the device were handed over: they wait no longer, and what the device sent waits for the
 -- controller.
 abbrev pub handed_over : Other → DeviceRun → Other
@@ -171,6 +204,11 @@ said plans network (Start ar activity) = start_outcome network ar activity netwo
 said plans network (Give slot subslot bytes) = heard_outcome network (heard.Give slot subslot (handed bytes)) network.other.controller
 said plans network (OutputStatus slot subslot is_good) = heard_outcome network (heard.Status slot subslot is_good) network.other.controller
 said plans network Stands = stands_outcome network network.other.controller
+said plans network Told = told_outcome network network.other.controller
+said plans network (Read slot subslot index) = record_outcome network (heard.Read slot subslot index) true network.other.controller
+said plans network (Write slot subslot index octets) =
+    record_outcome network (heard.Write slot subslot index (handed octets)) (fits_record octets) network.other.controller
+said plans network Reply = reply_outcome network network.other.controller
 said plans network Stop = heard_outcome network heard.Stop network.other.controller
 said plans network Deliver = deliver_outcome network network.other.controller
 said plans network Serve = Answers (serve_answer network)
@@ -204,6 +242,10 @@ arms (Give slot subslot bytes) = false
 arms (OutputStatus slot subslot is_good) = false
 arms Stop = false
 arms Stands = false
+arms Told = false
+arms (Read slot subslot index) = false
+arms (Write slot subslot index octets) = false
+arms Reply = false
 arms Deliver = false
 arms Serve = false
 

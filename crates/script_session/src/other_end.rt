@@ -1,11 +1,12 @@
 // The other end of the wire: the controller, and the frames that wait between the two ends; and the options of the
 // device's next start.
-ghost use Rattle.std.specs.Prelude.{◌≡◌, ◌≤◌, ◌++◌, OnOk, IfOk, replicate};
+ghost use Rattle.std.specs.Prelude.{◌≡◌, ◌≤◌, ◌++◌, OnOk, IfOk, flat_map, replicate};
 ghost use Rattle.controller_core.specs.Leaps.{live_due_in};
-ghost use Rattle.controller_core.specs.Machine.{step_of};
+ghost use Rattle.controller_core.specs.Machine.{end_of, report_in, step_of};
 ghost use Rattle.controller_state.specs.declared.event.Event.TheVariants as event;
-ghost use Rattle.script_session.specs.Ends.{IsRun, Station, controller_run, device_run, frames_for_controller, frames_for_device};
-ghost use Rattle.script_session.specs.Ends.{octets_of};
+ghost use Rattle.script_lines.specs.Reports.{told_line};
+ghost use Rattle.script_session.specs.Ends.{IsRun, Station, alarms_in, controller_run, device_run, frames_for_controller, frames_for_device};
+ghost use Rattle.script_session.specs.Ends.{news_by, news_of, octets_of};
 ghost use Rattle.script_session.specs.Off.{Delivers};
 ghost use Rattle.script_session.specs.Power.{Runs};
 ghost use Rattle.script_session.specs.Session.{IsHandedOver};
@@ -16,19 +17,19 @@ use crate::device::hand_over;
 use crate::power::DemoStation;
 use crate::waiting::append;
 use configurator::{PlanFault, plan_from_json};
-use controller_core::{Controller, Event};
+use controller_core::{Controller, Event, Priority};
 use frame_codec::{Frame, Outbox};
 use plans::Plan;
 use relations::DeviceOptions;
-use script_lines::{Choice, render, show};
+use script_lines::{Choice, render, reports, show};
 use station::StationOutbox;
 use std::alloc::{AllocError, Global};
 use std::marker::Model;
 use uuid::Uuid;
 
 /// What is kept besides the station: the options of its next start, whether services begin with that, and the other end of
-/// the wire: the plan of the next controller, the controller once there is one, and the frames that wait at either end. In
-/// clauses it is these six.
+/// the wire: the plan of the next controller, the controller once there is one, the lines of the alarms that it accepted, and
+/// the frames that wait at either end. In clauses it is these seven.
 #[derive(Drop)]
 pub(crate) struct OtherEnd {
     alloc: Global,
@@ -36,6 +37,7 @@ pub(crate) struct OtherEnd {
     serves: bool,
     plan: Option<Plan>,
     controller: Option<Controller>,
+    told: Vec<u8>,
     to_device: Vec<Frame>,
     to_controller: Vec<Frame>,
     outbox: Outbox,
@@ -51,17 +53,20 @@ impl Model for OtherEnd {
       serves = end.serves;
       plan = end.plan;
       controller = end.controller;
+      told = end.told.items;
       to_device = octets_of end.to_device.items;
       to_controller = octets_of end.to_controller.items;
     } };
 }
 
 impl OtherEnd {
-    ghost use Rattle.std.specs.Prelude.{is_some, length};
+    ghost use Rattle.std.specs.Prelude.{is_some, length, option_map};
+    ghost use Rattle.script_lines.specs.Reports.{told_shown};
     ghost use Rattle.script_lines.specs.Show.{controller_shown, known_shown};
     ghost use Rattle.station.specs.State.{in_order};
-    ghost use Rattle.script_session.specs.Ends.{Hears, Plans, Starts, arrived_at, chosen, cleared, nobody, printed_for, serving, ticked_by};
-    ghost use Rattle.script_session.specs.Ends.{with_sent};
+    ghost use Rattle.script_session.specs.Ends.{Hears, Plans, Starts, arrived_at, chosen, cleared, may_request, nobody, printed_for, serving};
+    ghost use Rattle.script_session.specs.Ends.{ticked_by, with_sent};
+    ghost use Rattle.script_session.specs.Said.{reply_shown};
 
     /// The other end before a catalogue was read: no plan, no controller and no frames. All options have their defaults, and
     /// there are no services.
@@ -74,6 +79,7 @@ impl OtherEnd {
             serves: false,
             plan: None,
             controller: None,
+            told: Vec::new(alloc),
             to_device: Vec::new(alloc),
             to_controller: Vec::new(alloc),
             outbox: Outbox::new(),
@@ -147,6 +153,38 @@ impl OtherEnd {
         }
     }
 
+    /// Appends the lines of the alarms that the controller accepted since its start.
+    pub(crate) fn show_told(&self, text: &mut Vec<u8>) -> Result<(), AllocError>
+        ensures { OnOk result (text.new.items ≡ text.old.items ++ told_shown self.now.told) }
+    {
+        reports::all_told(self.told.as_slice(), text)
+    }
+
+    /// Appends what the last request of the controller's application was answered with, if there is a controller.
+    pub(crate) fn show_reply(&self, text: &mut Vec<u8>) -> Result<(), AllocError>
+        ensures { OnOk result (text.new.items ≡ text.old.items ++ reply_shown self.now.controller) }
+    {
+        match &self.controller {
+            Some(controller) => reports::reply(
+                controller.waiting(),
+                controller.answer(),
+                controller.record(),
+                text,
+            ),
+            None => Ok(()),
+        }
+    }
+
+    /// Whether the controller's application can read or write a record, if there is a controller.
+    pub(crate) fn can_request(&self) -> Option<bool>
+        ensures { result ≡ option_map may_request self.now.controller }
+    {
+        match &self.controller {
+            Some(controller) => Some(controller.can_request()),
+            None => None,
+        }
+    }
+
     /// Prints the frames that the device sends, or lets them wait once there is a controller.
     pub(crate) fn send(&mut self, frames: &[Frame], text: &mut Vec<u8>) -> Result<(), AllocError>
         ensures { OnOk result ((self.new ≡ with_sent self.old (octets_of frames.now))
@@ -190,6 +228,7 @@ impl OtherEnd {
         let controller = Controller::new(plan_copy(plan), ar, activity);
         self.to_device.push(controller.opening())?;
         self.controller = Some(controller);
+        self.told.clear();
         Ok(true)
     }
 
@@ -242,6 +281,7 @@ impl OtherEnd {
             self.to_controller.as_slice(),
             &mut self.outbox,
             &mut self.to_device,
+            &mut self.told,
         )?;
         self.to_controller.clear();
         Ok(delivered)
@@ -334,19 +374,63 @@ fn ticks(
     Ok(())
 }
 
-/// Hands frames to the controller.
+/// Hands frames to the controller, and appends a line for each alarm that it accepts.
 fn hear(
     controller: &mut Controller,
     frames: &[Frame],
     outbox: &mut Outbox,
     to_device: &mut Vec<Frame>,
+    told: &mut Vec<u8>,
 ) -> Result<(), AllocError>
-    ensures { OnOk result (IsRun (controller_run controller.old (frames_for_controller (octets_of frames.now))) controller.new
+    ensures run { OnOk result (IsRun (controller_run controller.old (frames_for_controller (octets_of frames.now))) controller.new
         to_device.old.items to_device.new.items) }
+    ensures told { OnOk result (told.new.items
+        ≡ told.old.items ++ flat_map told_line (alarms_in controller.old (frames_for_controller (octets_of frames.now)))) }
 {
     for frame in frames {
         let event = Event::Frame(copied(frame.as_slice()));
-        step(controller, &event, outbox, to_device)?;
+        listen(controller, &event, outbox, to_device, told)?;
     }
     Ok(())
+}
+
+/// Makes a step of the controller, and appends the line of the alarm that it accepts in it, if it does.
+fn listen(
+    controller: &mut Controller,
+    event: &Event,
+    outbox: &mut Outbox,
+    to_device: &mut Vec<Frame>,
+    told: &mut Vec<u8>,
+) -> Result<(), AllocError>
+    ensures run { OnOk result (IsRun (step_of controller.old event.now) controller.new to_device.old.items to_device.new.items) }
+    ensures told { OnOk result (told.new.items
+        ≡ told.old.items ++ flat_map told_line (news_of controller.old (step_of controller.old event.now).controller)) }
+{
+    let high = controller.accepted(Priority::High);
+    let low = controller.accepted(Priority::Low);
+    step(controller, event, outbox, to_device)?;
+    tell(controller, Priority::High, high, told)?;
+    tell(controller, Priority::Low, low, told)
+}
+
+/// Appends the line of the last alarm of a priority, unless it was accepted before: then `before` is its SendSeqNum.
+fn tell(
+    controller: &Controller,
+    priority: Priority,
+    before: Option<u16>,
+    told: &mut Vec<u8>,
+) -> Result<(), AllocError>
+    ensures { OnOk result (told.new.items ≡ told.old.items ++ flat_map told_line
+        (news_by before (end_of controller.now.live priority).seen (report_in controller.now.live priority))) }
+{
+    let Some(number) = controller.accepted(priority) else {
+        return Ok(());
+    };
+    if before == Some(number) {
+        return Ok(());
+    }
+    match controller.report(priority) {
+        Some(alarm) => reports::told(&alarm, told),
+        None => Ok(()),
+    }
 }

@@ -17,7 +17,7 @@ use crate::other_end::OtherEnd;
 use crate::outputs::outputs;
 use crate::power::Power;
 use configurator::PlanFault;
-use controller_core::Event as ControllerEvent;
+use controller_core::{Event as ControllerEvent, MOST_RECORD_OCTETS};
 use device_core::{Event, Note};
 use flash_model::{Flash, Lent, MemoryFlash, Order};
 use frame_codec::Bytes;
@@ -58,7 +58,7 @@ impl<'a> Session<'a> {
     ghost use Rattle.script_session.specs.Ends.{IsRightFor, cleared, nobody};
     ghost use Rattle.script_session.specs.Said.{arms, config_outcome, deliver_answer, deliver_outcome, factory_device};
     ghost use Rattle.script_session.specs.Said.{heard_outcome, is_order, outcome_of, restart_answer, said, serve_answer, show_answer, stands_outcome, start_outcome};
-    ghost use Rattle.script_session.specs.Said.{due_answer, provider_answer, tick_answer};
+    ghost use Rattle.script_session.specs.Said.{due_answer, fits_record, provider_answer, record_outcome, reply_outcome, tick_answer, told_outcome};
     ghost use Rattle.script_session.specs.Power.{IsArmed, IsBack, is_off, refusal_of};
     ghost use Rattle.script_session.specs.Session.{Are, AreRightFor, Comes, Obeys};
     ghost use Rattle.script_session.specs.Off.{Delivers, GivesBack, Leaves, LeavesBy, Orders, TakesOff, TakesOrder, hands, is_handed};
@@ -178,6 +178,14 @@ impl<'a> Session<'a> {
             }
             Command::Stop => if_there(self.stop(text)),
             Command::Stands => if_there(self.stands(text)),
+            Command::Told => if_there(self.told(text)),
+            Command::Read(slot, subslot, index) => {
+                if_there(self.read(slot, subslot, index, text))
+            }
+            Command::Write(slot, subslot, index, octets) => {
+                if_there(self.write(slot, subslot, index, octets, text))
+            }
+            Command::Reply => if_there(self.reply(text)),
             Command::Deliver => if_there(self.deliver(text)),
             Command::Serve => {
                 self.power.serve();
@@ -497,6 +505,91 @@ impl<'a> Session<'a> {
             return Ok(false);
         }
         self.other.show_diagnoses(text)?;
+        Ok(true)
+    }
+
+    /// Shows the alarms that the controller accepted since its start. Returns whether there is a controller.
+    #[inline(never)]
+    fn told(&mut self, text: &mut Vec<u8>) -> Result<bool, AllocError>
+        ensures obeys { (network : Network) → Are network self.old →
+            IfOk result (Comes (told_outcome network network.other.controller) self.new text.old.items text.new.items) }
+        ensures same { self.new ≡ self.old }
+    {
+        if !self.other.is_started() {
+            return Ok(false);
+        }
+        self.other.show_told(text)?;
+        Ok(true)
+    }
+
+    /// Shows what the last request of the controller's application was answered with. Returns whether there is a controller.
+    #[inline(never)]
+    fn reply(&mut self, text: &mut Vec<u8>) -> Result<bool, AllocError>
+        ensures obeys { (network : Network) → Are network self.old →
+            IfOk result (Comes (reply_outcome network network.other.controller) self.new text.old.items text.new.items) }
+        ensures same { self.new ≡ self.old }
+    {
+        if !self.other.is_started() {
+            return Ok(false);
+        }
+        self.other.show_reply(text)?;
+        Ok(true)
+    }
+
+    /// Makes the controller read a record. Returns whether there is a controller.
+    #[inline(never)]
+    fn read(
+        &mut self,
+        slot: u16,
+        subslot: u16,
+        index: u16,
+        text: &mut Vec<u8>,
+    ) -> Result<bool, AllocError>
+        ensures obeys { (network : Network) → Are network self.old →
+            IfOk result (Comes (record_outcome network (heard.Read slot subslot index) true network.other.controller) self.new
+            text.old.items text.new.items) }
+        ensures same { self.new.power ≡ self.old.power }
+    {
+        self.access(&ControllerEvent::Read(slot, subslot, index), true, text)
+    }
+
+    /// Makes the controller write a record. Returns whether there is a controller.
+    #[inline(never)]
+    fn write(
+        &mut self,
+        slot: u16,
+        subslot: u16,
+        index: u16,
+        octets: &[u8],
+        text: &mut Vec<u8>,
+    ) -> Result<bool, AllocError>
+        ensures obeys { (network : Network) → Are network self.old →
+            IfOk result (Comes (record_outcome network (heard.Write slot subslot index (handed octets.now)) (fits_record octets.now)
+            network.other.controller) self.new text.old.items text.new.items) }
+        ensures same { self.new.power ≡ self.old.power }
+    {
+        let event = ControllerEvent::Write(slot, subslot, index, handed(octets));
+        self.access(&event, octets.len() <= MOST_RECORD_OCTETS, text)
+    }
+
+    /// Hands a request for a record to the controller, unless it is refused. Returns whether there is a controller.
+    fn access(
+        &mut self,
+        event: &ControllerEvent,
+        fits: bool,
+        text: &mut Vec<u8>,
+    ) -> Result<bool, AllocError>
+        ensures obeys { (network : Network) → Are network self.old →
+            IfOk result (Comes (record_outcome network event.now fits network.other.controller) self.new text.old.items text.new.items) }
+        ensures same { self.new.power ≡ self.old.power }
+    {
+        let Some(can_request) = self.other.can_request() else {
+            return Ok(false);
+        };
+        if fits && can_request {
+            return self.hear(event, text);
+        }
+        render::note(Note::Refused, text)?;
         Ok(true)
     }
 

@@ -7,9 +7,11 @@
 //! serves, announcements and conflicts of the address, and neighbours; and a controller reads the records for engineering tools.
 //!
 //! In `diagnosis` diagnoses appear and disappear, before a relation, within it and after it. In `ends` a controller meets that
-//! device, and lists what its alarms told it.
+//! device, and lists the alarms that it accepted and the diagnoses that they reported. In `requests` its application reads and
+//! writes records.
 //!
-//! Each `stdout` comes from a reference model of both ends that was written from the rules alone and shares no line with
+//! `stdout` of `requests` is written by hand: I&M0 and I&M1 by IEC 61158-6-10, 5.2.22 and 5.2.23, and the PNIOStatus of an index
+//! that does not exist, DE 80 B0 00 and DF 80 B0 00. Each other `stdout` comes from a reference model of both ends that was written from the rules alone and shares no line with
 //! this repository. A script that a wrong line ends has the output of the lines before it. tshark read each answer of
 //! `services` without a malformed field.
 
@@ -70,6 +72,12 @@ fn with_diagnosis_each_script_prints_what_the_model_prints() {
     is_same(&all_printed(scripts), wanted);
     // Leaps do what as many single units do, with alarms of both priorities.
     is_same(&all_printed(&scripts.replace("\ntick ", "\nelapse ")), wanted);
+}
+
+#[test]
+fn what_the_application_of_the_controller_reads_and_writes_is_answered() {
+    let text = all_printed(include_str!("../requests/stdin"));
+    is_same(&text, include_str!("../requests/stdout"));
 }
 
 #[test]

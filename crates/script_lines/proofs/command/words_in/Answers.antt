@@ -2,16 +2,6 @@ use Rattle.std.proofs.Common.{◌==◌, arith}
 use Rattle.script_lines.proofs.Cut.{some_part}
 use Rattle.script_lines.proofs.command.words_in.Goals as goal
 
-pub returns-in_default-rest-4 : goal.returns-in_default-rest-4
-returns-in_default-rest-4 c = (
-  c.cut_at.result.0.now,
-  c.cut_at-2.result.0.now,
-  c.cut_at-3.result.0.now,
-  c.cut_at-4.result.0.now,
-  c.cut_at-5.result.0.now,
-  grind arith,
-)
-
 pub returns-in-Some-rest-5 : goal.returns-in-Some-rest-5
 returns-in-Some-rest-5 c =
     let last = some_part (λ b. b == 32) c.in-Some-rest-5.field-0.now in (

@@ -100,3 +100,11 @@ unfolding said
 returns-in-Serve-clause-obeys c plans network right are plain =
     let ends = subst (Are network) (sym c.self-in-Serve.view_is) are in
     rw c.in-Serve.is (always_obeys _ _ _ _ _ _ (serve_obeyed network _ _ _ c.args.text.now.items (c.serve.ensures.runs network.station ends.0) ends.1 c.serve-in-Serve.ensures) c.always-in-Serve.ensures)
+
+pub returns-in-Read-clause-obeys : goal.returns-in-Read-clause-obeys
+unfolding said
+returns-in-Read-clause-obeys c plans network right are plain = rw c.in-Read.is (if_there_obeys _ _ _ _ _ _ (c.read.ensures.obeys network are) c.if_there-in-Read.ensures)
+
+pub returns-in-Write-clause-obeys : goal.returns-in-Write-clause-obeys
+unfolding said
+returns-in-Write-clause-obeys c plans network right are plain = rw c.in-Write.is (if_there_obeys _ _ _ _ _ _ (c.write.ensures.obeys network are) c.if_there-in-Write.ensures)

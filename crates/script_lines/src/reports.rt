@@ -1,0 +1,169 @@
+//! The lines of what the controller reports to its application: its alarms, and the answer to a request for a record. Each
+//! function appends a line, or a part of one, to a text.
+ghost use Rattle.std.specs.Prelude.{◌≡◌, ◌++◌, OnOk};
+ghost use Rattle.hex.specs.Hex.{encode_lower};
+ghost use Rattle.script_lines.specs.Reports.{answer_words, octets_word, place_words, priority_word, reply_line, reply_words, result_words, service_word};
+ghost use Rattle.script_lines.specs.Reports.{spaced, structure_word, told_line, told_shown};
+
+use crate::digits::pair;
+use crate::show::number;
+use controller_core::{Answer, Priority, RecordRequest, RecordService, Report};
+use rpc_core::Status;
+use std::alloc::AllocError;
+
+/// The lines of the alarms that the controller accepted, or that it accepted none.
+pub fn all_told(lines: &[u8], text: &mut Vec<u8>) -> Result<(), AllocError>
+    ensures { OnOk result (text.new.items ≡ text.old.items ++ told_shown lines.now) }
+{
+    text.extend_from_slice(if lines.is_empty() { b"told -\n" } else { lines })
+}
+
+/// An alarm: priority, AlarmType, slot, subslot, AlarmSpecifier, UserStructureIdentifier, and the octets after it.
+#[tactic(auto, unfolding(crate::specs::Reports::told_line))]
+pub fn told(alarm: &Report<'_>, text: &mut Vec<u8>) -> Result<(), AllocError>
+    ensures { OnOk result (text.new.items ≡ text.old.items ++ told_line alarm.now) }
+{
+    let fields = &alarm.notification;
+    text.extend_from_slice(b"told ")?;
+    text.extend_from_slice(priority_word(alarm.priority))?;
+    spaced(fields.alarm_type, text)?;
+    spaced(fields.slot_number, text)?;
+    spaced(fields.subslot_number, text)?;
+    spaced(fields.alarm_specifier, text)?;
+    text.extend_from_slice(b" ")?;
+    structure(alarm.user_structure, text)?;
+    text.extend_from_slice(b" ")?;
+    octets(fields.alarm_data.octets(), text)?;
+    text.extend_from_slice(b"\n")
+}
+
+fn priority_word(priority: Priority) -> &'static [u8]
+    ensures { result.now ≡ priority_word priority }
+{
+    match priority {
+        Priority::High => b"high",
+        Priority::Low => b"low",
+    }
+}
+
+/// A space and a decimal number.
+fn spaced(value: u16, text: &mut Vec<u8>) -> Result<(), AllocError>
+    ensures { OnOk result (text.new.items ≡ text.old.items ++ spaced value) }
+{
+    text.extend_from_slice(b" ")?;
+    number(u32::from(value), text)
+}
+
+/// A UserStructureIdentifier, or `None` if the alarm has none.
+fn structure(structure: Option<u16>, text: &mut Vec<u8>) -> Result<(), AllocError>
+    ensures { OnOk result (text.new.items ≡ text.old.items ++ structure_word structure) }
+{
+    match structure {
+        Some(structure) => number(u32::from(structure), text),
+        None => text.extend_from_slice(b"None"),
+    }
+}
+
+/// Octets in hex, or `-` if there are none.
+fn octets(octets: &[u8], text: &mut Vec<u8>) -> Result<(), AllocError>
+    ensures { OnOk result (text.new.items ≡ text.old.items ++ octets_word octets.now) }
+{
+    if octets.is_empty() {
+        return text.extend_from_slice(b"-");
+    }
+    all_digits(octets, text)
+}
+
+/// Two digits for each octet.
+#[tactic(auto, unfolding(hex::specs::Hex::encode_with))]
+fn all_digits(octets: &[u8], text: &mut Vec<u8>) -> Result<(), AllocError>
+    ensures { OnOk result (text.new.items ≡ text.old.items ++ encode_lower octets.now) }
+{
+    for octet in octets {
+        text.extend_from_slice(&pair(*octet))?;
+    }
+    Ok(())
+}
+
+/// What the last request of the application was answered with; `octets` are those of the record that a Read brought.
+#[tactic(auto, unfolding(crate::specs::Reports::reply_line))]
+pub fn reply(
+    waiting: Option<RecordRequest>,
+    answer: Option<Answer>,
+    octets: &[u8],
+    text: &mut Vec<u8>,
+) -> Result<(), AllocError>
+    ensures { OnOk result (text.new.items ≡ text.old.items ++ reply_line waiting answer octets.now) }
+{
+    text.extend_from_slice(b"reply ")?;
+    reply_words(waiting, answer, octets, text)?;
+    text.extend_from_slice(b"\n")
+}
+
+/// That it waits, that there is none, or its words. This is not a line of its own.
+fn reply_words(
+    waiting: Option<RecordRequest>,
+    answer: Option<Answer>,
+    octets: &[u8],
+    text: &mut Vec<u8>,
+) -> Result<(), AllocError>
+    ensures { OnOk result (text.new.items ≡ text.old.items ++ reply_words waiting answer octets.now) }
+{
+    if waiting.is_some() {
+        return text.extend_from_slice(b"waiting");
+    }
+    match answer {
+        Some(answer) => answer_words(answer, octets, text),
+        None => text.extend_from_slice(b"-"),
+    }
+}
+
+/// The request, and what it was answered with. This is not a line of its own.
+fn answer_words(answer: Answer, octets: &[u8], text: &mut Vec<u8>) -> Result<(), AllocError>
+    ensures { OnOk result (text.new.items ≡ text.old.items ++ answer_words answer octets.now) }
+{
+    text.extend_from_slice(service_word(answer.request.service))?;
+    place(answer.request, text)?;
+    text.extend_from_slice(b" ")?;
+    result_words(answer.request.service, answer.status, octets, text)
+}
+
+fn service_word(service: RecordService) -> &'static [u8]
+    ensures { result.now ≡ service_word service }
+{
+    match service {
+        RecordService::Read => b"read",
+        RecordService::Write => b"write",
+    }
+}
+
+/// Slot, subslot and index, each after a space.
+fn place(request: RecordRequest, text: &mut Vec<u8>) -> Result<(), AllocError>
+    ensures { OnOk result (text.new.items ≡ text.old.items ++ place_words request) }
+{
+    spaced(request.slot, text)?;
+    spaced(request.subslot, text)?;
+    spaced(request.index, text)
+}
+
+/// The octets of a record that was read, that a record was written, or the status with which the device refused.
+fn result_words(
+    service: RecordService,
+    status: Status,
+    octets: &[u8],
+    text: &mut Vec<u8>,
+) -> Result<(), AllocError>
+    ensures { OnOk result (text.new.items ≡ text.old.items ++ result_words service status octets.now) }
+{
+    if !status.is_done() {
+        text.extend_from_slice(b"refused ")?;
+        return all_digits(
+            &[status.code, status.decode, status.code1, status.code2],
+            text,
+        );
+    }
+    match service {
+        RecordService::Read => self::octets(octets, text),
+        RecordService::Write => text.extend_from_slice(b"done"),
+    }
+}
