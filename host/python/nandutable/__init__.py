@@ -1,0 +1,1 @@
+"""A PROFINET controller and its stations, by names: see `plant`."""
