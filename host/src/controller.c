@@ -50,6 +50,7 @@ struct options {
     uint32_t waiting_patience; /* the same for the wait for ApplicationReady */
     int has_signals;
     int is_without_octets; /* --signals=only */
+    int ends_with_input;
     struct signals_options signals;
 };
 
@@ -61,6 +62,7 @@ struct controller {
     struct relation *chosen; /* the one that the line that is being read names, or NULL */
     uint64_t pause;
     int is_stopped; /* by a line or a signal: no controller is started again */
+    int ends_with_input; /* it stops when standard input ends */
     uint64_t others; /* received frames that are for none of several relations */
     struct signals signals;
 };
@@ -282,6 +284,10 @@ static int are_all_ended(const struct controller *controller)
 static int is_over(void *context)
 {
     struct controller *controller = context;
+    if (controller->ends_with_input && lines_input_has_ended(&controller->loop.lines)) {
+        controller->ends_with_input = 0;
+        controller->loop.wake.is_ended = 1;
+    }
     if (controller->loop.wake.is_ended && are_all_ended(controller))
         return 1;
     if (controller->loop.wake.is_ended) {
@@ -337,6 +343,23 @@ static void show(void *context, char *words[])
     speak_for(controller, controller->chosen);
     relation_show(controller->chosen);
     speak_for(controller, NULL);
+}
+
+/* What a program that has just opened the socket did not see: the link, the neighbour and each station. */
+static void take_stations(void *context, char *words[])
+{
+    struct controller *controller = context;
+    struct lines *lines = &controller->loop.lines;
+    char why[WIRE_WHY];
+    (void)words;
+    if (controller->loop.wire.is_up)
+        lines_answer(lines, "link up");
+    else
+        lines_answer(lines, "link down (%s)", wire_why_down(&controller->loop.wire, why));
+    lines_answer(lines, "neighbour %s", controller->relations[0].neighbour);
+    for (unsigned i = 0; i < controller->count; i++)
+        relation_answer_station(&controller->relations[i]);
+    lines_answer(lines, "stations %u", controller->count);
 }
 
 /* A line that is for one station. */
@@ -419,6 +442,7 @@ static const struct command commands[] = {
     {"write", 5, take_write, "write SLOT SUBSLOT INDEX HEX   writes a record, while data is exchanged"},
     {"diagnosis", 2, take_diagnosis, "diagnosis reported|relation|device   lists the diagnoses that alarms reported, and compares them with a record"},
     {"show", 1, show, "show                    state, status, inputs and outputs"},
+    {"stations", 1, take_stations, "stations                the link, the neighbour, and the station with its MAC address, address, interval and state"},
     {"statistics", 1, NULL, "statistics              counts since the start"},
     {"restart", 1, take_restart, "restart                 releases the relation and starts it again, with all its parameters"},
     {"stop", 1, take_stop, "stop                    releases the relation and ends the program"},
@@ -432,6 +456,7 @@ static const struct command commands_of_several[] = {
     {"diagnosis", 2, take_diagnosis,
      "NAME diagnosis reported|relation|device   lists the diagnoses that alarms of this station reported, and compares them with a record"},
     {"show", 1, show, "[NAME] show                  state, status, inputs and outputs"},
+    {"stations", 1, take_stations, "stations                     the link, the neighbour, and each station with its MAC address, address, interval and state"},
     {"statistics", 1, NULL, "[NAME] statistics            counts since the start"},
     {"restart", 1, take_restart, "NAME restart                 releases the relation of this station and starts it again, with all its parameters"},
     {"stop", 1, take_stop, "[NAME] stop                  releases the relation of this station; without a name, all, and ends the program"},
@@ -444,7 +469,7 @@ static void usage(void)
     puts("Usage: nandutable-controller IFACE PLAN.json [PLAN.json ..] [--assign MAC [--force] | --replace PORT.STATION] [--retry SECONDS]\n"
          "                             [--patience SECONDS]\n"
          "                             [--signals[=only] [--deadband NAME=NUMBER ..] [--every MS] [--times]]\n"
-         "                             [--socket PATH] [--socket-group GROUP] [--period US] [--realtime N]\n"
+         "                             [--socket PATH [--socket-group GROUP] | --end-with-input] [--period US] [--realtime N]\n"
          "       nandutable-controller IFACE [PLAN.json] --list\n"
          "       nandutable-controller IFACE [PLAN.json] --read SLOT SUBSLOT INDEX [--from STATION]\n"
          "\n"
@@ -476,6 +501,7 @@ static void usage(void)
          "                        long, 0 to 3600 (0: without a limit; default: 10, and 60 for the wait for ApplicationReady)\n"
          "  --socket PATH         lines go in and out over this unix socket, and not over the standard streams\n"
          "  --socket-group GROUP  the members of this group may use the socket too, not only its owner\n"
+         "  --end-with-input      stops as at SIGTERM when its standard input ends, so also when the program that wrote to it ends\n"
          "  --period US           hands in time in this period, 31 to 10000 microseconds, and not only when something is due; choose at most the\n"
          "                        shortest interval of a plan (default: when something is due)\n"
          "  --realtime N          runs with this priority, 1 to 99, of the first-in first-out scheduler\n"
@@ -573,6 +599,7 @@ static int take_option(void *context, int option, const char *word)
     case 'b': options->signals.deadbands[options->signals.deadband_count++] = optarg; return 1;
     case 'e': take_every(options, word); return 1;
     case 'T': options->signals.has_times = 1; return 1;
+    case 'I': options->ends_with_input = 1; return 1;
     case 'c': take_place(options, word); return 1;
     case 'a':
         if (!words_mac(word, options->assigned))
@@ -617,6 +644,7 @@ static void read_words(struct options *options, int count, char *words[])
                                           {"deadband", required_argument, NULL, 'b'},
                                           {"every", required_argument, NULL, 'e'},
                                           {"times", no_argument, NULL, 'T'},
+                                          {"end-with-input", no_argument, NULL, 'I'},
                                           SHARED_OPTIONS};
     const struct command_line line = {known, usage, take_option};
     int first;
@@ -636,6 +664,8 @@ static void read_words(struct options *options, int count, char *words[])
         options_misused("--force takes --assign", "");
     if (!options->has_signals && (options->signals.deadband_count != 0 || options->signals.every != 0 || options->signals.has_times))
         options_misused("--deadband, --every and --times take --signals", "");
+    if (options->ends_with_input && (options->is_list || options->is_read || options->shared.socket != NULL))
+        options_misused("--list, --read and --socket take no --end-with-input", "");
     if (options->has_signals && (options->is_list || options->is_read))
         options_misused("--list and --read take no --signals", "");
     options->shared.interface = words[first];
@@ -894,6 +924,7 @@ static void open_all(struct controller *controller, const struct options *option
     if (options->has_signals)
         open_signals(controller, options);
     controller->pause = options->pause;
+    controller->ends_with_input = options->ends_with_input;
     controller->loop.period = options->shared.period;
     controller->loop.apart = controller->count > 1 ? APART : 1;
     wire_open(&controller->loop.wire, options->shared.interface);

@@ -277,6 +277,11 @@ void lines_close(struct lines *lines)
 
 /* --- Reading --- */
 
+int lines_input_has_ended(const struct lines *lines)
+{
+    return lines->talkers[0].in == NOBODY;
+}
+
 nfds_t lines_polls(struct lines *lines, struct pollfd *polls)
 {
     nfds_t count = 0;

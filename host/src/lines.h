@@ -66,6 +66,9 @@ void lines_answer(struct lines *lines, const char *format, ...) __attribute__((f
 /* Sends a line to one reader, without the name of a station. */
 void lines_send(struct lines *lines, unsigned talker, const char *line);
 
+/* Whether standard input has ended, or is not read. */
+int lines_input_has_ended(const struct lines *lines);
+
 /* How many octets a reader has room for, after what waits for it is written as far as possible; 0 if there is none. */
 size_t lines_room(struct lines *lines, unsigned talker);
 

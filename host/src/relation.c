@@ -183,6 +183,24 @@ void relation_introduce(struct relation *relation)
                words_show_mac(mac, relation->plan.controller_mac), relation->loop->wire.name, relation->station, relation->interval / 1000);
 }
 
+/* The MAC address of the station, or of the one that the controller talks to; `-` before one was found. */
+static const char *show_device(const struct relation *relation, char text[WORDS_MAC])
+{
+    static const uint8_t none[6] = {0};
+    const uint8_t *device = relation->has_device ? relation->device : relation->waiting.device;
+    return memcmp(device, none, sizeof none) == 0 ? "-" : words_show_mac(text, device);
+}
+
+void relation_answer_station(const struct relation *relation)
+{
+    const uint8_t *address = relation->plan.address;
+    char mac[WORDS_MAC], cause[16] = "";
+    if (relation->state == PN_ENDED)
+        snprintf(cause, sizeof cause, " %u", (unsigned)relation->cause);
+    lines_answer(&relation->loop->lines, "station %s %s %u.%u.%u.%u %" PRIu64 " %s%s", relation->station, show_device(relation, mac), address[0], address[1],
+                 address[2], address[3], relation->interval / 1000, states[relation->state], cause);
+}
+
 void relation_begin(struct relation *relation)
 {
     waiting_start(&relation->waiting, &relation->plan);

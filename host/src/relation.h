@@ -84,6 +84,9 @@ void relation_open(struct relation *relation, const char *file);
 /* Makes the controller, also again after its end, with new numbers. */
 void relation_make(struct relation *relation, struct loop *loop);
 
+/* The line `station` of the answer to `stations`. */
+void relation_answer_station(const struct relation *relation);
+
 /* Reports what the plan says, before the start. */
 void relation_introduce(struct relation *relation);
 

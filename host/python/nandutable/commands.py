@@ -165,13 +165,14 @@ class Commands:
 
     def refresh(self, timeout: float = ANSWER) -> None:
         """Asks for everything: stations, names, values, statistics. The state has all of it then."""
-        try:
-            self._ask("stations", lambda line: isinstance(line, lines.Stations), timeout)
-        except Refused:
-            pass  # an older controller: its lines say it as they come
+        self.stations(timeout)
         self._ask("names", lambda line: isinstance(line, lines.Names), timeout)
         self._ask("get *", lambda line: isinstance(line, lines.Got), timeout)
         self.statistics(timeout)
+
+    def stations(self, timeout: float = ANSWER) -> None:
+        """Asks for the link, the neighbour and the stations. The state has them then."""
+        self._ask("stations", lambda line: isinstance(line, lines.Stations), timeout)
 
     def statistics(self, timeout: float = ANSWER) -> None:
         """Asks for the counts: frames received and lost, interval and jitter of each station. The state has them then."""

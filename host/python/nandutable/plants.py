@@ -34,6 +34,7 @@ class Follower:
         self.news = threading.Condition()  # notified after each line
         self._on_line = on_line
         self._wants_diagnosis: "set[str]" = set()
+        self._wants_stations = False
         self._ports_at: Dict[str, float] = {}
         self._threads = [threading.Thread(target=work, name=name, daemon=True) for work, name in
                          ((self._take_lines, "nandutable state"), (self._ask_around, "nandutable questions"))]
@@ -62,8 +63,10 @@ class Follower:
     def _take(self, line: Line) -> None:
         self.state.take(line)
         self.commands.take(line)
-        if line.station is not None and (isinstance(line, lines.Alarm) or (isinstance(line, lines.State) and line.state == "exchanging")):
+        is_new = isinstance(line, lines.State) and line.state == "exchanging"
+        if line.station is not None and (isinstance(line, lines.Alarm) or is_new):
             self._wants_diagnosis.add(line.station)
+        self._wants_stations = self._wants_stations or is_new
         if self._on_line is not None:
             self._on_line(line)
         with self.news:
@@ -81,6 +84,9 @@ class Follower:
                 pass  # the controller has ended, or is too busy: the next time
 
     def _ask_once(self) -> None:
+        if self._wants_stations:
+            self._wants_stations = False
+            self.commands.stations()
         while self._wants_diagnosis:
             station = self._wants_diagnosis.pop()
             self.commands.diagnosis(station)
