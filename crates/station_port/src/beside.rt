@@ -20,15 +20,17 @@ use station::{
     quiet_units_are_ticks, services_due,
 };
 
-// The services that begin beside a device that has started, if it is to have any.
-pub(crate) fn begun(serves: bool, port: &Port) -> Option<DeviceServices>
-    ensures { result ≡ services_from serves port.now }
+// The services begin beside a device that has started, if it is to have any. They are large: made in each branch they are written where they
+// stay, and the stack that their parts take is free again before anything else is called.
+#[inline(never)]
+pub(crate) fn begin(services: &mut Option<DeviceServices>, serves: bool, port: &Port)
+    ensures { services.new ≡ services_from serves port.now }
 {
     if serves {
         let device = port.device();
-        Some(DeviceServices::new(device.identity(), device.running()))
+        *services = Some(DeviceServices::new(device.identity(), device.running()));
     } else {
-        None
+        *services = None;
     }
 }
 

@@ -9,7 +9,7 @@ ghost use Rattle.station_port.specs.Steps.{AnswersBoth, HearsBoth, KnowsBothOrNo
 ghost use Rattle.station_port.specs.Steps.{StartsBothOrNot, StepsOrNot, TellsBoth, TicksBoth};
 
 use crate::beside::{
-    begun, catch_up, due_of, follow, observe, pass_both, rest_of, soonest, tell_neighbour,
+    begin, catch_up, due_of, follow, observe, pass_both, rest_of, soonest, tell_neighbour,
 };
 use device_abi::{Passed, Port, Recorded, Refusal};
 use device_core::Note;
@@ -159,7 +159,7 @@ impl ServedPort {
         match self.port.boot() {
             Ok(()) => {
                 self.frames_past = self.outbox.len();
-                self.services = begun(self.serves, &self.port);
+                begin(&mut self.services, self.serves, &self.port);
                 Ok(())
             }
             Err(refusal) => Err(refusal),
