@@ -28,6 +28,10 @@ class Lost(Error):
     """The relation ended before the answer came."""
 
 
+class BadQuality(Error):
+    """The value of the signal is not good: no data is exchanged with the station, or the device says that the data are bad."""
+
+
 class Gone(Error):
     """The controller has ended, or its socket is closed. `status` is the exit status of the process, None for a socket."""
 

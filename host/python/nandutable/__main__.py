@@ -1,0 +1,179 @@
+"""`python3 -m nandutable`: names, values and changes of a plant."""
+
+from __future__ import annotations
+
+import argparse
+import json
+import signal
+import sys
+import time
+from typing import List, Optional, Sequence
+
+from .commands import Raw
+from .errors import Error, Gone, NoSuchName, NotStarted, Refused, TimedOut
+from .plants import Plant, Reading, plant
+from .values import plain
+
+EPILOG = """commands:
+  values [NAME ..]        prints signals with their quality (the default)
+  names                   prints the signals with direction, type, unit and text
+  watch [NAME ..]         prints each change until it is ended (Ctrl-C), or for --seconds
+  set NAME VALUE          sets an output; VALUE is as in the line `set`: 12.5, true, "a text", 00ff
+  read STATION SLOT SUBSLOT INDEX        prints a record in hex
+  write STATION SLOT SUBSLOT INDEX HEX   writes a record
+  stations                prints each station: state, address, neighbours, diagnosis
+  snapshot                prints all that is known, as JSON
+
+NAME is STATION.SIGNAL, or with one station SIGNAL alone. With a plan a controller is started on the interface, and ended at the end; that takes the
+capability CAP_NET_RAW. With --socket a controller that runs already is used, and goes on.
+
+status: 0; 1 refused; 2 it does not run, or does not exchange data in time; 64 wrong words; 66 no such name
+
+examples:
+  python3 -m nandutable --interface eth2 flow.json -- watch flow-7.flow
+  python3 -m nandutable --socket /run/nandutable-controller/eth2/lines
+  python3 -m nandutable --socket /run/nandutable-controller/eth2/lines -- set flow-7.valves 165"""
+
+COMMANDS = {"values": (0, None), "names": (0, 0), "watch": (0, None), "set": (2, 2), "read": (4, 4), "write": (5, 5), "stations": (0, 0), "snapshot": (0, 0)}
+
+
+class Parser(argparse.ArgumentParser):
+    """Wrong words have the status 64."""
+
+    def error(self, message: str) -> "None":  # type: ignore[override]
+        print(f"{self.prog}: {message}; --help says what it takes", file=sys.stderr)
+        raise SystemExit(64)
+
+
+def parser() -> Parser:
+    made = Parser(prog="nandutable", usage="%(prog)s [--interface IFACE PLAN.json ..] [--socket PATH] [options] [-- COMMAND ..]", epilog=EPILOG,
+                  description="Names, values and changes of a PROFINET plant.", formatter_class=argparse.RawDescriptionHelpFormatter, allow_abbrev=False)
+    made.add_argument("plans", nargs="*", metavar="PLAN.json", help="the plan of a station")
+    made.add_argument("-i", "--interface", metavar="IFACE", help="starts a controller for the plans on this network interface")
+    made.add_argument("-s", "--socket", metavar="PATH", help="uses the controller that has this socket")
+    made.add_argument("--ready", metavar="SECONDS", type=float, default=30.0, help="how long to wait for the exchange of data (30)")
+    made.add_argument("--seconds", metavar="SECONDS", type=float, help="ends `watch` after this time")
+    made.add_argument("--retry", metavar="SECONDS", type=int, help="starts a relation that has ended again after this time")
+    made.add_argument("--json", action="store_true", help="`values` and `watch` print a JSON object for each signal")
+    made.add_argument("--version", action="version", version="nandutable 0.1.0")
+    return made
+
+
+def shown(reading: Reading, as_json: bool) -> str:
+    if as_json:
+        return json.dumps({"name": reading.name, "value": plain(reading.value), "good": reading.good, "time": reading.time})
+    return str(reading)
+
+
+def chosen(plant: Plant, names: Sequence[str]) -> List[Reading]:
+    """The signals of these names; of no names all."""
+    if not names:
+        return [reading for station in plant for reading in station]
+    found = []
+    for name in names:
+        station, dot, signal_name = name.rpartition(".")
+        if not dot and len(plant) == 1:
+            station = next(iter(plant)).name
+        found.append(plant[station].signal(signal_name))
+    return found
+
+
+def watch(plant: Plant, names: Sequence[str], as_json: bool, seconds: Optional[float]) -> None:
+    wanted = {reading.name for reading in chosen(plant, names)}
+    changes = plant.state.subscribe()
+    for reading in chosen(plant, names):
+        print(shown(reading, as_json), flush=True)
+    ends = None if seconds is None else time.monotonic() + seconds
+    while ends is None or time.monotonic() < ends:
+        for change in changes.take(0.2):
+            if change.kind == "signal" and change.key in wanted:
+                print(shown(plant[change.data["station"]].signal(change.data["signal"]), as_json), flush=True)
+            elif change.kind in ("alarm", "message") and not as_json:
+                print(f"{change.data['station'] or ''} {change.data.get('kind', 'alarm')}: {change.data['text']}".strip(), flush=True)
+        if not plant.running:
+            raise Gone(plant.connection.reason(), plant.connection.status)
+
+
+def names(plant: Plant) -> None:
+    for reading in chosen(plant, ()):
+        print(f"{reading.name:40} {reading.direction:6} {reading.type:20} {reading.unit:8} {reading.text}".rstrip())
+
+
+def stations(plant: Plant) -> None:
+    for station in plant:
+        info = station.info
+        print(f"{station.name}  {station.state}  {info['mac'] or '-'}  {info['address']}  {info['received']} frames, {info['lost']} lost")
+        for port in info["ports"]:
+            peers = ", ".join(f"'{peer['port']}' of '{peer['station']}'" for peer in port["peers"]) or "nobody"
+            print(f"    port '{port['name']}' to {peers}")
+        for one in station.diagnosis:
+            print(f"    diagnosis slot {one.slot} subslot {one.subslot} channel {one.channel}: {one.text}")
+
+
+def numbers(words: Sequence[str]) -> List[int]:
+    try:
+        return [int(word, 0) for word in words]
+    except ValueError:
+        raise Refused(f"slot, subslot and index are numbers: {' '.join(words)}") from None
+
+
+def act(plant: Plant, command: str, words: List[str], options: argparse.Namespace) -> None:
+    if command == "values":
+        for reading in chosen(plant, words):
+            print(shown(reading, options.json))
+    elif command == "names":
+        names(plant)
+    elif command == "watch":
+        watch(plant, words, options.json, options.seconds)
+    elif command == "set":
+        plant.commands.set(chosen(plant, words[:1])[0].name, Raw(words[1]))
+    elif command == "read":
+        print(plant[words[0]].read(*numbers(words[1:])).hex() or "-")
+    elif command == "write":
+        slot, subslot, index = numbers(words[1:4])
+        plant[words[0]].write(slot, subslot, index, bytes.fromhex(words[4].replace("-", "")))
+    elif command == "stations":
+        stations(plant)
+    else:
+        print(json.dumps(plant.state.snapshot(), indent=1))
+
+
+def main(words: Optional[Sequence[str]] = None) -> int:
+    words = list(sys.argv[1:] if words is None else words)
+    front, command = words, ["values"]
+    if "--" in words:
+        at = words.index("--")
+        front, command = words[:at], words[at + 1:] or ["values"]
+    made = parser()
+    options = made.parse_args(front)
+    if (options.socket is None) == (options.interface is None) or (options.socket is None) == (not options.plans):
+        made.error("name --interface and plans, or --socket alone")
+    if command[0] not in COMMANDS:
+        made.error(f"no command '{command[0]}'")
+    least, most = COMMANDS[command[0]]
+    if len(command) - 1 < least or (most is not None and len(command) - 1 > most):
+        made.error(f"'{command[0]}' takes other words")
+    signal.signal(signal.SIGTERM, lambda *_: sys.exit(143))  # so that the controller is ended then too
+    try:
+        with plant(*options.plans, interface=options.interface, socket=options.socket, ready=options.ready, retry=options.retry) as opened:
+            act(opened, command[0], command[1:], options)
+    except KeyboardInterrupt:
+        return 0
+    except NoSuchName as fault:
+        return said(fault, 66)
+    except NotStarted as fault:
+        return said(fault, fault.status or 2)
+    except (Gone, TimedOut, OSError) as fault:
+        return said(fault, 2)
+    except (Error, ValueError) as fault:
+        return said(fault, 1)
+    return 0
+
+
+def said(fault: BaseException, status: int) -> int:
+    print(f"nandutable: {fault}", file=sys.stderr)
+    return status
+
+
+if __name__ == "__main__":
+    sys.exit(main())
