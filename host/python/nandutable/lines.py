@@ -527,10 +527,11 @@ def _known(text: str, whole: str, station: Optional[str]) -> Optional[Line]:
 
 class Reader:
     """Makes values of lines. With several plans the name of a station is in front of a line; with one plan it is not, and the reader learns
-    the name from the lines `controller ..`, `station ..` and `name ..`. `only` is that name."""
+    the name from the line `controller ..` or from the answer to `stations`. `only` is that name."""
 
     def __init__(self, only: Optional[str] = None) -> None:
         self.only = only
+        self._listed: Optional[str] = None  # the last station of the answer to `stations`
 
     def read(self, text: str) -> Line:
         """Returns the line as a value. A line feed at its end is ignored."""
@@ -550,6 +551,10 @@ class Reader:
         """A line that has no station's name in front."""
         if isinstance(line, Introduced):
             self.only = line.station
+        elif isinstance(line, Station):
+            self._listed = line.station
+        elif isinstance(line, Stations):
+            self.only = self._listed if line.count == 1 else None
         elif isinstance(line, _OF_ALL) and line.station is not None:
             return replace(line, station=None)
         return line
