@@ -14,17 +14,13 @@
 #define ACTIVITY_AT 40u
 #define AR_AT (HEADER + 28u)
 
-/* From the header of DCE/RPC on: its first flags, the interface, the operation, the number of the fragment, and the first block, after the sizes of the
- * arguments. */
+/* From the header of DCE/RPC on: its first flags, the interface, the operation, and the first block, after the sizes of the arguments. */
 #define FLAGS_AT 2u
 #define INTERFACE_AT 24u
 #define OPERATION_AT 68u
-#define NUMBER_AT 76u
 #define BLOCK_AT (HEADER + 20u)
 #define FLAG_FRAGMENT 4u
-
-/* In the ARBlockReq of a Connect: CMInitiatorMacAdd. */
-#define INITIATOR_AT 26u
+#define OPERATION_WRITE 3u
 
 /* In the header of a Write, of this many octets: the index of its record, and the number of octets that follow the header. */
 #define WRITE_HEADER 64u
@@ -151,39 +147,11 @@ int calls_may_store(const uint8_t *octets, size_t length)
     size_t at = header_at(octets, length);
     const uint8_t *header = octets + at, *write;
     unsigned index;
-    if (at == 0 || !is_call(header) || operation_of(header) != CALLS_WRITE)
+    if (at == 0 || !is_call(header) || operation_of(header) != OPERATION_WRITE)
         return 0;
     if (is_fragment(header) || length < at + BLOCK_AT + WRITE_HEADER)
         return 1;
     write = header + BLOCK_AT;
     index = (unsigned)(write[INDEX_AT] << 8 | write[INDEX_AT + 1]);
     return is_stored(index) || (index == INDEX_LIST && lists_stored(write + WRITE_HEADER, length - at - BLOCK_AT - WRITE_HEADER));
-}
-
-int calls_begins(const uint8_t *octets, size_t length, unsigned *operation)
-{
-    size_t at = header_at(octets, length);
-    const uint8_t *header = octets + at;
-    if (at == 0 || !is_call(header) || (is_fragment(header) && (header[NUMBER_AT] != 0 || header[NUMBER_AT + 1] != 0)))
-        return 0;
-    *operation = operation_of(header);
-    return 1;
-}
-
-int calls_source(const uint8_t *octets, size_t length, uint8_t address[4])
-{
-    size_t at = length >= 18 && octets[12] == 0x81 && octets[13] == 0 ? 18 : 14;
-    if (header_at(octets, length) == 0)
-        return 0;
-    memcpy(address, octets + at + 12, 4);
-    return 1;
-}
-
-int calls_initiator(const uint8_t *octets, size_t length, uint8_t mac[6])
-{
-    size_t at = header_at(octets, length) + BLOCK_AT;
-    if (at == BLOCK_AT || length < at + INITIATOR_AT + 6 || octets[at] != 0x01 || octets[at + 1] != 0x01)
-        return 0;
-    memcpy(mac, octets + at + INITIATOR_AT, 6);
-    return 1;
 }

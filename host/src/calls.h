@@ -33,18 +33,6 @@ struct calls_numbers {
 /* Reads the numbers of a datagram of any type, also with a tag and with options of IPv4. Returns whether it is one that has them. */
 int calls_read(const uint8_t *octets, size_t length, struct calls_numbers *numbers);
 
-/* Operations of a call. */
-enum { CALLS_CONNECT = 0, CALLS_WRITE = 3 };
-
-/* Whether a frame is a call or the first fragment of one, and its operation. */
-int calls_begins(const uint8_t *octets, size_t length, unsigned *operation);
-
-/* The IP address that a datagram comes from. Returns whether it is one with a header of DCE/RPC. */
-int calls_source(const uint8_t *octets, size_t length, uint8_t address[4]);
-
-/* The CMInitiatorMacAdd of a Connect, or of its first fragment. Returns whether its first block has one. */
-int calls_initiator(const uint8_t *octets, size_t length, uint8_t mac[6]);
-
 /* Whether a frame is a call that may store settings: a Write of an I&M record or of a list with such records, or a fragment of a Write. A Write
  * that is not understood counts as one. */
 int calls_may_store(const uint8_t *octets, size_t length);

@@ -258,10 +258,6 @@ static void look_around(void *context)
     for (unsigned i = 0; i < controller->count; i++) {
         struct relation *relation = &controller->relations[i];
         speak_for(controller, relation);
-        if (relation_has_no_patience(relation)) {
-            relation_stop(relation);
-            look_at_state(controller, relation);
-        }
         relation_tell_waiting(relation);
         if (is_due_again(controller, relation))
             start_again(controller, relation);
@@ -839,8 +835,9 @@ static void open_relations(struct controller *controller, const struct options *
     controller->relations[0].serves = 1;
     for (unsigned i = 0; i < controller->count; i++) {
         relation_open(&controller->relations[i], options->plans[i]);
-        controller->relations[i].patience = options->patience;
-        controller->relations[i].waiting_patience = options->waiting_patience;
+        controller->relations[i].plan.patience = options->patience;
+        controller->relations[i].plan.waiting_patience = options->waiting_patience;
+        controller->relations[i].plan.release_on_refused_record = 1;
         controller->relations[i].has_octets = !options->is_without_octets;
         for (unsigned k = 0; k < i; k++) {
             check_stations(&controller->relations[k], &controller->relations[i]);

@@ -2,7 +2,6 @@
 #define _GNU_SOURCE
 #include "arp.h"
 #include "chip.h"
-#include "holder.h"
 #include "identity.h"
 #include "link.h"
 #include "loop.h"
@@ -34,6 +33,7 @@ struct options {
     int is_ready_by_application;
     int is_without_services;
     int any_controller;
+    int keeps_records;
 };
 
 /* From this many commits that the flash still takes on, the device reports that they are few, and again at each tenth of that. */
@@ -70,7 +70,6 @@ struct device {
     struct places inputs;
     struct places outputs;
     struct sets sets;
-    struct holder holder;
     struct status statuses[STATUSES];
     unsigned status_count;
     struct diagnosis diagnoses[DIAGNOSES];
@@ -209,29 +208,38 @@ static void tell_settings(struct device *device, uint32_t news)
     }
 }
 
-static void tell_records(struct device *device)
+/* Reports the record in the operation. */
+static void tell_record(struct device *device)
 {
     char label[64], text[320];
     const pn_op *op = &device->op;
-    for (uint32_t number = device->watch.first_record; number < device->watch.records; number++) {
+    snprintf(label, sizeof label, "record %u %u %u", (unsigned)op->slot, (unsigned)op->subslot, (unsigned)op->place);
+    words_labelled(text, sizeof text, label, op->octets, op->length);
+    lines_tell(&device->loop.lines, "%s", text);
+}
+
+/* Records that the relation keeps, and those that are written while data is exchanged. */
+static void tell_records(struct device *device, uint32_t news)
+{
+    for (uint32_t number = device->watch.first_record; (news & PN_NEW_RECORDS) != 0 && number < device->watch.records; number++) {
         loop_must(pn_taken(&device->room, &device->op, number), "pn_taken");
-        snprintf(label, sizeof label, "record %u %u %u", (unsigned)op->slot, (unsigned)op->subslot, (unsigned)op->place);
-        words_labelled(text, sizeof text, label, op->octets, op->length);
-        lines_tell(&device->loop.lines, "%s", text);
+        tell_record(device);
+    }
+    for (uint32_t back = device->watch.new_passed; (news & PN_NEW_PASSED) != 0 && back > 0; back--) {
+        loop_must(pn_passed(&device->room, &device->op, back - 1), "pn_passed");
+        tell_record(device);
     }
 }
 
-/* What a frame changed besides the process data, and at the first time what there is. Returns it. */
-static uint32_t look_at_news(struct device *device, int is_first)
+/* What a frame changed besides the process data, and at the first time what there is. */
+static void look_at_news(struct device *device, int is_first)
 {
     uint32_t news = 0;
     loop_must(pn_news(&device->room, &device->op, &device->watch, &news), "pn_news");
     tell_settings(device, is_first ? PN_NEW_NAME | PN_NEW_ADDRESS : news);
-    if ((news & PN_NEW_RECORDS) != 0)
-        tell_records(device);
+    tell_records(device, news);
     if ((news & PN_PARAMETERS_END) != 0)
         lines_tell(&device->loop.lines, "parameters end");
-    return news;
 }
 
 /* Whether the controller runs, by the first output that it sends. */
@@ -417,9 +425,7 @@ static void take_frame(void *context, const uint8_t *octets, size_t length)
     struct device *device = context;
     int is_cyclic = wire_is_cyclic(octets, length);
     uint32_t note, before;
-    int is_half_open = device->phase == PN_STARTED || device->phase == PN_AWAITING;
-    if (!holder_lets_in(&device->holder, octets, length, is_half_open) ||
-        !sets_let_in(&device->sets, octets, length, device->station.mac, ticker_now()))
+    if (!sets_let_in(&device->sets, octets, length, device->station.mac, ticker_now()))
         return;
     before = is_cyclic ? 0 : commits_left(device);
     pn_watch_frame(&device->watch, octets, length);
@@ -433,8 +439,7 @@ static void take_frame(void *context, const uint8_t *octets, size_t length)
     if (note != PN_DONE)
         return;
     if (!is_cyclic) {
-        if ((look_at_news(device, 0) & PN_NEW_RELATION) != 0)
-            holder_begins(&device->holder, octets, length);
+        look_at_news(device, 0);
         look_at_conflicts(device, octets, length);
         device->has_news_of_kernel |= sets_is_set(octets, length, device->station.mac);
     }
@@ -487,7 +492,6 @@ static void statistics(void *context, lines_writer tell)
         tell(lines, "note %s %" PRIu64, notes[i], device->notes[i]);
     tell(lines, "sets dropped %" PRIu64, device->sets.dropped);
     tell(lines, "writes dropped %" PRIu64, device->sets.writes_dropped);
-    tell(lines, "calls dropped %" PRIu64, device->holder.dropped);
     tell(lines, "address conflicts %" PRIu32, conflicts);
     tell(lines, "flash programs %" PRIu64 " erases %" PRIu64 " faults %" PRIu64 " commits-left %" PRIu32, device->chip.programs, device->chip.erases,
          device->chip.faults, left);
@@ -696,7 +700,7 @@ static void usage(void)
 {
     puts("Usage: nandutable-device IFACE --flash FILE [--station FILE] [--identity FILE] [--mac MAC] [--socket PATH]\n"
          "                         [--socket-group GROUP] [--period US] [--realtime N] [--sets-per-second N] [--smallest-interval N]\n"
-         "                         [--inputs-begin-bad] [--ready-by-application] [--any-controller] [--no-services]\n"
+         "                         [--inputs-begin-bad] [--ready-by-application] [--any-controller] [--keep-records] [--no-services]\n"
          "\n"
          "A PROFINET IO device on the network interface IFACE. Its name, address and I&M texts are in the flash file, and survive a power\n"
          "failure at any moment.\n"
@@ -721,6 +725,7 @@ static void usage(void)
          "  --ready-by-application  the device is ready at the line `ready` after `parameters end`, and not by itself\n"
          "  --any-controller      accepts a Connect for another controller than its sender, and calls of any station keep a relation that does not\n"
          "                        exchange data yet: for controllers whose calls pass a router\n"
+         "  --keep-records        keeps the parameter records that are written while data is exchanged too: the 65th record of a relation is refused\n"
          "  --no-services         the device alone: no answer to ping, to lookups of the endpoint mapper and to calls to other interfaces, no\n"
          "                        announcement of the address, and no LLDP\n"
          "  --help, --version\n"
@@ -768,6 +773,7 @@ static int take_option(void *context, int option, const char *word)
     case 'a': options->is_ready_by_application = 1; return 1;
     case 'w': options->is_without_services = 1; return 1;
     case 'y': options->any_controller = 1; return 1;
+    case 'k': options->keeps_records = 1; return 1;
     case 'f': options->flash = word; return 1;
     case 's': options->station = word; return 1;
     case 'i': options->identity = word; return 1;
@@ -787,6 +793,7 @@ static const struct option known[] = {{"flash", required_argument, NULL, 'f'},
                                       {"ready-by-application", no_argument, NULL, 'a'},
                                       {"no-services", no_argument, NULL, 'w'},
                                       {"any-controller", no_argument, NULL, 'y'},
+                                      {"keep-records", no_argument, NULL, 'k'},
                                       SHARED_OPTIONS};
 
 /* Checks only the flash file's name, before any message is printed: a message could go into that file. */
@@ -835,6 +842,8 @@ static int read_station(struct device *device, const struct options *options)
     device->station.smallest_interval = options->smallest_interval;
     device->station.inputs_begin_bad = options->inputs_begin_bad != 0;
     device->station.ready_by_application = options->is_ready_by_application != 0;
+    device->station.only_own_controller = options->any_controller == 0;
+    device->station.records_passed_on = options->keeps_records == 0;
     device->station.without_services = options->is_without_services != 0;
     station_places(&device->inputs, device->station.modules, device->station.module_count, OF_INPUT);
     station_places(&device->outputs, device->station.modules, device->station.module_count, OF_OUTPUT);
@@ -847,7 +856,6 @@ static void open_all(struct device *device, const struct options *options)
     device->host = (pn_host){device, program, erase, transmit};
     device->loop.period = options->shared.period;
     sets_limit(&device->sets, options->sets_a_second, ticker_now());
-    device->holder.is_anyone = options->any_controller;
     wire_open(&device->loop.wire, options->shared.interface);
     if (!has_mac)
         memcpy(device->station.mac, device->loop.wire.hardware, 6);

@@ -165,7 +165,6 @@ void relation_make(struct relation *relation, struct loop *loop)
     relation->last_cyclic = 0;
     relation->ends_at = 0;
     relation->releases = 0;
-    relation->is_impatient = 0;
     relation->conflicts = 0;
     relation->alarms[0] = relation->alarms[1] = -1;
     relation->access.is_waiting = 0;
@@ -282,7 +281,7 @@ static void tell_end(struct relation *relation)
     uint8_t status[4];
     uint32_t place = 0;
     const uint8_t *refused = is_of_list(relation, &place, status) ? status : NULL;
-    if (relation->cause == RELATION_NO_PROGRESS)
+    if (relation->cause == PN_NO_PROGRESS)
         snprintf(why, sizeof why, ": %s", relation->stuck);
     else
         reasons_words(&relation->reasons, &relation->plan, relation->cause, place, refused, why, sizeof why);
@@ -471,15 +470,6 @@ void relation_look_at_data(struct relation *relation, const uint8_t *octets, siz
         relation->ends_at = ticker_now();
 }
 
-int relation_has_no_patience(struct relation *relation)
-{
-    uint32_t most = relation->state == PN_WAITING ? relation->waiting_patience : relation->patience;
-    if (relation->state < PN_ADDRESSING || relation->state > PN_WAITING || most == 0 || relation->loop->units - relation->entered < most)
-        return 0;
-    relation->is_impatient = 1;
-    return 1;
-}
-
 void relation_stop(struct relation *relation)
 {
     catch_up(relation);
@@ -496,8 +486,7 @@ int relation_is_changed(struct relation *relation)
     if (relation->op.phase == PN_ENDED)
         waiting_words(&relation->waiting, &relation->loop->wire, relation->stuck, sizeof relation->stuck);
     relation->state = relation->op.phase;
-    relation->cause = relation->is_impatient && relation->op.note == PN_STOPPED ? RELATION_NO_PROGRESS : relation->op.note;
-    relation->entered = relation->loop->units;
+    relation->cause = relation->op.note;
     waiting_state(&relation->waiting, relation->state);
     return 1;
 }

@@ -17,9 +17,6 @@
 
 struct signals;
 
-/* The cause of an end by the patience of this program: the library knows 1 to 7. */
-#define RELATION_NO_PROGRESS 8u
-
 struct relation {
     /* What is read for each frame of any station. */
     uint64_t ends_at; /* when the controller is over: 0 before its end, the highest number while it waits for the answer to its Release */
@@ -52,10 +49,6 @@ struct relation {
     int providers[STATION_PLACES]; /* of each input, what was reported last: its IOPS, and 256 if the device runs; -1: nothing yet */
     struct reasons reasons;
     char stuck[WAITING_WORDS]; /* what the controller waited for when it ended */
-    uint32_t patience;         /* for how many units a state of the start-up lasts at most; 0: no limit */
-    uint32_t waiting_patience; /* the same for the wait for ApplicationReady */
-    uint64_t entered;          /* the unit in which the state began */
-    int is_impatient;          /* the controller is stopped because its patience is over */
     struct holders holders; /* of the plan's name */
     uint8_t device[6];      /* the other end of the relation, to which the cyclic frames go */
     int has_device;
@@ -113,9 +106,6 @@ int relation_needs_time(const struct relation *relation);
 
 /* Reports the inputs and the alarm of such a frame. `before` is the state before it. */
 void relation_look_at_data(struct relation *relation, const uint8_t *octets, size_t length, uint32_t before);
-
-/* Whether a state of the start-up has lasted as long as the patience: then the controller is to be stopped. */
-int relation_has_no_patience(struct relation *relation);
 
 /* Stops the controller, which releases the relation. */
 void relation_stop(struct relation *relation);
