@@ -37,6 +37,9 @@ examples:
 COMMANDS = {"values": (0, None), "names": (0, 0), "watch": (0, None), "set": (2, 2), "read": (4, 4), "write": (5, 5), "stations": (0, 0), "snapshot": (0, 0)}
 
 
+PORTS = 3.0  # seconds within which the ports of the stations are read
+
+
 class Parser(argparse.ArgumentParser):
     """Wrong words have the status 64."""
 
@@ -100,6 +103,9 @@ def names(plant: Plant) -> None:
 
 
 def stations(plant: Plant) -> None:
+    ends = time.monotonic() + PORTS
+    while time.monotonic() < ends and any(station.state == "exchanging" and not station.info["ports"] for station in plant):
+        time.sleep(0.05)
     for station in plant:
         info = station.info
         print(f"{station.name}  {station.state}  {info['mac'] or '-'}  {info['address']}  {info['received']} frames, {info['lost']} lost")

@@ -406,6 +406,7 @@ Maker = Callable[["re.Match[str]", str, Optional[str]], Line]
 
 _MAC = r"((?:[0-9a-f]{2}:){5}[0-9a-f]{2})"
 _PLACE = r"(\d+) (\d+) (\d+)"
+_HEX = r"((?:[0-9a-f]{2})+|-)"
 _QUOTED = r'"((?:[^"\\]|\\.)*)"'
 _VALUE = re.compile(r"(\S+) = (.*) (good|bad)(?: (\d+\.\d+))?")
 
@@ -426,7 +427,9 @@ def station_of(name: str) -> str:
 def _name(found: "re.Match[str]", text: str, _: Optional[str]) -> Line:
     name, direction, kind, *numbers, bit, unit, label = found.groups()
     length, slot, subslot, octet = (int(number) for number in numbers)
-    return Name(text, station_of(name), name, direction, kind.replace("_", " "), length, slot, subslot, octet, None if bit == "-" else int(bit),
+    # Of GSDML's types only those of a time of day or a difference have blanks; others have an underscore of their own.
+    kind = kind.replace("_", " ") if "_with" in kind else kind
+    return Name(text, station_of(name), name, direction, kind, length, slot, subslot, octet, None if bit == "-" else int(bit),
                 _unquoted(unit), _unquoted(label))
 
 
@@ -465,11 +468,11 @@ _FORMS: Tuple[Tuple[str, str, Maker], ...] = (
     ("stations", r"stations (\d+)", _numbers(Stations)),
     ("state", rf"state ({'|'.join(STATES)})", _words(State)),
     ("ended", r"ended (\d+): (.*)", _words(Ended, 1)),
-    ("input", r"(input) (\d+) (\d+) ([0-9a-f]*)", lambda found, text, station: Octets(text, station, found[1], int(found[2]), int(found[3]), _octets(found[4]))),
-    ("give", r"(give) (\d+) (\d+) ([0-9a-f]*)", lambda found, text, station: Octets(text, station, found[1], int(found[2]), int(found[3]), _octets(found[4]))),
+    ("input", r"(input) (\d+) (\d+) ((?:[0-9a-f]{2})*)", lambda found, text, station: Octets(text, station, found[1], int(found[2]), int(found[3]), _octets(found[4]))),
+    ("give", r"(give) (\d+) (\d+) ((?:[0-9a-f]{2})*)", lambda found, text, station: Octets(text, station, found[1], int(found[2]), int(found[3]), _octets(found[4]))),
     ("provider", r"provider (\d+) (\d+) ([0-9a-f]{2}) (run|stop)",
      lambda found, text, station: Provider(text, station, int(found[1]), int(found[2]), int(found[3], 16), found[4] == "run")),
-    ("alarm", r"alarm (\d+) (\d+) (\d+) (\d+) ([0-9a-f]+|-) \((low|high) priority, (.*)\)", _alarm),
+    ("alarm", rf"alarm (\d+) (\d+) (\d+) (\d+) {_HEX} \((low|high) priority, (.*)\)", _alarm),
     ("diagnosis", r"diagnosis -", _numbers(NoDiagnosis)),
     ("diagnosis", r"diagnosis (\d+) (\d+) (\d+) (\d+) \((.*)\)", _words(Diagnosis, 4)),
     ("diagnosis", r"diagnosis left out (\d+)(?:: .*)?", _numbers(DiagnosisLeftOut)),
@@ -479,7 +482,7 @@ _FORMS: Tuple[Tuple[str, str, Maker], ...] = (
      lambda found, text, station: DiagnosisCompared(text, station, int(found[1], 16), found[2] == "the same", int(found[3]), int(found[4]), int(found[5] or 0))),
     ("diagnosis", r"diagnosis 0x([0-9A-F]{4}) (?:refused|not compared): (.*)", lambda found, text, station: DiagnosisRefused(text, station, int(found[1], 16), found[2])),
     ("read", rf"(read) {_PLACE} (?:refused|dropped): (.*)", _access_refused),
-    ("read", rf"read {_PLACE} ([0-9a-f]+|-)", lambda found, text, station: Record(text, station, int(found[1]), int(found[2]), int(found[3]), _octets(found[4]))),
+    ("read", rf"read {_PLACE} {_HEX}", lambda found, text, station: Record(text, station, int(found[1]), int(found[2]), int(found[3]), _octets(found[4]))),
     ("write", rf"(write) {_PLACE} (?:refused|dropped): (.*)", _access_refused),
     ("write", rf"write {_PLACE} done", _numbers(Written)),
     ("link", r"link up", lambda _, text, station: Link(text, station, True, "")),
@@ -555,6 +558,4 @@ class Reader:
             self._listed = line.station
         elif isinstance(line, Stations):
             self.only = self._listed if line.count == 1 else None
-        elif isinstance(line, _OF_ALL) and line.station is not None:
-            return replace(line, station=None)
-        return line
+        return replace(line, station=None) if isinstance(line, _OF_ALL) else line

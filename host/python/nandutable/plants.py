@@ -15,7 +15,7 @@ from .commands import Commands, Raw
 from .errors import BadQuality, Error, Gone, Lost, NoSuchName, NotStarted, Refused, TimedOut
 from .lines import Line, Reader
 from .ports import PORT_DATA, PORT_SUBSLOT, REAL_DATA
-from .process import Connection, Process, Socket
+from .process import Connection, Process, Socket, wait_for_socket
 from .state import Plain, PlantState
 from .values import Value, decode
 
@@ -23,6 +23,7 @@ STATISTICS = 1.0  # seconds from one question for the statistics to the next
 NEIGHBOURS = 10.0  # the same for the ports of a station
 PORTS = 5.0  # seconds within which a station answers to that
 READY = 30.0  # seconds within which each station exchanges data
+LISTENING = 3.0  # seconds within which a controller opens its socket
 SETTLE = 1.0  # seconds within which a device says that its data are good, after the exchange has begun
 ALARMS = 1000  # alarms of a station that wait until they are taken
 
@@ -439,10 +440,18 @@ def plant(*plans: str, interface: Optional[str] = None, socket: Optional[str] = 
     if (socket is None) == (interface is None) or (socket is None) == (not plans):
         raise ValueError("name plans and an interface, or a socket alone")
     if socket is not None:
-        return Plant(Socket(socket), ready, retries=True)
+        return Plant(_listening(socket), ready, retries=True)
     assert interface is not None
     more = () if retry is None else ("--retry", str(retry))
     return Plant(start(plans, interface, (*more, *options), controller, prefix), ready, retries=retry is not None)
+
+
+def _listening(path: str) -> Socket:
+    """The socket of a controller, which may be about to start."""
+    try:
+        return wait_for_socket(path, LISTENING)
+    except OSError as fault:
+        raise NotStarted(f"no controller listens at {path}: {fault.strerror}") from None
 
 
 def start(plans: Sequence[str], interface: str, options: Sequence[str] = (), controller: Optional[str] = None,
