@@ -96,7 +96,7 @@ impl ServedController {
         ensures { self.new ≡ begun self.old.controller.setup }
     {
         self.controller.start();
-        self.services = services_of(self.controller.plan());
+        restart(&mut self.services, self.controller.plan());
     }
 
     /// Replaces the content of the outbox by the Identify frame with which it begins.
@@ -205,6 +205,14 @@ fn services_of(plan: &Plan) -> ControllerServices
     ensures { result ≡ beside_at plan.now.controller }
 {
     ControllerServices::new(plan.controller())
+}
+
+/// What is beside the controller of a plan starts again. It is a function of its own, so that the stack below which the controller starts does not hold it.
+#[inline(never)]
+fn restart(services: &mut ControllerServices, plan: &Plan)
+    ensures { services.new ≡ beside_at plan.now.controller }
+{
+    *services = services_of(plan);
 }
 
 /// One event at the controller, and then beside it.

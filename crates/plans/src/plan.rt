@@ -131,6 +131,15 @@ impl Plan {
         Ok(Plan { parts })
     }
 
+    /// The plan of parts in which `too_long` found nothing. They are not judged again. It is inlined, so that a stack holds them once.
+    #[inline(always)]
+    pub fn judged(parts: Parts) -> Plan
+        requires { IsPlan parts }
+        ensures { result ≡ parts }
+    {
+        Plan { parts }
+    }
+
     /// The device.
     pub fn station(&self) -> &Station
         ensures value { result.now ≡ self.now.station }
