@@ -66,9 +66,9 @@ bind_ok (Err why) f y e = absurd cc
 
 -- ---- faults whose status has four octets
 
--- a fault that names no field of a block, or one of an IOCRBlockReq whose number is one octet
+-- a fault that names no field of a block, or one of an ARBlockReq or an IOCRBlockReq whose number is one octet
 abbrev pub IsPlain : CallFault → Type 0
-IsPlain (fault.ArField field) = ⊥
+IsPlain (fault.ArField field) = field < 256
 IsPlain (fault.IocrField field) = field < 256
 IsPlain (fault.ExpectedField field) = ⊥
 IsPlain (fault.AlarmCrField field) = ⊥
@@ -80,7 +80,7 @@ code_small which = omega arith
 
 status_sized : (which : Operation) (why : CallFault) → IsPlain why → IsStatus (status_of which why)
 unfolding status_of
-status_sized which (fault.ArField field) plain = absurd plain
+status_sized which (fault.ArField field) plain = record { code = code_small which; decode = omega arith; code1 = omega arith; code2 = plain }
 status_sized which (fault.IocrField field) plain = record { code = code_small which; decode = omega arith; code1 = omega arith; code2 = plain }
 status_sized which (fault.ExpectedField field) plain = absurd plain
 status_sized which (fault.AlarmCrField field) plain = absurd plain

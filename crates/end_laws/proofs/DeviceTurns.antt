@@ -36,7 +36,7 @@ use Rattle.end_laws.specs.both.Small as small
 use Rattle.end_laws.specs.both.Small.{Rules, ToDevice}
 use Rattle.end_laws.specs.both.Steps.{IsNew, Carries, Comes, PassesOn, TakesAny, TakesRecords, SaysAtMost, IsReady, IsDull, DeviceSteps}
 use Rattle.relations.specs.Phases.{Named, parameterized_from, restarted, updated}
-use Rattle.end_laws.specs.device.Small.{Planned, phase_in, link_of, kept_in, small_of, written_by, asked_by, heard_as, IsPlannedAs, IsPlannedCall, IsPlanned, IsHeardAs, IsWritingOf}
+use Rattle.end_laws.specs.device.Small.{AreDone, Planned, phase_in, link_of, kept_in, small_of, written_by, asked_by, heard_as, IsPlannedAs, IsPlannedCall, IsPlanned, IsHeardAs, IsWritingOf}
 use Rattle.end_laws.specs.device.Does.{AreReadied, Confirms, Does, GoesBy, IsEffect, IsExchange, IsOther, IsReadied, Repeats, Rests, Serves, Stored, Written, WrittenEach, readied_from, with_more}
 use Rattle.end_laws.proofs.BothKept.{may_come}
 use Rattle.end_laws.proofs.DeviceLists.{TakesOf, keeps_take, none_listed, outcomes_are}
