@@ -1,22 +1,18 @@
 #!/usr/bin/env python3
-"""Fills the tank of the demo up to 500 mm. The controller of the demo runs already; this program uses its socket."""
-
-import os
-import sys
-
-HERE = os.path.dirname(os.path.realpath(__file__))
-sys.path.insert(0, os.path.join(HERE, "..", "python"))  # not needed once nandutable is installed
+"""Fills the tank of the demo up to 500 mm, over the socket of its controller."""
 
 import nandutable
 
-with nandutable.plant(socket=os.path.join(HERE, "..", "build", "demo.lines")) as plant:
+with nandutable.plant(socket="host/build/demo.lines") as plant:
     pump = plant["pump-1"]
-    print(f"level {pump.level} mm", flush=True)
-    pump.speed = 1500
+    print("level", pump.level, "mm")
     try:
-        for mark in range(200, 501, 100):
+        pump.speed = 1500                                     # an output, in revolutions per minute
+        for mark in (200, 300, 400, 500):
             level = pump.wait_until("level", lambda level: level >= mark, timeout=10)
-            print(f"level {level} mm", flush=True)
+            print("level", level, "mm")
+        print("full")
+    except nandutable.Error as fault:                         # with the reason of the controller or the device
+        print("not filled:", fault)
     finally:
         pump.speed = 0
-    print("full: the pump stands still")
