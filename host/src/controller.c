@@ -348,6 +348,8 @@ static void take_stations(void *context, char *words[])
     struct lines *lines = &controller->loop.lines;
     char why[WIRE_WHY];
     (void)words;
+    controller->chosen = NULL;
+    tell_each(controller, lines_answer, relation_introduce);
     if (controller->loop.wire.is_up)
         lines_answer(lines, "link up");
     else
@@ -968,7 +970,7 @@ static void begin(struct controller *controller)
     for (unsigned i = 0; i < controller->count; i++)
         relation_make(&controller->relations[i], &controller->loop);
     loop_start(&controller->loop, events_of(controller), controller);
-    for_each(controller, relation_introduce);
+    tell_each(controller, lines_tell, relation_introduce);
     look_at_kernel(controller);
     loop_tell_link(&controller->loop);
     for_each(controller, warn_of_plan);

@@ -175,10 +175,10 @@ void relation_make(struct relation *relation, struct loop *loop)
     loop_must(pn_controller_start(&relation->room, &relation->plan, relation->ar, relation->activity), "pn_controller_start");
 }
 
-void relation_introduce(struct relation *relation)
+void relation_introduce(struct relation *relation, lines_writer tell)
 {
     char mac[WORDS_MAC];
-    lines_tell(&relation->loop->lines, "controller %s on %s, for the station '%s', interval %" PRIu64 " us",
+    tell(&relation->loop->lines, "controller %s on %s, for the station '%s', interval %" PRIu64 " us",
                words_show_mac(mac, relation->plan.controller_mac), relation->loop->wire.name, relation->station, relation->interval / 1000);
 }
 

@@ -81,7 +81,7 @@ void relation_make(struct relation *relation, struct loop *loop);
 void relation_answer_station(const struct relation *relation);
 
 /* Reports what the plan says, before the start. */
-void relation_introduce(struct relation *relation);
+void relation_introduce(struct relation *relation, lines_writer tell);
 
 /* Sends the first frame, and sets the outputs that were set before. */
 void relation_begin(struct relation *relation);

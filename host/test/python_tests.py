@@ -1,6 +1,8 @@
 """Tests of the Python module: `host/test/run python_lines python_bounds python_typed python_types python_plant python_several python_words python_ends`."""
 
+import contextlib
 import dataclasses
+import io
 import json
 import os
 import shutil
@@ -18,6 +20,7 @@ PYTHON = os.path.join(HOST, "python")
 sys.path.insert(0, PYTHON)
 sys.path.insert(0, TOP)
 import nandutable  # noqa: E402: the module's folder is not on the path before
+from nandutable import __main__ as program  # noqa: E402
 from nandutable import lines, process, state, values  # noqa: E402
 from nandutable.ports import Peer, Port, read_ports  # noqa: E402
 from planning import types  # noqa: E402
@@ -491,12 +494,16 @@ class PythonTests:
         link.close()
         same("the name is set", came is not None, True)
 
-    def module_prints(self, *words, status=0, **more):
-        """What `python3 -m nandutable` prints."""
-        ran = subprocess.run([sys.executable, "-m", "nandutable", *words], capture_output=True, text=True, timeout=60,
-                             env={**os.environ, "PYTHONPATH": PYTHON}, **more)
-        same(f"{words}: {ran.stdout}{ran.stderr}", ran.returncode, status)
-        return ran.stdout if status == 0 else ran.stderr
+    def module_prints(self, *words, status=0):
+        """What `nandutable` prints with these words, in this process."""
+        printed, told = io.StringIO(), io.StringIO()
+        with contextlib.redirect_stdout(printed), contextlib.redirect_stderr(told):
+            try:
+                came = program.main(words)
+            except SystemExit as end:
+                came = end.code
+        same(f"{words}: {printed.getvalue()}{told.getvalue()}", came, status)
+        return printed.getvalue() if status == 0 else told.getvalue()
 
     def python_words(self, wire):
         """`python3 -m nandutable`: each of its commands, over the socket of a controller that runs already, and with one of its own."""
@@ -530,9 +537,13 @@ class PythonTests:
         same(told, told.startswith("pump-1  exchanging  02:00:00:00:00:01  192.168.0.2  ") and "port 'port-001' to 'port-001' of 'plc'" in told, True)
         shot = json.loads(self.module_prints("--socket", path, "--", "snapshot"))
         same("the snapshot", (shot["stations"]["pump-1"]["state"], shot["signals"]["pump-1.level"]["value"]), ("exchanging", 258))
-        later = threading.Timer(1, lambda: device.say("input 1 1 0203"))
-        later.start()
-        same("watch", self.module_prints("--socket", path, "--seconds", "3", "--", "watch", "level"), "pump-1.level = 258 mm\npump-1.level = 515 mm\n")
+        with subprocess.Popen([sys.executable, "-m", "nandutable", "--socket", path, "--", "watch", "level"], stdout=subprocess.PIPE, text=True,
+                              env={**os.environ, "PYTHONPATH": PYTHON}) as watching:
+            same("watch", watching.stdout.readline(), "pump-1.level = 258 mm\n")
+            device.say("input 1 1 0203")
+            is_soon("a change", lambda: watching.stdout.readline() == "pump-1.level = 515 mm\n")
+            watching.send_signal(signal.SIGINT)
+            same("its end", watching.wait(10), 0)
         same("its status", controller.end(), 7)
         same("no controller", "no controller listens at" in self.module_prints("--socket", path, status=2), True)
         device.end()
@@ -549,15 +560,15 @@ class PythonTests:
             return lacks
         path, plan = self.path("ends-lines"), self.signal_plan("pump-1", self.TANK)
         device = self.device(wire, "python-ends")
-        script = ("import nandutable, sys, time\n"
+        text = ("import nandutable, sys, time\n"
                   "with nandutable.plant(sys.argv[1], interface='c0', controller=sys.argv[2], prefix=sys.argv[3:]) as plant:\n"
                   "    print(plant.connection.pid, flush=True)\n    time.sleep(60)\n")
-        words = [sys.executable, "-c", script, plan, os.path.join(BUILD, self.kind, "nandutable-controller"), "ip", "netns", "exec", wire.controller]
+        words = [sys.executable, "-c", text, plan, os.path.join(BUILD, self.kind, "nandutable-controller"), "ip", "netns", "exec", wire.controller]
         for number in (signal.SIGKILL, signal.SIGINT):
-            with subprocess.Popen(words, stdout=subprocess.PIPE, stderr=subprocess.DEVNULL, env={**os.environ, "PYTHONPATH": PYTHON}, text=True) as program:
-                pid = int(program.stdout.readline())
-                program.send_signal(number)
-                program.wait(20)
+            with subprocess.Popen(words, stdout=subprocess.PIPE, stderr=subprocess.DEVNULL, env={**os.environ, "PYTHONPATH": PYTHON}, text=True) as script:
+                pid = int(script.stdout.readline())
+                script.send_signal(number)
+                script.wait(20)
             is_soon("its controller ends", lambda: not self.runs(pid))
         # The device is free at once: a controller that was not released would be refused for a minute.
         controller = self.controller(wire, plan, "--signals", "--times", "--socket", path)
@@ -588,15 +599,15 @@ class PythonTests:
         watcher = [sys.executable, "-m", "nandutable", "--socket", path, "--", "watch"]
         environment = {**os.environ, "PYTHONPATH": PYTHON}
         for end in (signal.SIGKILL, signal.SIGSTOP, signal.SIGKILL):
-            program = subprocess.Popen(watcher, stdout=subprocess.DEVNULL, stderr=subprocess.DEVNULL, env=environment)
+            watching = subprocess.Popen(watcher, stdout=subprocess.DEVNULL, stderr=subprocess.DEVNULL, env=environment)
             for number in range(60):
                 device.ask(f"input 1 1 {number * 257:04x}", "note done")
                 time.sleep(0.01)
-            program.send_signal(end)
+            watching.send_signal(end)
             for number in range(20):
                 device.ask(f"input 1 1 {number * 257 + 1:04x}", "note done")
                 time.sleep(0.01)
-            program.kill()
-            program.wait(10)
+            watching.kill()
+            watching.wait(10)
         device.ask("input 1 1 ffff", "note done")
         asleep.close()

@@ -116,20 +116,20 @@ class Commands:
             raise NoSuchName(f"there is no station {station!r}; there are {', '.join(self.state.station_names()) or 'none'}")
         return f"{station} {text}" if self.several() else text
 
-    def fenced(self, text: str, keeps: Callable[[Line], bool], timeout: float = ANSWER) -> List[Line]:
-        """Sends a line whose answer has no end of its own, and returns the lines of the answer. The controller answers each line in its turn, so
-        they are complete when a question for a name that no signal has is refused."""
-        self._fences += 1
-        fence = f"-{self._fences}"
-        with self._turn, self._waiting(lambda line: isinstance(line, lines.GetRefused) and line.name == fence,
-                                       lambda line: keeps(line) or isinstance(line, lines.Wrong)) as waiter:
-            self.connection.send(text)
-            self.connection.send(f"get {fence}")
-            self._wait(waiter, text, timeout)
-        for line in waiter.kept:
-            if isinstance(line, lines.Wrong):
-                raise _refusal(line.reason)
-        return waiter.kept
+    def fenced(self, text: str, timeout: float = ANSWER, after: Callable[[], None] = lambda: None) -> None:
+        """Sends a line whose answer has no end of its own, waits for the answer, and calls `after` before any other line is sent. The controller
+        answers each line in its turn, so the answer is complete when a question for a name that no signal has is refused."""
+        with self._turn:
+            self._fences += 1
+            fence = f"-{self._fences}"
+            with self._waiting(lambda line: isinstance(line, lines.GetRefused) and line.name == fence, lambda line: isinstance(line, lines.Wrong)) as waiter:
+                self.connection.send(text)
+                self.connection.send(f"get {fence}")
+                self._wait(waiter, text, timeout)
+            for line in waiter.kept:
+                if isinstance(line, lines.Wrong):
+                    raise _refusal(line.reason)
+            after()
 
     # -- signals
 
@@ -234,8 +234,7 @@ class Commands:
 
     def diagnosis(self, station: str, timeout: float = ANSWER) -> List[Plain]:
         """The diagnoses that alarms of this relation have reported, as in the state."""
-        self.fenced(self._of(station, "diagnosis reported"), _nothing, timeout)
-        self.state.diagnosis_listed(station)
+        self.fenced(self._of(station, "diagnosis reported"), timeout, lambda: self.state.diagnosis_listed(station))
         found = self.state.station(station)
         return list(found["diagnosis"]) if found is not None else []
 
@@ -249,13 +248,13 @@ class Commands:
 
     def restart(self, station: str) -> None:
         """Releases the relation of a station and starts it again, with all its parameters. Returns at once."""
-        self.fenced(self._of(station, "restart"), _nothing)
+        self.fenced(self._of(station, "restart"))
 
     def stop(self, station: str) -> None:
         """Releases the relation of a station; `restart` starts it again. The controller of one station ends then."""
         text = self._of(station, "stop")
         if self.several():
-            self.fenced(text, _nothing)
+            self.fenced(text)
         else:
             self.connection.send(text)
 

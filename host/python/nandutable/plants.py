@@ -21,6 +21,7 @@ from .values import Value, decode
 
 STATISTICS = 1.0  # seconds from one question for the statistics to the next
 NEIGHBOURS = 10.0  # the same for the ports of a station
+PAUSE = 0.1  # seconds after a question that was not answered
 PORTS = 5.0  # seconds within which a station answers to that
 READY = 30.0  # seconds within which each station exchanges data
 LISTENING = 3.0  # seconds within which a controller opens its socket
@@ -46,7 +47,9 @@ class Follower:
         self.news = threading.Condition()  # notified after each line
         self._on_line = on_line
         self._wants_diagnosis: "set[str]" = set()
+        self._nudge = threading.Event()  # there is something to ask at once
         self._wants_stations = False
+        self._statistics_at = 0.0
         self._ports_at: Dict[str, float] = {}
         self._threads = [threading.Thread(target=work, name=name, daemon=True) for work, name in
                          ((self._take_lines, "nandutable state"), (self._ask_around, "nandutable questions"))]
@@ -70,6 +73,7 @@ class Follower:
             self.commands.end()
             self.ended.set()
             self.asked.set()
+            self._nudge.set()
             with self.news:
                 self.news.notify_all()
 
@@ -80,6 +84,8 @@ class Follower:
         if line.station is not None and (isinstance(line, lines.Alarm) or is_new):
             self._wants_diagnosis.add(line.station)
         self._wants_stations = self._wants_stations or is_new
+        if self._wants_stations or self._wants_diagnosis:
+            self._nudge.set()
         if self._on_line is not None:
             self._on_line(line)
         with self.news:
@@ -94,20 +100,24 @@ class Follower:
                 self.asked.set()  # it has no signals: it runs without --signals
             except Error:
                 self.ended.wait(STATISTICS)
-        while not self.ended.wait(STATISTICS if not self._wants_diagnosis else 0.05):
+        while not self.ended.is_set():
             try:
                 self._ask_once()
             except Error:
-                pass  # the controller has ended, or is too busy: the next time
+                self.ended.wait(PAUSE)  # the controller has ended, or is too busy: the next time
+            self._nudge.wait(STATISTICS)
 
     def _ask_once(self) -> None:
+        self._nudge.clear()
         if self._wants_stations:
             self._wants_stations = False
             self.commands.stations()
         while self._wants_diagnosis:
             station = self._wants_diagnosis.pop()
             self.commands.diagnosis(station)
-        self.commands.statistics()
+        if time.monotonic() >= self._statistics_at:
+            self._statistics_at = time.monotonic() + STATISTICS
+            self.commands.statistics()
         for station in self.state.station_names() if self.neighbours is not None else ():
             found = self.state.station(station)
             if found is not None and found["state"] == "exchanging" and time.monotonic() >= self._ports_at.get(station, 0):
