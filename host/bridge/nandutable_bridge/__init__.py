@@ -1,0 +1,1 @@
+"""Signals, states, alarms and diagnosis of a plant as topics of MQTT: docs/BRIDGE.md."""

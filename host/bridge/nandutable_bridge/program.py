@@ -1,0 +1,278 @@
+"""The program: its options, the controller that it starts or whose socket it uses, its log, its end."""
+
+from __future__ import annotations
+
+import argparse
+import collections
+import os
+import signal
+import ssl
+import stat
+import sys
+import threading
+import time
+from typing import Any, Deque, List, NoReturn, Optional, Sequence
+
+from nandutable.commands import Commands
+from nandutable.errors import Error
+from nandutable.plants import Follower, start
+from nandutable.process import Connection, Socket
+from nandutable.state import PlantState
+
+from .bridge import Bridge
+from .broker import Address
+from .topics import BadPrefix, Topics
+
+NAME = "nandutable-bridge"
+VERSION = "0.1.0"
+AGAIN = 1.0  # seconds after which a socket that is gone is tried again
+LOOKS = 0.1  # seconds after which an end that was asked for is seen
+WRONG_OPTION, NO_FILE, FAILED, NOT_ALLOWED = 64, 66, 70, 77
+
+EPILOG = """\
+With --socket it uses a controller that runs already (its options --socket PATH and --signals), which goes on when the bridge ends. Otherwise it
+starts nandutable-controller on INTERFACE with the plans, with --signals=only, --times and the words after `--`, such as `-- --retry 5`, and ends
+with it. Topics and payloads are in docs/BRIDGE.md and nandutable-bridge(8)."""
+
+
+class Log:
+    """Lines on standard error. A thread writes them: a terminal that is stopped or a disk that is full stops nothing else. What waits beyond
+    100 lines is dropped, the oldest first."""
+
+    def __init__(self) -> None:
+        self._lines: Deque[str] = collections.deque(maxlen=100)
+        self._news = threading.Condition()
+        self._is_idle = True
+        threading.Thread(target=self._write, name="nandutable log", daemon=True).start()
+
+    def __call__(self, text: str) -> None:
+        with self._news:
+            self._lines.append(text)
+            self._is_idle = False
+            self._news.notify_all()
+
+    def _write(self) -> None:
+        while True:
+            with self._news:
+                self._is_idle = not self._lines
+                self._news.notify_all()
+                self._news.wait_for(lambda: self._lines)
+                text = self._lines.popleft()
+            try:
+                os.write(2, f"{NAME}: {text}\n".encode("utf-8", "replace"))
+            except OSError:
+                pass
+
+    def close(self, seconds: float = 1.0) -> None:
+        """Waits until all is written, but not for ever."""
+        with self._news:
+            self._news.wait_for(lambda: self._is_idle, seconds)
+
+
+class Parser(argparse.ArgumentParser):
+    """Its status for an invalid option is that of the other programs."""
+
+    def error(self, message: str) -> NoReturn:
+        self.exit(WRONG_OPTION, f"{NAME}: {message} ({NAME} --help)\n")
+
+
+def number(least: int, most: int) -> Any:
+    """Reads a whole number within bounds."""
+    def read(text: str) -> int:
+        if not text.isdecimal() or not text.isascii() or not least <= int(text) <= most:
+            raise argparse.ArgumentTypeError(f"it takes {least} to {most}: {text}")
+        return int(text)
+    return read
+
+
+def parser() -> Parser:
+    made = Parser(NAME, description="Publishes the signals, states, alarms and diagnosis of PROFINET stations over MQTT, and sets outputs.", epilog=EPILOG,
+                  formatter_class=argparse.RawDescriptionHelpFormatter, allow_abbrev=False)
+    made.add_argument("interface", nargs="?", metavar="INTERFACE")
+    made.add_argument("plans", nargs="*", metavar="PLAN.json")
+    made.add_argument("--socket", metavar="PATH", help="the socket of a controller that runs; tried again each second")
+    made.add_argument("--prefix", default="nandutable", help="the begin of each topic (nandutable)")
+    made.add_argument("--read-only", action="store_true", help="accepts no set: the bridge subscribes to nothing")
+    made.add_argument("--sets-per-second", type=number(1, 10000), default=100, metavar="N", help="more sets are refused (100)")
+    made.add_argument("--view", type=number(1, 65535), metavar="PORT", help="also serves the page of nandutable-view on 127.0.0.1")
+    broker = made.add_argument_group("broker", "as the clients of mosquitto have them")
+    broker.add_argument("--host", default="localhost", help="the broker (localhost)")
+    broker.add_argument("--port", type=number(1, 65535), metavar="N", help="its port (1883, or 8883 with TLS)")
+    broker.add_argument("--id", default="", help="the client's identifier (the broker chooses one)")
+    broker.add_argument("--keepalive", type=number(5, 3600), default=20, metavar="S", help="seconds after which a silent connection is tested (20)")
+    broker.add_argument("--protocol-version", choices=("mqttv5", "mqttv311"), default="mqttv5", help="(mqttv5)")
+    broker.add_argument("--username", metavar="NAME")
+    broker.add_argument("--password-file", metavar="FILE", help="its first line is the password; other users must not be able to read it")
+    broker.add_argument("--cafile", metavar="FILE", help="TLS: certificates that are trusted, PEM")
+    broker.add_argument("--capath", metavar="FOLDER", help="TLS: a folder of them")
+    broker.add_argument("--tls-use-os-certs", action="store_true", help="TLS: those of the system are trusted")
+    broker.add_argument("--cert", metavar="FILE", help="TLS: the certificate of this client, PEM")
+    broker.add_argument("--key", metavar="FILE", help="TLS: its key, without a password")
+    made.add_argument("--version", action="version", version=f"{NAME} {VERSION}")
+    return made
+
+
+class Refusal(Exception):
+    """What was asked for cannot be done."""
+
+    def __init__(self, status: int, text: str) -> None:
+        super().__init__(text)
+        self.status = status
+
+
+def password_of(path: str) -> str:
+    try:
+        with open(path, encoding="utf-8") as file:
+            mode = os.fstat(file.fileno()).st_mode
+            if stat.S_ISREG(mode) and mode & 0o007:
+                raise Refusal(NOT_ALLOWED, f"--password-file: every user may read or write {path} (chmod o= {path})")
+            return file.readline().rstrip("\r\n")
+    except (OSError, UnicodeDecodeError) as fault:
+        raise Refusal(NO_FILE, f"--password-file {path}: {getattr(fault, 'strerror', None) or 'it is not UTF-8'}") from None
+
+
+def _no_password() -> str:
+    raise ValueError("the key has a password")
+
+
+def context_of(options: argparse.Namespace) -> Optional[ssl.SSLContext]:
+    """What TLS takes, None without it."""
+    if not (options.cafile or options.capath or options.tls_use_os_certs):
+        if options.cert or options.key:
+            raise Refusal(WRONG_OPTION, "--cert and --key take --cafile, --capath or --tls-use-os-certs")
+        return None
+    try:
+        context = ssl.SSLContext(ssl.PROTOCOL_TLS_CLIENT)
+        context.minimum_version = ssl.TLSVersion.TLSv1_2
+        if options.cafile or options.capath:
+            context.load_verify_locations(options.cafile, options.capath)
+        if options.tls_use_os_certs:
+            context.load_default_certs()
+        if options.cert or options.key:
+            context.load_cert_chain(options.cert or options.key, options.key, _no_password)
+    except (OSError, ValueError) as fault:
+        raise Refusal(NO_FILE, f"TLS: {fault}") from None
+    return context
+
+
+def address_of(options: argparse.Namespace) -> Address:
+    if options.password_file and not options.username:
+        raise Refusal(WRONG_OPTION, "--password-file takes --username")
+    context = context_of(options)
+    return Address(options.host, options.port or (8883 if context else 1883), options.keepalive, options.id, options.protocol_version == "mqttv5",
+                   options.username, password_of(options.password_file) if options.password_file else None, context)
+
+
+class Controller:
+    """The controller, a process or a socket, and the follower of its lines. `state` stays the same if a socket comes back."""
+
+    def __init__(self, options: argparse.Namespace, more: Sequence[str], log: Log) -> None:
+        self.options, self.more, self.log = options, more, log
+        self.state = PlantState()
+        self.follower: Optional[Follower] = None
+        self.is_over = False  # set by a handler of signals, so it is no lock
+        self._told = ""
+
+    def commands(self) -> Optional[Commands]:
+        """The commands of the controller that runs, or None."""
+        follower = self.follower
+        return follower.commands if follower is not None and not follower.ended.is_set() else None
+
+    def end(self, *_: object) -> None:
+        """Ends `run`. It is also the handler of a signal."""
+        self.is_over = True
+
+    def run(self) -> int:
+        """Follows the controller until `is_over` is set or, if it was started here, until it ends. Returns the status."""
+        if self.options.socket is None:
+            return self._follow(start(self.options.plans, self.options.interface, ["--signals=only", *self.more]), ends=True)
+        while not self.is_over:
+            try:
+                connection = Socket(self.options.socket)
+            except OSError as fault:
+                self.state.end(f"no controller listens at {self.options.socket}: {fault.strerror}")
+                self._tell(f"no controller listens at {self.options.socket}: {fault.strerror}")
+            else:
+                self._tell(f"connected to the controller at {self.options.socket}")
+                self._follow(connection, ends=False)
+                if not self.is_over:
+                    self._tell(connection.reason())
+            self._pause()
+        return 0
+
+    def _pause(self) -> None:
+        ends = time.monotonic() + AGAIN
+        while not self.is_over and time.monotonic() < ends:
+            time.sleep(LOOKS)
+
+    def _follow(self, connection: Connection, ends: bool) -> int:
+        self.follower = Follower(connection, self.state)
+        self.follower.start()
+        while not self.follower.ended.wait(LOOKS) and not self.is_over:
+            pass
+        was_ended = self.follower.ended.is_set()
+        connection.close()
+        self.follower.join()
+        if ends and was_ended:
+            self._tell(connection.reason())
+        status = (connection.status or 0) if ends and was_ended else 0
+        return status if status >= 0 else 128 - status  # as a shell says that a signal has ended it
+
+    def _tell(self, text: str) -> None:
+        if text != self._told:
+            self._told = text
+            self.log(text)
+
+
+def checked(words: Sequence[str]) -> "tuple[argparse.Namespace, List[str], Address, Topics]":
+    """The options, the controller's own words, the broker and the topics."""
+    words = list(words)
+    more = words[words.index("--") + 1:] if "--" in words else []
+    options = parser().parse_intermixed_args(words[:words.index("--")] if "--" in words else words)
+    if (options.socket is None) == (options.interface is None):
+        raise Refusal(WRONG_OPTION, f"name an interface and its plans, or --socket PATH ({NAME} --help)")
+    if options.interface is not None and not options.plans:
+        raise Refusal(WRONG_OPTION, f"name the plan of each station after the interface ({NAME} --help)")
+    if options.socket is not None and more:
+        raise Refusal(WRONG_OPTION, "words after -- are for a controller that the bridge starts; with --socket it runs already")
+    try:
+        topics = Topics(options.prefix)
+    except BadPrefix as fault:
+        raise Refusal(WRONG_OPTION, f"--prefix: {fault}") from None
+    return options, more, address_of(options), topics
+
+
+def main(words: Sequence[str]) -> int:
+    try:
+        options, more, address, topics = checked(words)
+    except Refusal as no:
+        print(f"{NAME}: {no}", file=sys.stderr)
+        return no.status
+    log = Log()
+    if address.password is not None and address.context is None and address.host not in ("localhost", "127.0.0.1", "::1"):
+        log(f"warning: the password goes to {address.host} without TLS: whoever hears it can set outputs (--cafile)")
+    controller = Controller(options, more, log)
+    for one in (signal.SIGTERM, signal.SIGINT, signal.SIGHUP):
+        signal.signal(one, controller.end)
+    status = run(controller, Bridge(controller.state, controller.commands, address, topics, options.sets_per_second, options.read_only, log), options, log)
+    log.close()
+    return status
+
+
+def run(controller: Controller, bridge: Bridge, options: argparse.Namespace, log: Log) -> int:
+    """Runs both until one of them ends."""
+    def watch() -> None:
+        bridge.ended.wait()
+        controller.end()
+    bridge.start()
+    threading.Thread(target=watch, daemon=True).start()
+    try:
+        status = controller.run()
+    except Error as fault:
+        log(str(fault))
+        status = NO_FILE
+    bridge.stop()
+    if bridge.fault is not None:
+        log(f"it fails: {type(bridge.fault).__name__}: {bridge.fault}")
+        return FAILED
+    return status
