@@ -630,15 +630,20 @@ fn tell_record(records: &[TakenRecord], op: &mut Op) -> u32
     ensures { IsRecordAt (slice_get records.now op.old.place) op.old result op.new }
 {
     match records.get(op.place as usize) {
-        Some(entry) => {
-            op.slot = u32::from(entry.slot);
-            op.subslot = u32::from(entry.subslot);
-            op.place = u32::from(entry.index);
-            put(op, entry.value.as_slice());
-            0
-        }
+        Some(entry) => tell_one(entry, op),
         None => NO_RECORD,
     }
+}
+
+// This record.
+fn tell_one(entry: &TakenRecord, op: &mut Op) -> u32
+    ensures { IsRecordAt (Some entry.now) op.old result op.new }
+{
+    op.slot = u32::from(entry.slot);
+    op.subslot = u32::from(entry.subslot);
+    op.place = u32::from(entry.index);
+    put(op, entry.value.as_slice());
+    0
 }
 
 // A parameter record that the relation passed on, counted back from the last one.
@@ -660,6 +665,8 @@ fn tell_back(records: &[TakenRecord], op: &mut Op) -> u32
     if back >= records.len() {
         return NO_RECORD;
     }
-    op.place = (records.len() - 1 - back) as u32;
-    tell_record(records, op)
+    match records.get(records.len() - 1 - back) {
+        Some(entry) => tell_one(entry, op),
+        None => NO_RECORD,
+    }
 }
