@@ -154,7 +154,7 @@ goes_on setup live unspent = ap (λ (b : Bool). if b then quit setup NoProgress 
 abbrev with_counts : Live → ℕ → ℕ → ℕ → Live
 with_counts live waited left units = record live { waited = waited; left = left; units = units }
 
-abbrev off_later : ℕ → Live → Live
+abbrev pub off_later : ℕ → Live → Live
 off_later units live = with_counts live ((live.waited + units) % 32000) (live.left - units) ((live.units + units) % 65536)
 
 abbrev turn_with : Live → List Sent → Turn
@@ -182,7 +182,7 @@ off_turn setup live units stands lasting before =
 abbrev with_exchange : Live → ℕ → ℕ → ℕ → Cyclic → ControllerEnd → ControllerEnd → Live
 with_exchange live waited left units cyclic high low = record live { waited = waited; left = left; units = units; cyclic = cyclic; alarms = high; low_alarms = low }
 
-abbrev on_later : ℕ → Live → Live
+abbrev pub on_later : ℕ → Live → Live
 on_later units live =
     with_exchange live ((live.waited + units) % 32000) (live.left - units) ((live.units + units) % 65536) (after cyclic_later units live.cyclic) (after controller_later units live.alarms)
     (after controller_later units live.low_alarms)

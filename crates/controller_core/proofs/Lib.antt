@@ -1,3 +1,4 @@
 pub mod Leaping
 pub mod Quiet
 pub mod OutputsGiven
+pub mod Nearer

@@ -35,17 +35,19 @@ abbrev pub ticks_of : ℕ → Controlling → Stepped
 ticks_of zero controlling = record { controller = controlling; frames = [] }
 ticks_of (suc units) controlling = and_then (ticks_of units controlling) (step_of (ticks_of units controlling).controller Tick)
 
--- None of these units sends anything, and none but the last.
+-- None of these units sends anything.
 abbrev pub NoneSends : ℕ → Controlling → Type 0
 NoneSends units controlling = (before : ℕ) → before ≤ units → (ticks_of before controlling).frames ≡ []
 
+-- None of these units but the last sends anything.
 abbrev pub OnlyTheLastSends : ℕ → Controlling → Type 0
 OnlyTheLastSends units controlling = (before : ℕ) → before < units → (ticks_of before controlling).frames ≡ []
 
--- None of these units changes the phase of the controller, and none but the last.
+-- None of these units changes the phase of the controller.
 abbrev pub NoneEnds : ℕ → Controlling → Type 0
 NoneEnds units controlling = (before : ℕ) → before ≤ units → (ticks_of before controlling).controller.live.phase ≡ controlling.live.phase
 
+-- None of these units but the last changes it.
 abbrev pub OnlyTheLastEnds : ℕ → Controlling → Type 0
 OnlyTheLastEnds units controlling = (before : ℕ) → before < units → (ticks_of before controlling).controller.live.phase ≡ controlling.live.phase
 

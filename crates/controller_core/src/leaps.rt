@@ -1,5 +1,5 @@
 //! Several units of time at once.
-ghost use Rattle.std.specs.Prelude.{◌≡◌, ◌<◌, ◌≤◌};
+ghost use Rattle.std.specs.Prelude.{◌≡◌, ◌+◌, ◌<◌, ◌≤◌};
 ghost use Rattle.frame_codec.specs.Outbox.{boxed};
 ghost use Rattle.controller_core.specs.Leaps.{LeapsAreTicks, NoneEnds, NoneSends, OnlyTheLastEnds, OnlyTheLastSends, access_due_in, exchange_due_in, live_due_in, patience_due_in, request_due_in, ticks_of};
 
@@ -87,12 +87,16 @@ impl Controller {
         self.tick(outbox)
     }
 
-    // Units with which nothing is sent, and nothing ends.
-    fn leap(&mut self, units: u32)
+    /// Lets units of 31.25 microseconds pass at once, fewer than `due` returns: with none of them is anything sent, and the
+    /// controller does not end. It does what as many Tick events do, one by one.
+    #[inline(always)]
+    pub fn leap(&mut self, units: u32)
         requires { units < live_due_in self.old.live }
         ensures state { self.new ≡ (ticks_of units self.old).controller }
         ensures none { NoneSends units self.old }
         ensures phase { NoneEnds units self.old }
+        // What is due comes nearer by at most these units.
+        ensures due { live_due_in self.old.live ≤ units + live_due_in self.new.live }
     {
         self.units = counter_later(self.units, units);
         self.waited = waited_later(self.waited, units);
