@@ -293,6 +293,7 @@ class PythonTests:
         for number, (kind, octets, at, bit) in enumerate(table):
             for way, slot in (("Input", 1), ("Output", 2)):
                 signals.append({"Name": f"{way.lower()}_{number}", "Direction": way, "Slot": slot, "Subslot": 1, "Octet": at, "Type": kind,
+                                "Unit": f"u{number}", "Text": f'{kind} "{number}"',
                                 **({"Bit": bit} if bit is not None else {"Length": octets} if kind in types.SIZED else {})})
         catalogue["Project"]["Signals"] = signals
         path = self.path("octets.json")
@@ -312,6 +313,10 @@ class PythonTests:
         device = self.device(wire, "python-types", "--station", path)
         with self.python(wire, path) as plant:
             station = plant["pump-1"]
+            for number, (kind, size, at, bit) in enumerate(kinds):
+                found = plant.state.signal(f"pump-1.input_{number}")
+                same(f"the signal {number}", tuple(found[key] for key in ("type", "length", "octet", "bit", "unit", "text", "direction", "slot")),
+                     (kind, size, at, bit, f"u{number}", f'{kind} "{number}"', "input", 1))
             for kind, octets, text, source in table:
                 number = kinds.index((kind, len(octets) // 2, 0, None))
                 wanted = wanted_value(kind, octets, text)

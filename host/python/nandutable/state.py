@@ -245,13 +245,12 @@ class PlantState:
     def _take_name(self, line: lines.Name, _: float) -> None:
         signal = self._signals.setdefault(line.name, _signal(line.name))
         self._of(line)
-        kind = "Boolean" if line.bit is not None else line.type
-        told = {"type": kind, "unit": line.unit, "text": line.label, "direction": line.direction, "slot": line.slot, "subslot": line.subslot,
+        told = {"type": line.type, "unit": line.unit, "text": line.label, "direction": line.direction, "slot": line.slot, "subslot": line.subslot,
                 "octet": line.octet, "bit": line.bit, "length": line.length}
         if any(signal[key] != value for key, value in told.items()):
             signal.update(told)
             if signal["raw"] is not None:
-                signal["value"] = _value(kind, signal["raw"])
+                signal["value"] = _value(line.type, signal["raw"])
             self._changed("signal", line.name, signal)
 
     def _take_introduced(self, line: lines.Introduced, _: float) -> None:
