@@ -32,7 +32,7 @@ WRONG_OPTION, NO_FILE, FAILED, NOT_ALLOWED = 64, 66, 70, 77
 EPILOG = """\
 With --socket it uses a controller that runs already (its options --socket PATH and --signals), which goes on when the bridge ends. Otherwise it
 starts nandutable-controller on INTERFACE with the plans, with --signals=only, --times and the words after `--`, such as `-- --retry 5`, and ends
-with it. Topics and payloads are in docs/BRIDGE.md and nandutable-bridge(8)."""
+with it. Topics and payloads are in docs/BRIDGE.md and nandutable-bridge(1)."""
 
 
 class Log:
