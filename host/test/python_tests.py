@@ -1,4 +1,5 @@
-"""Tests of the Python module: `host/test/run python_lines python_bounds python_typed python_types python_plant python_several python_words python_ends`."""
+"""Tests of the Python module: `host/test/run python_lines python_bounds python_typed python_types python_plant python_several python_words python_ends
+python_fill`."""
 
 import contextlib
 import dataclasses
@@ -19,11 +20,13 @@ from wire import BUILD, HOST, TOP, Plant, Program, device_of, talk_to
 PYTHON = os.path.join(HOST, "python")
 sys.path.insert(0, PYTHON)
 sys.path.insert(0, TOP)
+sys.path.insert(0, os.path.join(HOST, "demo"))
 import nandutable  # noqa: E402: the module's folder is not on the path before
 from nandutable import __main__ as program  # noqa: E402
 from nandutable import lines, process, state, values  # noqa: E402
 from nandutable.ports import Peer, Port, read_ports  # noqa: E402
 from planning import types  # noqa: E402
+from tank import Tank  # noqa: E402
 
 # Lines that the controller prints, the class of each, and its fields after text and station.
 LINES = (
@@ -588,6 +591,26 @@ class PythonTests:
         controller.wait()
         device.end()
         return f"{received} frames received, {lost} lost"
+
+    def python_fill(self, wire):
+        """The script of README fills the tank of the demo, and stops the pump."""
+        if lacks := self.has_no_signals():
+            return lacks
+        device, top = self.device(wire, "python-fill"), self.path("top")
+        os.makedirs(os.path.join(top, "host", "build"))
+        controller = self.controller(wire, os.path.join(HOST, "demo", "pump.json"), "--signals", "--times", "--retry", "1", "--socket", os.path.join(top, "host/build/demo.lines"))
+        tank = Tank(device, level=150.0)
+        ran = subprocess.run([sys.executable, os.path.join(HOST, "demo", "fill.py")], cwd=top, env={**os.environ, "PYTHONPATH": PYTHON}, capture_output=True, text=True, timeout=60)
+        told = [line.split() for line in ran.stdout.splitlines()]
+        same(f"the script: {ran.stdout}{ran.stderr}", (ran.returncode, [words[0] for words in told]), (0, ["level"] * 5 + ["full"]))
+        same(f"the marks: {told}", all(int(words[1]) >= mark for words, mark in zip(told[1:5], (200, 300, 400, 500))), True)
+        device.expect("output 2 1 05dc")
+        device.expect("output 2 1 0000")
+        is_soon("the level does not rise any more", lambda: tank.speed == 0 and tank.level < 700)
+        tank.close()
+        controller.end()
+        device.end()
+        return f"to {told[4][1]} mm"
 
     def runs(self, pid):
         """Whether a process runs; one that has ended and was not waited for does not."""
