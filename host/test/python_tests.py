@@ -412,7 +412,7 @@ class PythonTests:
         refusal(nandutable.Refused, "there is no such signal", setattr, flow, "depth", 1)
         refusal(nandutable.Refused, "has no blanks", plant.commands.set, "flow-7.lamp 1", 1)
         refusal(ValueError, "no line feed", setattr, flow, "display", "a\nstop")
-        refusal(nandutable.NoSuchName, "flow-7 has no signal 'depth'; it has flow, total", lambda: flow.depth)
+        refusal(nandutable.NoSuchName, "flow-7 has no signal 'depth'; there are flow, total", lambda: flow.depth)
         refusal(nandutable.NoSuchName, "there is no station 'pump-9'; there are flow-7", lambda: plant["pump-9"])
         same("hasattr", (hasattr(flow, "depth"), hasattr(flow, "flow")), (False, True))
         refusal(nandutable.TimedOut, "flow-7.flow is 12.5 (within 0.05 s)", flow.wait_until, "flow", lambda value: value > 13, 0.05)
@@ -519,8 +519,8 @@ class PythonTests:
             return lacks
         path, plan = self.path("words-lines"), self.signal_plan("pump-1", self.TANK)
         self.module_prints(status=64)
-        for words in (("--socket", path, "--interface", "x"), ("--socket", path, plan), ("--interface", "x"), ("--socket", path, "--", "colour"), ("--socket", path, "--", "set", "a"),
-                      ("--sock", path)):
+        for words in (("--socket", path, "--interface", "x"), ("--socket", path, plan), ("--interface", "x"), ("--socket", path, "colour"), ("--socket", path, "set", "a"),
+                      ("--sock", path), ("--socket", path, "--assign", "02:00:00:00:00:01")):
             same("it says what it takes", "--help says" in self.module_prints(*words, status=64), True)
         device = self.device(wire, "python-words")
         within = ["ip", "netns", "exec", wire.controller]
@@ -529,23 +529,25 @@ class PythonTests:
         same(f"its own controller: {ran.stderr}", (ran.returncode, ran.stdout), (0, "pump-1.level = 0 mm\npump-1.speed = 0\n"))
         controller = self.controller(wire, plan, "--signals", "--times", "--socket", path)
         device.say("input 1 1 0102")
-        same("names", [line.split()[:4] for line in self.module_prints("--socket", path, "--", "names").splitlines()],
+        same("names", [line.split()[:4] for line in self.module_prints("--socket", path, "names").splitlines()],
              [["pump-1.level", "input", "Unsigned16", "mm"], ["pump-1.speed", "output", "Integer16"]])
-        same("set", self.module_prints("--socket", path, "--", "set", "speed", "-5"), "")
+        same("set", self.module_prints("--socket", path, "set", "speed", "-5"), "")
         device.expect("output 2 1 fffb")
         is_soon("values", lambda: self.module_prints("--socket", path) == "pump-1.level = 258 mm\npump-1.speed = -5\n")
-        one = json.loads(self.module_prints("--socket", path, "--json", "--", "values", "pump-1.level"))
+        one = json.loads(self.module_prints("--socket", path, "--json", "values", "pump-1.level"))
         same("as JSON", (one["name"], one["value"], one["good"]), ("pump-1.level", 258, True))
-        same("refused", "Integer16 takes -32768 to 32767" in self.module_prints("--socket", path, "--", "set", "pump-1.speed", "40000", status=1), True)
-        same("no such name", "has no signal 'depth'" in self.module_prints("--socket", path, "--", "values", "depth", status=66), True)
-        same("a record", self.module_prints("--socket", path, "--", "read", "pump-1", "0", "1", "0xAFF0")[:8], "00200038")
-        same("a refused one", "invalid index" in self.module_prints("--socket", path, "--", "read", "pump-1", "0", "1", "40", status=1), True)
-        self.module_prints("--socket", path, "--", "write", "pump-1", "0", "1", "0xAFF1", "002100380100" + "20" * 54)
-        told = self.module_prints("--socket", path, "--", "stations")
+        same("refused", "Integer16 takes -32768 to 32767" in self.module_prints("--socket", path, "set", "pump-1.speed", "40000", status=1), True)
+        same("no such name", "has no signal 'depth'" in self.module_prints("--socket", path, "values", "depth", status=66), True)
+        same("the nearest name", "has no signal 'spead'; the nearest: speed" in self.module_prints("--socket", path, "values", "spead", status=66), True)
+        same("after --", self.module_prints("--socket", path, "--", "values", "speed"), "pump-1.speed = -5\n")
+        same("a record", self.module_prints("--socket", path, "read", "pump-1", "0", "1", "0xAFF0")[:8], "00200038")
+        same("a refused one", "invalid index" in self.module_prints("--socket", path, "read", "pump-1", "0", "1", "40", status=1), True)
+        self.module_prints("--socket", path, "write", "pump-1", "0", "1", "0xAFF1", "002100380100" + "20" * 54)
+        told = self.module_prints("--socket", path, "stations")
         same(told, told.startswith("pump-1  exchanging  02:00:00:00:00:01  192.168.0.2  ") and "port 'port-001' to 'port-001' of 'plc'" in told, True)
-        shot = json.loads(self.module_prints("--socket", path, "--", "snapshot"))
+        shot = json.loads(self.module_prints("--socket", path, "snapshot"))
         same("the snapshot", (shot["stations"]["pump-1"]["state"], shot["signals"]["pump-1.level"]["value"]), ("exchanging", 258))
-        with subprocess.Popen([sys.executable, "-m", "nandutable", "--socket", path, "--", "watch", "level"], stdout=subprocess.PIPE, text=True,
+        with subprocess.Popen([sys.executable, "-m", "nandutable", "--socket", path, "watch", "level"], stdout=subprocess.PIPE, text=True,
                               env={**os.environ, "PYTHONPATH": PYTHON}) as watching:
             same("watch", watching.stdout.readline(), "pump-1.level = 258 mm\n")
             device.say("input 1 1 0203")
@@ -624,7 +626,7 @@ class PythonTests:
         """While values change: programs on the socket that are killed and started again, and one that never reads."""
         asleep = talk_to(path)
         asleep.sendall(b"names\nget *\n" * 20)
-        watcher = [sys.executable, "-m", "nandutable", "--socket", path, "--", "watch"]
+        watcher = [sys.executable, "-m", "nandutable", "--socket", path, "watch"]
         environment = {**os.environ, "PYTHONPATH": PYTHON}
         for end in (signal.SIGKILL, signal.SIGSTOP, signal.SIGKILL):
             watching = subprocess.Popen(watcher, stdout=subprocess.DEVNULL, stderr=subprocess.DEVNULL, env=environment)

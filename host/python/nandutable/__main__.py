@@ -1,4 +1,4 @@
-"""`python3 -m nandutable`: names, values and changes of a plant."""
+"""`nandutable`, or `python3 -m nandutable`: names, values and changes of a plant."""
 
 from __future__ import annotations
 
@@ -7,7 +7,7 @@ import json
 import signal
 import sys
 import time
-from typing import List, Optional, Sequence
+from typing import List, Optional, Sequence, Tuple
 
 from .commands import Raw
 from .errors import Error, Gone, NoSuchName, NotStarted, Refused, TimedOut
@@ -24,16 +24,18 @@ EPILOG = """commands:
   stations                prints each station: state, address, neighbours, diagnosis
   snapshot                prints all that is known, as JSON
 
-NAME is STATION.SIGNAL, or with one station SIGNAL alone. With a plan a controller is started on the interface, and ended at the end; that takes the
-capability CAP_NET_RAW. With --socket a controller that runs already is used, and goes on.
+NAME is STATION.SIGNAL, or with one station SIGNAL alone. With plans a controller is started on the interface, and ended at the end; that takes the
+capability CAP_NET_RAW. With --socket a controller that runs already is used, and goes on. Options are in front of the command. If a plan has the
+name of a command, write -- in front of the command.
 
 status: 0; 1 refused; 2 it does not run, or does not exchange data in time; 64 wrong words; 66 no such name
 
 examples:
-  python3 -m nandutable --interface eth2 flow.json -- watch flow-7.flow
-  python3 -m nandutable --socket /run/nandutable-controller/eth2/lines
-  python3 -m nandutable --socket /run/nandutable-controller/eth2/lines -- set flow-7.valves 165"""
+  nandutable --interface eth2 flow.json watch flow-7.flow
+  nandutable --socket /run/nandutable-controller/eth2/lines
+  nandutable --socket /run/nandutable-controller/eth2/lines set flow-7.valves 165"""
 
+WITH_VALUE = ("-i", "--interface", "-s", "--socket", "--ready", "--seconds", "--retry", "--assign")
 COMMANDS = {"values": (0, None), "names": (0, 0), "watch": (0, None), "set": (2, 2), "read": (4, 4), "write": (5, 5), "stations": (0, 0), "snapshot": (0, 0)}
 
 
@@ -49,7 +51,7 @@ class Parser(argparse.ArgumentParser):
 
 
 def parser() -> Parser:
-    made = Parser(prog="nandutable", usage="%(prog)s [--interface IFACE PLAN.json ..] [--socket PATH] [options] [-- COMMAND ..]", epilog=EPILOG,
+    made = Parser(prog="nandutable", usage="%(prog)s --interface IFACE [options] PLAN.json .. [COMMAND ..]\n       %(prog)s --socket PATH [options] [COMMAND ..]", epilog=EPILOG,
                   description="Names, values and changes of a PROFINET plant.", formatter_class=argparse.RawDescriptionHelpFormatter, allow_abbrev=False)
     made.add_argument("plans", nargs="*", metavar="PLAN.json", help="the plan of a station")
     made.add_argument("-i", "--interface", metavar="IFACE", help="starts a controller for the plans on this network interface")
@@ -57,6 +59,7 @@ def parser() -> Parser:
     made.add_argument("--ready", metavar="SECONDS", type=float, default=30.0, help="how long to wait for the exchange of data (30)")
     made.add_argument("--seconds", metavar="SECONDS", type=float, help="ends `watch` after this time")
     made.add_argument("--retry", metavar="SECONDS", type=int, help="starts a relation that has ended again after this time")
+    made.add_argument("--assign", metavar="MAC", help="first gives the station with this MAC address the name of the plan")
     made.add_argument("--json", action="store_true", help="`values` and `watch` print a JSON object for each signal")
     made.add_argument("--version", action="version", version="nandutable 0.1.0")
     return made
@@ -144,16 +147,27 @@ def act(plant: Plant, command: str, words: List[str], options: argparse.Namespac
         print(json.dumps(plant.state.snapshot(), indent=1))
 
 
+def parted(words: List[str]) -> Tuple[List[str], List[str]]:
+    """The options and plans, and the command: from the first word on that is the name of one, or after `--`."""
+    at = 0
+    while at < len(words):
+        if words[at] == "--":
+            return words[:at], words[at + 1:] or ["values"]
+        if words[at] in COMMANDS:
+            return words[:at], words[at:]
+        at += 2 if words[at] in WITH_VALUE else 1
+    return words, ["values"]
+
+
 def main(words: Optional[Sequence[str]] = None) -> int:
     words = list(sys.argv[1:] if words is None else words)
-    front, command = words, ["values"]
-    if "--" in words:
-        at = words.index("--")
-        front, command = words[:at], words[at + 1:] or ["values"]
+    front, command = parted(words)
     made = parser()
     options = made.parse_args(front)
     if (options.socket is None) == (options.interface is None) or (options.socket is None) == (not options.plans):
         made.error("name --interface and plans, or --socket alone")
+    if options.assign is not None and (options.interface is None or len(options.plans) > 1):
+        made.error("--assign takes --interface and one plan")
     if command[0] not in COMMANDS:
         made.error(f"no command '{command[0]}'")
     least, most = COMMANDS[command[0]]
@@ -161,7 +175,8 @@ def main(words: Optional[Sequence[str]] = None) -> int:
         made.error(f"'{command[0]}' takes other words")
     signal.signal(signal.SIGTERM, lambda *_: sys.exit(143))  # so that the controller is ended then too
     try:
-        with plant(*options.plans, interface=options.interface, socket=options.socket, ready=options.ready, retry=options.retry) as opened:
+        with plant(*options.plans, interface=options.interface, socket=options.socket, ready=options.ready, retry=options.retry,
+                   options=() if options.assign is None else ("--assign", options.assign)) as opened:
             act(opened, command[0], command[1:], options)
     except KeyboardInterrupt:
         return 0

@@ -3,6 +3,7 @@
 from __future__ import annotations
 
 import collections
+import difflib
 import os
 import shutil
 import threading
@@ -17,7 +18,7 @@ from .lines import Line, Reader
 from .ports import PORT_DATA, PORT_SUBSLOT, REAL_DATA
 from .process import Connection, Process, Socket, wait_for_socket
 from .state import Plain, PlantState
-from .values import Value, decode
+from .values import Value, decode, encode
 
 STATISTICS = 1.0  # seconds from one question for the statistics to the next
 NEIGHBOURS = 10.0  # the same for the ports of a station
@@ -26,6 +27,7 @@ PORTS = 5.0  # seconds within which a station answers to that
 READY = 30.0  # seconds within which each station exchanges data
 LISTENING = 3.0  # seconds within which a controller opens its socket
 SETTLE = 1.0  # seconds within which a device says that its data are good, after the exchange has begun
+LISTED = 10  # names in a message
 ALARMS = 1000  # alarms of a station that wait until they are taken
 
 Found = TypeVar("Found")
@@ -150,7 +152,8 @@ class Reading:
     direction: str
 
     def __str__(self) -> str:
-        value = self.value.hex() if isinstance(self.value, bytes) else self.value
+        """The value as in the line `set`, with its unit."""
+        value = "-" if self.value is None else encode(self.value)
         return f"{self.name} = {value}{' ' + self.unit if self.unit else ''}{'' if self.good else ' (bad)'}"
 
 
@@ -169,6 +172,14 @@ def _reading(signal: Plain) -> Reading:
     kind = str(signal["type"])
     value = decode(kind, signal["raw"]) if signal["raw"] is not None and signal["type"] is not None else None
     return Reading(signal["name"], value, signal["good"], signal["time"], signal["unit"], signal["text"], kind, signal["direction"])
+
+
+def _others(name: str, names: List[str]) -> str:
+    """The names that are like a name, or else the first ones; empty without names."""
+    near = difflib.get_close_matches(name, names, 3)
+    if near:
+        return f"; the nearest: {', '.join(near)}"
+    return f"; there are {', '.join(names[:LISTED])}{' and others' if len(names) > LISTED else ''}" if names else ""
 
 
 class Station:
@@ -220,7 +231,7 @@ class Station:
         """A signal with its quality, time, unit, text, type and direction."""
         found = self._plant.state.signal(f"{self.name}.{signal}")
         if found is None or found["type"] is None:
-            raise NoSuchName(f"{self.name} has no signal {signal!r}; it has {', '.join(self.signals) or 'none (the controller takes --signals)'}")
+            raise NoSuchName(f"{self.name} has no signal {signal!r}{_others(signal, self.signals) or '; it has none (the controller takes --signals)'}")
         return _reading(found)
 
     def _why_bad(self) -> str:
@@ -366,7 +377,7 @@ class Plant:
 
     def __getitem__(self, name: str) -> Station:
         if name not in self.state.station_names():
-            raise NoSuchName(f"there is no station {name!r}; there are {', '.join(self.state.station_names()) or 'none'}")
+            raise NoSuchName(f"there is no station {name!r}{_others(name, self.state.station_names()) or '; there is none'}")
         return Station(self, name)
 
     def __iter__(self) -> Iterator[Station]:
