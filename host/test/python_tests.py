@@ -215,6 +215,7 @@ class PythonTests:
         picture.diagnosis_listed("pump-1")
         same("the diagnosis", picture.station("pump-1")["diagnosis"], [{"slot": 1, "subslot": 1, "channel": 0, "error": 6, "text": "wire break"}])
         changes.take()
+        broken = picture.subscribe(most=5, notify=lambda: 1 / 0)
         for number in range(1000):
             take(f"alarm 2 1 1 {number} c0ffee (high priority, process, USI 0001)", f"warning: {number}", f"pump-1.level = {number} good")
         shot = picture.snapshot()
@@ -222,6 +223,8 @@ class PythonTests:
         taken = changes.take()
         same("a subscriber that is slow", ([(one.kind, one.key) for one in taken if one.kind == "signal"], taken[0].data["value"], len(taken), changes.dropped),
              ([("signal", "pump-1.level")], 999, 6, 1995))
+        same("one whose notice fails", len(broken.take()), 6)
+        picture.unsubscribe(broken)
         take("ended 4: no cyclic frame")
         same("its end", (picture.station("pump-1")["cause"]["text"], picture.station("pump-1")["diagnosis"]), ("no cyclic frame", []))
         picture.end("it was killed")
@@ -247,7 +250,7 @@ class PythonTests:
         same("no line", deaf.get(0.01), None)
         deaf.close(0.5)
         same("it is killed if it does not end", (deaf.status, deaf.gone), (-15, True))
-        refusal(nandutable.Gone, "has ended with status -15", deaf.send, "x")
+        refusal(nandutable.Gone, "was ended by signal 15", deaf.send, "x")
         odd = written("import os,time\nos.write(1, b'half'); time.sleep(0.2); os.write(1, b' line\\n\\xff\\xfe\\n\\n' + b'y' * 300000 + b'\\nlast')")
         texts = list(odd)
         same("lines in parts, octets that are no text, a long line", (texts[0], texts[1], texts[2], set(texts[3]), len(texts)), ("half line", "\ufffd\ufffd", "", {"y"}, 4))
@@ -480,8 +483,10 @@ class PythonTests:
                 refusal(nandutable.NotExchanging, "no data is exchanged, the state is looking", setattr, three, "speed", 1)
                 refusal(nandutable.NotExchanging, "no data is exchanged, the state is looking", three.read, 0, 1, 0xAFF0)
                 refusal(nandutable.BadQuality, "pump.3.level is not good: no data is exchanged, the state is looking", lambda: three.level)
-                devices[2].ask("alarm 1 1 c0ffee", "note done")
-                same("its station", plant.wait_alarm(5).station, "pump.2")
+                for number in (2, 1, 2):
+                    devices[number].ask("alarm 1 1 c0ffee", "note done")
+                    is_soon("the alarm", lambda: plant.state.snapshot()["alarms"][-1:] and plant.state.snapshot()["alarms"][-1]["station"] == f"pump.{number}")
+                same("their stations", [plant.wait_alarm(5).station for _ in range(3)], ["pump.2", "pump.1", "pump.2"])
                 plant.commands.stop("pump.1")
                 one.wait_state("ended", 5)
                 same("the other goes on", (two.state, two.level), ("exchanging", 2))
@@ -555,6 +560,16 @@ class PythonTests:
             watching.send_signal(signal.SIGINT)
             same("its end", watching.wait(10), 0)
         same("its status", controller.end(), 7)
+        # A controller that has no signals: stations, records and diagnoses.
+        controller = self.controller(wire, plan, "--socket", path)
+        with nandutable.plant(socket=path) as plant:
+            station = plant["pump-1"]
+            same("a record without signals", station.read(0, 1, 0xAFF0)[:4].hex(), "00200038")
+            same("no diagnosis", (plant.commands.diagnosis("pump-1"), station.signals, station.info["state"]), ([], [], "exchanging"))
+            refusal(nandutable.NoSuchName, "pump-1 has no signal 'level'; it has none (the controller takes --signals)", lambda: station.level)
+            device.ask("diagnosis 1 1 3 6 appears", "note done")
+            is_soon("its diagnosis", lambda: [one.channel for one in station.diagnosis] == [3])
+        controller.end()
         same("no controller", "no controller listens at" in self.module_prints("--socket", path, status=2), True)
         device.end()
 

@@ -47,6 +47,15 @@ def _refusal(reason: str) -> Refused:
     return NotExchanging(reason) if reason.startswith(_NO_DATA) else Refused(reason)
 
 
+def _is_no_line(line: Line) -> bool:
+    return isinstance(line, lines.Wrong) and line.reason.startswith("no such line")
+
+
+def _is_fence(line: Line, fence: str) -> bool:
+    """Whether this is the answer to the question for a name that no signal has. A controller without signals has no such question."""
+    return (isinstance(line, lines.GetRefused) and line.name == fence) or _is_no_line(line)
+
+
 def _nothing(_: Line) -> bool:
     return False
 
@@ -122,7 +131,7 @@ class Commands:
         with self._turn:
             self._fences += 1
             fence = f"-{self._fences}"
-            with self._waiting(lambda line: isinstance(line, lines.GetRefused) and line.name == fence, lambda line: isinstance(line, lines.Wrong)) as waiter:
+            with self._waiting(lambda line: _is_fence(line, fence), lambda line: isinstance(line, lines.Wrong) and not _is_no_line(line)) as waiter:
                 self.connection.send(text)
                 self.connection.send(f"get {fence}")
                 self._wait(waiter, text, timeout)

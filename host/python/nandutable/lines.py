@@ -15,6 +15,18 @@ from typing import Callable, Dict, List, Optional, Tuple
 
 STATES = ("looking", "addressing", "connecting", "writing", "ending", "waiting", "exchanging", "ended")
 
+# The causes of the line `ended`. The exit status of the controller is one of these too.
+CAUSES = {
+    1: "the station is of another VendorID or DeviceID than the plan says",
+    2: "the device refused a request",
+    3: "what is plugged in the device is not what the plan expects",
+    4: "no cyclic frame of the device came within the data hold time",
+    5: "the device ended the relation",
+    6: "the device did not acknowledge an alarm's AlarmAck",
+    7: "stopped",
+    8: "no progress within the patience",
+}
+
 
 @dataclass(frozen=True)
 class Line:

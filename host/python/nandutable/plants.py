@@ -327,7 +327,8 @@ class Plant:
         self.connection = connection
         self.retries = retries
         self.state = PlantState()
-        self._alarms: Dict[str, Deque[lines.Alarm]] = {}
+        self._alarms: Dict[str, Deque[Tuple[int, lines.Alarm]]] = {}  # of each station, with a number that rises
+        self._alarm_count = 0
         self._follower = Follower(connection, self.state, self._hear)
         self.commands = self._follower.commands
         self._follower.start()
@@ -339,12 +340,18 @@ class Plant:
 
     def _hear(self, line: Line) -> None:
         if isinstance(line, lines.Alarm) and line.station is not None:
-            self._alarms.setdefault(line.station, collections.deque(maxlen=ALARMS)).append(line)
+            self._alarm_count += 1
+            self._alarms.setdefault(line.station, collections.deque(maxlen=ALARMS)).append((self._alarm_count, line))
 
     def take_alarm(self, station: str) -> Optional[lines.Alarm]:
         """The oldest alarm of a station that was not taken, or None."""
         waiting = self._alarms.get(station)
-        return waiting.popleft() if waiting else None
+        return waiting.popleft()[1] if waiting else None
+
+    def _take_any_alarm(self) -> Optional[lines.Alarm]:
+        """The oldest alarm that was not taken, of any station."""
+        first = min(((waiting[0][0], name) for name, waiting in list(self._alarms.items()) if waiting), default=None)
+        return None if first is None else self.take_alarm(first[1])
 
     # -- the start
 
@@ -416,7 +423,7 @@ class Plant:
 
     def wait_alarm(self, timeout: Optional[float] = None) -> lines.Alarm:
         """The next alarm of any station, as `Station.wait_alarm`."""
-        return self.wait(lambda: next((alarm for name in list(self._alarms) if (alarm := self.take_alarm(name)) is not None), None), timeout, "no alarm comes")
+        return self.wait(self._take_any_alarm, timeout, "no alarm comes")
 
     # -- the end
 

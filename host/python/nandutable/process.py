@@ -22,7 +22,7 @@ import time
 from typing import Deque, Dict, IO, Iterator, List, Optional, Sequence, Tuple
 
 from .errors import Busy, Gone
-from .lines import signal_name
+from .lines import CAUSES, signal_name
 
 MOST = 10000  # other lines that wait
 WRITTEN = 65536  # octets that wait until the controller reads them
@@ -341,10 +341,15 @@ class Process(Connection):
         return None if self._process is None else self._process.poll()
 
     def reason(self) -> str:
-        """The last line of its standard error, or its status."""
-        if self.faults:
+        """The last line of its standard error if it did not start, otherwise its status in words."""
+        status = self.status
+        if status is None:
+            return "the controller runs"
+        if status >= 64 and self.faults:
             return self.faults[-1]
-        return f"the controller has ended with status {self.status}"
+        if status < 0:
+            return f"the controller was ended by signal {-status}"
+        return f"the controller has ended with status {status}" + (f": {CAUSES[status]}" if status in CAUSES else "")
 
     def close(self, timeout: float = 10) -> None:
         """Ends the controller: it releases its relations. After `timeout` seconds it is ended without that."""

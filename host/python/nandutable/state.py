@@ -74,7 +74,10 @@ class Changes:
                 self._parts[change.kind, change.key] = change
             self._news.notify_all()
         if was_empty and self.notify is not None:
-            self.notify()
+            try:
+                self.notify()
+            except Exception:  # its program is ending: the lines are taken for the others all the same
+                self.notify = None
 
     def take(self, timeout: Optional[float] = 0) -> List[Change]:
         """Returns all that waits, and an empty list if nothing comes within `timeout` seconds (None: without a limit)."""
@@ -264,7 +267,7 @@ class PlantState:
         if station["state"] != line.state:
             parts.update(state=line.state, since=now)
         if line.cause is not None and station["cause"] is None:
-            parts.update(cause={"number": line.cause, "text": CAUSES.get(line.cause, ""), "time": now})
+            parts.update(cause={"number": line.cause, "text": lines.CAUSES.get(line.cause, ""), "time": now})
         self._update(line, **parts)
 
     def _take_state(self, line: lines.State, now: float) -> None:
@@ -358,18 +361,6 @@ class PlantState:
     def _take_count(self, line: lines.Count, _: float) -> None:
         if line.what == "lines lost":
             self._update_controller(lines_lost=line.count)
-
-
-CAUSES = {
-    1: "the station is of another VendorID or DeviceID than the plan says",
-    2: "the device refused a request",
-    3: "what is plugged in the device is not what the plan expects",
-    4: "no cyclic frame of the device came within the data hold time",
-    5: "the device ended the relation",
-    6: "the device did not acknowledge an alarm's AlarmAck",
-    7: "stopped",
-    8: "no progress within the patience",
-}
 
 
 def _value(kind: Optional[str], raw: str) -> Any:

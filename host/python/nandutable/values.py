@@ -60,8 +60,10 @@ def encode(value: Value) -> str:
     """The text of a value for `set`."""
     if isinstance(value, bool):
         return "true" if value else "false"
-    if isinstance(value, (int, float)):
-        return repr(value)
+    if isinstance(value, int):
+        return str(int(value))
+    if isinstance(value, float):
+        return repr(float(value))
     if isinstance(value, WithStatus):
         return f"{encode(value.value)}+{value.status}"
     if isinstance(value, str):
