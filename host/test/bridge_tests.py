@@ -400,7 +400,7 @@ class BridgeTests:
         device.ask("status 2 1 good", "note done")
         everything.until("plant/flow-7/flow", quality="good")
         everything.until("plant/flow-7/_state", state="exchanging", address="192.168.0.2", mac="02:00:00:00:00:01")
-        everything.until("plant/_controller", running=True, link=True)
+        everything.until("plant/_controller", running=True, link=True, interface="c0", mac="02:00:00:00:00:02")
 
     def bridge_sets(self, wire, everything, device):
         """Sets that are done, and one for each reason to refuse it."""
