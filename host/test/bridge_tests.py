@@ -1,9 +1,10 @@
-"""Tests of the bridge to MQTT: `host/test/run topics bridge_words bridge_tls bridge bridge_own bridge_stuck`. They take Debian's mosquitto, mosquitto-clients and
-python3-paho-mqtt."""
+"""Tests of the bridge to MQTT: `host/test/run topics bridge_words bridge bridge_own bridge_stuck bridge_hostile bridge_tls`. They
+take Debian's mosquitto, mosquitto-clients and python3-paho-mqtt."""
 
 import contextlib
 import json
 import os
+import random
 import re
 import shutil
 import signal
@@ -344,6 +345,53 @@ class BridgeTests:
         link.sendall(bytes.fromhex("100f00044d5154540402000000036e6576"))
         link.sendall(bytes.fromhex("8206000100012300"))
         return link
+
+    def bridge_hostile(self, wire):
+        """In place of a broker: one that closes, one that is silent, one that sends what is not MQTT, and one that accepts the connection and then
+        sends that. The bridge goes on, and with a real broker all topics are there; a message that is too long does not come."""
+        if lacks := lacking() or self.has_no_signals():
+            return lacks
+        _, device, controller, lines = self.flow(wire)
+        wire.link("c0", "set", "lo", "up")
+        door = wire.opened("c0", socket.AF_INET, socket.SOCK_STREAM, 0)
+        door.setsockopt(socket.SOL_SOCKET, socket.SO_REUSEADDR, 1)
+        door.bind(("127.0.0.1", 1883))
+        door.listen()
+        door.settimeout(60)
+        bridge = self.bridge_program(wire, "--socket", lines)
+        rng, accepted = random.Random(69), bytes.fromhex("2003000000")
+        publishes = (bytes.fromhex("30050003ff61ff"), bytes.fromhex("300800066100622f2f2f"), bytes.fromhex("3003ffff61"), bytes.fromhex("40020001"), bytes.fromhex("ffffffffff"), bytes.fromhex("62020007"))
+        sent = [b"", *(rng.randbytes(rng.randrange(1, 200)) for _ in range(2)), *(accepted + rng.randbytes(rng.randrange(1, 200)) for _ in range(4)), *(accepted + one for one in publishes)]
+        if not self.asked.short:
+            sent += [accepted + rng.randbytes(rng.randrange(1, 200)) for _ in range(30)]
+        for octets in sent:
+            link, _ = door.accept()
+            link.settimeout(20)
+            same("it speaks MQTT", link.recv(65536)[:1], b"\x10")
+            with contextlib.suppress(OSError):
+                link.sendall(octets)
+                time.sleep(0.1)
+            link.close()
+            same(f"it goes on after {octets.hex()}: {bridge.text()}", bridge.process.poll(), None)
+        door.close()
+        broker = self.broker(wire)
+        everything = Subscriber(wire, "-t", "plant/#")
+        everything.until("plant/_bridge", 60, state="online")
+        everything.until("plant/flow-7/flow", quality="good")
+        before = resident(bridge)
+        path = self.path("long")
+        with open(path, "wb") as file:
+            file.write(b'"' + 20_000_000 * b"x" + b'"')
+        wire.within(wire.controller, "mosquitto_pub", "-t", "plant/flow-7/lamp/set", "-f", path)
+        self.publish(wire, "plant/flow-7/lamp/set", "5")
+        everything.until("plant/flow-7/lamp/answer", 60, ok=True)
+        same("its memory after a message of 20 MB", resident(bridge) - before < 1024, True)
+        same("frames lost", self.exchanged(lines)[1], 0)
+        same("its end", bridge.end(), 0)
+        controller.end()
+        device.end()
+        broker.end()
+        return f"{len(sent)} connections"
 
     def bridge_tls(self, wire):
         """TLS with a certificate of each end, name and password; and what is refused without them."""

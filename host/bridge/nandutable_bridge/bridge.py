@@ -83,7 +83,7 @@ class Bridge:
 
     def __init__(self, state: PlantState, commands: Source, address: Address, topics: Topics, sets_a_second: int = 100, is_read_only: bool = False,
                  on_state: Callable[[str], None] = lambda text: None) -> None:
-        self.state, self.commands, self.topics = state, commands, topics
+        self.state, self.commands, self.topics, self._on_state = state, commands, topics, on_state
         self.broker = Broker(address, (topics.bridge, form.payload({"state": "offline"})), None if is_read_only else topics.sets, self._on_message, on_state)
         self.changes = state.subscribe(notify=self.broker.wake)
         self.sets = self.refused = 0
@@ -186,7 +186,10 @@ class Bridge:
         if not self._is_known:
             signals = self.state.snapshot()["signals"].values()
             is_whole = bool(signals) and all(signal["raw"] is not None for signal in signals)
-            self._is_known = is_whole or (self.commands() is not None and time.monotonic() - self._began > KNOWN_WITHIN)
+            is_late = self.commands() is not None and time.monotonic() - self._began > KNOWN_WITHIN
+            if is_late and not signals:
+                self._on_state("the controller names no signal: it must run with --signals")
+            self._is_known = is_whole or is_late
         return self._is_known
 
     # -- from the broker to the plant

@@ -22,6 +22,8 @@ from dataclasses import dataclass
 from typing import Any, Callable, Deque, Dict, Optional, Tuple
 
 from paho.mqtt import client as mqtt
+from paho.mqtt.packettypes import PacketTypes
+from paho.mqtt.properties import Properties
 from paho.mqtt.subscribeoptions import SubscribeOptions
 
 EVENTS = 256
@@ -30,6 +32,7 @@ AT_ONCE = 500  # packets in one turn
 ANSWERS_WITHIN = 10.0  # seconds within which the broker answers to a connection
 LEAST_PAUSE, MOST_PAUSE = 0.5, 10.0  # seconds from one attempt to connect to the next
 LONGEST_WAIT = 0.5
+LONGEST_PACKET = 32768  # octets that the broker may send at once, by MQTT 5
 
 
 @dataclass
@@ -181,7 +184,12 @@ class Broker:
             client.tls_set_context(address.context)
         self._client = client
         try:
-            client.connect(address.host, address.port, address.keepalive, clean_start=True if address.is_five else mqtt.MQTT_CLEAN_START_FIRST_ONLY)
+            if address.is_five:
+                properties = Properties(PacketTypes.CONNECT)
+                properties.MaximumPacketSize = LONGEST_PACKET
+                client.connect(address.host, address.port, address.keepalive, clean_start=True, properties=properties)
+            else:
+                client.connect(address.host, address.port, address.keepalive)
             link: Any = client.socket()
             link.setsockopt(socket.IPPROTO_TCP, socket.TCP_NODELAY, 1)
         except (OSError, ValueError) as fault:
