@@ -1,26 +1,28 @@
 -- A plan that is checked to be valid is in its ranges.
-use Rattle.std.proofs.Common.{◌≡◌, ◌≤◌, ◌<◌, ◌+◌, ◌%◌, ◌==◌, ℕ, Bool, true, false, List, [], ◌∷◌, length, map, refl, sym, ap, subst, arith}
+use Rattle.std.proofs.Common.{◌≡◌, ◌≤◌, ◌<◌, ◌+◌, ◌*◌, ◌%◌, ◌==◌, ℕ, Bool, true, false, List, [], ◌∷◌, length, map, take, refl, sym, ap, subst, arith}
 use Rattle.std.specs.Prelude.{◌&&◌, not, nat_le, slice_index, if◌then◌else◌, Result, Ok, Err}
 use Rattle.std.specs.List.{AllByRecursion, list_all, list_any}
 use Rattle.std.proofs.lemmas.Bool.{and_parts, eqb-true, leb-true}
+use Rattle.std.proofs.lemmas.List.{length-append, length-map, length-take}
+use Rattle.std.proofs.Math.Nat.{min-le_left}
 use Rattle.pn_values.specs.IpSuite.{is_host, is_suite}
 use Rattle.pn_values.specs.declared.real.RealModule.{RealModule}
 use Rattle.pn_values.specs.declared.real.RealSubmodule.{RealSubmodule}
 use Rattle.station_names.specs.Valid.{is_station_name}
 use Rattle.pn_values.specs.StationName.{IsStationName}
 use Rattle.plans.specs.Connect.{does_connect_fit}
-use Rattle.plans.specs.Plan.{do_frames_fit, long_of, plan_of}
+use Rattle.plans.specs.Plan.{AreShort, IsPlan, do_frames_fit, long_of, plan_of}
 use Rattle.plans.specs.declared.parts.Parts.{Parts}
 use Rattle.plans.specs.declared.plan.TooLong.{TooLong}
 use Rattle.plans.specs.declared.plan.TooLong.TheVariants.{Frame, Connect}
-use Rattle.plans.specs.Parts.{AreOrdered, AreParts, IsRising, slots_of, subslots_of}
+use Rattle.plans.specs.Parts.{AreOrdered, AreParts, IsRising, data_in_slot, data_of, slots_of, subslots_of}
 use Rattle.c_layout.specs.declared.plugged.Module.{Module}
 use Rattle.c_layout.specs.declared.plugged.Submodule.{Submodule}
-use Rattle.c_layout.specs.Modules.{is_module, module_of, submodule_of, submodules_in}
+use Rattle.c_layout.specs.Modules.{is_module, is_submodule, module_of, submodule_of, submodules_in}
 use Rattle.controller_abi.specs.declared.plan.WrittenPlan.{WrittenPlan}
 use Rattle.controller_abi.specs.declared.plan.WrittenRecord.{WrittenRecord}
 use Rattle.controller_abi.specs.Plans.{IsShort, IsWritten, are_addresses, are_low, are_named, are_numbers, are_ordered, are_placed, are_times, does_take, fault_of_length, has_room, is_name, is_part, is_plan, length_number}
-use Rattle.controller_abi.specs.Plans.{is_record, is_rising, is_sound, is_written, controller_name_in, modules_in, name_in, parts_of, records_in, suite_in}
+use Rattle.controller_abi.specs.Plans.{is_record, record_of, is_rising, is_sound, is_written, controller_name_in, modules_in, name_in, parts_of, records_in, suite_in}
 
 -- ---- numbers in order
 
@@ -202,14 +204,6 @@ planned_in written is =
     handled (has_room written) (are_numbers written) (are_named written) (are_addresses written) (are_placed written) (are_low written)
     (fault_of_length (plan_of (parts_of written))) is
 
--- Then nothing is too long.
-long_fault : (long : TooLong) → (fault_of_length {T = Parts} (Err long) == 0) ≡ true → ⊥
-long_fault Frame is = cc
-long_fault Connect is = cc
-
-pub not_long : (read : Result Parts TooLong) (long : TooLong) → (fault_of_length read == 0) ≡ true → read ≡ Err long → ⊥
-not_long read long none is = long_fault long (subst (λ (found : Result Parts TooLong). (fault_of_length found == 0) ≡ true) is none)
-
 -- What is too long has the number of the fault.
 pub of_lengths : (read : Result Parts TooLong) → length_number (long_of read) ≡ fault_of_length read
 of_lengths (Ok parts) = refl
@@ -250,12 +244,59 @@ good_in written is named controlled =
       ordered = all.ordered;
     }
 
--- Parts that are a plan are that plan.
-chosen : (do_frames_fit does_connect_fit : Bool) (parts plan : Parts)
-    → (if not do_frames_fit then Err Frame else if not does_connect_fit then Err Connect else Ok parts) ≡ Ok plan → plan ≡ parts
-chosen true true parts plan is = cc is
-chosen true false parts plan is = cc is
-chosen false does_connect_fit parts plan is = cc is
+-- ---- a plan
 
-pub plan_is : (parts plan : Parts) → plan_of parts ≡ Ok plan → plan ≡ parts
-plan_is parts plan is = chosen (do_frames_fit parts) (does_connect_fit parts) parts plan is
+-- Then nothing is too long.
+fitting : (do_frames_fit does_connect_fit : Bool) (parts : Parts)
+    → (fault_of_length (if not do_frames_fit then Err Frame else if not does_connect_fit then Err Connect else Ok parts) == 0) ≡ true
+    → (do_frames_fit ≡ true) × (does_connect_fit ≡ true)
+fitting true true parts is = (refl, refl)
+fitting true false parts is = cc
+fitting false does_connect_fit parts is = cc
+
+taken_few : {A : Type 0} (n : ℕ) (xs : List A) → length (take n xs) ≤ n
+taken_few n xs = subst (λ len. len ≤ n) (sym (length-take n xs)) (min-le_left n (length xs))
+
+data_length : (slot : ℕ) (submodules : List RealSubmodule) → length (data_in_slot slot submodules) ≡ length submodules
+data_length slot [] = refl
+data_length slot (part ∷ submodules) = omega (arith, data_length slot submodules)
+
+-- A module has at most four submodules.
+data_few : (slot : ℕ) (submodules : List Submodule) → length submodules ≤ 4 → length (data_in_slot slot (map submodule_of submodules)) ≤ 4
+data_few slot submodules few = omega (arith, data_length slot (map submodule_of submodules), length-map submodules submodule_of, few)
+
+-- N modules have at most 4 N submodules.
+all_data_few : (modules : List Module) → list_all is_module modules ≡ true → length (data_of (map module_of modules)) ≤ 4 * length modules
+all_data_few [] are = omega arith
+all_data_few (entry ∷ modules) are =
+    let parts = and_parts (is_module entry) (list_all is_module modules) are in
+    let own = and_parts (nat_le entry.submodule_count 4) (list_all is_submodule (submodules_in entry)) parts.0 in
+    let count : entry.submodule_count ≤ 4 = leb-true entry.submodule_count 4 own.0 in
+    let few : length (submodules_in entry) ≤ 4 = omega (arith, taken_few entry.submodule_count entry.submodules, count) in
+    let first = data_few entry.slot (submodules_in entry) few in
+    let rest = all_data_few modules parts.1 in
+    omega (arith, length-append (data_in_slot entry.slot (map submodule_of (submodules_in entry))) (data_of (map module_of modules)), first, rest)
+
+-- Each record has at most 64 octets.
+records_short : (records : List WrittenRecord) → AllByRecursion IsShort records → AreShort (map record_of records)
+records_short [] all = tt
+records_short (entry ∷ records) all = (omega (arith, taken_few entry.length entry.octets, all.0), records_short records all.1)
+
+-- A plan that a host wrote, and that has no fault, is a plan.
+pub plan_in : (written : WrittenPlan) → is_plan written ≡ true → IsStationName (name_in written) → IsStationName (controller_name_in written) → IsPlan (parts_of written)
+plan_in written is named controlled =
+    let found = planned_in written is in
+    let all = all_parts written found.0 in
+    let parts = parts_of written in
+    let fits = fitting (do_frames_fit parts) (does_connect_fit parts) parts found.1 in
+    let modules : length (modules_in written) ≤ 16 = omega (arith, taken_few written.module_count written.modules, all.few_modules) in
+    record {
+      good = good_in written found.0 named controlled;
+      few_modules = omega (arith, length-map (modules_in written) module_of, modules);
+      few_submodules = omega (arith, all_data_few (modules_in written) all.small_modules, modules);
+      few_records = omega (arith, length-map (records_in written) record_of, taken_few written.record_count written.records, all.few_records);
+      short_records = records_short (records_in written) all.short_records;
+      input = leb-true _ 1440 (and_parts _ _ fits.0).0;
+      output = leb-true _ 1440 (and_parts _ _ fits.0).1;
+      connect = fits.1;
+    }

@@ -4,7 +4,6 @@ ghost use Rattle.std.specs.List.{AllByRecursion, list_all, list_any};
 ghost use Rattle.pn_values.specs.IpSuite.{is_host, is_suite};
 ghost use Rattle.pn_values.specs.StationName.{IsStationName};
 ghost use Rattle.station_names.specs.Valid.{is_station_name};
-ghost use Rattle.wire.specs.Codec.{Gives};
 ghost use Rattle.plans.specs.Plan.{plan_of};
 ghost use Rattle.controller_station.specs.Served.{begun};
 ghost use Rattle.c_layout.specs.Modules.{is_module, is_submodule, module_of};
@@ -125,11 +124,8 @@ pub fn unstarted(written: &WrittenPlan, ar: &[u8; 16], activity: &[u8; 16]) -> P
     requires { is_planned written.now ≡ true }
     ensures { result.controller.setup ≡ record { plan = parts_of written.now; ar = ar.now; activity = activity.now; options = options_in written.now } }
 {
-    let Ok(plan) = planned(written) else {
-        unreachable!()
-    };
     Port::unstarted(
-        plan,
+        planned(written),
         Uuid::from_bytes(*ar),
         Uuid::from_bytes(*activity),
         options_in(written),
@@ -467,13 +463,13 @@ fn are_slots_low(modules: &[Module]) -> bool
 
 // ---- the plan
 
-// The plan, or what is too long. It is inlined so that a caller's stack holds its parts once.
+// The plan, which has no fault: it is not judged again. It is inlined, so that a caller's stack holds its parts once.
 #[inline(always)]
-fn planned(written: &WrittenPlan) -> Result<Plan, TooLong>
-    requires { is_all_written written.now ≡ true }
-    ensures { Gives (λ plan. plan) result (plan_of (parts_of written.now)) }
+fn planned(written: &WrittenPlan) -> Plan
+    requires { is_planned written.now ≡ true }
+    ensures { result ≡ parts_of written.now }
 {
-    Plan::new(parts_in(written))
+    Plan::judged(parts_in(written))
 }
 
 // The parts of the plan, each in its range.
