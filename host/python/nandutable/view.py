@@ -1,0 +1,514 @@
+"""A page over a plant: nandutable-view, its server, and the rules by which it answers.
+
+The server hands out the files of the page, the picture of the plant (`PlantState.snapshot`) and its changes over Server-Sent Events. If it
+may, it also sets outputs. Whom it answers:
+
+- it listens on an address of this machine's loopback, unless its user says that the network may reach it;
+- it answers only a request whose Host is a name or an address of the server, so a page of another name that leads to this machine (DNS
+  rebinding) gets nothing;
+- it refuses a request that another site's page makes, by Sec-Fetch-Site and, for a set, by Origin.
+
+What is bounded: connections (`CONNECTIONS`), open pages (`PAGES`), the time in which a request arrives and an answer is read (`PATIENCE`), and
+what waits for a page (of each station and signal the newest, and `WAITING` alarms and messages). A page that does not read is closed and counted.
+"""
+
+from __future__ import annotations
+
+import argparse
+import http.server
+import ipaddress
+import json
+import os
+import signal
+import socket
+import sys
+import threading
+import time
+from typing import Any, Callable, Dict, List, NamedTuple, Optional, Sequence, Tuple
+
+from .commands import Commands, Raw
+from .errors import Error, Gone, Refused, TimedOut
+from .plants import Follower, program
+from .process import Connection, Process, Socket
+from .state import Change, Plain, PlantState
+
+PORT = 8892
+CONNECTIONS = 64
+PAGES = 16
+PATIENCE = 10.0  # seconds
+WAITING = 200
+BEAT = 1.0  # seconds from one beat to the next
+TURN = 0.1  # seconds from one message to a page to the next
+LONGEST = 8192  # octets of a set
+SENT = 65536  # octets that the system keeps for a page that does not read
+AGAIN = 1.0  # seconds until a socket is opened again
+
+OK, BAD, FORBIDDEN, NOT_FOUND, NOT_ALLOWED, TAKEN = 200, 400, 403, 404, 405, 409
+NO_LENGTH, TOO_LONG, NO_JSON, MISDIRECTED, NO_PLACE, NO_ANSWER = 411, 413, 415, 421, 503, 504
+
+TYPES = {".html": "text/html; charset=utf-8", ".css": "text/css; charset=utf-8", ".js": "text/javascript; charset=utf-8", ".svg": "image/svg+xml"}
+HEADERS = (
+    ("Content-Security-Policy", "default-src 'none'; script-src 'self'; style-src 'self'; img-src 'self'; connect-src 'self'; form-action 'none'; "
+                                "base-uri 'none'; frame-ancestors 'none'"),
+    ("X-Content-Type-Options", "nosniff"), ("X-Frame-Options", "DENY"), ("Referrer-Policy", "no-referrer"), ("Cross-Origin-Resource-Policy", "same-origin"),
+    ("Cross-Origin-Opener-Policy", "same-origin"), ("Cache-Control", "no-store"), ("Connection", "close"))
+
+
+def say(text: str) -> None:
+    """A line on standard error. A full disk does not matter."""
+    try:
+        print(f"nandutable-view: {text}", file=sys.stderr, flush=True)
+    except OSError:
+        pass
+
+
+# ---- what it hands out
+
+
+def folder_of_page() -> str:
+    """The folder of the page's files: beside this module if it is installed, else host/view of the sources."""
+    here = os.path.dirname(os.path.realpath(__file__))
+    installed = os.path.join(here, "page")
+    return installed if os.path.isdir(installed) else os.path.join(os.path.dirname(os.path.dirname(here)), "view")
+
+
+def read_page(folder: str) -> Dict[str, Tuple[str, bytes]]:
+    """The files of the page by their path: type and octets. Nothing else of the disk is handed out. Raises OSError."""
+    found: Dict[str, Tuple[str, bytes]] = {}
+    for name in sorted(os.listdir(folder)):
+        kind = TYPES.get(os.path.splitext(name)[1])
+        if kind is not None:
+            with open(os.path.join(folder, name), "rb") as file:
+                found[f"/{name}"] = (kind, file.read())
+    if "/index.html" not in found:
+        raise FileNotFoundError(f"{folder} has no index.html")
+    found["/"] = found["/index.html"]
+    return found
+
+
+def _without_value(data: Plain) -> Plain:
+    """A part for the page. A signal's value goes as the text of its line: a number of JavaScript has 53 bits."""
+    return {key: value for key, value in data.items() if key != "value"}
+
+
+class Rules(NamedTuple):
+    """What a server may do: set outputs; and further names under which it is reached."""
+
+    may_set: bool = False
+    names: Tuple[str, ...] = ()
+
+
+class Counts:
+    """What the server has done since its start."""
+
+    def __init__(self) -> None:
+        self._lock = threading.Lock()
+        self._counts = {"pages": 0, "closed": 0, "no_place": 0, "refused": 0, "sets": 0, "sets_refused": 0}
+
+    def add(self, key: str, number: int = 1) -> int:
+        with self._lock:
+            self._counts[key] += number
+            return self._counts[key]
+
+    def all(self) -> Dict[str, int]:
+        with self._lock:
+            return dict(self._counts)
+
+
+class Server(http.server.ThreadingHTTPServer):
+    """The server of a page over a state. `commands` returns the commands to the controller, or None while there is none."""
+
+    daemon_threads = True
+    request_queue_size = 32
+
+    def __init__(self, address: str, port: int, state: PlantState, commands: Callable[[], Optional[Commands]], rules: Rules = Rules()) -> None:
+        self.address_family = socket.AF_INET6 if ":" in address else socket.AF_INET
+        self.state, self.commands, self.rules = state, commands, rules
+        self.files = read_page(folder_of_page())
+        self.counts = Counts()
+        self.is_closing = False
+        self._places = threading.BoundedSemaphore(CONNECTIONS)
+        super().__init__((address, port), Handler)
+
+    def server_bind(self) -> None:
+        """Without the look-up of a name that http.server makes."""
+        self.socket.setsockopt(socket.SOL_SOCKET, socket.SO_REUSEADDR, 1)
+        self.socket.bind(self.server_address)
+        self.server_address = self.socket.getsockname()
+        self.server_name, self.server_port = str(self.server_address[0]), int(self.server_address[1])
+
+    @property
+    def url(self) -> str:
+        """The page's address."""
+        address = self.server_name
+        return f"http://[{address}]:{self.server_port}/" if ":" in address else f"http://{address}:{self.server_port}/"
+
+    def process_request(self, request: Any, client_address: Any) -> None:
+        """One thread for each connection, and at most `CONNECTIONS` of them."""
+        if not self._places.acquire(blocking=False):
+            self.counts.add("no_place")
+            self.shutdown_request(request)
+            return
+        try:
+            super().process_request(request, client_address)
+        except RuntimeError:  # the system has no further thread
+            self._places.release()
+            self.shutdown_request(request)
+
+    def process_request_thread(self, request: Any, client_address: Any) -> None:
+        try:
+            super().process_request_thread(request, client_address)
+        finally:
+            self._places.release()
+
+    def handle_error(self, request: Any, client_address: Any) -> None:
+        """A connection that broke off is no fault of the server's."""
+        if not isinstance(sys.exc_info()[1], OSError):
+            super().handle_error(request, client_address)
+
+    def start(self) -> threading.Thread:
+        """Serves in a thread of its own."""
+        thread = threading.Thread(target=self.serve_forever, kwargs={"poll_interval": 0.2}, name="nandutable page", daemon=True)
+        thread.start()
+        return thread
+
+    def stop(self) -> None:
+        self.is_closing = True
+        self.shutdown()
+        self.server_close()
+
+    # -- what the page shows
+
+    def whole(self) -> Plain:
+        """The picture of the plant, its stations and signals as lists in their order."""
+        found = self.state.snapshot()
+        return {"time": found["time"], "controller": found["controller"], "stations": list(found["stations"].values()),
+                "signals": [_without_value(one) for one in found["signals"].values()], "alarms": found["alarms"], "messages": found["messages"],
+                "isSetAllowed": self.rules.may_set}
+
+    def has_name(self, host: str, reached: str) -> bool:
+        """Whether a Host is a name of this server. `reached` is the address to which the connection was made."""
+        name, _, port = host.lower().rpartition(":") if not host.endswith("]") else (host.lower(), "", "")
+        if not name or not (port.isdecimal() or host.endswith("]")):
+            name = host.lower()
+        return name.strip("[]") in {"localhost", "127.0.0.1", "::1", self.server_name, reached} | set(self.rules.names)
+
+
+class Answer(Exception):
+    """Ends a request with a status and the reason."""
+
+    def __init__(self, status: int, reason: str) -> None:
+        super().__init__(reason)
+        self.status, self.reason = status, reason
+
+
+class Handler(http.server.BaseHTTPRequestHandler):
+    """One request."""
+
+    protocol_version = "HTTP/1.1"
+    server_version, sys_version = "nandutable-view", ""
+    timeout = PATIENCE
+    server: Server
+
+    def setup(self) -> None:
+        self.request.setsockopt(socket.SOL_SOCKET, socket.SO_SNDBUF, SENT)
+        super().setup()
+
+    def log_message(self, *_: object) -> None:
+        """Requests are not logged: counts say what happened."""
+
+    def end_headers(self) -> None:
+        self.close_connection = True
+        for name, value in HEADERS:
+            self.send_header(name, value)
+        super().end_headers()
+
+    def send_error(self, code: int, message: Optional[str] = None, explain: Optional[str] = None) -> None:
+        """Refusals of http.server itself: a broken request, a method that is not known."""
+        self.server.counts.add("refused")
+        self._reply(int(code), {"reason": message or "the request is broken"})
+
+    def _reply(self, status: int, data: Plain) -> None:
+        self._hand_out(status, "application/json", json.dumps(data).encode() + b"\n")
+
+    def _hand_out(self, status: int, kind: str, octets: bytes) -> None:
+        self.send_response(status)
+        self.send_header("Content-Type", kind)
+        self.send_header("Content-Length", str(len(octets)))
+        self.end_headers()
+        if self.command != "HEAD":
+            self.wfile.write(octets)
+
+    # -- who is answered
+
+    def _check_host(self) -> str:
+        """Returns the Host. Only the server's own names are answered."""
+        hosts = [str(host).strip() for host in self.headers.get_all("Host") or []]
+        if len(hosts) != 1:
+            raise Answer(BAD, "a request has one Host")
+        if not self.server.has_name(hosts[0], str(self.connection.getsockname()[0])):
+            raise Answer(MISDIRECTED, "this Host is not a name of the server; nandutable-view --host-name NAME adds one")
+        return hosts[0]
+
+    def _check_site(self) -> None:
+        if (self.headers.get("Sec-Fetch-Site") or "none") not in ("same-origin", "none"):
+            raise Answer(FORBIDDEN, "a page of another site may not ask this server")
+
+    def _check_origin(self, host: str) -> None:
+        """A browser says the origin of the page that sends; nothing else can say that it is this one."""
+        if (self.headers.get_all("Origin") or []) != [f"http://{host}"]:
+            raise Answer(FORBIDDEN, f"only a page of this server may set: Origin must be http://{host}")
+
+    def _answered(self, act: Callable[[], None]) -> None:
+        try:
+            act()
+        except Answer as answer:
+            self.server.counts.add("refused")
+            self._reply(answer.status, {"reason": answer.reason})
+
+    # -- reading
+
+    def do_GET(self) -> None:
+        self._answered(self._get)
+
+    do_HEAD = do_GET
+
+    def _get(self) -> None:
+        self._check_host()
+        path = self.path.partition("?")[0]
+        if path not in ("/", "/index.html"):  # a link on another site may lead to the page itself
+            self._check_site()
+        if path == "/events":
+            self._stream()
+        elif path == "/state":
+            self._reply(OK, {**self.server.whole(), "counts": self.server.counts.all()})
+        elif path in self.server.files:
+            self._hand_out(OK, *self.server.files[path])
+        else:
+            raise Answer(NOT_FOUND, "there is no such file")
+
+    def _stream(self) -> None:
+        """The whole picture, and then what changes, until the page is closed."""
+        server = self.server
+        if self.command == "HEAD":
+            raise Answer(NOT_ALLOWED, "events are read by GET")
+        if server.counts.add("pages") > PAGES:
+            server.counts.add("pages", -1)
+            raise Answer(NO_PLACE, f"{PAGES} pages are open; close one")
+        changes = server.state.subscribe(WAITING)
+        try:
+            self.send_response(OK)
+            self.send_header("Content-Type", "text/event-stream")
+            self.end_headers()
+            self._event("whole", server.whole())
+            beat = 0.0
+            while not server.is_closing:
+                parts = changes.take(TURN)
+                if parts:
+                    self._event("change", [self._part(part) for part in parts])
+                if time.monotonic() >= beat:
+                    beat = time.monotonic() + BEAT
+                    self._event("beat", {**server.counts.all(), "left_out": changes.dropped})
+                time.sleep(TURN)
+        except TimeoutError:
+            server.counts.add("closed")
+        except OSError:
+            pass  # the page was closed
+        finally:
+            server.state.unsubscribe(changes)
+            server.counts.add("pages", -1)
+
+    def _part(self, part: Change) -> Plain:
+        return {"kind": part.kind, "key": part.key, "data": _without_value(part.data) if part.kind == "signal" else part.data}
+
+    def _event(self, name: str, data: Any) -> None:
+        self.wfile.write(f"event: {name}\ndata: {json.dumps(data)}\n\n".encode())
+
+    # -- setting
+
+    def do_POST(self) -> None:
+        self._answered(self._post)
+
+    def _post(self) -> None:
+        octets = self._body()
+        host = self._check_host()
+        self._check_site()
+        self._check_origin(host)
+        if self.path != "/set":
+            raise Answer(NOT_FOUND, "only /set takes a POST")
+        if not self.server.rules.may_set:
+            raise Answer(FORBIDDEN, "this page is read-only: nandutable-view was started without --allow-set")
+        if self.headers.get_content_type() != "application/json":
+            raise Answer(NO_JSON, "Content-Type must be application/json")
+        name, value = self._wanted(octets)
+        self._set(name, value)
+
+    def _body(self) -> bytes:
+        """Reads the octets of a request before it is judged, so that its sender reads the answer."""
+        length = self.headers.get("Content-Length") or ""
+        if self.headers.get("Transfer-Encoding") or not (length.isascii() and length.isdecimal()):
+            raise Answer(NO_LENGTH, "Content-Length is missing")
+        if int(length) > LONGEST:
+            raise Answer(TOO_LONG, f"a set has at most {LONGEST} octets")
+        return self.rfile.read(int(length))
+
+    @staticmethod
+    def _wanted(octets: bytes) -> Tuple[str, str]:
+        """Name and value of a set."""
+        try:
+            data = json.loads(octets)
+        except (ValueError, RecursionError):
+            data = None
+        name, value = (data.get("name"), data.get("value")) if isinstance(data, dict) else (None, None)
+        if not isinstance(name, str) or not isinstance(value, str) or not value.strip() or any(ord(letter) < 0x20 for letter in name + value):
+            raise Answer(BAD, 'a set is {"name": "STATION.SIGNAL", "value": "VALUE"}, without control characters')
+        return name, value
+
+    def _set(self, name: str, value: str) -> None:
+        counts = self.server.counts
+        commands = self.server.commands()
+        try:
+            if commands is None:
+                raise Gone("the controller does not run")
+            commands.set(name, Raw(value))
+        except (Error, ValueError, UnicodeError) as fault:
+            counts.add("sets_refused")
+            status = TAKEN if isinstance(fault, Refused) else NO_ANSWER if isinstance(fault, TimedOut) else BAD if isinstance(fault, ValueError) else NO_PLACE
+            raise Answer(status, str(fault)) from None
+        counts.add("sets")
+        say(f"set {name} {value} by {self.client_address[0]}")
+        self._reply(OK, {"reason": None})
+
+
+# ---- the program
+
+
+class Source:
+    """Where the lines come from: a controller that runs already (a socket, opened again when it was lost), or one that this program starts."""
+
+    def __init__(self, open_connection: Callable[[], Connection], is_opened_again: bool) -> None:
+        self.state = PlantState()
+        self.open_connection, self.is_opened_again = open_connection, is_opened_again
+        self.follower: Optional[Follower] = None
+        self.connection: Optional[Connection] = None
+
+    def commands(self) -> Optional[Commands]:
+        follower = self.follower
+        return None if follower is None or follower.ended.is_set() else follower.commands
+
+    def follow(self, is_over: threading.Event) -> None:
+        """Follows until the end."""
+        while not is_over.is_set():
+            try:
+                self.connection = self.open_connection()
+            except OSError as fault:
+                if not self.is_opened_again:
+                    raise
+                self.state.end(f"the controller's socket cannot be opened: {fault.strerror or fault}")
+                is_over.wait(AGAIN)
+                continue
+            self.follower = Follower(self.connection, self.state)
+            self.follower.start()
+            while not self.follower.ended.wait(0.2) and not is_over.is_set():
+                pass
+            if not self.is_opened_again:
+                return
+            self.connection.close()
+            is_over.wait(AGAIN)
+
+    def close(self) -> None:
+        if self.connection is not None:
+            self.connection.close()
+
+
+class Parser(argparse.ArgumentParser):
+    """With the statuses of the other programs."""
+
+    def error(self, message: str) -> Any:
+        say(f"{message} (nandutable-view --help)")
+        raise SystemExit(64)
+
+
+def parser() -> Parser:
+    made = Parser(prog="nandutable-view", allow_abbrev=False, usage="nandutable-view --socket PATH [OPTION ..]\n       nandutable-view IFACE PLAN.json .. [OPTION ..] [-- OPTION OF THE CONTROLLER ..]",
+                  description="Shows a plant on a page of this machine: stations, who is at which port, signals, alarms, diagnosis. The lines are those of a "
+                  "nandutable-controller that runs with --signals and --socket, or of one that this program starts.", epilog="It ends on SIGTERM and SIGINT.")
+    made.add_argument("places", nargs="*", metavar="IFACE PLAN.json", help="starts nandutable-controller on this interface with these plans")
+    made.add_argument("--socket", metavar="PATH", help="the socket of a controller that runs already; it is opened again when it was lost")
+    made.add_argument("--port", type=int, default=PORT, metavar="N", help=f"the TCP port of the page ({PORT}); 0 takes a free one")
+    made.add_argument("--address", default="127.0.0.1", help="the IP address to listen on (127.0.0.1)")
+    made.add_argument("--reachable-from-network", action="store_true", help="allows an --address that other machines reach. There is no password and no encryption: "
+                      "whoever reaches the port sees the plant, and with --allow-set moves it")
+    made.add_argument("--host-name", action="append", default=[], metavar="NAME", help="another name under which browsers reach the page; may be repeated")
+    made.add_argument("--allow-set", action="store_true", help="lets the page set outputs; without it the page only shows")
+    made.add_argument("--controller", metavar="PATH", help="the program nandutable-controller")
+    made.add_argument("--version", action="version", version="nandutable-view 0.1.0")
+    return made
+
+
+def check(asked: argparse.Namespace, more: Sequence[str]) -> None:
+    """Refuses options that do not fit together."""
+    try:
+        address = ipaddress.ip_address(asked.address)
+    except ValueError:
+        parser().error(f"--address takes an IP address: {asked.address}")
+    if not address.is_loopback and not asked.reachable_from_network:
+        parser().error(f"{address} is reached by other machines, and the page has no password and no encryption: add --reachable-from-network if that is meant")
+    if not 0 <= asked.port <= 65535:
+        parser().error(f"--port takes 0 to 65535: {asked.port}")
+    if (asked.socket is None) == (not asked.places):
+        parser().error("it takes either --socket PATH, or an interface and its plans")
+    if asked.socket is None and len(asked.places) < 2:
+        parser().error("a plan is missing after the interface")
+    if asked.socket is not None and (more or asked.controller):
+        parser().error("options of the controller go with an interface and its plans")
+
+
+def source_of(asked: argparse.Namespace, more: List[str]) -> Source:
+    if asked.socket is not None:
+        return Source(lambda: Socket(asked.socket), True)
+    words = [asked.controller or program(), *asked.places, "--signals", "--times", "--end-with-input", *(more or ["--retry", "5"])]
+    return Source(lambda: Process(words), False)
+
+
+def main(words: Optional[List[str]] = None) -> int:
+    """Returns the status of the program."""
+    given = sys.argv[1:] if words is None else words
+    cut = given.index("--") if "--" in given else len(given)
+    asked, more = parser().parse_args(given[:cut]), given[cut + 1:]
+    check(asked, more)
+    source = source_of(asked, more)
+    try:
+        server = Server(asked.address, asked.port, source.state, source.commands, Rules(asked.allow_set, tuple(name.lower() for name in asked.host_name)))
+    except OSError as fault:
+        say(f"the page cannot be served at {asked.address} port {asked.port}: {fault.strerror or fault}")
+        return 75
+    return run(source, server)
+
+
+def run(source: Source, server: Server) -> int:
+    """Serves until a signal comes, or the controller that it has started ends."""
+    is_over = threading.Event()
+    for number in (signal.SIGTERM, signal.SIGINT, signal.SIGHUP):
+        signal.signal(number, lambda *_: is_over.set())
+    server.start()
+    try:
+        print(f"page {server.url}", flush=True)
+    except OSError:
+        pass
+    try:
+        source.follow(is_over)
+    except OSError as fault:
+        say(f"the controller cannot be started: {fault.strerror or fault}")
+        return 69
+    finally:
+        server.stop()
+        source.close()
+    if is_over.is_set() or source.connection is None:
+        return 0
+    say(source.connection.reason())
+    return source.connection.status or 0
+
+
+if __name__ == "__main__":
+    sys.exit(main())

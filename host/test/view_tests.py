@@ -1,0 +1,552 @@
+"""Tests of the page: `host/test/run page_words page_rules page_bounds page browser browser_made_up`."""
+
+import contextlib
+import io
+import json
+import os
+import re
+import signal
+import socket
+import subprocess
+import sys
+import threading
+import time
+
+import browser
+from made_up_plant import CONTROLLER, MadeUp, line_of_stations, mac_of
+from signal_tests import same
+from wire import HOST, talk_to
+
+sys.path.insert(0, os.path.join(HOST, "python"))
+from nandutable import view as server  # noqa: E402: the module's folder is not on the path before
+
+VIEW = os.path.join(HOST, "view", "nandutable-view")
+SIGNALS = [
+    {"Name": "level", "Direction": "Input", "Slot": 1, "Subslot": 1, "Octet": 0, "Type": "Unsigned16", "Unit": "mm", "Text": "Level of the tank"},
+    {"Name": "speed", "Direction": "Output", "Slot": 2, "Subslot": 1, "Octet": 0, "Type": "Unsigned16", "Unit": "rpm", "Text": "Speed of the pump"}]
+# What a station may call itself, and a page may take for something else.
+HOSTILE = ("<img/src=x/onerror=document.title='x'>", "'\"><script>document.title='x'</script>", "</title><svg/onload=document.title='x'>")
+RATIO = """
+const rgb = (text) => { const [r, g, b, a = 1] = text.match(/[0-9.]+/g).map(Number); return [r, g, b, a]; };
+const light = ([r, g, b]) => [r, g, b].map((c) => (c /= 255) <= 0.04045 ? c / 12.92 : ((c + 0.055) / 1.055) ** 2.4).reduce((sum, c, at) => sum + c * [0.2126, 0.7152, 0.0722][at], 0);
+const over = (top, below) => [0, 1, 2].map((at) => top[at] * top[3] + below[at] * (1 - top[3]));
+const ratio = (one, other) => { const [high, low] = [light(one), light(other)].sort((a, b) => b - a); return (high + 0.05) / (low + 0.05); };
+const ground = (element) => { let found = [0, 0, 0, 0]; for (let at = element; at; at = at.parentElement) { const colour = rgb(getComputedStyle(at).backgroundColor);
+  if (colour[3] > 0) { found = found[3] === 0 ? colour : [...over(found, colour), 1]; if (colour[3] === 1) return found; } } return [255, 255, 255]; };
+const behind = (element) => { const box = element.closest("g")?.querySelector("rect.box"); return box && element.closest("svg") ? rgb(getComputedStyle(box).fill) : ground(element); };
+"""
+CONTRAST = RATIO + """
+const wrong = [];
+const seen = (element) => element.getClientRects().length > 0 && !element.closest(".unseen, [disabled]");
+for (const element of document.querySelectorAll("body *")) {
+  const style = getComputedStyle(element);
+  if (["INPUT", "BUTTON"].includes(element.tagName) && seen(element) && ratio(rgb(style.borderTopColor), ground(element.parentElement)) < 3) wrong.push("border of " + element.outerHTML.slice(0, 80));
+  if (![...element.childNodes].some((node) => node.nodeType === 3 && node.textContent.trim()) || !seen(element) || ["TITLE", "SCRIPT", "NOSCRIPT", "OPTION"].includes(element.tagName.toUpperCase())) continue;
+  const isDrawn = element instanceof SVGElement;
+  const found = ratio(rgb(isDrawn ? style.fill : style.color), behind(element));
+  if (found < 4.5) wrong.push(`${found.toFixed(2)} ${element.outerHTML.slice(0, 100)}`);
+}
+for (const icon of document.querySelectorAll(".shape")) if (seen(icon) && ratio(rgb(getComputedStyle(icon).color), behind(icon)) < 3) wrong.push("icon " + icon.outerHTML.slice(0, 100));
+return [wrong, document.querySelectorAll("body *").length];
+"""
+
+
+class View:
+    """nandutable-view on a free port. Its address is read from its first line."""
+
+    def __init__(self, *words, port=0, program=VIEW, environment=None):
+        self.process = subprocess.Popen([sys.executable, program, "--port", str(port), *words], stdout=subprocess.PIPE, stderr=subprocess.PIPE, text=True, env=environment)
+        line = self.process.stdout.readline()
+        if not line.startswith("page "):
+            raise AssertionError(f"nandutable-view: {line}{self.process.stderr.read()}")
+        self.url = line.split()[1]
+        self.port = int(self.url.rstrip("/").rpartition(":")[2])
+        self.host = f"127.0.0.1:{self.port}"
+
+    def __enter__(self):
+        return self
+
+    def __exit__(self, *_):
+        self.end(signal.SIGKILL)
+
+    def end(self, number=signal.SIGTERM):
+        """Returns the status and what it said."""
+        if self.process.poll() is None:
+            self.process.send_signal(number)
+        text = self.process.communicate(timeout=20)[1] if not self.process.stdout.closed else ""
+        return self.process.returncode, text
+
+    def asked(self, octets, seconds=15):
+        """Sends octets, and returns the status of the answer, its head and its body, when the server closes the connection."""
+        with socket.create_connection(("127.0.0.1", self.port), timeout=seconds) as link:
+            link.sendall(octets if isinstance(octets, bytes) else octets.encode())
+            came = b""
+            while more := link.recv(65536):
+                came += more
+        head, _, body = came.partition(b"\r\n\r\n")
+        return int(head.split()[1]) if head.startswith(b"HTTP/") else 0, head.decode(), body.decode()
+
+    def get(self, path, host=None, *lines, method="GET"):
+        return self.asked("\r\n".join((f"{method} {path} HTTP/1.1", f"Host: {host or self.host}", *lines, "", "")))
+
+    def set(self, name, value, host=None, origin=None, kind="application/json", *lines):
+        """Status and reason."""
+        body = json.dumps({"name": name, "value": value})
+        origins = [] if origin == "" else [f"Origin: {origin or 'http://' + (host or self.host)}"]
+        status, _, text = self.asked("\r\n".join(("POST /set HTTP/1.1", f"Host: {host or self.host}", *origins, f"Content-Type: {kind}", f"Content-Length: {len(body)}", *lines, "", body)))
+        return status, json.loads(text)["reason"]
+
+    def state(self):
+        return json.loads(self.get("/state")[2])
+
+    def waits(self, wanted, what, seconds=20):
+        """Waits until the state is as wanted. Returns what `wanted` returns."""
+        ends = time.monotonic() + seconds
+        while True:
+            state = self.state()
+            found = wanted(state)
+            if found:
+                return found
+            if time.monotonic() > ends:
+                raise AssertionError(f"{what}: {json.dumps(state)[:3000]}")
+            time.sleep(0.05)
+
+    def memory(self):
+        """Pages of memory that it has."""
+        with open(f"/proc/{self.process.pid}/statm", encoding="ascii") as file:
+            return int(file.read().split()[1])
+
+
+def station_of(state, name="pump-1"):
+    return next((station for station in state["stations"] if station["name"] == name), None)
+
+
+def raw_of(state, name):
+    return next((signal["raw"] for signal in state["signals"] if signal["name"] == name), None)
+
+
+def refused_by(words, status, text):
+    """What the program says to words that it does not serve a page for. It runs in this process."""
+    said = io.StringIO()
+    with contextlib.redirect_stdout(said), contextlib.redirect_stderr(said):
+        try:
+            came = server.main(list(words))
+        except SystemExit as end:
+            came = end.code
+    same(f"nandutable-view {' '.join(words)}: {said.getvalue()}", (came or 0, text in said.getvalue()), (status, True))
+
+
+def two_signals(plant, name="pump-1", **more):
+    plant.add(name, [("level", "input", "Unsigned16", "812", "mm", "Level of the tank"), ("speed", "output", "Unsigned16", "1200", "rpm", "Speed of the pump")], **more)
+
+
+class ViewTests:
+    """The tests of the page. They are part of the class of all tests."""
+
+    # ---- without a wire
+
+    def page_words(self):
+        """What the program refuses."""
+        some = ("--socket", "/nowhere")
+        for words, status, text in (
+                (("--version",), 0, "nandutable-view 0.1.0"), (("--help",), 0, "--allow-set"), ((), 64, "either --socket PATH, or"), (("eth2",), 64, "a plan is missing"),
+                (("eth2", "plan.json", *some), 64, "either --socket PATH, or"), ((*some, "--", "--retry", "5"), 64, "options of the controller"),
+                ((*some, "--address", "0.0.0.0"), 64, "--reachable-from-network"), ((*some, "--address", "::"), 64, "--reachable-from-network"),
+                ((*some, "--address", "192.168.0.9"), 64, "no password"), ((*some, "--address", "pump"), 64, "takes an IP address"),
+                ((*some, "--port", "70000"), 64, "0 to 65535"), ((*some, "--port", "x"), 64, "--port"), ((*some, "--allow"), 64, "--allow")):
+            refused_by(words, status, text)
+        ran = subprocess.run([sys.executable, VIEW, "no-such-if", "/nowhere/plan.json", "--port", "0"], capture_output=True, text=True, timeout=60)
+        same(f"the controller's own reason and status: {ran.stderr}", (ran.returncode, "/nowhere/plan.json" in ran.stderr), (66, True))
+        with View("--socket", "/nowhere") as view:
+            refused_by((*some, "--port", str(view.port)), 75, "Address already in use")
+            found = view.waits(lambda state: state["controller"]["ended"], "no controller")
+            same("it says so", "cannot be opened" in found, True)
+            same("it ends", view.end()[0], 0)
+
+    def page_rules(self):
+        """Whom the server answers: names of its own, requests of its own page, and sets only if it may."""
+        plant = MadeUp(self.path("rules.lines"))
+        two_signals(plant)
+        with View("--socket", plant.path) as view:
+            view.waits(lambda state: raw_of(state, "pump-1.level") == "812", "the first values")
+            status, head, text = view.get("/")
+            same("the page", (status, "<!doctype html>" in text, view.get("/index.html")[2] == text), (200, True, True))
+            for line in ("Content-Security-Policy: default-src 'none'; script-src 'self'; style-src 'self'; img-src 'self'; connect-src 'self'; form-action 'none'; base-uri 'none'; "
+                         "frame-ancestors 'none'", "X-Content-Type-Options: nosniff", "Cross-Origin-Resource-Policy: same-origin", "Cache-Control: no-store"):
+                same(line, line in head.split("\r\n"), True)
+            same("no script and no style is in the page itself", re.findall(r"<script>|<style|\son\w+=|style=", text), [])
+            self.names_of_server(view)
+            self.broken_requests(view)
+            same("a set is refused", view.set("pump-1.speed", "1"), (403, "this page is read-only: nandutable-view was started without --allow-set"))
+            same("and not done", raw_of(view.state(), "pump-1.speed"), "1200")
+        with View("--socket", plant.path, "--allow-set", "--host-name", "Panel.Plant") as view:
+            view.waits(lambda state: raw_of(state, "pump-1.level") == "812", "the first values")
+            self.sets_of_page(view)
+
+    @staticmethod
+    def names_of_server(view):
+        for host in ("evil.example", f"evil.example:{view.port}", "127.0.0.1.evil.example", "localhost.evil", "10.0.0.1", "[::2]", "127.0.0.1:80:80", "[::1", "panel.plant"):
+            for path in ("/", "/state", "/events", "/view.js"):
+                same(f"{host} {path}", view.get(path, host)[0], 421)
+        for host in ("localhost", f"localhost:{view.port}", "LOCALHOST:9000", "127.0.0.1", "[::1]", f"[::1]:{view.port}"):
+            same(host, view.get("/state", host)[0], 200)
+        same("no Host", view.asked("GET / HTTP/1.0\r\n\r\n")[0], 400)
+        same("two of them", view.get("/", None, "Host: localhost")[0], 400)
+        for site, status in (("cross-site", 403), ("same-site", 403), ("same-origin", 200), ("none", 200)):
+            same(site, [view.get(path, None, f"Sec-Fetch-Site: {site}")[0] for path in ("/state", "/view.css")], [status] * 2)
+        same("a link on another site", view.get("/", None, "Sec-Fetch-Site: cross-site")[0], 200)
+        same("a stream of another site", view.get("/events", None, "Sec-Fetch-Site: cross-site")[0], 403)
+
+    @staticmethod
+    def broken_requests(view):
+        for path in ("/../python/nandutable/view.py", "/%2e%2e/nandutable-view", "//etc/passwd", "/nandutable-view", "/view.js/", "/.", "/set"):
+            same(path, view.get(path)[0], 404)
+        same("HEAD", view.get("/view.css", method="HEAD")[::2], (200, ""))
+        same("HEAD of the stream", view.get("/events", method="HEAD")[0], 405)
+        for method in ("PUT", "DELETE", "OPTIONS", "TRACE", "CONNECT", "x" * 100):
+            same(method, view.get("/set", method=method)[0], 501)
+        for octets, status in ((b"\r\n\r\n", 0), (b"GET\r\n\r\n", 0), (b"GET /\r\n\r\n", 0), (b"GET / HTTP/9.9\r\n\r\n", 0), (b"GET /" + b"a" * 70000 + b" HTTP/1.1\r\n\r\n", 414), (b"\x16\x03\x01\x02\x00\x01\r\n\r\n", 0)):
+            came, head, _ = view.asked(octets)
+            same(f"{octets[:20]}: {head}", came, status)
+
+    @staticmethod
+    def sets_of_page(view):
+        same("a set", view.set("pump-1.speed", "1500"), (200, None))
+        view.waits(lambda state: raw_of(state, "pump-1.speed") == "1500", "the value")
+        for words, status, reason in (
+                (("pump-1.speed", "70000"), 409, "Unsigned16 takes 0 to 65535"), (("pump-1.level", "1"), 409, "it is an input"), (("pump-1.none", "1"), 409, "there is no such signal"),
+                (("pump-1.speed", ""), 400, "a set is"), (("pump-1.speed", "1\nstop"), 400, "without control characters"), (("pump-1.speed\nstop", "1"), 400, "without control"),
+                (("pump-1.speed 7", "1"), 409, "no blanks"), (("pump-1.speed", 7), 400, "a set is"),
+                (("pump-1.speed", "1", None, ""), 403, "Origin"), (("pump-1.speed", "1", None, "http://evil.example"), 403, "Origin"), (("pump-1.speed", "1", None, "null"), 403, "Origin"),
+                (("pump-1.speed", "1", None, "http://localhost:1"), 403, "Origin"), (("pump-1.speed", "1", "evil.example", "http://evil.example"), 421, "Host"),
+                (("pump-1.speed", "1", None, None, "text/plain"), 415, "application/json"), (("pump-1.speed", "1", None, None, "application/x-www-form-urlencoded"), 415, "json"),
+                (("pump-1.speed", "1", None, None, "application/json", "Sec-Fetch-Site: cross-site"), 403, "another site")):
+            came, text = view.set(*words)
+            same(f"{words}: {text}", (came, reason in text), (status, True))
+        same("another name of the server", view.set("pump-1.speed", "1501", "panel.plant"), (200, None))
+        front = f"POST /set HTTP/1.1\r\nHost: {view.host}\r\nOrigin: http://{view.host}\r\nContent-Type: application/json\r\n"
+        for rest, status in (("\r\n", 411), ("Transfer-Encoding: chunked\r\n\r\n0\r\n\r\n", 411), ("Content-Length: -1\r\n\r\n", 411), ("Content-Length: 9000\r\n\r\n" + "a" * 9000, 413),
+                             ("Content-Length: 2\r\n\r\n{}", 400), ("Content-Length: 5000\r\n\r\n" + "[" * 5000, 400), ("Content-Length: 4\r\n\r\n\xff\xff", 400)):
+            same(rest[:40], view.asked((front + rest).encode("utf-8"))[0], status)
+        same("only two were done", raw_of(view.state(), "pump-1.speed"), "1501")
+        counts = view.state()["counts"]
+        same(f"{counts}", (counts["sets"], counts["refused"] > 10), (2, True))
+
+    def page_bounds(self):
+        """Pages that never read, that come slowly, and that are too many; the memory of the server does not grow."""
+        plant = MadeUp(self.path("bounds.lines"))
+        line_of_stations(plant, 64, lambda number: [(f"value_{at}", "input", "Unsigned16", "0", "", "") for at in range(31)])
+        with View("--socket", plant.path) as view:
+            view.waits(lambda state: len(state["signals"]) == 64 * 31, "all signals", 60)
+            asleep = [self.open_page(view) for _ in range(16)]
+            same("a seventeenth page", view.get("/events")[0], 503)
+            slow = socket.create_connection(("127.0.0.1", view.port))
+            slow.sendall(b"GET / HTTP/1.1\r\nHost:")
+            over = threading.Event()
+            changes = threading.Thread(target=self.change_all, args=(plant, over), daemon=True)
+            changes.start()
+            time.sleep(2)
+            before = view.memory()
+            begins = time.monotonic()
+            view.waits(lambda state: state["counts"]["closed"] == 16, "all 16 are closed", 40)
+            took = time.monotonic() - begins
+            slow.settimeout(15)
+            same("the slow one is closed", slow.recv(10), b"")
+            same(f"its memory: {before} pages, then {view.memory()}", view.memory() < before + 4096, True)
+            counts = view.waits(lambda state: state["counts"]["pages"] == 0 and state["counts"], "no page")
+            with self.open_page(view) as link:
+                same("a new page is served", link.recv(15), b"HTTP/1.1 200 OK")
+            idle = [socket.create_connection(("127.0.0.1", view.port)) for _ in range(70)]
+            time.sleep(0.5)
+            for link in idle:
+                link.close()
+            more = view.waits(lambda state: state["counts"]["no_place"] >= 1 and state["counts"], "connections beyond 64 are closed")
+            over.set()
+            changes.join()
+            for link in (*asleep, slow):
+                link.close()
+        return f"{counts['closed']} pages closed within {took:.0f} s, {more['no_place']} connections without a place"
+
+    @staticmethod
+    def open_page(view):
+        """A connection to the stream, which is not read."""
+        link = socket.socket()
+        link.setsockopt(socket.SOL_SOCKET, socket.SO_RCVBUF, 4096)
+        link.connect(("127.0.0.1", view.port))
+        link.sendall(f"GET /events HTTP/1.1\r\nHost: {view.host}\r\n\r\n".encode())
+        time.sleep(0.02)
+        return link
+
+    @staticmethod
+    def change_all(plant, over):
+        """A hundred changes a second."""
+        names, at = list(plant.values), 0
+        while not over.wait(0.01):
+            at += 1
+            plant.change(names[at % len(names)], str(at % 65536))
+
+    def page_installed(self, tree, place):
+        """The installed page: its program and its unit."""
+        environment = {**os.environ, "PYTHONPATH": os.path.join(tree, place), "PYTHONDONTWRITEBYTECODE": "1"}
+        with View("--socket", "/nowhere", program=os.path.join(tree, "usr", "bin", "nandutable-view"), environment=environment) as view:
+            for name in ("", "view.js", "icon.svg"):
+                same(f"/{name}", view.get(f"/{name}")[0], 200)
+        with open(os.path.join(tree, "lib/systemd/system/nandutable-view@.service"), encoding="utf-8") as file:
+            lines = [line.rstrip("\n") for line in file if not line.startswith("#")]
+        same("the unit's program", [line for line in lines if line.startswith("ExecStart")],
+             ["ExecStart=/usr/bin/nandutable-view --socket /run/nandutable-controller/%I/lines $VIEW_WORDS"])
+        same("it may do nothing else", {"CapabilityBoundingSet=", "NoNewPrivileges=yes", "DynamicUser=yes", "Group=nandutable"} <= set(lines), True)
+
+    # ---- on a wire
+
+    def page(self, wire):
+        """The page of a real plant, without a browser: values, ports, diagnosis, alarms; it is killed and started again, and nobody loses a frame."""
+        if lacks := self.has_no_signals():
+            return lacks
+        path = self.path("page.lines")
+        device = self.device(wire, "page")
+        controller = self.controller(wire, self.signal_plan("pump-1", SIGNALS), "--signals", "--times", "--socket", path, "--retry", "1")
+        with View("--socket", path, "--allow-set") as view:
+            view.waits(lambda state: (station_of(state) or {}).get("state") == "exchanging", "data is exchanged", 60)
+            device.ask("input 1 1 04d2", "note done")
+            view.waits(lambda state: raw_of(state, "pump-1.level") == "1234", "the level")
+            same("a set", view.set("pump-1.speed", "1500"), (200, None))
+            device.expect("output 2 1 05dc")
+            device.ask("diagnosis 1 1 3 6 appears", "note done")
+            device.ask("alarm 1 1 c0ffee", "note done")
+            view.waits(lambda state: [fault["text"] for fault in station_of(state)["diagnosis"]] == ["wire break"], "the diagnosis")
+            view.waits(lambda state: {alarm["octets"] for alarm in state["alarms"]} >= {"c0ffee"}, "the alarm")
+            peers = view.waits(lambda state: [port["peers"] for port in station_of(state)["ports"] if port["peers"]], "the neighbour", 40)
+            same("the controller is its neighbour", peers[0][0], {"port": "port-001", "station": "plc", "mac": CONTROLLER})
+            view.waits(lambda state: (state["controller"]["neighbour"] or {}).get("chassis") == "pump-1", "the controller's neighbour")
+            before = view.waits(lambda state: station_of(state)["interval"] and station_of(state), "the interval")
+            same("its middle is a millisecond", 900 <= before["interval"]["p50"] <= 1200, True)
+            port = view.port
+        told = self.killed_and_started(path, port)
+        controller.end()
+        device.end()
+        return told
+
+    @staticmethod
+    def killed_and_started(path, port):
+        """Kills the page three times beside programs that never read. Returns what was received and lost."""
+        talker, asleep = talk_to(path), talk_to(path)
+        asleep.sendall(b"names\nget *\nstatistics\n" * 100)
+        talker.settimeout(10)
+
+        def counts():
+            came = b""
+            talker.sendall(b"statistics\n")
+            while not re.search(rb"lines lost [0-9]+\n", came):
+                came += talker.recv(65536)
+            return [int(number) for number in re.search(rb"cyclic received ([0-9]+) lost ([0-9]+)", came).groups()]
+        begins, before = time.monotonic(), counts()
+        for _ in range(3):
+            with View("--socket", path, port=port) as view:
+                pages = [ViewTests.open_page(view) for _ in range(4)]
+                view.waits(lambda state: raw_of(state, "pump-1.level") == "1234", "the level again")
+                time.sleep(1)
+            for page in pages:
+                page.close()
+        after, took = counts(), time.monotonic() - begins
+        talker.close()
+        asleep.close()
+        received, lost = after[0] - before[0], after[1] - before[1]
+        same(f"{received} frames in {took:.1f} s, {lost} lost", (received > 100, lost), (True, 0))
+        return f"{received} frames in {took:.1f} s beside three pages that were killed, {lost} lost; load {os.getloadavg()[0]:.1f}"
+
+    # ---- in a browser
+
+    def browser(self, wire):
+        """The page of a real plant in Chromium: values change, a pulled cable is seen, sets are refused and carried, keys, nothing from outside."""
+        if lacks := self.has_no_signals() or browser.lacks():
+            return f"NOT TRIED: {lacks}"
+        path = self.path("browser.lines")
+        device = self.device(wire, "browser")
+        plan = self.signal_plan("pump-1", SIGNALS)
+        controller = self.controller(wire, plan, "--signals", "--times", "--socket", path, "--retry", "1")
+        with browser.Browser() as page, View("--socket", path) as view:
+            port = view.port
+            page.size(1200, 900)
+            page.open(view.url)
+            self.shows(page, ".state", "exchanging data", 60)
+            for number in (1234, 4321, 815):
+                device.ask(f"input 1 1 {number:04x}", "note done")
+                self.shows(page, "td.value", f"{number}mm", 2)
+            same("nothing can be set on this page", page.run("return document.querySelectorAll('table button').length"), 0)
+            same("and its server refuses", self.set_by_script(page), [403, "this page is read-only: nandutable-view was started without --allow-set"])
+            self.shows(page, ".picture text.name", "pump-1", 1)
+            self.shows(page, "#cables li", "Controller, port-001 – pump-1, port-001", 30)
+            self.shows(page, "#title", "Controller plc", 40)
+            same("one cable, from both of its ends", page.run("return document.querySelectorAll('#cables li, .picture .other').length"), 1)
+            took = self.pulled(wire, page)
+            same("complaints", [line for line in page.complaints() if "403" not in line], [])
+            view.end(signal.SIGKILL)
+            self.shows(page, "#live", "no data", 8)
+            with View("--socket", path, "--allow-set", port=port):
+                self.shows(page, "#live", "live", 10)
+                page.open(view.url)
+                self.shows(page, ".state", "exchanging data", 60)
+                self.keys_and_sets(page, device)
+            asked = page.requests()
+        same(f"{len(asked)} requests: all to this server", [url for url in asked if not url.startswith(view.url) and not url.startswith(("data:", "about:", "chrome:"))], [])
+        controller.end()
+        device.end()
+        return f"a pulled cable is seen within {took:.1f} s; {len(asked)} requests, all to the server of the page"
+
+    @staticmethod
+    def shows(page, place, text, seconds):
+        """Waits until an element of this kind has this text. Returns the seconds."""
+        begins = time.monotonic()
+        while True:
+            found = page.run("return [...document.querySelectorAll(arguments[0])].map((element) => element.textContent.trim())", place)
+            if any(text == one for one in found):
+                return time.monotonic() - begins
+            if time.monotonic() - begins > seconds:
+                raise AssertionError(f"{place} does not show {text!r} within {seconds} s, but {found}")
+            time.sleep(0.02)
+
+    @staticmethod
+    def set_by_script(page):
+        return page.waits("const done = arguments[0]; fetch('set', {method: 'POST', headers: {'Content-Type': 'application/json'}, body: JSON.stringify({name: 'pump-1.speed', value: '1'})})"
+                          ".then(async (answer) => done([answer.status, (await answer.json()).reason]))")
+
+    def pulled(self, wire, page):
+        """Pulls the cable and plugs it again. Returns the seconds until the page says so."""
+        wire.link("d0", "set", "d0", "down")
+        took = self.shows_link(page)
+        self.shows(page, ".quality", "bad", 5)
+        wire.link("d0", "set", "d0", "up")
+        self.shows(page, ".state", "exchanging data", 30)
+        return took
+
+    @staticmethod
+    def shows_link(page):
+        begins = time.monotonic()
+        while "down" not in page.run("return document.getElementById('summary').lastElementChild.textContent"):
+            same("the pulled cable is seen within two seconds", time.monotonic() - begins < 2, True)
+            time.sleep(0.02)
+        return time.monotonic() - begins
+
+    def keys_and_sets(self, page, device):
+        """By the keyboard alone: the skip link, the search, the dialog."""
+        focused = "const at = document.activeElement; return [at.tagName, at.id || at.textContent.trim(), getComputedStyle(at).outlineStyle]"
+        page.keys("TAB")
+        same("the first key goes to the skip link", page.run(focused), ["A", "Skip to the stations", "solid"])
+        page.keys("ENTER")
+        same("it skips", page.run("return location.hash"), "#stations-title")
+        page.keys("/")
+        same("the search", page.run(focused)[1], "find")
+        page.keys("leve")
+        self.shows(page, "#found", "1 station, 1 signal found", 2)
+        page.keys("ESCAPE")
+        self.shows(page, "#found", "1 station, 2 signals", 2)
+        seen = []
+        while page.run("return document.activeElement.getAttribute('aria-label')") != "Set pump-1.speed":
+            page.keys("TAB")
+            seen.append(page.run(focused))
+            same(f"the button is reached: {seen}", len(seen) < 12 and all(one[2] == "solid" for one in seen), True)
+        page.keys("ENTER")
+        same("the dialog is open, in its field", page.run("return [document.getElementById('set').open, document.activeElement.id]"), [True, "set-value"])
+        page.keys("70000", "ENTER")
+        self.shows(page, "#set-answer", "Not set: Unsigned16 takes 0 to 65535", 5)
+        same("complaints: of the refused one alone", [line for line in page.complaints() if "409" not in line and "events" not in line], [])
+        page.run("document.getElementById('set-value').select()")
+        page.keys("1500", "ENTER")
+        device.expect("output 2 1 05dc")
+        self.shows(page, "td.value", "1500rpm", 3)
+        same("the dialog is closed, and the focus is back", page.run("return [document.getElementById('set').open, document.activeElement.getAttribute('aria-label')]"), [False, "Set pump-1.speed"])
+        page.keys("ENTER", "ESCAPE")
+        same("Escape closes it", page.run("return document.getElementById('set').open"), False)
+
+    def browser_made_up(self):
+        """Plants that no test machine has, in Chromium: many stations, a ring, names that are meant to break the page; widths, contrast, motion."""
+        if lacks := browser.lacks():
+            return f"NOT TRIED: {lacks}"
+        with browser.Browser() as page:
+            told = self.in_all_sizes(page)
+            self.hostile_names(page)
+            told += "; " + self.many_stations(page)
+        return told
+
+    def in_all_sizes(self, page):
+        """No width needs scrolling aside, and each text has its contrast, in both schemes, also while nothing arrives."""
+        plant = self.plant_of_four()
+        count = 0
+        with View("--socket", plant.path, "--allow-set") as view:
+            for scheme in ("light", "dark"):
+                page.scheme(scheme, "reduce")
+                for width in (320, 390, 900, 1400):
+                    page.size(width, 900)
+                    page.open(view.url)
+                    self.shows(page, ".faults li", "wire break: slot 2 subslot 1, channel 0", 15)
+                    self.shows(page, "#cables li", "flow-7, port-002 – weigher-1, port-001", 15)
+                    same(f"{width} pixels", page.run("return document.documentElement.scrollWidth"), width)
+                    count += self.has_contrast(page, f"{width} {scheme}")
+                    same("each state has its word", page.run("return [...document.querySelectorAll('.state, .quality, .mark, .word')].filter((one) => !one.textContent.trim()).length"), 0)
+                plant.change("pump-1.level", scheme)
+                same("no motion", page.run("return document.getAnimations().length"), 0)
+                page.run("document.querySelector('[aria-label=\"Set pump-1.speed\"]').click()")
+                count += self.has_contrast(page, f"dialog {scheme}")
+                page.keys("ESCAPE")
+            view.end(signal.SIGKILL)
+            self.shows(page, "#live", "no data", 8)
+            count += self.has_contrast(page, "no data")
+        return f"{count} elements have their contrast"
+
+    @staticmethod
+    def has_contrast(page, what):
+        wrong, count = page.run(CONTRAST)
+        same(f"contrast, {what}", wrong, [])
+        return count
+
+    def plant_of_four(self):
+        switch = "02:00:00:00:09:01"
+        plant = MadeUp(self.path("four.lines"))
+        two_signals(plant, ports=[("port-001", [("port-002", "switch-a", switch)])])
+        plant.add("flow-7", [("flow", "input", "Float32", "12.5", "l/s", "Flow"), ("pipe_full", "input", "Boolean", "true", "", ""), ("display", "output", "VisibleString", '"Hello, \\"world\\"!"', "", "")],
+                  [("port-001", [("port-003", "switch-a", switch)]), ("port-002", [("port-001", "weigher-1", mac_of(3))])])
+        plant.add("weigher-1", [("weight", "input", "Float32", "321.75", "kg", "Weight on the belt")], [("port-001", [("port-002", "flow-7", mac_of(2))])])
+        two_signals(plant, "a-station-with-a-long-name.that-has-labels.and-goes-on", state="connecting")
+        plant.neighbour = f"neighbour {switch} port 'port-001' of 'switch-a'"
+        plant.stations["flow-7"]["diagnosis"] = ["2 1 0 6 (wire break)"]
+        plant.stations["weigher-1"]["lost"] = 3
+        return plant
+
+    def hostile_names(self, page):
+        """Names over LLDP that are markup are shown as they are, and do nothing."""
+        plant = MadeUp(self.path("hostile.lines"))
+        two_signals(plant, ports=[(f"port-{number:03}", [(name, name, f"02:00:00:00:0a:0{number}")]) for number, name in enumerate(HOSTILE, 1)])
+        plant.values["pump-1.level"][4] = HOSTILE[0].replace("'", "")
+        with View("--socket", plant.path) as view:
+            page.complaints()
+            page.open(view.url)
+            for number, name in enumerate(HOSTILE, 1):
+                self.shows(page, "#cables li", f"pump-1, port-{number:03} – {name}, {name}", 15)
+            same("none of them is an element", page.run("return [document.querySelectorAll('img, script:not([src]), body svg[onload]').length, document.title]"), [0, "Controller on eth2"])
+            plant.tell(f"warning: {HOSTILE[0]}")
+            time.sleep(1)
+            same("nor in what happened", page.run("return document.querySelectorAll('#events img').length"), 0)
+            same("complaints", page.complaints(), [])
+
+    def many_stations(self, page):
+        """64 stations and 1,984 signals, a hundred changes a second: the page stays usable and finds one."""
+        plant = MadeUp(self.path("many.lines"))
+        line_of_stations(plant, 64, lambda number: [(f"value_{at}", "input" if at % 3 else "output", "Unsigned16", "0", "rpm", f"Value {at}") for at in range(31)])
+        over = threading.Event()
+        changes = threading.Thread(target=self.change_all, args=(plant, over), daemon=True)
+        with View("--socket", plant.path) as view:
+            page.size(1400, 900)
+            page.scheme("light")
+            page.open(view.url)
+            self.shows(page, "#found", "64 stations, 1,984 signals", 60)
+            changes.start()
+            page.keys("/")
+            page.keys("drive-17.value_5")
+            self.shows(page, "#found", "1 station, 1 signal found", 5)
+            over.set()
+            changes.join()
+            plant.change("drive-17.value_5", "4711")
+            took = self.shows(page, "tr:not([hidden]) td.value", "4711rpm", 5)
+            same("the picture has each of them", page.run("return document.querySelectorAll('.picture a').length"), 64)
+        return f"one of 1,984 signals changes on the page within {took * 1000:.0f} ms"
