@@ -1,5 +1,5 @@
 """Tests of the Python module: `host/test/run python_lines python_bounds python_typed python_types python_plant python_several python_words python_ends
-python_fill`."""
+python_fill stations`."""
 
 import contextlib
 import dataclasses
@@ -306,6 +306,40 @@ class PythonTests:
         with open(path, "w", encoding="utf-8") as file:
             json.dump(catalogue, file)
         return path
+
+    def stations(self, wire):
+        """The line `stations` with two plans and with one, and a controller that ends with its input."""
+        device, plans = self.device(wire, "stations"), (self.signal_plan("pump-1"), self.signal_plan("pump.2", None, "192.168.0.3"))
+        controller = self.controller(wire, *plans)
+        controller.expect("pump-1 state exchanging", 60)
+        wanted = ["pump-1 controller 02:00:00:00:00:02 on c0, for the station 'pump-1', interval 1000 us", "pump.2 controller 02:00:00:00:00:02 on c0, for the station 'pump.2', interval 1000 us",
+                  "link up", "station pump-1 02:00:00:00:00:01 192.168.0.2 1000 exchanging", "station pump.2 - 192.168.0.3 1000 looking", "stations 2"]
+        same("of two plans", self.answer_to_stations(controller), wanted)
+        controller.ask("pump-1 stop", "pump-1 ended 7")
+        same("one that was stopped", self.answer_to_stations(controller)[3], "station pump-1 02:00:00:00:00:01 192.168.0.2 1000 ended 7")
+        controller.ask("stations pump-1", "wrong: stations ")
+        controller.process.stdin.close()
+        time.sleep(0.5)
+        same("it goes on without its input", controller.process.poll(), None)
+        same("its status", controller.end(), 7)
+        controller = self.controller(wire, plans[0], "--end-with-input")
+        controller.expect("state exchanging", 60)
+        same("of one plan", self.answer_to_stations(controller), ["controller 02:00:00:00:00:02 on c0, for the station 'pump-1', interval 1000 us", "link up",
+                                                                  "station pump-1 02:00:00:00:00:01 192.168.0.2 1000 exchanging", "stations 1"])
+        device.expect("phase exchanging")
+        controller.process.stdin.close()
+        same("it ends with its input", controller.wait(), 7)
+        same("and says so", controller.has("ended 7: stopped"), True)
+        device.expect("phase none", 5)
+        device.end()
+
+    def answer_to_stations(self, controller):
+        """The lines of the answer, but for the neighbour, who may be heard or not."""
+        begins = len(controller.lines)
+        controller.ask("stations", "stations ")
+        told = [line for _, line in controller.lines[begins:]]
+        return [line for line in told[:next(at for at, line in enumerate(told) if line.startswith("stations ")) + 1]
+                if " controller " in f" {line}" or line.split()[0] in ("link", "station", "stations")]
 
     def python_types(self, wire):
         """Each type and bit of the tables from the octets at the device to a value of Python, and from the value to the octets."""
