@@ -49,9 +49,19 @@ class MadeUp:
         for signal, direction, kind, value, unit, text in signals:
             self.values[f"{name}.{signal}"] = [direction, kind, value, unit, text, "good" if state == "exchanging" else "bad"]
 
+    def close(self):
+        """The controller ends."""
+        self.listener.shutdown(socket.SHUT_RDWR)
+        self.listener.close()
+        for talker in list(self.talkers):
+            talker.shutdown(socket.SHUT_RDWR)
+
     def let_in(self):
         while True:
-            talker = self.listener.accept()[0]
+            try:
+                talker = self.listener.accept()[0]
+            except OSError:
+                return
             with self.lock:
                 self.talkers.append(talker)
             threading.Thread(target=self.serve, args=(talker,), daemon=True).start()

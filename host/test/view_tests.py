@@ -1,4 +1,4 @@
-"""Tests of the page: `host/test/run page_words page_rules page_bounds page browser browser_made_up`."""
+"""Tests of the page: `host/test/run page_words page_rules page_bounds page_again page browser browser_made_up`."""
 
 import contextlib
 import io
@@ -54,11 +54,11 @@ return [wrong, document.querySelectorAll("body *").length];
 class View:
     """nandutable-view on a free port. Its address is read from its first line."""
 
-    def __init__(self, *words, port=0, program=VIEW, environment=None):
-        self.process = subprocess.Popen([sys.executable, program, "--port", str(port), *words], stdout=subprocess.PIPE, stderr=subprocess.PIPE, text=True, env=environment)
+    def __init__(self, *words, port=0, program=VIEW, environment=None, errors=subprocess.PIPE):
+        self.process = subprocess.Popen([sys.executable, program, "--port", str(port), *words], stdout=subprocess.PIPE, stderr=errors, text=True, env=environment)
         line = self.process.stdout.readline()
         if not line.startswith("page "):
-            raise AssertionError(f"nandutable-view: {line}{self.process.stderr.read()}")
+            raise AssertionError(f"nandutable-view: {line}{self.process.stderr.read() if self.process.stderr else ''}")
         self.url = line.split()[1]
         self.port = int(self.url.rstrip("/").rpartition(":")[2])
         self.host = f"127.0.0.1:{self.port}"
@@ -158,9 +158,10 @@ class ViewTests:
         ran = subprocess.run([sys.executable, VIEW, "no-such-if", "/nowhere/plan.json", "--port", "0"], capture_output=True, text=True, timeout=60)
         same(f"the controller's own reason and status: {ran.stderr}", (ran.returncode, "/nowhere/plan.json" in ran.stderr), (66, True))
         with View("--socket", "/nowhere") as view:
-            refused_by((*some, "--port", str(view.port)), 75, "Address already in use")
+            ran = subprocess.run([sys.executable, VIEW, *some, "--port", str(view.port)], capture_output=True, text=True, timeout=60)
+            same(f"the port is in use: {ran.stderr}", (ran.returncode, "Address already in use" in ran.stderr), (75, True))
             found = view.waits(lambda state: state["controller"]["ended"], "no controller")
-            same("it says so", "cannot be opened" in found, True)
+            same("it says so", found, "no controller listens at its socket: No such file or directory")
             same("it ends", view.end()[0], 0)
 
     def page_rules(self):
@@ -266,6 +267,34 @@ class ViewTests:
             for link in (*asleep, slow):
                 link.close()
         return f"{counts['closed']} pages closed within {took:.0f} s, {more['no_place']} connections without a place"
+
+    def page_again(self):
+        """The controller ends and another one comes; the program's own lines go to a full disk, or to a pipe that nobody reads."""
+        path = self.path("again.lines")
+        unread, written = os.pipe()
+        os.set_blocking(written, False)
+        with contextlib.suppress(BlockingIOError):
+            while True:
+                os.write(written, bytes(4096))
+        os.set_blocking(written, True)
+        with open("/dev/full", "w", encoding="ascii") as full:
+            for errors in (full, written):
+                plant = MadeUp(path)
+                two_signals(plant)
+                with View("--socket", path, "--allow-set", errors=errors) as view:
+                    view.waits(lambda state: raw_of(state, "pump-1.level") == "812", "the first values")
+                    plant.close()
+                    gone = view.waits(lambda state: not state["controller"]["running"] and state, "it is gone")
+                    same("all is bad", ([one["good"] for one in gone["signals"]], station_of(gone)["state"]), ([False, False], "ended"))
+                    same("a set is refused", view.set("pump-1.speed", "1")[0], 503)
+                    plant = MadeUp(path)
+                    two_signals(plant)
+                    plant.change("pump-1.level", "813")
+                    view.waits(lambda state: raw_of(state, "pump-1.level") == "813" and station_of(state)["state"] == "exchanging", "it is there again")
+                    same("sets, whose lines cannot be written", [view.set("pump-1.speed", str(number)) for number in range(150)], [(200, None)] * 150)
+                    plant.close()
+        os.close(unread)
+        os.close(written)
 
     @staticmethod
     def open_page(view):

@@ -24,14 +24,16 @@ import socket
 import sys
 import threading
 import time
-from typing import Any, Callable, Dict, List, NamedTuple, Optional, Sequence, Tuple
+from typing import Any, Callable, Dict, List, NamedTuple, NoReturn, Optional, Sequence, Tuple
 
 from .commands import Commands, Raw
-from .errors import Error, Gone, Refused, TimedOut
-from .plants import Follower, program
-from .process import Connection, Process, Socket
+from .errors import Error, Gone, NotStarted, Refused, TimedOut
+from .plants import start
+from .process import Socket
+from .source import Log, Source
 from .state import Change, Plain, PlantState
 
+NAME = "nandutable-view"
 PORT = 8892
 CONNECTIONS = 64
 PAGES = 16
@@ -41,7 +43,6 @@ BEAT = 1.0  # seconds from one beat to the next
 TURN = 0.1  # seconds from one message to a page to the next
 LONGEST = 8192  # octets of a set
 SENT = 65536  # octets that the system keeps for a page that does not read
-AGAIN = 1.0  # seconds until a socket is opened again
 
 OK, BAD, FORBIDDEN, NOT_FOUND, NOT_ALLOWED, TAKEN = 200, 400, 403, 404, 405, 409
 NO_LENGTH, TOO_LONG, NO_JSON, MISDIRECTED, NO_PLACE, NO_ANSWER = 411, 413, 415, 421, 503, 504
@@ -52,14 +53,6 @@ HEADERS = (
                                 "base-uri 'none'; frame-ancestors 'none'"),
     ("X-Content-Type-Options", "nosniff"), ("X-Frame-Options", "DENY"), ("Referrer-Policy", "no-referrer"), ("Cross-Origin-Resource-Policy", "same-origin"),
     ("Cross-Origin-Opener-Policy", "same-origin"), ("Cache-Control", "no-store"), ("Connection", "close"))
-
-
-def say(text: str) -> None:
-    """A line on standard error. A full disk does not matter."""
-    try:
-        print(f"nandutable-view: {text}", file=sys.stderr, flush=True)
-    except OSError:
-        pass
 
 
 # ---- what it hands out
@@ -92,10 +85,11 @@ def _without_value(data: Plain) -> Plain:
 
 
 class Rules(NamedTuple):
-    """What a server may do: set outputs; and further names under which it is reached."""
+    """What a server may do: set outputs, and whom it tells of each set; and further names under which it is reached."""
 
     may_set: bool = False
     names: Tuple[str, ...] = ()
+    tell: Callable[[str], None] = lambda _: None
 
 
 class Counts:
@@ -206,7 +200,7 @@ class Handler(http.server.BaseHTTPRequestHandler):
     """One request."""
 
     protocol_version = "HTTP/1.1"
-    server_version, sys_version = "nandutable-view", ""
+    server_version, sys_version = NAME, ""
     timeout = PATIENCE
     server: Server
 
@@ -376,61 +370,22 @@ class Handler(http.server.BaseHTTPRequestHandler):
             status = TAKEN if isinstance(fault, Refused) else NO_ANSWER if isinstance(fault, TimedOut) else BAD if isinstance(fault, ValueError) else NO_PLACE
             raise Answer(status, str(fault)) from None
         counts.add("sets")
-        say(f"set {name} {value} by {self.client_address[0]}")
+        self.server.rules.tell(f"set {name} {value} by {self.client_address[0]}")
         self._reply(OK, {"reason": None})
 
 
 # ---- the program
 
 
-class Source:
-    """Where the lines come from: a controller that runs already (a socket, opened again when it was lost), or one that this program starts."""
-
-    def __init__(self, open_connection: Callable[[], Connection], is_opened_again: bool) -> None:
-        self.state = PlantState()
-        self.open_connection, self.is_opened_again = open_connection, is_opened_again
-        self.follower: Optional[Follower] = None
-        self.connection: Optional[Connection] = None
-
-    def commands(self) -> Optional[Commands]:
-        follower = self.follower
-        return None if follower is None or follower.ended.is_set() else follower.commands
-
-    def follow(self, is_over: threading.Event) -> None:
-        """Follows until the end."""
-        while not is_over.is_set():
-            try:
-                self.connection = self.open_connection()
-            except OSError as fault:
-                if not self.is_opened_again:
-                    raise
-                self.state.end(f"the controller's socket cannot be opened: {fault.strerror or fault}")
-                is_over.wait(AGAIN)
-                continue
-            self.follower = Follower(self.connection, self.state)
-            self.follower.start()
-            while not self.follower.ended.wait(0.2) and not is_over.is_set():
-                pass
-            if not self.is_opened_again:
-                return
-            self.connection.close()
-            is_over.wait(AGAIN)
-
-    def close(self) -> None:
-        if self.connection is not None:
-            self.connection.close()
-
-
 class Parser(argparse.ArgumentParser):
     """With the statuses of the other programs."""
 
-    def error(self, message: str) -> Any:
-        say(f"{message} (nandutable-view --help)")
-        raise SystemExit(64)
+    def error(self, message: str) -> NoReturn:
+        self.exit(64, f"{NAME}: {message} ({NAME} --help)\n")
 
 
 def parser() -> Parser:
-    made = Parser(prog="nandutable-view", allow_abbrev=False, usage="nandutable-view --socket PATH [OPTION ..]\n       nandutable-view IFACE PLAN.json .. [OPTION ..] [-- OPTION OF THE CONTROLLER ..]",
+    made = Parser(prog=NAME, allow_abbrev=False, usage="nandutable-view --socket PATH [OPTION ..]\n       nandutable-view IFACE PLAN.json .. [OPTION ..] [-- OPTION OF THE CONTROLLER ..]",
                   description="Shows a plant on a page of this machine: stations, who is at which port, signals, alarms, diagnosis. The lines are those of a "
                   "nandutable-controller that runs with --signals and --socket, or of one that this program starts.", epilog="It ends on SIGTERM and SIGINT.")
     made.add_argument("places", nargs="*", metavar="IFACE PLAN.json", help="starts nandutable-controller on this interface with these plans")
@@ -442,7 +397,7 @@ def parser() -> Parser:
     made.add_argument("--host-name", action="append", default=[], metavar="NAME", help="another name under which browsers reach the page; may be repeated")
     made.add_argument("--allow-set", action="store_true", help="lets the page set outputs; without it the page only shows")
     made.add_argument("--controller", metavar="PATH", help="the program nandutable-controller")
-    made.add_argument("--version", action="version", version="nandutable-view 0.1.0")
+    made.add_argument("--version", action="version", version=f"{NAME} 0.1.0")
     return made
 
 
@@ -464,11 +419,11 @@ def check(asked: argparse.Namespace, more: Sequence[str]) -> None:
         parser().error("options of the controller go with an interface and its plans")
 
 
-def source_of(asked: argparse.Namespace, more: List[str]) -> Source:
+def source_of(asked: argparse.Namespace, more: List[str], log: Log) -> Source:
     if asked.socket is not None:
-        return Source(lambda: Socket(asked.socket), True)
-    words = [asked.controller or program(), *asked.places, "--signals", "--times", "--end-with-input", *(more or ["--retry", "5"])]
-    return Source(lambda: Process(words), False)
+        return Source(lambda: Socket(asked.socket), True, log)
+    interface, *plans = asked.places
+    return Source(lambda: start(plans, interface, more or ["--retry", "5"], asked.controller), False, log)
 
 
 def main(words: Optional[List[str]] = None) -> int:
@@ -477,37 +432,32 @@ def main(words: Optional[List[str]] = None) -> int:
     cut = given.index("--") if "--" in given else len(given)
     asked, more = parser().parse_args(given[:cut]), given[cut + 1:]
     check(asked, more)
-    source = source_of(asked, more)
+    log = Log(NAME)
+    source = source_of(asked, more, log)
     try:
-        server = Server(asked.address, asked.port, source.state, source.commands, Rules(asked.allow_set, tuple(name.lower() for name in asked.host_name)))
+        server = Server(asked.address, asked.port, source.state, source.commands, Rules(asked.allow_set, tuple(name.lower() for name in asked.host_name), log))
     except OSError as fault:
-        say(f"the page cannot be served at {asked.address} port {asked.port}: {fault.strerror or fault}")
+        log(f"the page cannot be served at {asked.address} port {asked.port}: {fault.strerror or fault}")
+        log.close()
         return 75
-    return run(source, server)
-
-
-def run(source: Source, server: Server) -> int:
-    """Serves until a signal comes, or the controller that it has started ends."""
-    is_over = threading.Event()
     for number in (signal.SIGTERM, signal.SIGINT, signal.SIGHUP):
-        signal.signal(number, lambda *_: is_over.set())
+        signal.signal(number, source.end)
+    status = run(source, server, log)
+    log.close()
+    return status
+
+
+def run(source: Source, server: Server, log: Log) -> int:
+    """Serves until a signal comes, or the controller that it has started ends."""
     server.start()
+    log.tell(f"page {server.url}")
     try:
-        print(f"page {server.url}", flush=True)
-    except OSError:
-        pass
-    try:
-        source.follow(is_over)
-    except OSError as fault:
-        say(f"the controller cannot be started: {fault.strerror or fault}")
+        return source.run()
+    except NotStarted as fault:
+        log(str(fault))
         return 69
     finally:
         server.stop()
-        source.close()
-    if is_over.is_set() or source.connection is None:
-        return 0
-    say(source.connection.reason())
-    return source.connection.status or 0
 
 
 if __name__ == "__main__":
