@@ -1,5 +1,5 @@
 -- The device's response to the Connect of a plan, and what its controller makes of it.
-use Rattle.std.proofs.Common.{◌≡◌, ◌==◌, ◌&&◌, ◌++◌, ℕ, Bool, true, false, List, [], ◌∷◌, Option, Some, None, Result, Ok, append_assoc, append-nil, refl, sym, ap, subst, ◌∙◌}
+use Rattle.std.proofs.Common.{◌≡◌, ◌==◌, ◌&&◌, ◌++◌, ℕ, Bool, true, List, [], ◌∷◌, Option, Some, None, Result, Ok, append_assoc, append-nil, refl, sym, ap, subst, ◌∙◌}
 use Rattle.std.specs.Prelude.{if◌then◌else◌}
 use Rattle.std.proofs.lemmas.Cmp.{nat_list_eq_equiv}
 use Rattle.pn_values.specs.declared.identity.Identity.{Identity}
@@ -17,10 +17,9 @@ use Rattle.records.specs.declared.status.call_fault.CallFault.{CallFault}
 use Rattle.records.specs.declared.status.operation.Operation.TheVariants.{Connect}
 use Rattle.records.specs.status.Status.{done}
 use Rattle.connect_requests.specs.Request.{Request}
-use Rattle.connect_requests.specs.Handled.{request_within}
 use Rattle.rpc_core.specs.Response.{Answered, answer_to}
 use Rattle.wire.specs.Codec.{◌>>=◌}
-use Rattle.relations.specs.Options.{default_options}
+use Rattle.relations.specs.declared.options.DeviceOptions.{DeviceOptions}
 use Rattle.relations.specs.RelationState.{RelationState}
 use Rattle.relations.specs.Phases.{differing_octets, updated}
 use Rattle.relations.specs.Connect.{connect_answer, connect_blocks, connect_within, differing_of, making}
@@ -42,33 +41,33 @@ use Rattle.startup_law.specs.answer.Answer.{AnswersSo, IsAllThere, answer_blocks
 -- ---- at the device
 
 pub answers_so : (setup : Setup) (identity : Identity) → AnswersSo setup identity
-answers_so setup identity device none =
+answers_so setup identity options device none =
     let call = call_for setup asks.Connect in
     let caller = caller_of setup.plan.controller in
     let blocks = blocks_of setup asks.Connect in
     let address = device.values.running.suite.address in
     let link = device.rest.link in
-    let logged = with_log (connect_log blocks (connect_answer identity setup.plan.real default_options caller.mac link blocks)) device.rest in
-    let rest = kept_behind identity logged call (answer_from address caller call Connect (connect_answer identity setup.plan.real default_options caller.mac link blocks))
-    (updated (making setup.plan.real (partner_of caller) default_options (record { begin_bad = false; statuses = device.rest.statuses; units = device.rest.units; diagnoses = device.rest.diagnoses }) (connect_within default_options caller.mac link blocks)) link) in
-    (rest, ap (λ (l : Option RelationState). Moves rest (answer_from address caller call Connect (connect_answer identity setup.plan.real default_options caller.mac l blocks) ∷ [])) none)
+    let logged = with_log (connect_log blocks (connect_answer identity setup.plan.real options caller.mac link blocks)) device.rest in
+    let rest = kept_behind identity logged call (answer_from address caller call Connect (connect_answer identity setup.plan.real options caller.mac link blocks))
+    (updated (making setup.plan.real (partner_of caller) options (record { begin_bad = options.inputs_begin_bad; statuses = device.rest.statuses; units = device.rest.units; diagnoses = device.rest.diagnoses }) (connect_within options caller.mac link blocks)) link) in
+    (rest, ap (λ (l : Option RelationState). Moves rest (answer_from address caller call Connect (connect_answer identity setup.plan.real options caller.mac l blocks) ∷ [])) none)
 
 -- if the device reads the plan's request and no module differs, it responds with these blocks
-blocks_by : (setup : Setup) (identity : Identity) → request_within 1 None (blocks_of setup asks.Connect) ≡ Ok (request_for setup.plan setup.ar)
+blocks_by : (setup : Setup) (identity : Identity) (options : DeviceOptions) → connect_within options setup.plan.controller.mac None (blocks_of setup asks.Connect) ≡ Ok (request_for setup.plan setup.ar)
     → diff_of (request_for setup.plan setup.ar).expected setup.plan.real.modules.items ≡ no_rows
-    → connect_answer identity setup.plan.real default_options setup.plan.controller.mac None (blocks_of setup asks.Connect) ≡ Ok (answer_blocks setup identity)
-blocks_by setup identity read same =
+    → connect_answer identity setup.plan.real options setup.plan.controller.mac None (blocks_of setup asks.Connect) ≡ Ok (answer_blocks setup identity)
+blocks_by setup identity options read same =
     ap (λ (r : Result Request CallFault). r >>= λ request. Ok (connect_blocks identity request (differing_of request setup.plan.real))) read
     ∙ ap (λ (rows : Listed DiffModule DiffSubmodule). Ok (connect_blocks identity (request_for setup.plan setup.ar) (differing_octets rows))) same
 
 -- the frame is that of this response
-pub frame_by : (setup : Setup) (identity : Identity) (address : List ℕ) → request_within 1 None (blocks_of setup asks.Connect) ≡ Ok (request_for setup.plan setup.ar)
+pub frame_by : (setup : Setup) (identity : Identity) (options : DeviceOptions) (address : List ℕ) → connect_within options setup.plan.controller.mac None (blocks_of setup asks.Connect) ≡ Ok (request_for setup.plan setup.ar)
     → diff_of (request_for setup.plan setup.ar).expected setup.plan.real.modules.items ≡ no_rows
-    → answer_frame setup identity address
+    → answer_frame setup identity options address
     ≡ response_frame identity (caller_of setup.plan.controller) address (answer_to (call_for setup asks.Connect) done (answer_blocks setup identity))
-frame_by setup identity address read same =
+frame_by setup identity options address read same =
     ap (λ (r : Result (List ℕ) CallFault). bytes_of identity (answer_from address (caller_of setup.plan.controller) (call_for setup asks.Connect) Connect r))
-    (blocks_by setup identity read same)
+    (blocks_by setup identity options read same)
 
 -- ---- its blocks
 
@@ -113,16 +112,16 @@ abbrev pub done_with : CallHeader → List ℕ → Answered
 done_with header blocks = record { header = header; status = done; maximum_count = 1372; blocks = blocks }
 
 -- the frame is heard as the response that it was made of
-pub heard_as_made : (setup : Setup) (identity : Identity) (address blocks : List ℕ) (controller : Controller) (header : CallHeader)
-    → request_within 1 None (blocks_of setup asks.Connect) ≡ Ok (request_for setup.plan setup.ar)
+pub heard_as_made : (setup : Setup) (identity : Identity) (options : DeviceOptions) (address blocks : List ℕ) (controller : Controller) (header : CallHeader)
+    → connect_within options setup.plan.controller.mac None (blocks_of setup asks.Connect) ≡ Ok (request_for setup.plan setup.ar)
     → diff_of (request_for setup.plan setup.ar).expected setup.plan.real.modules.items ≡ no_rows
     → controller ≡ setup.plan.controller → header ≡ header_of setup asks.Connect → blocks ≡ answer_blocks setup identity
     → heard_of controller (response_frame identity (caller_of controller) address (done_with header blocks)) ≡ Responds (done_with header blocks)
-    → heard_of setup.plan.controller (answer_frame setup identity address) ≡ Responds (answer_to (call_for setup asks.Connect) done (answer_blocks setup identity))
-heard_as_made setup identity address blocks controller header read same at of these heard =
+    → heard_of setup.plan.controller (answer_frame setup identity options address) ≡ Responds (answer_to (call_for setup asks.Connect) done (answer_blocks setup identity))
+heard_as_made setup identity options address blocks controller header read same at of these heard =
     let answer = ap (λ (h : CallHeader). done_with h blocks) of ∙ ap (λ (b : List ℕ). done_with (header_of setup asks.Connect) b) these in
     let one = subst (λ (c : Controller). heard_of c (response_frame identity (caller_of c) address (done_with header blocks)) ≡ Responds (done_with header blocks)) at heard in
-    ap (heard_of setup.plan.controller) (frame_by setup identity address read same)
+    ap (heard_of setup.plan.controller) (frame_by setup identity options address read same)
     ∙ subst (λ (a : Answered). heard_of setup.plan.controller (response_frame identity (caller_of setup.plan.controller) address a) ≡ Responds a) answer one
 
 -- the controller made this call

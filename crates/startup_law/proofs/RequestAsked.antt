@@ -32,7 +32,7 @@ use Rattle.connect_requests.specs.declared.parts.AlarmCr.{AlarmCr}
 use Rattle.connect_requests.specs.Pieces.{block_in, piece_at, pieces_in}
 use Rattle.connect_requests.specs.Layouts.{data_of as asked_of, layout_at, layout_of}
 use Rattle.connect_requests.specs.Request.{alarm_of, ar_of}
-use Rattle.connect_requests.specs.Handled.{Sofar, ar_in, expected_with, is_further, nothing, request_behind, request_in, request_of, request_with, well_formed, with_pieces}
+use Rattle.connect_requests.specs.Handled.{Sofar, asked_initiator, initiator_in, ar_in, expected_with, is_further, nothing, request_behind, request_in, request_of, request_with, well_formed, with_pieces}
 use Rattle.plans.specs.declared.parts.Parts.{Parts}
 use Rattle.plans.specs.Packed.{layout_in, object_of, octets_of, packed, packed_places}
 use Rattle.plans.specs.Parts.{AreOrdered, IsRising, data_in_slot, data_of, module_of, slots_of, submodule_of}
@@ -300,6 +300,10 @@ module _ (parts : Parts) (ar : List ℕ) where
       (le-ltb (length (block_bytes (is.ArBlockReq (ar_block parts ar)) ++ rest)) 4 (four_at_least (is.ArBlockReq (ar_block parts ar)) rest))
       (ap (λ (n : ℕ). not (n == number_of kind.ArBlockReq)) number ∙ ar_number)
       ∙ ar_found rest read
+
+  pub initiator_is : IsRead (is.ArBlockReq (ar_block parts ar)) → asked_initiator (connect_of parts ar) ≡ Some parts.controller.mac
+  unfolding asked_initiator
+  initiator_is read = ap initiator_in (ar_taken (bytes_of others) read)
 
   -- ---- the whole
 

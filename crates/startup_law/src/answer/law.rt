@@ -4,12 +4,14 @@ ghost use Rattle.connect_blocks.specs.ArBlock.{is_some_uuid};
 ghost use Rattle.block_codec.specs.Block.{block_bytes};
 ghost use Rattle.records.specs.status.Status.{done};
 ghost use Rattle.rpc_core.specs.Response.{answer_to};
+ghost use Rattle.relations.specs.Options.{default_options};
+ghost use Rattle.relations.specs.declared.options.DeviceOptions.{DeviceOptions};
 ghost use Rattle.controller_frames.specs.Heard.{Responds, heard_of};
 ghost use Rattle.controller_frames.specs.Requests.{call_for, writing_from};
 ghost use Rattle.controller_state.specs.declared.event.Event.TheVariants.{Frame};
 ghost use Rattle.controller_core.specs.Machine.{standing, turn_of, writing};
 ghost use Rattle.controller_state.specs.State.{Live};
-ghost use Rattle.startup_law.specs.answer.Answer.{AnswersSo, IsAllThere, answer_blocks, answer_frame, chosen_with};
+ghost use Rattle.startup_law.specs.answer.Answer.{AcceptsInterval, AnswersSo, IsAllThere, answer_blocks, answer_frame, chosen_with};
 
 use crate::answer::blocks::answer_blocks_are_read;
 use crate::answer::reading::answers_are_read;
@@ -46,22 +48,26 @@ fn blocks_of(
 }
 
 /// The response of a device to the Connect of a plan whose ARUUID is not zero is a positive response for the plan's
-/// controller, if the device has no relation and has the plan's modules. This is a law of the definitions by which the
-/// device responds and the controller goes on.
+/// controller, if the device has no relation and has the plan's modules, whatever options it has, if its smallest interval is
+/// not greater than the plan's interval. This is a law of the definitions by which the device responds and the controller goes on.
 pub fn connect_answer_is_read(setup: &Setup, identity: &Identity, address: [u8; 4])
-    // The device sends this frame, from its running address, and no other.
+    // A device with any options sends this frame, from its running address, and no other.
     ensures answered { AnswersSo setup.now identity.now }
-    // If the ARUUID is not zero, the frame is heard as the positive response to that call, with the blocks for the
-    // plan's request.
-    ensures heard { is_some_uuid setup.now.ar ≡ true → heard_of setup.now.plan.controller (answer_frame setup.now identity.now address)
+    // The default options accept the interval of each plan.
+    ensures accepts { AcceptsInterval default_options setup.now.plan }
+    // If the ARUUID is not zero, and the device accepts the plan's interval, the frame is heard as the positive response to that
+    // call, with the blocks for the plan's request.
+    ensures heard { is_some_uuid setup.now.ar ≡ true → (options : DeviceOptions) → AcceptsInterval options setup.now.plan
+        → heard_of setup.now.plan.controller (answer_frame setup.now identity.now options address)
         ≡ Responds (answer_to (call_for setup.now Request.Connect) done (answer_blocks setup.now identity.now)) }
     // The blocks have everything that a relation needs, with the FrameID that the device chose for outputs, and no
     // module that differs.
     ensures found { IsAllThere (answer_blocks setup.now identity.now) 0xC000 }
-    // If the ARUUID is not zero, a controller that is waiting for this response goes on: the relation exists, and the
-    // first record is written, or PrmEnd is sent.
-    ensures goes_on { is_some_uuid setup.now.ar ≡ true → (live : Live) → live.asked ≡ Some Request.Connect
-        → turn_of setup.now live (Frame (record { items = answer_frame setup.now identity.now address }))
+    // If so, a controller that is waiting for this response goes on: the relation exists, and the first record is written, or
+    // PrmEnd is sent.
+    ensures goes_on { is_some_uuid setup.now.ar ≡ true → (options : DeviceOptions) → AcceptsInterval options setup.now.plan
+        → (live : Live) → live.asked ≡ Some Request.Connect
+        → turn_of setup.now live (Frame (record { items = answer_frame setup.now identity.now options address }))
         ≡ writing setup.now (writing_from setup.now.plan 0) (standing setup.now live (chosen_with 0xC000)) }
 {
     connect_is_taken(&setup.plan, &setup.ar);

@@ -2,6 +2,7 @@
 use Rattle.std.proofs.lemmas.Nat.{mul-le}
 use Rattle.startup_law.specs.request.Request.{request_for}
 use Rattle.plans.specs.Connect.{connect_of}
+use Rattle.startup_law.proofs.RequestOwn.{taken_of_own}
 use Rattle.startup_law.proofs.request.law.connect_is_taken.Goals as goal
 
 pub returns-clause-read : goal.returns-clause-read
@@ -13,6 +14,12 @@ returns-clause-same c = c.requests_are_read.ensures.same c.args.plan.now c.args.
 pub returns-clause-within : goal.returns-clause-within
 returns-clause-within c = λ smallest some least.
     c.intervals_are_kept.ensures.same smallest (connect_of c.args.plan.now c.args.ar.now) (request_for c.args.plan.now c.args.ar.now) (returns-clause-read c some) least least
+
+pub returns-clause-own : goal.returns-clause-own
+returns-clause-own c = λ options some least.
+    taken_of_own options c.args.plan.now.controller.mac (connect_of c.args.plan.now c.args.ar.now) (request_for c.args.plan.now c.args.ar.now)
+    (c.requests_are_read.ensures.initiator c.args.plan.now c.args.ar.now (c.connect-octets.ensures.read some))
+    (returns-clause-within c options.smallest_interval some least)
 
 pub returns-clause-least : goal.returns-clause-least
 returns-clause-least c =
