@@ -1,21 +1,21 @@
 -- Units of time that pass at once: those before the last one send nothing and end nothing.
-use Rattle.std.proofs.Common.{◌≡◌, ◌+◌, ◌≤◌, ◌++◌, ℕ, zero, suc, Bool, true, false, List, [], ◌∷◌, map, Some, None, if◌then◌else◌, refl, sym, ap, subst, ◌∙◌, arith}
+use Rattle.std.proofs.Common.{◌≡◌, ◌+◌, ◌≤◌, ◌<◌, ◌++◌, ℕ, zero, suc, Bool, true, false, List, [], ◌∷◌, drop, refl, sym, ap, subst, ◌∙◌, arith, inl, inr}
 use Rattle.std.specs.Prelude.{◌||◌, ◌&&◌, not}
 use Rattle.controller_state.specs.declared.event.Event.TheVariants.{Tick}
 use Rattle.controller_state.specs.declared.state.State as phase
-use Rattle.controller_core.specs.Leaps.{OnlyTheLastEnds, ticks_of}
+use Rattle.controller_core.specs.Leaps.{NoneEnds, OnlyTheLastEnds, ticks_of}
 use Rattle.controller_core.specs.Machine.{step_of}
 use Rattle.controller_state.specs.State.{Controlling}
 use Rattle.controller_station.specs.Beside as services
 use Rattle.controller_station.specs.Beside.{Beside, sent_by_tick, ticked}
-use Rattle.controller_station.specs.Served.{Frames, Served}
-use Rattle.controller_station.specs.Leaps.{OnlyTheLastSends, sent_beside}
-use Rattle.controller_abi.specs.State.{State, has_frames, is_over, is_stopped}
+use Rattle.controller_station.specs.Served.{Frames, Served, in_order}
+use Rattle.controller_station.specs.Leaps.{NoneSends, OnlyTheLastSends, sent_beside}
+use Rattle.controller_abi.specs.State.{IsKnown, State, advanced, has_frames, is_over, is_stopped, port_due_in}
 use Rattle.controller_abi.specs.Steps.{Ticks}
 
 -- ---- units at once
 
-none_of : (frames : List (List ℕ)) → has_frames frames ≡ false → frames ≡ []
+pub none_of : (frames : List (List ℕ)) → has_frames frames ≡ false → frames ≡ []
 none_of [] none = refl
 none_of (frame ∷ frames) none = cc none
 
@@ -62,6 +62,43 @@ ticks_all was_over (suc units) old idle free last ends =
       ap (λ (f : List (List ℕ)). with_frames step.controller (ticked (services.ticks_of units old.services)) ((f ++ step.frames) ++ (sent_beside units old.services ++ beside))) quiet
           ∙ ap (λ (f : List (List ℕ)). with_frames step.controller (ticked (services.ticks_of units old.services)) (step.frames ++ (f ++ beside))) by_services,
     )
+
+-- The port after units with which nothing is due: the frames stay fetched.
+abbrev quiet_at : ℕ → State → State
+quiet_at units port = record {
+  controller = (ticks_of units port.controller).controller;
+  services = services.ticks_of units port.services;
+  frames = port.frames;
+}
+
+pub ticks_quiet : (was_over : Bool) (units : ℕ) (old : State) → has_frames old.frames ≡ false → is_stopped was_over old ≡ false → NoneSends units (both old) → NoneEnds units old.controller
+    → Ticks was_over units old (quiet_at units old)
+ticks_quiet was_over units old idle free none ends =
+    let now = quiet_at units old in
+    let fetched : (ticks_of units old.controller).frames ++ sent_beside units old.services ≡ old.frames =
+    ap in_order (none units (omega arith)) ∙ sym (none_of old.frames idle) in
+    subst (Ticks was_over units old) (ap (with_frames now.controller now.services) fetched)
+    (ticks_all was_over units old idle free (λ before earlier. none before (omega (arith, earlier))) (λ before earlier. ends before (omega (arith, earlier))))
+
+-- A port whose frames are fetched is not stopped by an end of before.
+over_since : (over : Bool) → (not over && over) ≡ false
+over_since true = refl
+over_since false = refl
+
+pub free_of : (port : State) → has_frames port.frames ≡ false → is_stopped (is_over port.controller.live.phase) port ≡ false
+free_of port idle = ap (λ (b : Bool). b || (not (is_over port.controller.live.phase) && is_over port.controller.live.phase)) idle ∙ over_since (is_over port.controller.live.phase)
+
+-- ---- what is remembered of what is due
+
+-- If something is, it is no more than what is due.
+pub known_of : (units due : ℕ) (port : State) → units < due → IsKnown due port → due ≤ port_due_in port
+known_of units due port few (inl none) = absurd (omega (arith, few, none))
+known_of units due port few (inr known) = known.0
+
+-- It stays when frames are fetched: none remained.
+pub known_on : (due : ℕ) (port : State) → IsKnown due port → IsKnown due (advanced port)
+known_on due port (inl none) = inl none
+known_on due port (inr known) = inr (known.0, ap (drop 1) known.1)
 
 -- Units that passed after others.
 pub ticks_on : (was_over : Bool) (units more : ℕ) (old between new : State) → Ticks was_over units old between → Ticks was_over more between new → Ticks was_over (more + units) old new

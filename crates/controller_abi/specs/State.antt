@@ -1,5 +1,5 @@
 -- What a host sees of a controller.
-use Rattle.std.specs.Prelude.{◌≡◌, ◌++◌, ◌&&◌, ◌||◌, Bool, true, false, not, ℕ, List, [], ◌∷◌, drop, Option, Some, None}
+use Rattle.std.specs.Prelude.{◌≡◌, ◌≤◌, ◌++◌, ◌⊎◌, ◌&&◌, ◌||◌, Bool, true, false, not, ℕ, List, [], ◌∷◌, drop, Option, Some, None}
 use Rattle.arrayvec.specs.ArrayVec.{ArrayVec as Items}
 use Rattle.controller_state.specs.declared.event.Event.{Event}
 use Rattle.controller_state.specs.declared.state.State as phase
@@ -61,3 +61,7 @@ is_over (Ended cause) = true
 -- Whether frames remain, or the controller has ended since.
 abbrev pub is_stopped : Bool → State → Bool
 is_stopped was_over port = has_frames port.frames || (not was_over && is_over port.controller.live.phase)
+
+-- What a port remembers of what is due: no more than that, and all frames are fetched; or nothing, which is 0.
+abbrev pub IsKnown : ℕ → State → Type 0
+IsKnown due port = (due ≡ 0) ⊎ ((due ≤ port_due_in port) × (port.frames ≡ []))

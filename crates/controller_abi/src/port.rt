@@ -25,16 +25,20 @@ pub struct Port {
     outbox: ServedOutbox,
     /// The number of frames in the outbox that the host has fetched.
     frames_past: usize,
+    /// At most what is due of a port whose frames are fetched; 0 if that is not counted.
+    due: u32,
 }
 
 impl Model for Port {
     ghost use Rattle.std.specs.Prelude.{drop};
     ghost use Rattle.controller_station.specs.Served.{in_order};
-    ghost use Rattle.controller_abi.specs.State.{State};
+    ghost use Rattle.controller_abi.specs.State.{IsKnown, State};
 
     ghost Value = { State };
 
     ghost view = { λ port. record { controller = port.served.controller; services = port.served.services; frames = drop port.frames_past (in_order port.outbox) } };
+
+    ghost invariant = { λ port. IsKnown port.due (record { controller = port.served.controller; services = port.served.services; frames = drop port.frames_past (in_order port.outbox) }) };
 }
 
 impl Port {
@@ -47,6 +51,7 @@ impl Port {
             served: ServedController::unstarted(plan, ar, activity, options),
             outbox: ServedOutbox::new(),
             frames_past: 0,
+            due: 0,
         }
     }
 
@@ -57,6 +62,7 @@ impl Port {
         self.served.start();
         self.served.send_opening(&mut self.outbox);
         self.frames_past = 0;
+        self.due = 0;
     }
 
     /// The controller.
@@ -133,11 +139,26 @@ impl Port {
     {
         self.served.step(event, &mut self.outbox);
         self.frames_past = 0;
+        self.due = 0;
     }
 
-    /// Lets units of time pass by leaps, up to the first that sends something or ends the controller. Returns how many
-    /// remain.
+    /// Lets units of time pass, up to the first that sends something or ends the controller. Returns how many remain.
+    #[inline(always)]
     pub fn pass(&mut self, units: u32) -> u32
+        requires { has_frames self.old.frames ≡ false }
+        ensures { Passes self.old units result self.new }
+    {
+        let due = self.due;
+        if units < due {
+            self.rest(units, due);
+            return 0;
+        }
+        self.pass_by_leaps(units)
+    }
+
+    // The same, if it is not known that nothing is due before.
+    #[inline(never)]
+    fn pass_by_leaps(&mut self, units: u32) -> u32
         requires { has_frames self.old.frames ≡ false }
         ensures { Passes self.old units result self.new }
     {
@@ -147,11 +168,26 @@ impl Port {
             if self.is_stopped(was_over) {
                 return left;
             }
-            let passing = left.min(self.due());
-            self.leap(passing);
-            left -= passing;
+            left -= self.leap_on(left);
         }
         0
+    }
+
+    // Lets units of time pass at once, at most these, up to the next one with which something is due. Returns how many passed.
+    fn leap_on(&mut self, most: u32) -> u32
+        requires idle { has_frames self.old.frames ≡ false }
+        requires some { 0 < most }
+        ensures some { 0 < result }
+        ensures few { result ≤ most }
+        ensures ticks { (was_over : Bool) → stops was_over self.old ≡ false → Ticks was_over result self.old self.new }
+    {
+        let due = self.due();
+        if most < due {
+            self.rest(most, due);
+            return most;
+        }
+        self.leap(due);
+        due
     }
 
     // Lets several units of time pass at once, at most as many as are due. All frames of the step before are fetched.
@@ -162,6 +198,19 @@ impl Port {
     {
         self.served.elapse(units, &mut self.outbox);
         self.frames_past = 0;
+        self.due = 0;
+    }
+
+    // The same of fewer than are due: nothing is sent. What is due then is remembered.
+    #[inline(always)]
+    fn rest(&mut self, units: u32, due: u32)
+        requires idle { has_frames self.old.frames ≡ false }
+        requires few { units < due }
+        requires due { due ≤ port_due_in self.old }
+        ensures { (was_over : Bool) → stops was_over self.old ≡ false → Ticks was_over units self.old self.new }
+    {
+        self.served.skip(units);
+        self.due = due - units;
     }
 
     // Whether frames remain, or the controller has ended since.

@@ -4,3 +4,4 @@ pub mod Besides
 pub mod Leaping
 pub mod Order
 pub mod Running
+pub mod Nearer

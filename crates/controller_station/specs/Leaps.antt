@@ -1,5 +1,5 @@
 -- Several units of time at once, at a controller and what is beside it: they do what as many Tick events do, one by one.
-use Rattle.std.specs.Prelude.{◌≡◌, ◌<◌, ◌++◌, ℕ, zero, suc, min, List, []}
+use Rattle.std.specs.Prelude.{◌≡◌, ◌<◌, ◌≤◌, ◌++◌, ℕ, zero, suc, min, List, []}
 use Rattle.controller_core.specs.Leaps.{live_due_in, ticks_of}
 use Rattle.controller_station.specs.Beside as beside
 use Rattle.controller_station.specs.Beside.{Beside, sent_by_tick}
@@ -28,6 +28,10 @@ sent_by units served = record {
   controller = (ticks_of units served.controller).frames;
   services = sent_beside units served.services;
 }
+
+-- None of these units sends anything.
+abbrev pub NoneSends : ℕ → Served → Type 0
+NoneSends units served = (before : ℕ) → before ≤ units → sent_by before served ≡ no_frames
 
 -- None but the last of these units sends anything.
 abbrev pub OnlyTheLastSends : ℕ → Served → Type 0

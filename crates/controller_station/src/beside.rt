@@ -1,5 +1,5 @@
 //! All that is beside a controller in a station.
-ghost use Rattle.std.specs.Prelude.{◌≡◌, ◌<◌, ◌≤◌, ◌++◌, [], ◌∷◌, if◌then◌else◌, option_map};
+ghost use Rattle.std.specs.Prelude.{◌≡◌, ◌+◌, ◌<◌, ◌≤◌, ◌++◌, [], ◌∷◌, if◌then◌else◌, option_map};
 ghost use Rattle.arrayvec.specs.ArrayVec.{array_vec_len};
 ghost use Rattle.frame_codec.specs.Outbox.{boxed};
 ghost use Rattle.lldp.specs.Announcement.{announcement as announcement_of};
@@ -160,6 +160,8 @@ impl ControllerServices {
         // It does what as many ticks do, one by one, and none of them sends a frame.
         ensures state { self.new ≡ ticks_of ticks self.old }
         ensures none { NoneSends ticks self.old }
+        // What is due comes nearer by at most these ticks.
+        ensures due { due_in self.old ≤ ticks + due_in self.new }
     {
         self.ip.pass(ticks);
         self.near.pass(ticks);

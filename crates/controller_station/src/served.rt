@@ -1,5 +1,5 @@
 //! A controller and what is beside it.
-ghost use Rattle.std.specs.Prelude.{◌≡◌, ◌<◌, ◌≤◌, [], ◌∷◌, ℕ, List, true, false, length, option_map};
+ghost use Rattle.std.specs.Prelude.{◌≡◌, ◌+◌, ◌<◌, ◌≤◌, [], ◌∷◌, ℕ, List, true, false, length, option_map};
 ghost use Rattle.frame_codec.specs.declared.arp.Arp.{Arp};
 ghost use Rattle.frame_codec.specs.Frame.{frame_bytes, frame_of};
 ghost use Rattle.frame_codec.specs.Meaning.{ArpPacket, Meaning};
@@ -9,12 +9,12 @@ ghost use Rattle.lldp.specs.Views.{peer_as};
 ghost use Rattle.services.specs.Answer.{answer_to, arp_reply_of};
 ghost use Rattle.controller_frames.specs.Heard.{Nothing, heard_of};
 ghost use Rattle.controller_frames.specs.Options.{default_options};
-ghost use Rattle.controller_core.specs.Leaps.{OnlyTheLastEnds};
+ghost use Rattle.controller_core.specs.Leaps.{NoneEnds, OnlyTheLastEnds};
 ghost use Rattle.controller_core.specs.Machine.{opening_of, step_of};
 ghost use Rattle.controller_state.specs.declared.event.Event.TheVariants.{Frame as Framed};
 ghost use Rattle.controller_station.specs.Beside.{beside_at, due_in, ticks_of};
 ghost use Rattle.controller_station.specs.Served.{after_frame, begun, beside, beside_frame, by_services, is_sought, no_frames, only, services_after};
-ghost use Rattle.controller_station.specs.Leaps.{OnlyTheLastSends, sent_beside, sent_by, served_due_in, ticked_by};
+ghost use Rattle.controller_station.specs.Leaps.{NoneSends, OnlyTheLastSends, sent_beside, sent_by, served_due_in, ticked_by};
 
 use crate::{ControllerServices, ServedOutbox};
 use controller_core::{Controller, ControllerOptions, Event};
@@ -182,6 +182,21 @@ impl ServedController {
         ensures some { 0 < result }
     {
         self.controller.due().min(self.services.due_in())
+    }
+
+    /// Lets units of 31.25 microseconds pass at once, fewer than `due` returns: with none of them is anything sent, and the
+    /// controller does not end. It does what as many Tick events do, one by one.
+    #[inline(always)]
+    pub fn skip(&mut self, units: u32)
+        requires { units < served_due_in self.old }
+        ensures state { self.new ≡ ticked_by units self.old }
+        ensures none { NoneSends units self.old }
+        ensures ends { NoneEnds units self.old.controller }
+        // What is due comes nearer by at most these units.
+        ensures due { served_due_in self.old ≤ units + served_due_in self.new }
+    {
+        self.controller.leap(units);
+        self.services.pass(units);
     }
 
     /// Lets `units` units of 31.25 microseconds pass at once, at most as many as `due` returns, and replaces the content of

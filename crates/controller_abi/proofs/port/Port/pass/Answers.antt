@@ -1,49 +1,23 @@
--- More units pass, or the rest of them remains.
-use Rattle.std.proofs.Common.{◌≡◌, ◌+◌, ◌-◌, ℕ, Bool, true, refl, sym, ap, subst, ◌∙◌, arith}
-use Rattle.controller_state.specs.State.{Controlling}
-use Rattle.controller_abi.specs.State.{is_over, is_stopped, port_due_in}
+-- Units before anything is due pass at once.
+use Rattle.std.proofs.Common.{◌≡◌, ◌-◌, ◌≤◌, ℕ, refl, subst, arith}
+use Rattle.controller_abi.specs.State.{is_over, port_due_in}
 use Rattle.controller_abi.specs.Steps.{Ticks}
-use Rattle.controller_abi.proofs.Leaps.{idle_of, ticks_on}
+use Rattle.controller_abi.specs.contracts.port.Port.{the_view}
+use Rattle.controller_abi.proofs.Leaps.{free_of, known_of}
 use Rattle.controller_abi.proofs.port.Port.pass.Goals as goal
 
-pub loop-left-init : goal.loop-left-init
-loop-left-init c =
-    let none : 0 ≡ c.args.units - c.args.units = omega arith in
-    record { few = omega arith; ticks = subst (λ (n : ℕ). Ticks c.is_over-was_over.result n c.args.self.now c.args.self.now) none refl }
+pub rest-requires : goal.rest-requires
+rest-requires c =
+    let port = c.self.inside in
+    let known = known_of c.args.units port.due (the_view port) c.if-units-due.true c.self.invariant in
+    record { idle = c.requires; few = c.if-units-due.true; due = subst (λ p. port.due ≤ port_due_in p) c.self.view_is known }
 
-pub leap-requires : goal.leap-requires
-leap-requires c =
-    let due : c.due.result ≡ port_due_in c.loop-left.self = c.due.ensures.value in
-    record { idle = idle_of c.loop-left.self _ (sym c.if-is_stopped.ensures); few = omega (arith, due) }
-
-pub loop-left-preserved : goal.loop-left-preserved
-loop-left-preserved c =
-    let count : c.min-passing.result + (c.args.units - c.loop-left.left) ≡ c.args.units - (c.loop-left.left - c.min-passing.result) = omega arith in
+pub returns-then-units-due : goal.returns-then-units-due
+returns-then-units-due c =
+    let old = c.args.self.now in
+    let all : c.args.units ≡ c.args.units - 0 = omega arith in
     record {
       few = omega arith;
-      ticks = subst (λ (n : ℕ). Ticks c.is_over-was_over.result n c.args.self.now c.leap.new.self) count
-          (ticks_on _ (c.args.units - c.loop-left.left) c.min-passing.result c.args.self.now c.loop-left.self c.leap.new.self c.loop-left.invariant.ticks
-          (c.leap.ensures _ (sym c.if-is_stopped.ensures)));
-    }
-
--- All units passed except those that remain.
-pub returns-then-is_stopped : goal.returns-then-is_stopped
-returns-then-is_stopped c =
-    let was = c.is_over-was_over.ensures ∙ ap is_over c.state.ensures ∙ ap (λ (controller : Controlling). is_over controller.live.phase) c.controller.ensures in
-    record {
-      few = c.loop-left.invariant.few;
-      ticks = subst (λ (over : Bool). Ticks over (c.args.units - c.loop-left.left) c.args.self.now c.loop-left.self) was c.loop-left.invariant.ticks;
-      stops = λ left. subst (λ over. is_stopped over c.loop-left.self ≡ true) was (sym c.if-is_stopped.ensures);
-    }
-
-pub returns : goal.returns
-returns c =
-    let was = c.is_over-was_over.ensures ∙ ap is_over c.state.ensures ∙ ap (λ (controller : Controlling). is_over controller.live.phase) c.controller.ensures in
-    let none : c.loop-left.left ≡ 0 = omega arith in
-    let over : Bool = is_over c.args.self.now.controller.live.phase in
-    let ticks = subst (λ (o : Bool). Ticks o (c.args.units - c.loop-left.left) c.args.self.now c.loop-left.self) was c.loop-left.invariant.ticks in
-    record {
-      few = omega arith;
-      ticks = subst (λ (n : ℕ). Ticks over (c.args.units - n) c.args.self.now c.loop-left.self) none ticks;
+      ticks = subst (λ (n : ℕ). Ticks (is_over old.controller.live.phase) n old c.rest.new.self) all (c.rest.ensures _ (free_of old c.requires));
       stops = λ left. absurd (left refl);
     }

@@ -1,7 +1,7 @@
 -- The units so far passed, one step each.
 use Rattle.std.proofs.Common.{◌-◌, ◌≤◌}
 use Rattle.controller_abi.specs.Steps.{Ticks}
-use Rattle.controller_abi.proofs.port.Port.pass.Given as goal
+use Rattle.controller_abi.proofs.port.Port.pass_by_leaps.Given as goal
 
 abbrev pub invariant-loop-left : goal.invariant-loop-left
 invariant-loop-left l = record { few : l.left ≤ l.units; ticks : Ticks l.was_over (l.units - l.left) l.initial.self l.self }
