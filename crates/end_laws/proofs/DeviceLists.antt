@@ -28,6 +28,7 @@ use Rattle.records.specs.writes.Asked.{handled_writing, several_of, writing_of}
 use Rattle.records.specs.writes.Entry.{Entry}
 use Rattle.records.specs.writes.Handled.{handled_request}
 use Rattle.records.specs.writes.Several.{is_several, list_behind}
+use Rattle.records.specs.writes.Taken.{keep_of}
 use Rattle.relations.specs.Passed.{PassedOn}
 use Rattle.relations.specs.RelationState.{RelationState, passes_on}
 use Rattle.relations.specs.Phases.{Records, keeping, taking, updated, with_records}
