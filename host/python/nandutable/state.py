@@ -36,6 +36,7 @@ from .ports import PORT_DATA, REAL_DATA, read_ports
 Plain = Dict[str, Any]
 
 MOST = 200  # alarms, and messages, that are kept
+DIAGNOSES = 1000  # of a station; the controller lists at most 256
 WAITING = 1000  # alarms and messages that wait for a subscriber
 
 
@@ -290,7 +291,8 @@ class PlantState:
 
     def _take_diagnosis(self, line: lines.Diagnosis, _: float) -> None:
         listed = self._listed.setdefault(line.station or "", [])
-        listed.append({"slot": line.slot, "subslot": line.subslot, "channel": line.channel, "error": line.error, "text": line.words})
+        if len(listed) < DIAGNOSES:
+            listed.append({"slot": line.slot, "subslot": line.subslot, "channel": line.channel, "error": line.error, "text": line.words})
 
     def diagnosis_listed(self, station: str) -> None:
         """The list of diagnoses of a station is complete: the lines since the last call are the list. `Commands.diagnosis` calls it."""
