@@ -161,7 +161,7 @@ class ViewTests:
             ran = subprocess.run([sys.executable, VIEW, *some, "--port", str(view.port)], capture_output=True, text=True, timeout=60)
             same(f"the port is in use: {ran.stderr}", (ran.returncode, "Address already in use" in ran.stderr), (75, True))
             found = view.waits(lambda state: state["controller"]["ended"], "no controller")
-            same("it says so", found, "no controller listens at its socket: No such file or directory")
+            same("it says so", found, "no controller listens at /nowhere: No such file or directory")
             same("it ends", view.end()[0], 0)
 
     def page_rules(self):

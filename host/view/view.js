@@ -156,8 +156,8 @@ function drawFrame() {
   const text = kind !== "bad" ? "" : isSilent ? "Nothing arrives from the server of this page. What is shown is of " : `${controller.ended}. What is shown may be out of date`;
   at("stale").hidden = text === "";
   show(at("stale"), text + (isSilent ? heard : ""), () => [text, isSilent ? clock(heard / 1000) : "", "."]);
-  const { clients, dropped } = plant.counts;
-  write(at("clients"), clients ? `${several(clients, "page")} open at this server${dropped ? `; ${several(dropped, "page")} closed by it because nobody read` : ""}.` : "");
+  const { pages, closed } = plant.counts;
+  write(at("pages"), pages ? `${several(pages, "page")} open at this server${closed ? `; ${several(closed, "page")} closed because nobody read` : ""}.` : "");
 }
 
 function mark(element, kind, word) {

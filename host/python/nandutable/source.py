@@ -10,7 +10,7 @@ from typing import Callable, Deque, Optional, Tuple
 
 from .commands import Commands
 from .plants import Follower
-from .process import Connection
+from .process import Connection, Socket
 from .state import PlantState
 
 AGAIN = 1.0  # seconds after which a socket that is gone is tried again
@@ -61,11 +61,11 @@ class Log:
 
 
 class Source:
-    """Where the lines come from: a controller that runs already, whose socket is opened again when it was lost (`again`), or one that is started
-    here. `state` stays the same. `open_connection` raises OSError or `errors.Error`; the latter ends `run`."""
+    """Where the lines come from: a controller that runs already, whose socket `path` is opened again when it was lost, or one that `begin` starts.
+    `state` stays the same."""
 
-    def __init__(self, open_connection: Callable[[], Connection], again: bool, log: Log) -> None:
-        self.open_connection, self.again, self.log = open_connection, again, log
+    def __init__(self, path: Optional[str], begin: Callable[[], Connection], log: Log) -> None:
+        self.path, self.begin, self.log = path, begin, log
         self.state = PlantState()
         self.follower: Optional[Follower] = None
         self.is_over = False  # set by a handler of signals, so it is no lock
@@ -81,18 +81,19 @@ class Source:
         self.is_over = True
 
     def run(self) -> int:
-        """Follows the controller until `is_over` is set or, if it was started here, until it ends. Returns the status."""
-        if not self.again:
-            return self._follow(self.open_connection())
+        """Follows the controller until `is_over` is set or, if it was started here, until it ends. Returns the status. Raises what `begin`
+        raises."""
+        if self.path is None:
+            return self._follow(self.begin())
         while not self.is_over:
             try:
-                connection = self.open_connection()
+                connection = Socket(self.path)
             except OSError as fault:
-                reason = f"no controller listens at its socket: {fault.strerror or fault}"
+                reason = f"no controller listens at {self.path}: {fault.strerror or fault}"
                 self.state.end(reason)
                 self._tell(reason)
             else:
-                self._tell("connected to the controller")
+                self._tell(f"connected to the controller at {self.path}")
                 self._follow(connection)
                 if not self.is_over:
                     self._tell(connection.reason())
@@ -109,7 +110,7 @@ class Source:
         self.follower.start()
         while not self.follower.ended.wait(LOOKS) and not self.is_over:
             pass
-        has_ended = self.follower.ended.is_set() and not self.again
+        has_ended = self.follower.ended.is_set() and self.path is None
         connection.close()
         self.follower.join()
         if has_ended:

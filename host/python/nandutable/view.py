@@ -29,7 +29,6 @@ from typing import Any, Callable, Dict, List, NamedTuple, NoReturn, Optional, Se
 from .commands import Commands, Raw
 from .errors import Error, Gone, NotStarted, Refused, TimedOut
 from .plants import start
-from .process import Socket
 from .source import Log, Source
 from .state import Change, Plain, PlantState
 
@@ -420,10 +419,7 @@ def check(asked: argparse.Namespace, more: Sequence[str]) -> None:
 
 
 def source_of(asked: argparse.Namespace, more: List[str], log: Log) -> Source:
-    if asked.socket is not None:
-        return Source(lambda: Socket(asked.socket), True, log)
-    interface, *plans = asked.places
-    return Source(lambda: start(plans, interface, more or ["--retry", "5"], asked.controller), False, log)
+    return Source(asked.socket, lambda: start(asked.places[1:], asked.places[0], more or ["--retry", "5"], asked.controller), log)
 
 
 def main(words: Optional[List[str]] = None) -> int:
