@@ -92,7 +92,7 @@ function trees({ nodes, controller }) {
   return roots;
 }
 
-/** Places of all nodes from left to right: a column for each depth, a row for each leaf. */
+/** Places of trees from left to right: a column for each depth, a row for each leaf. Returns where they end. */
 function placedAcross(roots) {
   let row = 0;
   const place = (node) => {
@@ -103,9 +103,11 @@ function placedAcross(roots) {
     node.y = MARGIN + node.row * ACROSS.row;
   };
   roots.forEach(place);
+  return MARGIN + row * ACROSS.row;
 }
 
-/** Places of all nodes from top to bottom: a row for each. The last child goes on in the column of its parent, so a line stays a line. */
+/** Places of trees from top to bottom: a row for each node. The last child goes on in the column of its parent, so a line stays a line. Returns
+ *  where they end. */
 function placedDown(roots) {
   let row = 0;
   const place = (node, column) => {
@@ -114,10 +116,18 @@ function placedDown(roots) {
     node.children.forEach((child, at) => place(child, at === node.children.length - 1 ? column : column + 1));
   };
   roots.forEach((root) => place(root, 0));
+  return MARGIN + row * DOWN.row;
+}
+
+/** Places of those that have no cable: in rows. */
+function placedAlone(nodes, top, room) {
+  const width = BOX.width + 16;
+  const columns = Math.max(1, Math.min(nodes.length, Math.floor((room - 2 * MARGIN + 16) / width)));
+  nodes.forEach((node, at) => Object.assign(node, { x: MARGIN + (at % columns) * width, y: top + Math.floor(at / columns) * ACROSS.row }));
 }
 
 function deepest(roots) {
-  return Math.max(...roots.map((node) => Math.max(node.depth, node.children.length ? deepest(node.children) : 0)));
+  return Math.max(0, ...roots.map((node) => Math.max(node.depth, node.children.length ? deepest(node.children) : 0)));
 }
 
 /** A text that fits, and the whole one where it does not. */
@@ -212,19 +222,20 @@ function cableBeside(cable, nodes, isAcross) {
 export function pictureOf(plant, room) {
   const whole = network(plant);
   const { nodes, cables } = whole;
-  const roots = trees(whole);
+  const all = trees(whole);
+  const roots = all.filter((node) => node.children.length > 0);
   const isAcross = MARGIN * 2 + deepest(roots) * ACROSS.column + BOX.width <= room;
-  (isAcross ? placedAcross : placedDown)(roots);
-  const all = [...nodes.values()];
-  const inTree = new Set(all.map((node) => node.up));
+  placedAlone(all.filter((node) => node.children.length === 0), (isAcross ? placedAcross : placedDown)(roots), room);
+  const drawn = [...nodes.values()];
+  const inTree = new Set(drawn.map((node) => node.up));
   const rings = cables.filter((cable) => !inTree.has(cable));
   const lines = [
     ...rings.flatMap((cable) => cableBeside(cable, nodes, isAcross)),
-    ...all.filter((node) => node.parent).flatMap((node) => (isAcross ? cableAcross : cableDown)(nodes, node.parent, node)),
+    ...drawn.filter((node) => node.parent).flatMap((node) => (isAcross ? cableAcross : cableDown)(nodes, node.parent, node)),
   ];
-  const width = Math.max(...all.map((node) => node.x)) + BOX.width + MARGIN + (rings.length && !isAcross ? 190 : 0);
-  const height = Math.max(...all.map((node) => node.y)) + BOX.height + MARGIN + (rings.length && isAcross ? 40 : 0);
-  return draw("svg", { width, height, viewBox: `0 0 ${width} ${height}`, role: "group", "aria-label": "Cables between the stations" }, ...lines, ...all.map((node) => boxOf(plant, node)));
+  const width = Math.max(...drawn.map((node) => node.x)) + BOX.width + MARGIN + (rings.length && !isAcross ? 190 : 0);
+  const height = Math.max(...drawn.map((node) => node.y)) + BOX.height + MARGIN + (rings.length && isAcross ? 40 : 0);
+  return draw("svg", { width, height, viewBox: `0 0 ${width} ${height}`, role: "group", "aria-label": "Cables between the stations" }, ...lines, ...drawn.map((node) => boxOf(plant, node)));
 }
 
 /** The same in words. */

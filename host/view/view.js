@@ -195,7 +195,9 @@ function drawPicture() {
   const key = JSON.stringify([room, link, neighbour, mac, ...[...plant.stations.values()].map((station) => [station.name, station.state, station.mac, station.ports])]);
   show(panel, key, () => [pictureOf(plant, room)]);
   const words = cablesInWords(plant);
-  show(at("cables"), key, () => (words.length ? words : ["No station says who its neighbours are."]).map((text) => make("li", {}, text)));
+  show(at("cables"), key, () => words.map((text) => make("li", {}, text)));
+  at("none").hidden = words.length > 0;
+  at("list").hidden = words.length === 0;
 }
 
 function drawDiagnosis() {
