@@ -993,7 +993,7 @@ static int cause_of_end(const struct controller *controller)
 int main(int count, char *words[])
 {
     static struct controller controller;
-    struct options options;
+    static struct options options;
     streams_secure();
     say_as("nandutable-controller");
     read_words(&options, count, words);
