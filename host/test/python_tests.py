@@ -3,9 +3,11 @@ python_fill stations`."""
 
 import contextlib
 import dataclasses
+import doctest
 import io
 import json
 import os
+import random
 import shutil
 import signal
 import struct
@@ -168,7 +170,23 @@ class PythonTests:
         same("one of two", reader.read("pump-2 cyclic received 1 lost 0").station, "pump-2")
         self.check_ports()
         self.check_picture()
+        self.check_broken_lines()
+        same("the example in the module", doctest.testmod(lines).failed, 0)
         return f"{len(LINES)} lines"
+
+    def check_broken_lines(self):
+        """Lines that are broken at random, and very long ones: each is a value, and the picture takes it."""
+        rng, picture = random.Random(7), state.PlantState(most=10)
+        reader, texts = lines.Reader(), [text for text, *_ in LINES]
+        for _ in range(20000):
+            text = rng.choice(texts)
+            for _ in range(rng.randrange(1, 4)):
+                at = rng.randrange(len(text) + 1)
+                text = rng.choice((text[:at], text[:at] + rng.choice("09 =.:'\"\\-az\0\u20ac") + text[at:], text[:at] + text[at + 1:], text + " " + rng.choice(texts)))
+            picture.take(reader.read(text))
+        for text in ("names " + "9" * 60000, "a.b = " + "9" * 60000 + " good", "pump-1 read 1 1 1 " + "00" * 30000, 'name a.b input Unsigned16 2 1 1 0 - "" ""', "a.b = " + "8" * 60000 + " bad"):
+            picture.take(reader.read(text))
+        json.dumps(picture.snapshot(), allow_nan=False)
 
     def check_ports(self):
         """The ports of a record of the standard: PDPortDataReal alone, and within PDRealData; cut off at each place."""

@@ -536,7 +536,10 @@ def _known(text: str, whole: str, station: Optional[str]) -> Optional[Line]:
     for form, make in _BY_WORD.get(text.partition(" ")[0], ()):
         found = form.fullmatch(text)
         if found is not None:
-            return make(found, whole, station)
+            try:
+                return make(found, whole, station)
+            except ValueError:  # a number of thousands of digits
+                return None
     return None
 
 
