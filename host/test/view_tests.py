@@ -1,4 +1,4 @@
-"""Tests of the page: `host/test/run page_words page_rules page_bounds page_again page browser browser_made_up`."""
+"""Tests of the page: `host/test/run page_words page_rules page_bounds page_again page page_own browser browser_made_up`."""
 
 import contextlib
 import io
@@ -52,10 +52,12 @@ return [wrong, document.querySelectorAll("body *").length];
 
 
 class View:
-    """nandutable-view on a free port. Its address is read from its first line."""
+    """nandutable-view on a free port. Its address is read from its first line. With a wire it runs at the end c0."""
 
-    def __init__(self, *words, port=0, program=VIEW, environment=None, errors=subprocess.PIPE):
-        self.process = subprocess.Popen([sys.executable, program, "--port", str(port), *words], stdout=subprocess.PIPE, stderr=errors, text=True, env=environment)
+    def __init__(self, *words, port=0, program=VIEW, environment=None, errors=subprocess.PIPE, wire=None):
+        self.wire = wire
+        front = ["ip", "netns", "exec", wire.controller] if wire else []
+        self.process = subprocess.Popen([*front, sys.executable, program, "--port", str(port), *words], stdout=subprocess.PIPE, stderr=errors, text=True, env=environment)
         line = self.process.stdout.readline()
         if not line.startswith("page "):
             raise AssertionError(f"nandutable-view: {line}{self.process.stderr.read() if self.process.stderr else ''}")
@@ -78,7 +80,9 @@ class View:
 
     def asked(self, octets, seconds=15):
         """Sends octets, and returns the status of the answer, its head and its body, when the server closes the connection."""
-        with socket.create_connection(("127.0.0.1", self.port), timeout=seconds) as link:
+        with self.wire.opened("c0", socket.AF_INET, socket.SOCK_STREAM, 0) if self.wire else socket.socket() as link:
+            link.settimeout(seconds)
+            link.connect(("127.0.0.1", self.port))
             link.sendall(octets if isinstance(octets, bytes) else octets.encode())
             came = b""
             while more := link.recv(65536):
@@ -355,6 +359,30 @@ class ViewTests:
         controller.end()
         device.end()
         return told
+
+    def page_own(self, wire):
+        """A page that started its controller: neither outlives the other, and the relation is released."""
+        if lacks := self.has_no_signals():
+            return lacks
+        wire.within(wire.controller, "ip", "link", "set", "lo", "up")
+        device = self.device(wire, "page-own")
+        plan = self.signal_plan("pump-1", SIGNALS)
+        environment = {**os.environ, "NANDUTABLE_CONTROLLER": os.path.join(HOST, "build", self.kind, "nandutable-controller")}
+        for number in (signal.SIGTERM, signal.SIGKILL):
+            with View("c0", plan, "--allow-set", wire=wire, environment=environment) as view:
+                view.waits(lambda state: (station_of(state) or {}).get("state") == "exchanging", "data is exchanged", 60)
+                same("a set", view.set("pump-1.speed", "7"), (200, None))
+                device.expect("output 2 1 0007")
+                status, text = view.end(number)
+                same(f"its status: {text}", status, 0 if number == signal.SIGTERM else -9)
+                device.expect("phase none", 20)
+        # The device loses its power, and the controller ends without --retry.
+        with View("c0", plan, "--", "--patience", "10", wire=wire, environment=environment) as view:
+            view.waits(lambda state: (station_of(state) or {}).get("state") == "exchanging", "data is exchanged", 60)
+            device.end(9)
+            view.process.wait(30)
+            status, text = view.end()
+            same(f"the controller's status: {text}", (status, "ended" in text), (4, True))
 
     @staticmethod
     def killed_and_started(path, port):
