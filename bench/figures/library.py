@@ -1,9 +1,10 @@
 #!/usr/bin/env python3
 """Measures the library for C through its header: its size, the symbols that it wants, and the instructions of each turn of an exchange of 40
-octets, beside those of the same work in plain C behind the same calls (bench/figures/library_plain.c), which does it unit by unit. Its status is
-1 where a turn takes more instructions than its bound, or where both do not send as many frames. bench/figures/chip measures the stack.
+octets, beside those of the same work in plain C behind the same calls (bench/figures/library_plain.c), which does it unit by unit. Then the
+instructions of the turns of a controller (bench/figures/library_controller.c). Its status is 1 where a turn takes more instructions than its
+bound, or where both do not send as many frames. bench/figures/chip measures the stack.
 
-Needs cc and valgrind. Use: bench/figures/library.py [ARCHIVE]   (that of the plain Rust edition if left out, which
+Needs cc and valgrind. Use: bench/figures/library.py [ARCHIVE [CONTROLLER]]   (those of the plain Rust edition if left out, which
 bench/release/library-check builds)
 """
 
@@ -19,7 +20,7 @@ import exchange
 from program import TOP, answer_help, need, refuse
 
 EDITION = os.path.join(TOP, "out", "plain-rust")
-ARCHIVE = os.path.join(EDITION, "target", "release", "libnandutable.a")
+ARCHIVE, CONTROLLER = (os.path.join(EDITION, "target", "release", f"lib{name}.a") for name in ("nandutable", "nandutable_controller"))
 CALLS = ("pn_judge", "pn_put", "pn_step", "pn_fetch")
 TURNS = 1_000
 OCTETS = 40
@@ -36,6 +37,15 @@ KINDS = {
     "cycle": ("a millisecond: 32 units, a frame in, a frame out", (32, 1), 900),
 }
 
+# The same of a controller, without an interval: the program knows it.
+CONTROLLER_KINDS = {
+    "unit": ("a pn_controller_tick of one unit with which nothing is due", 100),
+    "looking": ("the same while the controller looks for its station", 100),
+    "leap": ("a pn_controller_tick of 32 units with which nothing is due", 100),
+    "cyclic": ("a pn_controller_frame of a cyclic frame of 40 octets", 300),
+    "sent": ("a pn_controller_tick of one unit that sends 40 octets, and its pn_controller_next", 600),
+}
+
 
 def run(words, given=b"", folder=None):
     ran = subprocess.run(words, input=given, capture_output=True, cwd=folder)
@@ -44,46 +54,67 @@ def run(words, given=b"", folder=None):
     return ran.stdout.decode()
 
 
-def instructions(program, folder, kind, turns):
-    """The instructions within pn_step and pn_fetch, and nothing of the program that calls it; and how many frames were sent."""
+def instructions(words, given, folder, collected):
+    """The instructions within these functions, and nothing of the program that calls them; and how many frames were sent."""
     kept = os.path.join(folder, "callgrind")
-    (clock, ratio) = KINDS[kind][1] or (1, 1)
-    lines = exchange.front(OCTETS, (clock, ratio, 7680)) + exchange.cyclic(OCTETS)(0) if KINDS[kind][1] else calls.SET_SUITE
-    said = run(["valgrind", "--tool=callgrind", "--quiet", "--collect-atstart=no", "--toggle-collect=pn_step", "--toggle-collect=pn_fetch", f"--callgrind-out-file={kept}", program,
-                kind, str(turns), str(clock * ratio), str(OCTETS)], lines.encode())
+    said = run(["valgrind", "--tool=callgrind", "--quiet", "--collect-atstart=no", *(f"--toggle-collect={name}" for name in collected), f"--callgrind-out-file={kept}", *words], given)
     with open(kept) as file:
         return int(re.search(r"^(?:summary|totals): (\d+)", file.read(), re.MULTILINE).group(1)), int(said)
 
 
-def each(program, folder, kind):
+def each(words, given, folder, collected):
     """The instructions of a turn: what twice as many turns take beyond what half of them take. And how many frames were sent."""
-    (once, _), (twice, sent) = (instructions(program, folder, kind, turns) for turns in (TURNS, 2 * TURNS))
+    (once, _), (twice, sent) = (instructions([*words[:2], str(turns), *words[2:]], given, folder, collected) for turns in (TURNS, 2 * TURNS))
     return (twice - once) / TURNS, sent
+
+
+def of_device(program, folder, kind):
+    (clock, ratio) = KINDS[kind][1] or (1, 1)
+    lines = exchange.front(OCTETS, (clock, ratio, 7680)) + exchange.cyclic(OCTETS)(0) if KINDS[kind][1] else calls.SET_SUITE
+    return each([program, kind, str(clock * ratio), str(OCTETS)], lines.encode(), folder, ("pn_step", "pn_fetch"))
+
+
+def keeps(title, ours, bound):
+    if ours > bound:
+        print(f"PASSES ITS BOUND: {title}: {ours:.0f}, at most {bound}")
+    return ours <= bound
 
 
 def counted(program, plain, folder):
     """Prints the instructions of each kind of turn. Says whether they keep their bounds."""
     is_kept = True
     for kind, (title, interval, bound) in KINDS.items():
-        ours, sent = each(program, folder, kind)
-        theirs, plain_sent = each(plain, folder, kind) if interval else (None, 0)
+        ours, sent = of_device(program, folder, kind)
+        theirs, plain_sent = of_device(plain, folder, kind) if interval else (None, 0)
         print(f"{title}: {ours:.0f} instructions (at most {bound}){f'; in plain C, unit by unit, {theirs:.0f}' if interval else ''}")
-        if ours > bound:
-            print(f"PASSES ITS BOUND: {title}: {ours:.0f}, at most {bound}")
         if sent != plain_sent:
             print(f"NOT THE SAME WORK: {title}: {sent} frames, in plain C {plain_sent}")
-        is_kept = is_kept and ours <= bound and sent == plain_sent
+        is_kept = keeps(title, ours, bound) and is_kept and sent == plain_sent
+    return is_kept
+
+
+def counted_controller(program, folder):
+    """The same of a controller, which the program in plain C has not. A quiet turn sends nothing."""
+    is_kept = True
+    for kind, (title, bound) in CONTROLLER_KINDS.items():
+        ours, sent = each([program, kind], b"", folder, ("pn_controller_step",))
+        print(f"{title}: {ours:.0f} instructions (at most {bound})")
+        is_kept = keeps(title, ours, bound) and is_kept
+        if (sent != 0) != (kind == "sent"):
+            print(f"NOT THE WORK: {title}: {sent} frames")
+            is_kept = False
     return is_kept
 
 
 def main(words):
     answer_help(__doc__, words)
-    if len(words) > 1 or words and not os.path.exists(words[0]):
+    if len(words) > 2 or not all(os.path.exists(word) for word in words):
         return refuse(words)
-    archive = words[0] if words else ARCHIVE
+    archive, controller = [*words, ARCHIVE, CONTROLLER][:2] if len(words) != 1 else (words[0], CONTROLLER)
     need("cc", "cargo", "valgrind", "ld", "nm", "size")
-    if not os.path.exists(archive):
-        sys.exit(f"library: {archive} is not built: bench/release/library-check builds it")
+    for needed in (archive, controller):
+        if not os.path.exists(needed):
+            sys.exit(f"library: {needed} is not built: bench/release/library-check builds it")
     with tempfile.TemporaryDirectory() as folder:
         whole, program = os.path.join(folder, "whole.o"), os.path.join(folder, "figures")
         run(["ld", "-r", "--gc-sections", *(word for call in CALLS for word in ("-u", call)), "-e", CALLS[2], "-o", whole, archive])
@@ -91,11 +122,13 @@ def main(words):
         print(f"octets: code and tables {text}, data {data}, bss {bss}")
         wanted = sorted(line.split()[-1] for line in run(["nm", "-u", whole]).splitlines() if line.split()[0] == "U")
         print(f"symbols that it wants: {' '.join(wanted)}")
-        here, plain = os.path.join(TOP, "bench", "figures"), os.path.join(folder, "plain")
-        cc = ["cc", "-std=gnu11", "-O2", "-I" + os.path.join(TOP, "include"), os.path.join(here, "library.c")]
-        run([*cc, archive, "-o", program])
-        run([*cc, os.path.join(here, "library_plain.c"), "-o", plain])
+        here, plain, of_controller = os.path.join(TOP, "bench", "figures"), os.path.join(folder, "plain"), os.path.join(folder, "controller")
+        cc = ["cc", "-std=gnu11", "-O2", "-I" + os.path.join(TOP, "include")]
+        run([*cc, os.path.join(here, "library.c"), archive, "-o", program])
+        run([*cc, os.path.join(here, "library.c"), os.path.join(here, "library_plain.c"), "-o", plain])
+        run([*cc, os.path.join(here, "library_controller.c"), controller, archive, "-o", of_controller])
         is_kept = counted(program, plain, folder)
+        is_kept = counted_controller(of_controller, folder) and is_kept
     return 0 if is_kept else 1
 
 
