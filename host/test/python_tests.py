@@ -257,17 +257,17 @@ class PythonTests:
 
     def python_bounds(self):
         """A controller that prints faster than it is read, that does not read, that prints what is no line, and that dies; nothing waits for it."""
-        flood = written("import sys\nfor n in range(50000):\n    print(f'a.b = {n} good')\n    print('line', n)\nprint('a.c = 1 good')", most=100)
-        is_soon("its end", lambda: flood.gone)
+        flood = written("import sys\nfor n in range(10000):\n    print(f'a.b = {n} good')\n    print('line', n)\nprint('a.c = 1 good')", most=100)
+        is_soon("its end", lambda: flood.gone, 60)
         taken = list(flood)
         same("what was kept", (len(taken), taken[-1], [line for line in taken if line.startswith("a.b")], flood.queue.dropped, flood.queue.merged),
-             (102, "a.c = 1 good", ["a.b = 49999 good"], 49900, 49999))
+             (102, "a.c = 1 good", ["a.b = 9999 good"], 9900, 9999))
         flood.close()
         deaf = written("import time\nprint('here')\ntime.sleep(60)")
         same("it runs", deaf.get(5), "here")
         begins = time.monotonic()
         fault = refusal(nandutable.Busy, "does not read", lambda: [deaf.send("x" * 4000) for _ in range(100)])
-        same(f"at once: {fault}", time.monotonic() - begins < 2, True)
+        same(f"at once: {fault}", time.monotonic() - begins < 10, True)
         same("no line", deaf.get(0.01), None)
         deaf.close(0.5)
         same("it is killed if it does not end", (deaf.status, deaf.gone), (-15, True))
