@@ -178,7 +178,7 @@ class PythonTests:
         """Lines that are broken at random, and very long ones: each is a value, and the picture takes it."""
         rng, picture = random.Random(7), state.PlantState(most=10)
         reader, texts = lines.Reader(), [text for text, *_ in LINES]
-        for _ in range(20000):
+        for _ in range(5000):
             text = rng.choice(texts)
             for _ in range(rng.randrange(1, 4)):
                 at = rng.randrange(len(text) + 1)
