@@ -1,6 +1,7 @@
 """A controller that is made up: it listens on a unix socket, speaks the lines of nandutable-controller --signals, and has no wire. So the page
 can be tried with plants that no test machine has: many stations, rings, switches, names that are meant to break it."""
 
+import contextlib
 import os
 import socket
 import struct
@@ -71,7 +72,7 @@ class MadeUp:
             self.send(talker, f"{self.front(name)}controller {CONTROLLER} on eth2, for the station '{name}', interval 1000 us")
         if self.neighbour:
             self.send(talker, self.neighbour)
-        with talker.makefile("r") as lines:
+        with contextlib.suppress(ConnectionError), talker.makefile("r") as lines:
             for line in lines:
                 for answer in self.answers(line.rstrip("\n")):
                     self.send(talker, answer)

@@ -115,6 +115,11 @@ class View:
                 raise AssertionError(f"{what}: {json.dumps(state)[:3000]}")
             time.sleep(0.05)
 
+    def processor_seconds(self):
+        with open(f"/proc/{self.process.pid}/stat", encoding="ascii") as file:
+            fields = file.read().rpartition(")")[2].split()
+        return (int(fields[11]) + int(fields[12])) / os.sysconf("SC_CLK_TCK")
+
     def memory(self):
         """Pages of memory that it has."""
         with open(f"/proc/{self.process.pid}/statm", encoding="ascii") as file:
@@ -598,6 +603,9 @@ class ViewTests:
             page.open(view.url)
             self.shows(page, "#found", "64 stations, 1,984 signals", 60)
             changes.start()
+            begins, used = time.monotonic(), view.processor_seconds()
+            time.sleep(5)
+            share = 100 * (view.processor_seconds() - used) / (time.monotonic() - begins)
             page.keys("/")
             page.keys("drive-17.value_5")
             self.shows(page, "#found", "1 station, 1 signal found", 5)
@@ -606,4 +614,4 @@ class ViewTests:
             plant.change("drive-17.value_5", "4711")
             took = self.shows(page, "tr:not([hidden]) td.value", "4711rpm", 5)
             same("the picture has each of them", page.run("return document.querySelectorAll('.picture a').length"), 64)
-        return f"one of 1,984 signals changes on the page within {took * 1000:.0f} ms"
+        return f"one of 1,984 signals changes on the page within {took * 1000:.0f} ms; its server takes {share:.0f} % of a processor"
