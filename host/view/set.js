@@ -19,10 +19,14 @@ function hintOf(signal) {
 
 function fieldOf(signal) {
   if (signal.type === "Boolean") {
-    return ["true", "false"].map((word) => make("label", { class: "check" }, make("input", { type: "radio", name: "value", value: word, checked: signal.raw === word, required: true }), word));
+    const choice = (word) => make("input", { type: "radio", name: "value", value: word, checked: signal.raw === word, required: true });
+    return ["true", "false"].map((word) => make("label", { class: "check" }, choice(word), word));
   }
   const isText = signal.type === "VisibleString" || signal.type === "UnicodeString8";
-  const input = make("input", { type: "text", id: "set-value", name: "value", autocomplete: "off", spellcheck: "false", maxlength: "2700", required: true, "aria-describedby": "set-hint", value: isText ? plain(signal.raw) : signal.raw });
+  const input = make("input", {
+    type: "text", id: "set-value", name: "value", autocomplete: "off", spellcheck: "false", maxlength: "2700", required: true,
+    "aria-describedby": "set-hint", value: isText ? plain(signal.raw) : signal.raw,
+  });
   return [make("label", { for: "set-value" }, "Value"), input, make("span", { class: "muted", id: "set-hint" }, hintOf(signal))];
 }
 
@@ -33,7 +37,8 @@ const quoted = (text) => `"${text.replace(/[\\"]/g, "\\$&")}"`;
 export function openSet(signal) {
   current = signal;
   write(at("set-title"), `Set ${signal.name}`);
-  write(at("set-now"), `${signal.text ? `${signal.text}. ` : ""}Now ${signal.raw ?? "unknown"}${signal.unit ? ` ${signal.unit}` : ""}, ${signal.good ? "good" : "bad"}.`);
+  const now = [signal.raw ?? "unknown", signal.unit].filter(Boolean).join(" ");
+  write(at("set-now"), `${signal.text ? `${signal.text}. ` : ""}Now ${now}, ${signal.good ? "good" : "bad"}.`);
   write(at("set-answer"), "");
   at("set-field").replaceChildren(...fieldOf(signal));
   at("set-send").disabled = false;
@@ -44,7 +49,8 @@ export function openSet(signal) {
 }
 
 async function send(value) {
-  const answer = await fetch("set", { method: "POST", headers: { "Content-Type": "application/json" }, body: JSON.stringify({ name: current.name, value }) });
+  const body = JSON.stringify({ name: current.name, value });
+  const answer = await fetch("set", { method: "POST", headers: { "Content-Type": "application/json" }, body });
   const { reason } = await answer.json();
   return answer.ok ? null : reason;
 }

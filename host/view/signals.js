@@ -17,13 +17,17 @@ class Row {
     this.value = make("span", {});
     this.quality = make("td", { class: "quality" });
     this.line = draw("polyline", { points: "" });
-    const trend = this.isNumber ? draw("svg", { viewBox: `0 0 ${TREND.width} ${TREND.height}`, "aria-hidden": "true", preserveAspectRatio: "none" }, this.line) : "";
-    const button = openSet && signal.direction === "output" ? make("button", { type: "button", "aria-label": `Set ${signal.name}` }, "Set") : "";
-    if (button) button.addEventListener("click", () => openSet(this.signal));
-    this.element = make("tr", {}, make("th", { scope: "row", title: `${signal.type}, slot ${signal.slot} subslot ${signal.subslot}` }, signal.signal, signal.text ? make("small", {}, signal.text) : null),
+    const view = { viewBox: `0 0 ${TREND.width} ${TREND.height}`, "aria-hidden": "true", preserveAspectRatio: "none" };
+    const trend = this.isNumber ? draw("svg", view, this.line) : "";
+    const canBeSet = openSet && signal.direction === "output";
+    const button = make("button", { type: "button", "aria-label": `Set ${signal.name}` }, "Set");
+    button.addEventListener("click", () => openSet(this.signal));
+    const place = `${signal.type}, slot ${signal.slot} subslot ${signal.subslot}`;
+    this.element = make("tr", {},
+      make("th", { scope: "row", title: place }, signal.signal, signal.text ? make("small", {}, signal.text) : null),
       make("td", { class: "trend" }, trend),
       make("td", { class: "value" }, this.value, signal.unit ? make("span", { class: "unit" }, signal.unit) : null),
-      this.quality, openSet && signal.direction === "output" ? make("td", { class: "change" }, button) : null);
+      this.quality, canBeSet ? make("td", { class: "change" }, button) : null);
     this.element.addEventListener("animationend", () => this.element.classList.remove("is-fresh"));
     this.remember();
   }
@@ -88,8 +92,11 @@ export class SignalTable {
   tableOf(direction, title, openSet) {
     const rows = [...this.rows.values()].filter((row) => row.signal.direction === direction);
     if (rows.length === 0) return null;
-    const heads = [["Signal", ""], ["Last minute", "trend"], ["Value", "number"], ["Quality", "quality"], ...(openSet && direction === "output" ? [["Change", "change"]] : [])];
-    const table = make("table", { class: openSet && direction === "output" ? "has-change" : null }, make("caption", {}, title), make("thead", {}, make("tr", {}, ...heads.map(([text, kind]) => make("th", { scope: "col", class: kind || null }, text)))),
+    const canBeSet = openSet && direction === "output";
+    const heads = [["Signal", null], ["Last minute", "trend"], ["Value", "number"], ["Quality", "quality"], ...(canBeSet ? [["Change", "change"]] : [])];
+    const table = make("table", { class: canBeSet ? "has-change" : null },
+      make("caption", {}, title),
+      make("thead", {}, make("tr", {}, ...heads.map(([text, kind]) => make("th", { scope: "col", class: kind }, text)))),
       make("tbody", {}, ...rows.map((row) => row.element)));
     return { element: make("div", { class: "half" }, table), rows };
   }

@@ -77,7 +77,8 @@ function changeSignal(name, data) {
 
 function alarmEvent(alarm) {
   const octets = alarm.octets && alarm.octets !== "-" ? `, octets ${alarm.octets}` : "";
-  return { ...alarm, kind: "alarm", text: `Alarm of ${alarm.priority} priority from slot ${alarm.slot} subslot ${alarm.subslot}: ${alarm.text}${octets}` };
+  const place = `slot ${alarm.slot} subslot ${alarm.subslot}`;
+  return { ...alarm, kind: "alarm", text: `Alarm of ${alarm.priority} priority from ${place}: ${alarm.text}${octets}` };
 }
 
 function keep(event) {
@@ -149,15 +150,23 @@ function drawFrame() {
     write(at("title"), title);
     write(at("controller"), [several(plant.stations.size, "station"), mac && `MAC address ${mac}`].filter(Boolean).join(" · "));
   }
-  const [kind, word] = isSilent ? (heard ? ["bad", "no data"] : ["busy", "connecting"]) : controller?.running ? ["good", "live"] : ["bad", "no controller"];
+  const [kind, word] = pageState(isSilent);
   mark(at("live"), kind, word);
   mark(at("rights"), plant.isSetAllowed ? "edit" : "lock", plant.isSetAllowed ? "outputs can be set" : "read only");
   document.body.classList.toggle("stale", kind === "bad");
-  const text = kind !== "bad" ? "" : isSilent ? "Nothing arrives from the server of this page. What is shown is of " : `${controller.ended}. What is shown may be out of date`;
+  const isOld = isSilent ? "Nothing arrives from the server of this page. What is shown is of " : `${controller.ended}. What is shown may be out of date`;
+  const text = kind === "bad" ? isOld : "";
   at("stale").hidden = text === "";
   show(at("stale"), text + (isSilent ? heard : ""), () => [text, isSilent ? clock(heard / 1000) : "", "."]);
   const { pages, closed } = plant.counts;
-  write(at("pages"), pages ? `${several(pages, "page")} open at this server${closed ? `; ${several(closed, "page")} closed because nobody read` : ""}.` : "");
+  const left = closed ? `; ${several(closed, "page")} closed because nobody read` : "";
+  write(at("pages"), pages ? `${several(pages, "page")} open at this server${left}.` : "");
+}
+
+/** The kind and the word of the mark that says whether the page is live. */
+function pageState(isSilent) {
+  if (isSilent) return heard ? ["bad", "no data"] : ["busy", "connecting"];
+  return plant.controller?.running ? ["good", "live"] : ["bad", "no controller"];
 }
 
 function mark(element, kind, word) {
@@ -192,7 +201,8 @@ function drawPicture() {
   const room = panel.clientWidth;
   if (!plant.controller || room === 0) return;
   const { link, neighbour, mac } = plant.controller;
-  const key = JSON.stringify([room, link, neighbour, mac, ...[...plant.stations.values()].map((station) => [station.name, station.state, station.mac, station.ports])]);
+  const shown = [...plant.stations.values()].map((station) => [station.name, station.state, station.mac, station.ports]);
+  const key = JSON.stringify([room, link, neighbour, mac, shown]);
   show(panel, key, () => [pictureOf(plant, room)]);
   const words = cablesInWords(plant);
   show(at("cables"), key, () => words.map((text) => make("li", {}, text)));
@@ -202,15 +212,23 @@ function drawPicture() {
 
 function drawDiagnosis() {
   const faults = [...plant.stations.values()].flatMap((station) => station.diagnosis.map((fault) => ({ ...fault, station: station.name })));
-  show(at("diagnosis"), JSON.stringify(faults), () => faults.length === 0 ? [make("li", { class: "muted" }, "No station reports one.")] : faults.map((fault) =>
-    make("li", {}, make("div", { class: "head" }, shape("warn"), make("strong", {}, fault.text), make("span", {}, fault.station)), make("div", { class: "muted" }, placeOf(fault)))));
+  const head = (fault) => make("div", { class: "head" }, shape("warn"), make("strong", {}, fault.text), make("span", {}, fault.station));
+  const item = (fault) => make("li", {}, head(fault), make("div", { class: "muted" }, placeOf(fault)));
+  show(at("diagnosis"), JSON.stringify(faults), () => itemsOr("No station reports one.", faults.map(item)));
 }
 
 const KINDS = { alarm: "warn", ended: "bad", warning: "warn", refused: "warn", stall: "warn", link: "busy" };
 
 function drawEvents() {
-  show(at("events"), plant.events.map((event) => event.kind + event.number).join(), () => plant.events.length === 0 ? [make("li", { class: "muted" }, "Nothing yet.")] : plant.events.map((event) =>
-    make("li", {}, make("div", { class: "head" }, shape(KINDS[event.kind] ?? "idle"), clock(event.time), make("span", { class: "who" }, event.station ?? "")), event.text)));
+  const who = (event) => make("span", { class: "who" }, event.station ?? "");
+  const head = (event) => make("div", { class: "head" }, shape(KINDS[event.kind] ?? "idle"), clock(event.time), who(event));
+  const key = plant.events.map((event) => event.kind + event.number).join();
+  show(at("events"), key, () => itemsOr("Nothing yet.", plant.events.map((event) => make("li", {}, head(event), event.text))));
+}
+
+/** The items of a list, or one that says that there are none. */
+function itemsOr(text, items) {
+  return items.length > 0 ? items : [make("li", { class: "muted" }, text)];
 }
 
 // ---- a station
@@ -228,7 +246,8 @@ class Card {
     this.more = make("details", { open: plant.stations.size <= MOST_OPEN }, this.count, this.table.element);
     this.more.addEventListener("toggle", due);
     const title = make("h3", { id: `station-${station.name}`, tabindex: "-1" }, station.name);
-    this.element = make("section", { class: "card", "aria-labelledby": title.id }, make("header", {}, title, this.state), this.why, this.faults, this.facts, this.more);
+    this.element = make("section", { class: "card", "aria-labelledby": title.id },
+      make("header", {}, title, this.state), this.why, this.faults, this.facts, this.more);
     this.watcher = new IntersectionObserver(([seen]) => {
       this.isSeen = seen.isIntersecting;
       due();
@@ -255,7 +274,8 @@ class Card {
     this.why.hidden = why === "";
     write(this.why, why);
     this.faults.hidden = station.diagnosis.length === 0;
-    show(this.faults, JSON.stringify(station.diagnosis), () => station.diagnosis.map((fault) => make("li", {}, shape("warn"), ` ${fault.text}: ${placeOf(fault)}`)));
+    const item = (fault) => make("li", {}, shape("warn"), ` ${fault.text}: ${placeOf(fault)}`);
+    show(this.faults, JSON.stringify(station.diagnosis), () => station.diagnosis.map(item));
     this.drawFacts();
     const bad = this.table.countBad();
     write(this.count, `${several(this.table.rows.size, "signal")}${bad ? `, ${bad} bad` : ""}`);
@@ -266,9 +286,12 @@ class Card {
     const { station } = this;
     const facts = [
       ["Address", station.address ?? "–"], ["MAC address", station.mac ?? "–"], ["In this state since", clock(station.since)],
-      ["Interval, p50", milliseconds(station.interval?.p50)], ["Interval, p99", milliseconds(station.interval?.p99)], ["Frames lost", `${count(station.lost)} of ${count(station.received + station.lost)}`],
+      ["Interval, p50", milliseconds(station.interval?.p50)], ["Interval, p99", milliseconds(station.interval?.p99)],
+      ["Frames lost", `${count(station.lost)} of ${count(station.received + station.lost)}`],
     ];
-    if (station.cause && station.state === "exchanging") facts.push(["Ended before", make("span", {}, clock(station.cause.time), `: ${station.cause.text}`), "wide"]);
+    if (station.cause && station.state === "exchanging") {
+      facts.push(["Ended before", make("span", {}, clock(station.cause.time), `: ${station.cause.text}`), "wide"]);
+    }
     const key = JSON.stringify(facts.map(([, value]) => value.textContent ?? value));
     show(this.facts, key, () => facts.map(([title, value, width]) => make("div", { class: width }, make("dt", {}, title), make("dd", {}, value))));
   }
@@ -292,7 +315,8 @@ function select() {
     signals += isShown ? shown : 0;
   }
   searched = wanted;
-  write(at("found"), cards.size === 0 ? "" : `${several(stations, "station")}, ${several(signals, "signal")}${wanted || isTroubleOnly ? " found" : ""}`);
+  const found = `${several(stations, "station")}, ${several(signals, "signal")}${wanted || isTroubleOnly ? " found" : ""}`;
+  write(at("found"), cards.size === 0 ? "" : found);
 }
 
 at("find").addEventListener("input", due);
