@@ -527,6 +527,7 @@ class ViewTests:
             return f"NOT TRIED: {lacks}"
         with browser.Browser() as page:
             told = self.in_all_sizes(page)
+            self.dialogs(page)
             self.hostile_names(page)
             told += "; " + self.many_stations(page)
         return told
@@ -555,6 +556,27 @@ class ViewTests:
             self.shows(page, "#live", "no data", 8)
             count += self.has_contrast(page, "no data")
         return f"{count} elements have their contrast"
+
+    def dialogs(self, page):
+        """A text and a Boolean by the dialog: quotes and backslashes arrive as they were typed."""
+        plant = MadeUp(self.path("dialogs.lines"))
+        plant.add("flow-7", [("display", "output", "VisibleString", '"Hello, \\"world\\"!"', "", "Display"), ("valve", "output", "Boolean", "false", "", ""),
+                             ("octets", "output", "OctetString", "00ff", "", "")])
+        with View("--socket", plant.path, "--allow-set") as view:
+            page.open(view.url)
+            self.shows(page, "#found", "1 station, 3 signals", 15)
+            for name, keys, field, value in (("display", (), 'Hello, "world"!', '"Hello, \\"world\\"!"'), ("display", ('a "b" \\ c',), 'a "b" \\ c', '"a \\"b\\" \\\\ c"'),
+                                             ("octets", ("a0b1",), "a0b1", "a0b1"), ("valve", ("ARROW_UP",), "true", "true"), ("valve", ("ARROW_DOWN",), "false", "false")):
+                page.run("document.querySelector(`[aria-label='Set flow-7.${arguments[0]}']`).click()", name)
+                if keys:
+                    page.keys(*keys)
+                same(f"the field of {name}", page.run("return document.activeElement.value"), field)
+                page.keys("ENTER")
+                view.waits(lambda state: raw_of(state, f"flow-7.{name}") == value, f"{name} is {value}")
+                ends = time.monotonic() + 5
+                while page.run("return document.getElementById('set').open") and time.monotonic() < ends:
+                    time.sleep(0.05)
+                same("the dialog is closed", page.run("return document.getElementById('set').open"), False)
 
     @staticmethod
     def has_contrast(page, what):
