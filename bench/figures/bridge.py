@@ -1,13 +1,13 @@
 #!/usr/bin/env python3
 """Measures the bridge to MQTT: one controller, many stations, some changes a second, Debian's mosquitto and a subscriber of everything.
 
-    bench/figures/bridge.py [--stations N] [--signals N] [--changes N] [--seconds N]
+    bench/figures/bridge.py [--stations N] [--signals N] [--changes N] [--seconds N] [--interval MS]
 
-64 stations with 2,000 signals in all, at an interval of 8 ms, 100 changes of a signal a second, for 60 seconds. Each station is a
-nandutable-device in a network namespace of its own, at one bridge. It prints the time from a frame to the topic, which is from the controller's
-own time of the frame with the change (--times) to the subscriber's time of the message (p50, p99, max); the share of a processor of the
-bridge, the controller and the broker; the memory of the bridge; and received and lost frames. The load of the machine is printed too: on a busy
-machine these are figures of the load.
+64 stations with 2,000 signals in all, at an interval of 8 ms (MS: 1 to 512, a power of two), 100 changes of a signal a second, for 60 seconds.
+Each station is a nandutable-device in a network namespace of its own, at one bridge. It prints the time from a frame to the topic, which is from
+the controller's own time of the frame with the change (--times) to the subscriber's time of the message (p50, p99, max); the share of a processor
+of the bridge, the controller and the broker; the memory of the bridge; and received and lost frames. The load of the machine is printed too: on a
+busy machine these are figures of the load.
 
 It needs root, iproute2, `make -C host`, and Debian's mosquitto, mosquitto-clients and python3-paho-mqtt. The status is 1 if a frame or a change is lost.
 """
@@ -125,12 +125,12 @@ def start_broker(wire, folder):
     raise NoWire(f"mosquitto does not start: {broker.text()}")
 
 
-def measured(folder, stations, signals, rate, seconds):
+def measured(folder, stations, signals, rate, seconds, interval):
     measure = load_measure()
     with Plant(stations) as wire:
         devices = measure.Devices(wire, folder)
         each = [signals // stations + (number <= signals % stations) for number in wire.places]
-        paths = [measure.plan(folder, 32, 2000, f"pump-{number}", ReductionRatio=8, IPAddress=f"192.168.0.{10 + number}", Signals=signals_of(count))
+        paths = [measure.plan(folder, 32, 16000 // interval, f"pump-{number}", ReductionRatio=interval, IPAddress=f"192.168.0.{10 + number}", Signals=signals_of(count))
                  for number, count in zip(wire.places, each)]
         lines = os.path.join(folder, "lines")
         controller = Program(wire, "c0", "c0", *paths, "--signals=only", "--times", "--retry", "1", "--socket", lines)
@@ -143,6 +143,7 @@ def measured(folder, stations, signals, rate, seconds):
         changes = Changes(devices.programs, rate)
         changes.make(3)
         time.sleep(1)
+        print(f"{stations} stations at {interval} ms, {signals} signals, {rate} changes a second, ", end="")
         return told(wire, changes, (bridge, controller, broker), everything, lines, seconds)
 
 
@@ -159,7 +160,7 @@ def told(wire, changes, programs, everything, lines, seconds):
     found = everything.latencies(began)
     at = lambda part: found[min(len(found) - 1, int(len(found) * part))]
     received, lost = (now - was for now, was in zip(after, before))
-    print(f"{count} stations at 8 ms, {made / passed:.0f} changes a second, {passed:.0f} s, load {load:.1f} on {os.cpu_count()} processors")
+    print(f"{passed:.0f} s, load {load:.1f} on {os.cpu_count()} processors")
     print(f"  from the frame to the topic: p50 {at(0.5):.2f}  p99 {at(0.99):.2f}  max {at(1):.2f} ms ({len(found)} of {made} changes)")
     print(f"  processor  bridge {shares[0]:.1f} %  controller {shares[1]:.1f} %  broker {shares[2]:.1f} %; memory of the bridge {memory_of(programs[0]):.0f} MiB")
     print(f"  frames     received {received}, lost {lost}", flush=True)
@@ -170,7 +171,7 @@ def main(words):
     if words[:1] in (["-h"], ["--help"]):
         print(__doc__, end="")
         return 0
-    asked = {"--stations": 64, "--signals": 2000, "--changes": 100, "--seconds": 60}
+    asked = {"--stations": 64, "--signals": 2000, "--changes": 100, "--seconds": 60, "--interval": 8}
     while words:
         if len(words) < 2 or words[0] not in asked or not words[1].isdecimal() or int(words[1]) < 1:
             return refuse("bridge", f"it has no use for '{' '.join(words)}'; bench/figures/bridge.py --help tells what it takes")
@@ -178,6 +179,8 @@ def main(words):
         words = words[2:]
     if asked["--stations"] > 200 or asked["--signals"] > 2 * BITS * asked["--stations"] or asked["--signals"] < BITS * asked["--stations"]:
         return refuse("bridge", "--stations takes 1 to 200, and --signals 16 to 32 for each of them")
+    if asked["--interval"] not in [1 << bit for bit in range(10)]:
+        return refuse("bridge", "--interval takes a power of two from 1 to 512")
     try:
         with tempfile.TemporaryDirectory() as folder:
             return 0 if measured(folder, *asked.values()) else 1

@@ -270,7 +270,8 @@ class BridgeTests:
         everything.until("plant/_bridge", state="offline")
         everything.until("plant/flow-7/_state", state="ended")
         everything.until("plant/flow-7/flow", quality="bad")
-        bridge = begins()
+        bridge = begins("--view", "8893")
+        same("the page", self.page(wire, 8893)[:15], b"HTTP/1.0 200 OK")
         bridge.end(9)
         device.expect("phase none", 20)
         everything.until("plant/_bridge", state="offline")
@@ -287,6 +288,17 @@ class BridgeTests:
         device.end()
         broker.end()
         return None
+
+    def page(self, wire, port):
+        """What the page's server answers."""
+        with wire.opened("c0", socket.AF_INET, socket.SOCK_STREAM, 0) as link:
+            link.settimeout(20)
+            link.connect(("127.0.0.1", port))
+            link.sendall(b"GET / HTTP/1.0\r\nHost: localhost\r\n\r\n")
+            came = b""
+            while more := link.recv(65536):
+                came += more
+            return came
 
     def bridge_stuck(self, wire):
         """A broker that is stopped, a subscriber that never reads, a log on a full disk and one that nobody reads: the exchange loses no frame, the

@@ -18,6 +18,7 @@ from nandutable.errors import Error
 from nandutable.plants import Follower, start
 from nandutable.process import Connection, Socket
 from nandutable.state import PlantState
+from nandutable.view import Server
 
 from .bridge import Bridge
 from .broker import Address
@@ -27,7 +28,7 @@ NAME = "nandutable-bridge"
 VERSION = "0.1.0"
 AGAIN = 1.0  # seconds after which a socket that is gone is tried again
 LOOKS = 0.1  # seconds after which an end that was asked for is seen
-WRONG_OPTION, NO_FILE, FAILED, NOT_ALLOWED = 64, 66, 70, 77
+WRONG_OPTION, NO_FILE, FAILED, IS_TAKEN, NOT_ALLOWED = 64, 66, 70, 75, 77
 
 EPILOG = """\
 With --socket it uses a controller that runs already (its options --socket PATH and --signals), which goes on when the bridge ends. Otherwise it
@@ -242,24 +243,39 @@ def checked(words: Sequence[str]) -> "tuple[argparse.Namespace, List[str], Addre
     return options, more, address_of(options), topics
 
 
+def page_of(options: argparse.Namespace, controller: Controller) -> Optional[Server]:
+    """The page of nandutable-view, which only shows, over the same picture of the plant."""
+    if options.view is None:
+        return None
+    try:
+        page = Server("127.0.0.1", options.view, controller.state, controller.commands)
+    except OSError as fault:
+        raise Refusal(IS_TAKEN, f"--view: the page cannot be served at 127.0.0.1 port {options.view}: {fault.strerror or fault}") from None
+    page.start()
+    return page
+
+
 def main(words: Sequence[str]) -> int:
+    log = Log()
     try:
         options, more, address, topics = checked(words)
+        controller = Controller(options, more, log)
+        page = page_of(options, controller)
     except Refusal as no:
         print(f"{NAME}: {no}", file=sys.stderr)
         return no.status
-    log = Log()
     if address.password is not None and address.context is None and address.host not in ("localhost", "127.0.0.1", "::1"):
         log(f"warning: the password goes to {address.host} without TLS: whoever hears it can set outputs (--cafile)")
-    controller = Controller(options, more, log)
     for one in (signal.SIGTERM, signal.SIGINT, signal.SIGHUP):
         signal.signal(one, controller.end)
-    status = run(controller, Bridge(controller.state, controller.commands, address, topics, options.sets_per_second, options.read_only, log), options, log)
+    status = run(controller, Bridge(controller.state, controller.commands, address, topics, options.sets_per_second, options.read_only, log), log)
+    if page is not None:
+        page.stop()
     log.close()
     return status
 
 
-def run(controller: Controller, bridge: Bridge, options: argparse.Namespace, log: Log) -> int:
+def run(controller: Controller, bridge: Bridge, log: Log) -> int:
     """Runs both until one of them ends."""
     def watch() -> None:
         bridge.ended.wait()
