@@ -1,13 +1,13 @@
 #!/usr/bin/env python3
 """Measures the bridge to MQTT: one controller, many stations, some changes a second, Debian's mosquitto and a subscriber of everything.
 
-    bench/figures/bridge.py [--stations N] [--signals N] [--changes N] [--seconds N] [--interval MS]
+    bench/figures/bridge.py [--stations N] [--signals N] [--changes N] [--seconds N] [--interval MS] [--bridges 0|1]
 
 64 stations with 2,000 signals in all, at an interval of 8 ms (MS: 1 to 512, a power of two), 100 changes of a signal a second, for 60 seconds.
 Each station is a nandutable-device in a network namespace of its own, at one bridge. It prints the time from a frame to the topic, which is from
 the controller's own time of the frame with the change (--times) to the subscriber's time of the message (p50, p99, max); the share of a processor
 of the bridge, the controller and the broker; the memory of the bridge; and received and lost frames. The load of the machine is printed too: on a
-busy machine these are figures of the load.
+busy machine these are figures of the load. With `--bridges 0` there is neither a bridge nor a broker, only the controller and the changes.
 
 It needs root, iproute2, `make -C host`, and Debian's mosquitto, mosquitto-clients and python3-paho-mqtt. The status is 1 if a frame or a change is lost.
 """
@@ -125,7 +125,23 @@ def start_broker(wire, folder):
     raise NoWire(f"mosquitto does not start: {broker.text()}")
 
 
-def measured(folder, stations, signals, rate, seconds, interval):
+def wait_for_exchange(path, count):
+    """Waits until all stations exchange data."""
+    ends = time.monotonic() + STARTS
+    talker, text = talk_to(path, 20), b""
+    talker.settimeout(60)
+    while len(re.findall(rb"station \S+ \S+ \S+ \d+ exchanging\n", text)) < count:
+        if time.monotonic() > ends:
+            raise NoWire("not all stations exchange data")
+        time.sleep(0.2)
+        talker.sendall(b"stations\n")
+        text = b""
+        while b"\nstations " not in text:
+            text += talker.recv(65536)
+    talker.close()
+
+
+def measured(folder, stations, signals, rate, seconds, interval, bridges):
     measure = load_measure()
     with Plant(stations) as wire:
         devices = measure.Devices(wire, folder)
@@ -133,47 +149,54 @@ def measured(folder, stations, signals, rate, seconds, interval):
         paths = [measure.plan(folder, 32, 16000 // interval, f"pump-{number}", ReductionRatio=interval, IPAddress=f"192.168.0.{10 + number}", Signals=signals_of(count))
                  for number, count in zip(wire.places, each)]
         lines = os.path.join(folder, "lines")
-        controller = Program(wire, "c0", "c0", *paths, "--signals=only", "--times", "--retry", "1", "--socket", lines)
-        broker = start_broker(wire, folder)
-        everything = Subscriber(wire)
-        bridge = Program(wire, "c0", BRIDGE, "--socket", lines, "--prefix", "plant", name="/usr/bin/python3")
-        for number in wire.places:
-            everything.sees(rf'[0-9.]+ plant/pump-{number}/_state \{{"state": "exchanging"', STARTS)
-        everything.sees(r'[0-9.]+ plant/_bridge \{"state": "online"', STARTS)
+        programs = {"controller": Program(wire, "c0", "c0", *paths, "--signals=only", "--times", "--retry", "1", "--socket", lines)}
+        wait_for_exchange(lines, stations)
+        everything = None
+        if bridges:
+            programs["broker"] = start_broker(wire, folder)
+            everything = Subscriber(wire)
+            programs["bridge"] = Program(wire, "c0", BRIDGE, "--socket", lines, "--prefix", "plant", name="/usr/bin/python3")
+            everything.sees(r'[0-9.]+ plant/_bridge \{"state": "online"', STARTS)
         changes = Changes(devices.programs, rate)
         changes.make(3)
         time.sleep(1)
         print(f"{stations} stations at {interval} ms, {signals} signals, {rate} changes a second, ", end="")
-        return told(wire, changes, (bridge, controller, broker), everything, lines, seconds)
+        return told(stations, changes, programs, everything, lines, seconds)
 
 
-def told(wire, changes, programs, everything, lines, seconds):
+def told(stations, changes, programs, everything, lines, seconds):
     """Measures for so long, and prints the figures. Returns whether nothing was lost."""
-    count = len(wire.places)
-    before, used, began = lost_of(lines, count), [program.processor_seconds() for program in programs], time.time()
+    before, used, began = lost_of(lines, stations), {name: program.processor_seconds() for name, program in programs.items()}, time.time()
     load, begins = os.getloadavg()[0], time.monotonic()
     made = changes.make(seconds)
     passed = time.monotonic() - begins
-    shares = [100 * (program.processor_seconds() - was) / passed for program, was in zip(programs, used)]
+    shares = {name: 100 * (program.processor_seconds() - used[name]) / passed for name, program in programs.items()}
     time.sleep(2)
-    after = lost_of(lines, count)
-    found = everything.latencies(began)
-    at = lambda part: found[min(len(found) - 1, int(len(found) * part))]
+    after = lost_of(lines, stations)
     received, lost = (now - was for now, was in zip(after, before))
     print(f"{passed:.0f} s, load {load:.1f} on {os.cpu_count()} processors")
-    print(f"  from the frame to the topic: p50 {at(0.5):.2f}  p99 {at(0.99):.2f}  max {at(1):.2f} ms ({len(found)} of {made} changes)")
-    print(f"  processor  bridge {shares[0]:.1f} %  controller {shares[1]:.1f} %  broker {shares[2]:.1f} %; memory of the bridge {memory_of(programs[0]):.0f} MiB")
+    is_whole = everything is None or tell_latencies(everything.latencies(began), made)
+    print("  processor  " + "  ".join(f"{name} {share:.1f} %" for name, share in shares.items()))
+    if "bridge" in programs:
+        print(f"  memory of the bridge {memory_of(programs['bridge']):.0f} MiB")
     print(f"  frames     received {received}, lost {lost}", flush=True)
-    return lost == 0 and len(found) == made
+    return lost == 0 and is_whole
+
+
+def tell_latencies(found, made):
+    """Prints the times of the changes. Returns whether each one came."""
+    at = lambda part: found[min(len(found) - 1, int(len(found) * part))] if found else float("nan")
+    print(f"  from the frame to the topic: p50 {at(0.5):.2f}  p99 {at(0.99):.2f}  max {at(1):.2f} ms ({len(found)} of {made} changes)")
+    return len(found) == made
 
 
 def main(words):
     if words[:1] in (["-h"], ["--help"]):
         print(__doc__, end="")
         return 0
-    asked = {"--stations": 64, "--signals": 2000, "--changes": 100, "--seconds": 60, "--interval": 8}
+    asked = {"--stations": 64, "--signals": 2000, "--changes": 100, "--seconds": 60, "--interval": 8, "--bridges": 1}
     while words:
-        if len(words) < 2 or words[0] not in asked or not words[1].isdecimal() or int(words[1]) < 1:
+        if len(words) < 2 or words[0] not in asked or not words[1].isdecimal() or int(words[1]) < (words[0] != "--bridges"):
             return refuse("bridge", f"it has no use for '{' '.join(words)}'; bench/figures/bridge.py --help tells what it takes")
         asked[words[0]] = int(words[1])
         words = words[2:]

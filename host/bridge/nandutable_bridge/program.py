@@ -1,24 +1,20 @@
-"""The program: its options, the controller that it starts or whose socket it uses, its log, its end."""
+"""The program: its options, its page, its end."""
 
 from __future__ import annotations
 
 import argparse
-import collections
 import os
 import signal
 import ssl
 import stat
 import sys
 import threading
-import time
-from typing import Any, Deque, List, NoReturn, Optional, Sequence
+from typing import Any, List, NoReturn, Optional, Sequence
 
-from nandutable.commands import Commands
 from nandutable.errors import Error
-from nandutable.plants import Follower, start
-from nandutable.process import Connection, Socket
-from nandutable.state import PlantState
-from nandutable.view import Server
+from nandutable.plants import start
+from nandutable.source import Log, Source
+from nandutable.view import Rules, Server
 
 from .bridge import Bridge
 from .broker import Address
@@ -26,48 +22,12 @@ from .topics import BadPrefix, Topics
 
 NAME = "nandutable-bridge"
 VERSION = "0.1.0"
-AGAIN = 1.0  # seconds after which a socket that is gone is tried again
-LOOKS = 0.1  # seconds after which an end that was asked for is seen
 WRONG_OPTION, NO_FILE, FAILED, IS_TAKEN, NOT_ALLOWED = 64, 66, 70, 75, 77
 
 EPILOG = """\
 With --socket it uses a controller that runs already (its options --socket PATH and --signals), which goes on when the bridge ends. Otherwise it
 starts nandutable-controller on INTERFACE with the plans, with --signals=only, --times and the words after `--`, such as `-- --retry 5`, and ends
 with it. Topics and payloads are in docs/BRIDGE.md and nandutable-bridge(1)."""
-
-
-class Log:
-    """Lines on standard error. A thread writes them: a terminal that is stopped or a disk that is full stops nothing else. What waits beyond
-    100 lines is dropped, the oldest first."""
-
-    def __init__(self) -> None:
-        self._lines: Deque[str] = collections.deque(maxlen=100)
-        self._news = threading.Condition()
-        self._is_idle = True
-        threading.Thread(target=self._write, name="nandutable log", daemon=True).start()
-
-    def __call__(self, text: str) -> None:
-        with self._news:
-            self._lines.append(text)
-            self._is_idle = False
-            self._news.notify_all()
-
-    def _write(self) -> None:
-        while True:
-            with self._news:
-                self._is_idle = not self._lines
-                self._news.notify_all()
-                self._news.wait_for(lambda: self._lines)
-                text = self._lines.popleft()
-            try:
-                os.write(2, f"{NAME}: {text}\n".encode("utf-8", "replace"))
-            except OSError:
-                pass
-
-    def close(self, seconds: float = 1.0) -> None:
-        """Waits until all is written, but not for ever."""
-        with self._news:
-            self._news.wait_for(lambda: self._is_idle, seconds)
 
 
 class Parser(argparse.ArgumentParser):
@@ -164,67 +124,6 @@ def address_of(options: argparse.Namespace) -> Address:
                    options.username, password_of(options.password_file) if options.password_file else None, context)
 
 
-class Controller:
-    """The controller, a process or a socket, and the follower of its lines. `state` stays the same if a socket comes back."""
-
-    def __init__(self, options: argparse.Namespace, more: Sequence[str], log: Log) -> None:
-        self.options, self.more, self.log = options, more, log
-        self.state = PlantState()
-        self.follower: Optional[Follower] = None
-        self.is_over = False  # set by a handler of signals, so it is no lock
-        self._told = ""
-
-    def commands(self) -> Optional[Commands]:
-        """The commands of the controller that runs, or None."""
-        follower = self.follower
-        return follower.commands if follower is not None and not follower.ended.is_set() else None
-
-    def end(self, *_: object) -> None:
-        """Ends `run`. It is also the handler of a signal."""
-        self.is_over = True
-
-    def run(self) -> int:
-        """Follows the controller until `is_over` is set or, if it was started here, until it ends. Returns the status."""
-        if self.options.socket is None:
-            return self._follow(start(self.options.plans, self.options.interface, ["--signals=only", *self.more]), ends=True)
-        while not self.is_over:
-            try:
-                connection = Socket(self.options.socket)
-            except OSError as fault:
-                self.state.end(f"no controller listens at {self.options.socket}: {fault.strerror}")
-                self._tell(f"no controller listens at {self.options.socket}: {fault.strerror}")
-            else:
-                self._tell(f"connected to the controller at {self.options.socket}")
-                self._follow(connection, ends=False)
-                if not self.is_over:
-                    self._tell(connection.reason())
-            self._pause()
-        return 0
-
-    def _pause(self) -> None:
-        ends = time.monotonic() + AGAIN
-        while not self.is_over and time.monotonic() < ends:
-            time.sleep(LOOKS)
-
-    def _follow(self, connection: Connection, ends: bool) -> int:
-        self.follower = Follower(connection, self.state)
-        self.follower.start()
-        while not self.follower.ended.wait(LOOKS) and not self.is_over:
-            pass
-        was_ended = self.follower.ended.is_set()
-        connection.close()
-        self.follower.join()
-        if ends and was_ended:
-            self._tell(connection.reason())
-        status = (connection.status or 0) if ends and was_ended else 0
-        return status if status >= 0 else 128 - status  # as a shell says that a signal has ended it
-
-    def _tell(self, text: str) -> None:
-        if text != self._told:
-            self._told = text
-            self.log(text)
-
-
 def checked(words: Sequence[str]) -> "tuple[argparse.Namespace, List[str], Address, Topics]":
     """The options, the controller's own words, the broker and the topics."""
     words = list(words)
@@ -243,12 +142,12 @@ def checked(words: Sequence[str]) -> "tuple[argparse.Namespace, List[str], Addre
     return options, more, address_of(options), topics
 
 
-def page_of(options: argparse.Namespace, controller: Controller) -> Optional[Server]:
+def page_of(options: argparse.Namespace, source: Source, log: Log) -> Optional[Server]:
     """The page of nandutable-view, which only shows, over the same picture of the plant."""
     if options.view is None:
         return None
     try:
-        page = Server("127.0.0.1", options.view, controller.state, controller.commands)
+        page = Server("127.0.0.1", options.view, source.state, source.commands, Rules(tell=log))
     except OSError as fault:
         raise Refusal(IS_TAKEN, f"--view: the page cannot be served at 127.0.0.1 port {options.view}: {fault.strerror or fault}") from None
     page.start()
@@ -256,34 +155,34 @@ def page_of(options: argparse.Namespace, controller: Controller) -> Optional[Ser
 
 
 def main(words: Sequence[str]) -> int:
-    log = Log()
+    log = Log(NAME)
     try:
         options, more, address, topics = checked(words)
-        controller = Controller(options, more, log)
-        page = page_of(options, controller)
+        source = Source(options.socket, lambda: start(options.plans, options.interface, ["--signals=only", *more]), log)
+        page = page_of(options, source, log)
     except Refusal as no:
         print(f"{NAME}: {no}", file=sys.stderr)
         return no.status
     if address.password is not None and address.context is None and address.host not in ("localhost", "127.0.0.1", "::1"):
         log(f"warning: the password goes to {address.host} without TLS: whoever hears it can set outputs (--cafile)")
     for one in (signal.SIGTERM, signal.SIGINT, signal.SIGHUP):
-        signal.signal(one, controller.end)
-    status = run(controller, Bridge(controller.state, controller.commands, address, topics, options.sets_per_second, options.read_only, log), log)
+        signal.signal(one, source.end)
+    status = run(source, Bridge(source.state, source.commands, address, topics, options.sets_per_second, options.read_only, log), log)
     if page is not None:
         page.stop()
     log.close()
     return status
 
 
-def run(controller: Controller, bridge: Bridge, log: Log) -> int:
+def run(source: Source, bridge: Bridge, log: Log) -> int:
     """Runs both until one of them ends."""
     def watch() -> None:
         bridge.ended.wait()
-        controller.end()
+        source.end()
     bridge.start()
     threading.Thread(target=watch, daemon=True).start()
     try:
-        status = controller.run()
+        status = source.run()
     except Error as fault:
         log(str(fault))
         status = NO_FILE
