@@ -12,12 +12,20 @@
  *     records STRIDE HEX  this call that reads a record: of each STRIDE-th index and of each of a row of known ones
  *     both N              a controller of the station N meets the device
  *     tool                a tool names the device, and reads a record of it
+ *     catalogue FILE      a plan is read from a catalogue, and the key of its first fault (not on the board)
  */
 #include "nandutable_controller.h"
 #include <stdio.h>
 #include <stdlib.h>
 
 #define LONGEST 8192
+
+/* What only a PC needs: it allocates memory. */
+#ifdef BOARD
+#define OF_A_PC(F)
+#else
+#define OF_A_PC(F) F(pn_plan_read) F(pn_plan_where)
+#endif
 
 #define FUNCTIONS(F)                                                                                                               \
     F(pn_make) F(pn_boot) F(pn_frame) F(pn_tick) F(pn_input) F(pn_alarm) F(pn_status) F(pn_diagnosis) F(pn_ready) F(pn_tell_link)  \
@@ -28,7 +36,7 @@
     F(pn_controller_conflicts) F(pn_controller_neighbour) F(pn_controller_refusal) F(pn_controller_refused_record)                 \
     F(pn_controller_answer) F(pn_controller_alarm) F(pn_controller_report) F(pn_controller_diagnoses)                              \
     F(pn_controller_diagnosis) F(pn_tool_ask) F(pn_tool_heard) F(pn_tool_give) F(pn_tool_given) F(pn_tool_ask_record)              \
-    F(pn_tool_record_in)
+    F(pn_tool_record_in) OF_A_PC(F)
 
 #define AS_NUMBER(name) AT_##name,
 #define AS_TEXT(name) #name,
@@ -49,7 +57,7 @@ static unsigned long line_number;
 void initialise_monitor_handles(void);
 #else
 /* What is painted, and the octets below the painting function's own frame that it leaves alone. */
-#define PAINTED (48u * 1024)
+#define PAINTED (96u * 1024)
 #define MARGIN 256u
 #define COLOUR 0xA5A5A5A5A5A5A5A5u
 
@@ -542,6 +550,31 @@ static void records(uint32_t stride, uint8_t *octets, size_t length)
     to_controller.count = 0;
 }
 
+/* --- Catalogues --- */
+
+#ifndef BOARD
+static void catalogue(const char *path)
+{
+    static uint8_t text[1 << 16], where[256];
+    static pn_plan read;
+    FILE *file = fopen(path, "rb");
+    size_t length;
+    uint32_t answer;
+    if (file == NULL)
+        fail(path, 0);
+    length = fread(text, 1, sizeof text, file);
+    fclose(file);
+    CALL(answer, pn_plan_read, &read, text, length);
+    CALL(answer, pn_plan_where, text, length, (char *)where, sizeof where);
+    (void)answer;
+}
+#else
+static void catalogue(const char *path)
+{
+    fail(path, 0);
+}
+#endif
+
 /* --- Lines --- */
 
 static size_t read_hex(const char *text, uint8_t *octets, size_t most)
@@ -623,6 +656,8 @@ static void play(char *text)
         both((unsigned)at[0]);
     } else if (strcmp(word, "tool") == 0) {
         tool();
+    } else if (strcmp(word, "catalogue") == 0 && *rest == ' ') {
+        catalogue(rest + 1);
     } else {
         fail("this line is none", 0);
     }
