@@ -271,7 +271,7 @@ class BridgeTests:
         everything.until("plant/flow-7/_state", state="ended")
         everything.until("plant/flow-7/flow", quality="bad")
         bridge = begins("--view", "8893")
-        same("the page", self.page(wire, 8893)[:15], b"HTTP/1.1 200 OK")
+        same("the page", self.page_at(wire, 8893)[:15], b"HTTP/1.1 200 OK")
         bridge.end(9)
         device.expect("phase none", 20)
         everything.until("plant/_bridge", state="offline")
@@ -289,7 +289,7 @@ class BridgeTests:
         broker.end()
         return None
 
-    def page(self, wire, port):
+    def page_at(self, wire, port):
         """What the page's server answers."""
         with wire.opened("c0", socket.AF_INET, socket.SOCK_STREAM, 0) as link:
             link.settimeout(20)
