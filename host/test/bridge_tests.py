@@ -1,4 +1,4 @@
-"""Tests of the bridge to MQTT: `host/test/run topics bridge_words bridge bridge_own bridge_stuck bridge_hostile bridge_tls`. They
+"""Tests of the bridge to MQTT: `host/test/run topics bridge_words bridge_bounds bridge bridge_own bridge_stuck bridge_hostile bridge_tls`. They
 take Debian's mosquitto, mosquitto-clients and python3-paho-mqtt."""
 
 import contextlib
@@ -21,6 +21,54 @@ BROKER = "/usr/sbin/mosquitto"
 LATE = 90
 PLACES = [os.path.join(TOP, "host", "bridge"), os.path.join(TOP, "host", "python")]
 sys.path[:0] = PLACES
+
+
+BOUNDS = """
+import json, resource, socket, sys, threading, time
+sys.path[:0] = sys.argv[1:]
+from nandutable import lines
+from nandutable.state import PlantState
+from nandutable_bridge.bridge import Bridge
+from nandutable_bridge.broker import Address
+from nandutable_bridge.topics import Topics
+
+door = socket.socket()
+door.setsockopt(socket.SOL_SOCKET, socket.SO_RCVBUF, 4096)
+door.bind(("127.0.0.1", 0))
+door.listen()
+state = PlantState()
+bridge = Bridge(state, lambda: None, Address("127.0.0.1", door.getsockname()[1], 3600), Topics("plant"))
+bridge.start()
+link, _ = door.accept()
+link.recv(4096)
+link.sendall(bytes.fromhex("2003000000"))
+
+
+def change(number):
+    raw = '"%s"' % (str(number) * 1024)[:1024]
+    state.take(lines.Signal("", "a", f"a.x{number % 100}", raw, True, None))
+
+
+def resident():
+    with open("/proc/self/status") as file:
+        return next(int(line.split()[1]) for line in file if line.startswith("VmRSS"))
+
+
+for number in range(2000):
+    change(number)
+    time.sleep(0.0005)
+before = resident()
+for number in range(30000):
+    change(number)
+    if number % 15 == 0:
+        state.take(lines.Alarm("", "a", 1, 1, 1, 0, b"", "low", "diagnosis"))
+        time.sleep(0.0005)
+time.sleep(1)
+found = [bridge.broker.waits, bridge.broker.dropped + bridge.changes.dropped, resident() - before]
+begins = time.monotonic()
+bridge.stop()
+print(json.dumps([*found, time.monotonic() - begins]))
+"""
 
 
 def same(what, came, wanted):
@@ -138,6 +186,18 @@ class BridgeTests:
             same(f"{line}: {told}", (ended, words in told), (status, True))
         ran = subprocess.run([PYTHON, BRIDGE, "eth2"], capture_output=True, text=True, timeout=60)
         same("the program", (ran.returncode, ran.stderr), (64, "nandutable-bridge: name the plan of each station after the interface (nandutable-bridge --help)\n"))
+
+    def bridge_bounds(self):
+        """A broker that accepts the connection and then reads nothing, 30,000 changes with a KiB each and 2,000 alarms: what waits is bounded."""
+        if lacks := lacking():
+            return lacks
+        ran = subprocess.run([PYTHON, "-c", BOUNDS, *PLACES], capture_output=True, text=True, timeout=300)
+        same(f"its end: {ran.stderr}", ran.returncode, 0)
+        waits, dropped, grown, seconds = json.loads(ran.stdout)
+        same(f"{waits} payloads wait, {dropped} events are dropped", (waits <= 100 + 256 + 20 + 2, dropped >= 2000 - 256 - 20), (True, True))
+        same(f"the memory grows by {grown} KiB", grown < 6000, True)
+        same(f"it ends after {seconds} s", seconds < 10, True)
+        return f"{waits} payloads wait, the memory grows by {grown} KiB"
 
     # ---- a broker, a bridge and a station
 
