@@ -77,9 +77,24 @@ def numbered(signals):
         signal.entry["Name"] = name
 
 
+def count_repeats(signals):
+    """Gives each name of the signals that no place tells apart a number at its end: items of one submodule with the same text, and their bits."""
+    groups = {}
+    for signal in signals:
+        groups.setdefault(signal.names[-1], []).append(signal)
+    for longest, group in groups.items():
+        number = 0
+        for signal in group if len(group) > 1 else ():
+            number += 1
+            while f"{longest}_{number}" in groups:
+                number += 1
+            signal.names = [f"{name[:LONGEST_NAME - 6].rstrip('_')}_{number}" for name in signal.names]
+
+
 def give_names(signals):
     """Gives each signal its name: the shortest of its own that no other has. If a text repeats, each of its signals has its slot in front, then
     the subslot, the item, the direction; and so has its family."""
+    count_repeats(signals)
     while True:
         crowded = [signal for group in by_name(signals).values() if len(group) > 1 for signal in group if signal.level + 1 < len(signal.names)]
         if not crowded:

@@ -467,7 +467,7 @@ class PythonTests:
         refusal(nandutable.Refused, "Unsigned8 takes 0 to 255", setattr, flow, "lamp", 1.5)
         refusal(nandutable.Refused, "VisibleString takes at most 16", setattr, flow, "display", "seventeen letters")
         refusal(nandutable.Refused, "it is an input", setattr, flow, "flow", 1.0)
-        refusal(nandutable.Refused, "there is no such signal", setattr, flow, "depth", 1)
+        refusal(nandutable.NoSuchName, "has no signal 'depth'", setattr, flow, "depth", 1)
         refusal(nandutable.Refused, "has no blanks", plant.commands.set, "flow-7.lamp 1", 1)
         refusal(ValueError, "no line feed", setattr, flow, "display", "a\nstop")
         refusal(nandutable.NoSuchName, "flow-7 has no signal 'depth'; there are flow, total", lambda: flow.depth)

@@ -5,6 +5,11 @@ import { draw, make, shape, show, write } from "./parts.js";
 const QUIET = 5000; // milliseconds without a change after which a change flashes
 const TREND = { seconds: 60, points: 120, width: 96, height: 24 };
 
+/** A name that breaks at the end of a line after `_`, and only then within a word. */
+function breakable(name) {
+  return name.split(/(?<=_)/).flatMap((part, at) => (at ? [make("wbr"), part] : [part]));
+}
+
 /** One signal: its row, and what its number was in the last minute. */
 class Row {
   constructor(signal, openSet) {
@@ -24,7 +29,7 @@ class Row {
     button.addEventListener("click", () => openSet(this.signal));
     const place = `${signal.type}, slot ${signal.slot} subslot ${signal.subslot}`;
     this.element = make("tr", {},
-      make("th", { scope: "row", title: place }, signal.signal, signal.text ? make("small", {}, signal.text) : null),
+      make("th", { scope: "row", title: place }, ...breakable(signal.signal), signal.text ? make("small", {}, signal.text) : null),
       make("td", { class: "trend" }, trend),
       make("td", { class: "value" }, this.value, signal.unit ? make("span", { class: "unit" }, signal.unit) : null),
       this.quality, canBeSet ? make("td", { class: "change" }, button) : null);

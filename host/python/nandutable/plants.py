@@ -204,7 +204,11 @@ class Station:
 
     def __setitem__(self, signal: str, value: Union[Value, Raw]) -> None:
         """Sets an output. Raises `Refused` with the reason of the controller."""
-        self._plant.commands.set(f"{self.name}.{signal}", value)
+        try:
+            self._plant.commands.set(f"{self.name}.{signal}", value)
+        except Refused:
+            self.signal(signal)  # raises NoSuchName, with the nearest names, if that is the reason
+            raise
 
     def __getattr__(self, signal: str) -> Value:
         if signal.startswith("_"):
