@@ -449,7 +449,7 @@ class PythonTests:
     def check_values(self, device, flow):
         device.ask("input 2 1 414800000000002a01", "note done")
         same("a change", flow.wait_until("flow", lambda value: value == 12.5, 5), 12.5)
-        same("the others of its frame", (flow.flow, flow["total"], flow.pipe_full, flow.slot2_state), (12.5, 42, True, 1))
+        is_soon("the others of its frame", lambda: (flow.flow, flow["total"], flow.pipe_full, flow.slot2_state) == (12.5, 42, True, 1))
         reading = flow.signal("flow")
         same("a reading", (str(reading), reading.good, reading.unit, reading.type, reading.direction, abs(reading.time - time.time()) < 30),
              ("flow-7.flow = 12.5 l/s", True, "l/s", "Float32", "input", True))
