@@ -18,7 +18,7 @@ SECTOR, WIDTH, LEFT = 4096, 860, 20
 def number_of(name):
     """A constant of the crate's sources."""
     folder = os.path.join(TOP, "crates", "settings_journal", "src")
-    for file in sorted(os.listdir(folder)):
+    for file in sorted(name for name in os.listdir(folder) if name.endswith(".rt")):
         with open(os.path.join(folder, file), encoding="utf-8") as text:
             found = re.search(rf"\bconst {name}: \w+ = (0x[0-9A-Fa-f]+|[0-9]+);", text.read())
         if found:

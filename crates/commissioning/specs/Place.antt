@@ -8,7 +8,7 @@ use Rattle.dcp_core.specs.declared.request.Service.TheVariants.{Get, Set, Identi
 use Rattle.dcp_core.specs.Answered.{value_among}
 use Rattle.dcp_core.specs.Response.{Answered}
 use Rattle.plans.specs.declared.parts.Controller.{Controller}
-use Rattle.controller_frames.specs.Heard.{Heard, Answers, heard_of}
+use Rattle.controller_messages.specs.Heard.{Heard, Answers, heard_of}
 use Rattle.commissioning.specs.declared.search.Search.{Search}
 
 -- Nobody answered; one station, with the name that it told last, if it told one (it is empty if the station has none); or more

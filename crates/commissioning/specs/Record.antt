@@ -16,9 +16,9 @@ use Rattle.record_blocks.specs.declared.read_record.IodReadReq.{IodReadReq}
 use Rattle.block_codec.specs.declared.block.Block.TheVariants as is
 use Rattle.block_codec.specs.Block.{block_bytes, block_of}
 use Rattle.plans.specs.declared.parts.Controller.{Controller}
-use Rattle.controller_frames.specs.Heard.{Heard, Responds, Refuses, heard_of}
-use Rattle.controller_frames.specs.RecordRequests.{most_record_octets}
-use Rattle.record_access.specs.Access.{record_in}
+use Rattle.controller_messages.specs.Heard.{Heard, Responds, Refuses, heard_of}
+use Rattle.controller_messages.specs.RecordRequests.{most_record_octets}
+use Rattle.controller_messages.specs.Access.{record_in}
 use Rattle.commissioning.specs.declared.record.Target.{Target}
 use Rattle.commissioning.specs.declared.record.RecordPlace.{RecordPlace}
 use Rattle.commissioning.specs.declared.record.RecordTold.{RecordTold}

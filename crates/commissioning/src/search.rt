@@ -3,7 +3,7 @@ ghost use Rattle.std.specs.Prelude.{◌≡◌, ◌≤◌, length, Some, option_m
 ghost use Rattle.dcp_core.specs.Answered.{answered};
 ghost use Rattle.commissioning.specs.Place.{Nobody, One, after_frame, is_found as is_found_by, met, name_of, place_of, told_name};
 
-use controller_frames::{Hearing, heard};
+use controller_messages::{Hearing, heard};
 use dcp_core::{Kind, Response, Service};
 use frame_codec::Bytes;
 use plans::Controller;

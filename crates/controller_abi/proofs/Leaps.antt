@@ -1,11 +1,11 @@
 -- Units of time that pass at once: those before the last one send nothing and end nothing.
 use Rattle.std.proofs.Common.{◌≡◌, ◌+◌, ◌≤◌, ◌<◌, ◌++◌, ℕ, zero, suc, Bool, true, false, List, [], ◌∷◌, drop, refl, sym, ap, subst, ◌∙◌, arith, inl, inr}
 use Rattle.std.specs.Prelude.{◌||◌, ◌&&◌, not}
-use Rattle.controller_state.specs.declared.event.Event.TheVariants.{Tick}
-use Rattle.controller_state.specs.declared.state.State as phase
+use Rattle.controller_core.specs.declared.stored.event.Event.TheVariants.{Tick}
+use Rattle.controller_core.specs.declared.stored.state.State as phase
 use Rattle.controller_core.specs.Leaps.{NoneEnds, OnlyTheLastEnds, ticks_of}
 use Rattle.controller_core.specs.Machine.{step_of}
-use Rattle.controller_state.specs.State.{Controlling}
+use Rattle.controller_core.specs.stored.State.{Controlling}
 use Rattle.controller_station.specs.Beside as services
 use Rattle.controller_station.specs.Beside.{Beside, sent_by_tick, ticked}
 use Rattle.controller_station.specs.Served.{Frames, Served, in_order}

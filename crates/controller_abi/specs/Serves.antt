@@ -4,25 +4,25 @@
 -- controller nor in the operation.
 use Rattle.std.specs.Prelude.{◌≡◌, ◌+◌, ◌*◌, ◌==◌, ◌++◌, nat_lt, ℕ, Bool, true, false, not, if◌then◌else◌, List, [], ◌∷◌, length, min, slice_get, take, Option, Some, None, option_map}
 use Rattle.record_blocks.specs.declared.alarm_notification.AlarmNotification.{AlarmNotification}
-use Rattle.controller_state.specs.Cause.{number_of}
-use Rattle.cyclic_exchange.specs.Process.{value_at}
+use Rattle.controller_core.specs.stored.Cause.{number_of}
+use Rattle.cyclic_data.specs.exchange.Process.{value_at}
 use Rattle.lldp.specs.Peer.{Peer}
 use Rattle.lldp.specs.State.{Known}
-use Rattle.cyclic_exchange.specs.declared.exchange.ProviderStatus.{ProviderStatus}
+use Rattle.cyclic_data.specs.declared.exchange.exchange.ProviderStatus.{ProviderStatus}
 use Rattle.rpc_core.specs.declared.response.Status.{Status}
-use Rattle.alarm_reports.specs.declared.priority.Priority.{Priority}
-use Rattle.alarm_reports.specs.declared.priority.Priority.TheVariants.{High, Low}
-use Rattle.alarm_reports.specs.declared.report.Report.{Report}
-use Rattle.record_access.specs.Access.{record_of}
+use Rattle.diagnosis.specs.declared.reports.priority.Priority.{Priority}
+use Rattle.diagnosis.specs.declared.reports.priority.Priority.TheVariants.{High, Low}
+use Rattle.diagnosis.specs.declared.reports.report.Report.{Report}
+use Rattle.controller_messages.specs.Access.{record_of}
 use Rattle.diagnosis.specs.declared.diagnosis.Diagnosis.{Diagnosis}
-use Rattle.reported_diagnosis.specs.Reported.{Reported}
+use Rattle.diagnosis.specs.reported.Reported.{Reported}
 use Rattle.controller_core.specs.Machine.{can_request, end_of, provider_of, report_in}
-use Rattle.record_access.specs.declared.access.Answer.{Answer}
-use Rattle.controller_state.specs.declared.state.RefusedRecord.{RefusedRecord}
-use Rattle.controller_state.specs.declared.event.Event.{Event}
-use Rattle.controller_state.specs.declared.event.Event.TheVariants as event
-use Rattle.controller_state.specs.declared.state.State as phase
-use Rattle.controller_state.specs.declared.state.State.TheVariants.{Looking, Addressing, Connecting, Writing, Ending, Waiting, Exchanging, Ended}
+use Rattle.controller_messages.specs.declared.access.Answer.{Answer}
+use Rattle.controller_core.specs.declared.stored.state.RefusedRecord.{RefusedRecord}
+use Rattle.controller_core.specs.declared.stored.event.Event.{Event}
+use Rattle.controller_core.specs.declared.stored.event.Event.TheVariants as event
+use Rattle.controller_core.specs.declared.stored.state.State as phase
+use Rattle.controller_core.specs.declared.stored.state.State.TheVariants.{Looking, Addressing, Connecting, Writing, Ending, Waiting, Exchanging, Ended}
 use Rattle.c_layout.specs.declared.op.Op.{Op}
 use Rattle.c_layout.specs.Places.{place_in}
 use Rattle.c_layout.specs.Reported.{with_octets}

@@ -1,10 +1,10 @@
 //! One operation of the host.
 ghost use Rattle.std.specs.Prelude.{◌≡◌, ◌==◌, Some, length, not, option_map, slice_get, take};
-ghost use Rattle.cyclic_exchange.specs.Process.{value_at};
+ghost use Rattle.cyclic_data.specs.exchange.Process.{value_at};
 ghost use Rattle.lldp.specs.State.{Known};
 ghost use Rattle.lldp.specs.Views.{peer_as};
-ghost use Rattle.controller_state.specs.declared.event.Event.TheVariants.{Frame as Framed, Give as Given, Read as Reads, Status as Rated, Write as Writes};
-ghost use Rattle.record_access.specs.Access.{record_of};
+ghost use Rattle.controller_core.specs.declared.stored.event.Event.TheVariants.{Frame as Framed, Give as Given, Read as Reads, Status as Rated, Write as Writes};
+ghost use Rattle.controller_messages.specs.Access.{record_of};
 ghost use Rattle.controller_core.specs.Machine.{can_request, end_of, provider_of, report_in};
 ghost use Rattle.c_layout.specs.Places.{place_in};
 ghost use Rattle.controller_abi.specs.Outputs.{why_not_fit, why_not_rated, why_not_read, why_not_set, why_not_written};
@@ -16,11 +16,11 @@ ghost use Rattle.controller_abi.specs.Serves.{status_number as status_number_in,
 
 use crate::operation::{Operation, operation_of};
 use crate::port::Port;
-use alarm_reports::{Priority, Report};
 use arrayvec::ArrayVec;
 use block_codec::AlarmNotification;
 use c_layout::{BAD_LENGTH, HAS_WORK, NO_FRAME, NO_SLOT, Op, UNKNOWN, place_of, put};
 use controller_core::{Event, ProviderStatus, State};
+use diagnosis::{Priority, Report};
 use frame_codec::Bytes;
 use lldp::Neighbour;
 use rpc_core::Status;

@@ -2,3 +2,4 @@ pub mod Leaping
 pub mod Quiet
 pub mod OutputsGiven
 pub mod Nearer
+pub mod StartUpAnswering

@@ -1,2 +1,4 @@
 pub mod Machine
 pub mod Leaps
+pub mod stored
+pub mod start_up

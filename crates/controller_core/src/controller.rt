@@ -1,23 +1,23 @@
 //! The controller.
 ghost use Rattle.std.specs.Prelude.{◌≡◌, ◌≤◌, IfSome, [], ◌∷◌, length, option_map};
-ghost use Rattle.cyclic_exchange.specs.Process.{value_at};
+ghost use Rattle.cyclic_data.specs.exchange.Process.{value_at};
 ghost use Rattle.frame_codec.specs.Outbox.{boxed};
-ghost use Rattle.record_access.specs.Access.{record_of};
+ghost use Rattle.controller_messages.specs.Access.{record_of};
 ghost use Rattle.controller_core.specs.Machine.{can_request, end_of, fresh, fresh_with, opening_of, provider_of, report_in};
 
+use crate::stored::{KeptAlarm, OutputMark, open};
 use crate::{RefusedRecord, State};
-use alarm_reports::{Priority, Report};
 use arrayvec::ArrayVec;
 use block_codec::AlarmNotification;
-use controller_frames::{ControllerOptions, RecordRequest, Request, Setup, send_request};
-use controller_state::{KeptAlarm, OutputMark, open};
-use cyclic_exchange::{CyclicExchange, ProviderStatus};
+use controller_messages::{
+    Access, Answer, ControllerOptions, RecordRequest, Request, Setup, send_request,
+};
+use cyclic_data::{CyclicExchange, ProviderStatus};
+use diagnosis::{Diagnosis, Priority, Report, ReportedDiagnoses};
 use frame_codec::{Frame, Outbox};
 use plans::{Plan, RTA_RETRIES, RTA_TIMEOUT_FACTOR};
 use pn_alarms::ControllerAlarms;
 use pn_values::Mac;
-use record_access::{Access, Answer};
-use reported_diagnosis::{Diagnosis, ReportedDiagnoses};
 use rpc_core::{Status, Uuid};
 use std::marker::Model;
 
@@ -62,8 +62,8 @@ pub struct Controller {
 
 impl Model for Controller {
     ghost use Rattle.std.specs.Prelude.{◌<◌, option_map};
-    ghost use Rattle.controller_state.specs.State.{Controlling};
-    ghost use Rattle.controller_state.specs.Alarms.{alarm_in, structure_in};
+    ghost use Rattle.controller_core.specs.stored.State.{Controlling};
+    ghost use Rattle.controller_core.specs.stored.Alarms.{alarm_in, structure_in};
 
     ghost Value = { Controlling };
 

@@ -4,7 +4,7 @@ ghost use Rattle.frame_codec.specs.Outbox.{boxed};
 ghost use Rattle.controller_core.specs.Leaps.{LeapsAreTicks, NoneEnds, NoneSends, OnlyTheLastEnds, OnlyTheLastSends, access_due_in, exchange_due_in, live_due_in, patience_due_in, request_due_in, ticks_of};
 
 use crate::Controller;
-use controller_state::{SECOND, counter_later, waited_later};
+use crate::stored::{SECOND, counter_later, waited_later};
 use frame_codec::Outbox;
 use pn_alarms::NEVER;
 

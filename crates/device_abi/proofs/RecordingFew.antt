@@ -12,8 +12,8 @@ use Rattle.flash_model.specs.Image.{Image}
 use Rattle.flash_model.specs.declared.flash.Sector.{Sector}
 use Rattle.settings_journal.specs.Calls.{CommitCalls, calls_of}
 use Rattle.settings_journal.specs.Cut.{all_carried_out}
-use Rattle.settings_store.specs.Machine.{Accepted, Carried, Pass, carried_one, carried}
-use Rattle.settings_store.specs.State.{Values}
+use Rattle.settings_journal.specs.settings_store.Machine.{Accepted, Carried, Pass, carried_one, carried}
+use Rattle.settings_journal.specs.settings_store.State.{Values}
 use Rattle.device_abi.specs.recording.Calls.{CallsOf}
 
 -- ---- the calls of commands

@@ -4,7 +4,7 @@ use Rattle.device_core.specs.Machine.{items_of, handled_step, heard_step, step_o
 use Rattle.device_core.specs.State.{State, store_of}
 use Rattle.device_frames.specs.Heard.{heard_of}
 use Rattle.device_frames.specs.declared.event.Event.{Event}
-use Rattle.settings_store.specs.Carries.{OneByOne, Holds, Stretch}
+use Rattle.settings_journal.specs.settings_store.Carries.{OneByOne, Holds, Stretch}
 use Rattle.device_abi.specs.recorded.Record.{image_of, record_of}
 use Rattle.device_abi.specs.recorded.Laws.{IsImage-of}
 use Rattle.device_abi.specs.declared.recorded.flash.RecordedFlash.{RecordedFlash}

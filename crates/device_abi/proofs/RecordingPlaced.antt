@@ -11,9 +11,9 @@ use Rattle.flash_model.specs.Calls.{Call}
 use Rattle.flash_model.specs.declared.flash.Flash.{Ghosts as Flash}
 use Rattle.settings_journal.specs.Cut.{AreWrites, all_carried_out}
 use Rattle.settings_journal.specs.Image.{LeftByDevice}
-use Rattle.settings_store.specs.State.{State, Values}
-use Rattle.settings_store.specs.Machine.{Outcome, Pass, Accepted, Carried, accepted, carried_one, carried}
-use Rattle.settings_store.specs.Carries.{OneByOne, CarriesOne, Holds}
+use Rattle.settings_journal.specs.settings_store.State.{State, Values}
+use Rattle.settings_journal.specs.settings_store.Machine.{Outcome, Pass, Accepted, Carried, accepted, carried_one, carried}
+use Rattle.settings_journal.specs.settings_store.Carries.{OneByOne, CarriesOne, Holds}
 use Rattle.device_abi.specs.recorded.Record.{Record, image_of, record_of, pushed, after_one, after_all, IsAsked}
 use Rattle.device_abi.specs.recorded.Laws.{failures_of, has_power, IsAlways, after_all-append}
 use Rattle.device_abi.specs.declared.recorded.flash.RecordedFlash.{RecordedFlash}

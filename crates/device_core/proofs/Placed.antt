@@ -1,8 +1,8 @@
 -- Events one by one, and one more.
 use Rattle.std.proofs.Common.{ℕ, List, [], ◌∷◌, ◌++◌, refl, subst}
 use Rattle.flash_model.specs.declared.flash.Flash.{Ghosts as Flash}
-use Rattle.settings_store.specs.Machine.{Outcome}
-use Rattle.settings_store.specs.Carries.{OneByOne}
+use Rattle.settings_journal.specs.settings_store.Machine.{Outcome}
+use Rattle.settings_journal.specs.settings_store.Carries.{OneByOne}
 use Rattle.device_frames.specs.declared.event.Event.{Event}
 use Rattle.device_core.specs.State.{Station, Live}
 use Rattle.device_frames.specs.Heard.{heard_of}

@@ -3,9 +3,9 @@ use Rattle.std.proofs.Common.{◌≡◌, ◌+◌, ◌<◌, length, arith, ℕ, B
 use Rattle.std.proofs.lemmas.List.{append-nil}
 use Rattle.std.proofs.lemmas.Bool.{cond-true}
 use Rattle.flash_model.specs.declared.flash.Flash.{Ghosts as Flash}
-use Rattle.settings_store.specs.Carries.{OneByOne, Holds, Stretch}
-use Rattle.settings_store.specs.State as store
-use Rattle.settings_store.specs.Machine.{Accepted}
+use Rattle.settings_journal.specs.settings_store.Carries.{OneByOne, Holds, Stretch}
+use Rattle.settings_journal.specs.settings_store.State as store
+use Rattle.settings_journal.specs.settings_store.Machine.{Accepted}
 use Rattle.device_frames.specs.declared.event.Event.{Event}
 use Rattle.device_core.specs.State.{State, store_of}
 use Rattle.device_frames.specs.Heard.{Heard, heard_of}

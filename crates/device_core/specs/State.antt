@@ -3,15 +3,15 @@ use Rattle.std.specs.Prelude.{◌+◌, ◌%◌, ℕ, List, [], Option, None}
 use Rattle.std.specs.Option.{option_map}
 use Rattle.pn_values.specs.declared.identity.Identity.{Identity}
 use Rattle.pn_values.specs.declared.real.Real.{Real}
-use Rattle.settings_store.specs.State as store
-use Rattle.settings_store.specs.State.{Values}
+use Rattle.settings_journal.specs.settings_store.State as store
+use Rattle.settings_journal.specs.settings_store.State.{Values}
 use Rattle.rpc_core.specs.Cache.{Kept}
 use Rattle.diagnosis.specs.declared.diagnosis.Diagnosis.{Diagnosis}
 use Rattle.lldp.specs.Peer.{Peer, alias_of}
-use Rattle.device_log.specs.declared.entry.LogEntry.{LogEntry}
+use Rattle.device_records.specs.declared.log_data.entry.LogEntry.{LogEntry}
 use Rattle.relations.specs.declared.options.DeviceOptions.{DeviceOptions}
 use Rattle.relations.specs.Options.{default_options}
-use Rattle.device_exchange.specs.declared.statuses.InputStatus.{InputStatus}
+use Rattle.relations.specs.declared.exchange.statuses.InputStatus.{InputStatus}
 use Rattle.relations.specs.RelationState.{RelationState}
 
 -- The fixed properties of a device: its identity, the modules that are plugged, and its options.

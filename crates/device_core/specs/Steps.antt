@@ -4,8 +4,8 @@ use Rattle.flash_model.specs.declared.flash.Flash.{Ghosts as Flash}
 use Rattle.pn_values.specs.declared.mac.Mac.{Mac}
 use Rattle.pn_values.specs.declared.identity.Identity.{Identity}
 use Rattle.pn_values.specs.declared.settings.Settings.{Settings}
-use Rattle.settings_store.specs.Machine.{Outcome}
-use Rattle.settings_store.specs.Carries.{OneByOne, Stretch, Continues}
+use Rattle.settings_journal.specs.settings_store.Machine.{Outcome}
+use Rattle.settings_journal.specs.settings_store.Carries.{OneByOne, Stretch, Continues}
 use Rattle.dcp_core.specs.declared.request.Service.TheVariants.{Identify}
 use Rattle.dcp_core.specs.Request.{Asked}
 use Rattle.rpc_core.specs.Call.{Asked as Called}

@@ -14,17 +14,15 @@ ghost use Rattle.device_core.specs.State.{plain};
 
 use crate::calls::Answering;
 use arrayvec::ArrayVec;
-use device_exchange::InputStatus;
-use device_log::Log;
+use device_records::Log;
 use diagnosis::Diagnoses;
 use flash_model::{Flash, Order};
 use lldp::Neighbour;
 use pn_values::{Identity, Real, SetItem, Settings};
 use records::TakenRecord;
-use relations::{DeviceOptions, Phase, ProviderStatus, Relation};
+use relations::{DeviceOptions, InputStatus, Phase, ProviderStatus, Relation};
 use rpc_core::Uuid;
-use settings_journal::BootFault;
-use settings_store::Store;
+use settings_journal::{BootFault, Store};
 use std::marker::Model;
 
 /// A PROFINET IO device over a flash. In clauses it is the flash, the fixed properties of the station, and the state
@@ -58,7 +56,7 @@ pub struct Device<F: Flash<S>, const S: usize> {
 
 impl<F: Flash<S>, const S: usize> Model for Device<F, S> {
     ghost use Rattle.std.specs.Option.{option_map};
-    ghost use Rattle.settings_store.specs.Carries.{Holds};
+    ghost use Rattle.settings_journal.specs.settings_store.Carries.{Holds};
     ghost use Rattle.lldp.specs.Views.{peer_as};
     ghost use Rattle.device_core.specs.State.{State};
 

@@ -30,3 +30,6 @@ pub mod DeviceLists
 pub mod DeviceWalk
 pub mod ControllerTurns
 pub mod TurnsPatience
+pub mod AnswersReading
+pub mod AnswersStoring
+pub mod AnswersWalking

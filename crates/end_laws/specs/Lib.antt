@@ -4,3 +4,4 @@ pub mod sending
 pub mod both
 pub mod device
 pub mod controller
+pub mod answers

@@ -5,6 +5,7 @@
 //! `controller` prove that the real ends refine them.
 #![tactic(auto)]
 
+mod answers;
 mod both;
 mod controller;
 mod device;
@@ -12,6 +13,7 @@ mod hearing;
 mod sending;
 mod turns;
 
+pub use answers::answers_are_one_datagram;
 pub use both::{outputs_are_given, start_up_is_kept};
 pub use controller::controller_goes_on;
 pub use device::{device_goes_on, device_sends_what_it_owes, device_turns};

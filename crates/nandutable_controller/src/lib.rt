@@ -18,12 +18,14 @@ ghost use Rattle.c_layout.specs.Places.{place_in};
 ghost use Rattle.commissioning.specs.Named.{named_by};
 ghost use Rattle.commissioning.specs.Place.{after_frame, place_of};
 ghost use Rattle.commissioning.specs.Record.{record_heard};
-ghost use Rattle.commissioning_abi.specs.Tool.{IsFind, IsName, IsOutcome, IsRead, IsRecord, index_in, tool_in};
+ghost use Rattle.controller_abi.specs.Tool.{IsFind, IsName, IsOutcome, IsRead, IsRecord, index_in, tool_in};
 
 use c_layout::Op;
 use commissioning::Search;
-use commissioning_abi::{WrittenTarget, WrittenTool, find, hear, name, outcome, read, record};
-use controller_abi::{Port, WrittenPlan, fault_in, judge, serve, start, unstarted};
+use controller_abi::{
+    Port, WrittenPlan, WrittenTarget, WrittenTool, fault_in, find, hear, judge, name, outcome,
+    read, record, serve, start, unstarted,
+};
 
 /// Returns the first fault of a plan, with the number that a catalogue with this fault has, or 0.
 #[unsafe(no_mangle)]

@@ -1,8 +1,8 @@
 -- The place of a fault, as it is reported to a host.
 use Rattle.std.specs.Prelude.{◌≡◌, ◌≢◌, ◌+◌, ◌-◌, ◌++◌, ℕ, Bool, true, false, codes, decimal, min, List, [], ◌∷◌, length, take, drop, flat_map}
-use Rattle.catalogue_keys.specs.declared.fault.Step.{Step}
-use Rattle.catalogue_keys.specs.declared.fault.Step.TheVariants.{At, Entry}
-use Rattle.catalogue_keys.specs.Keys.{name_of}
+use Rattle.catalogue.specs.declared.keys.fault.Step.{Step}
+use Rattle.catalogue.specs.declared.keys.fault.Step.TheVariants.{At, Entry}
+use Rattle.catalogue.specs.keys.Keys.{name_of}
 use Rattle.configurator.specs.declared.fault.PlanFault.{PlanFault}
 use Rattle.configurator.specs.declared.fault.PlanFault.TheVariants.{OutOfMemory}
 use Rattle.configurator.specs.declared.place.Refusal.{Refusal}

@@ -16,13 +16,13 @@ use Rattle.pn_values.specs.declared.settings.Settings.{Settings}
 use Rattle.station.specs.Serving.{Serving, serving_at}
 use Rattle.station.specs.Beside.{beside, joined_beside}
 use Rattle.station.specs.Leaps.{due_beside, told_at}
-use Rattle.controller_state.specs.declared.event.Event.{Event as ControllerEvent}
-use Rattle.controller_state.specs.declared.event.Event.TheVariants as heard
-use Rattle.controller_state.specs.State.{Controlling}
+use Rattle.controller_core.specs.declared.stored.event.Event.{Event as ControllerEvent}
+use Rattle.controller_core.specs.declared.stored.event.Event.TheVariants as heard
+use Rattle.controller_core.specs.stored.State.{Controlling}
 use Rattle.pn_alarms.specs.Numbers.{is_last}
-use Rattle.alarm_reports.specs.declared.priority.Priority.{Priority}
-use Rattle.alarm_reports.specs.declared.priority.Priority.TheVariants.{High, Low}
-use Rattle.alarm_reports.specs.declared.report.Report.{Report}
+use Rattle.diagnosis.specs.declared.reports.priority.Priority.{Priority}
+use Rattle.diagnosis.specs.declared.reports.priority.Priority.TheVariants.{High, Low}
+use Rattle.diagnosis.specs.declared.reports.report.Report.{Report}
 use Rattle.controller_core.specs.Machine.{Stepped as ControllerRun, step_of as controller_step, can_request, end_of, fresh, opening_of, report_in}
 use Rattle.relations.specs.Options.{default_options}
 use Rattle.relations.specs.declared.options.DeviceOptions.{DeviceOptions}

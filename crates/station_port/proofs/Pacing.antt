@@ -1,7 +1,7 @@
 -- Units of time that are counted for services, and what is due then.
 use Rattle.std.proofs.Common.{◌≡◌, ◌+◌, ◌-◌, ◌<◌, ◌≤◌, ℕ, zero, suc, Bool, true, false, List, [], Option, Some, None, refl, sym, ap, subst, ◌∙◌, arith, inl, inr}
 use Rattle.std.specs.Prelude.{if◌then◌else◌}
-use Rattle.settings_store.specs.State.{Values}
+use Rattle.settings_journal.specs.settings_store.State.{Values}
 use Rattle.services.specs.Leaps.{never}
 use Rattle.device_core.specs.Leaps.{live_due_in}
 use Rattle.device_core.specs.State.{Live}

@@ -1,19 +1,19 @@
 //! The station of a catalogue over the smallest flash, and its controller.
 ghost use Rattle.std.specs.Prelude.{◌≡◌, IfSome};
 ghost use Rattle.pn_values.specs.demo.Demo.{demo};
-ghost use Rattle.startup_law.specs.Played.{Begins};
+ghost use Rattle.both_ends.specs.startup.Played.{Begins};
 ghost use Rattle.world_monitor.specs.Lawful.{IsLawful};
 
 use arrayvec::ArrayVec;
+use both_ends::{begin_world, can_meet};
 use configurator::plan_from_json;
-use controller_frames::{ControllerOptions, Setup};
+use controller_messages::{ControllerOptions, Setup};
 use device_core::{Device, Event, Note};
 use flash_model::{MemoryFlash, Order};
 use frame_codec::{Bytes, Outbox};
 use network_world::{Move, World};
 use plans::Plan;
 use pn_values::{ParameterRecord, Real, RealModule, RealSubmodule, demo_identity};
-use startup_law::{begin_world, can_meet};
 use std::alloc::{AllocError, Global};
 use uuid::Uuid;
 

@@ -5,7 +5,7 @@ use super::operations::asked;
 use super::served::{padded, spelled};
 use c_layout::Op;
 use commissioning::Search;
-use commissioning_abi::{WrittenTarget, WrittenTool, find, hear, name, outcome, read, record};
+use controller_abi::{WrittenTarget, WrittenTool, find, hear, name, outcome, read, record};
 
 /// A station without a name answers.
 const NAMELESS: &str = "0200000000020200000000018892feff05014e414d450000001002020002000002030006000001230456000000\

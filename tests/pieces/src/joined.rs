@@ -2,7 +2,7 @@
 
 use super::writer::{Packet, fragment};
 use super::{Did, body_of, calls, did, octets};
-use call_pieces::{Joiner, Kind};
+use rpc_services::{Joiner, Kind};
 
 /// The headers of three fragments of 1,392, 1,392 and 216 octets, that of the whole, and that of an acknowledgement, by Scapy: in
 /// big endian, and in little endian.

@@ -5,8 +5,8 @@ use Rattle.device_abi.specs.recorded.Record.{image_of, record_of, after_all}
 use Rattle.device_abi.specs.declared.recorded.flash.RecordedFlash.{RecordedFlash}
 use Rattle.settings_journal.specs.Cut.{all_carried_out}
 use Rattle.settings_journal.specs.Image.{LeftByDevice, StartsWith}
-use Rattle.settings_store.specs.Legal.{made_of}
-use Rattle.settings_store.specs.Machine.{Accepted}
+use Rattle.settings_journal.specs.settings_store.Legal.{made_of}
+use Rattle.settings_journal.specs.settings_store.Machine.{Accepted}
 use Rattle.device_core.specs.State.{State}
 use Rattle.device_abi.specs.recording.Calls.{CallsOf, AreLegal}
 

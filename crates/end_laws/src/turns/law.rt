@@ -50,5 +50,5 @@ pub fn alarms_are_taken_in_order()
     // While its relation is established, its list of diagnoses is what the accepted changes report.
     ensures listed { ListsWhatIsReported }
 {
-    codec_laws::alarms_are_taken_in_order();
+    diagnosis::alarms_are_taken_in_order();
 }

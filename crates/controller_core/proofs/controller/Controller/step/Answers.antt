@@ -1,7 +1,7 @@
 -- An output that is set, and its status.
 use Rattle.std.proofs.Common.{ℕ, List, ap, ◌∙◌}
 use Rattle.controller_core.specs.Machine.{given, step_of}
-use Rattle.controller_state.specs.State.{with_live}
+use Rattle.controller_core.specs.stored.State.{with_live}
 use Rattle.controller_core.proofs.controller.Controller.step.Goals as goal
 
 pub returns-in-Give-clause-state : goal.returns-in-Give-clause-state
