@@ -82,7 +82,7 @@ SECTORS = 2 * 4096
 # In a listing of callgrind: the device's step, and the script's, which also prints the frames that were sent. It is used
 # if the compiler made one function of both.
 DEVICE_STEP = r"device_core::\S*\bstep"
-SCRIPT_STEP = r"script_session::power::\S*\bstep"
+SCRIPT_STEP = r"script_device::power::\S*\bstep"
 
 
 def keeps(name, figure, bound):

@@ -9,9 +9,8 @@ use Rattle.configurator.specs.declared.fault.PlanFault.TheVariants as plan
 use Rattle.configurator.specs.Planned.{IsRefused}
 use Rattle.script_lines.specs.Line.{meaning_of}
 use Rattle.script_session.specs.Ends.{Network}
-use Rattle.script_session.specs.Power.{Held}
 use Rattle.script_session.specs.Said.{Answer, Outcome, Answers, Refuses, HasNoPlan, is_order, outcome_of}
-use Rattle.script_session.specs.Session.{Are, AreRightFor, Comes, IsObeyed, IsWithoutPlan}
+use Rattle.script_session.specs.Session.{Are, AreRightFor, Comes, Held, IsObeyed, IsWithoutPlan}
 use Rattle.script_runner.specs.declared.fault.RunFault.{RunFault}
 use Rattle.script_runner.specs.declared.fault.RunFault.TheVariants.{Write, OutOfMemory, Config}
 use Rattle.script_runner.specs.Fault.{fault_of}

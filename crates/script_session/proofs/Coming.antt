@@ -12,12 +12,13 @@ use Rattle.controller_state.specs.declared.event.Event.{Event as ControllerEvent
 use Rattle.controller_state.specs.State.{Controlling}
 use Rattle.script_lines.specs.Show.{controller_shown}
 use Rattle.script_lines.specs.Text.{moved_line, note_line, printed}
-use Rattle.script_session.specs.declared.power.Power.{Power}
-use Rattle.script_session.specs.declared.power.Power.TheVariants.{On}
-use Rattle.script_session.specs.Ends.{Hears, IsRightFor, Network, Other, Running, Starts, arrived_at, device_run, frames_for_device, may_request, printed_for, ticked_by, with_ends, with_plan, with_sent}
-use Rattle.script_session.specs.Power.{Held, IsRunning}
+use Rattle.script_device.specs.declared.power.Power.{Power}
+use Rattle.script_device.specs.declared.power.Power.TheVariants.{On}
+use Rattle.script_device.specs.Machine.{Running, device_run, frames_for_device}
+use Rattle.script_session.specs.Ends.{Hears, IsRightFor, Network, Other, Starts, arrived_at, may_request, printed_for, ticked_by, with_ends, with_plan, with_sent}
+use Rattle.script_device.specs.Power.{IsRunning}
+use Rattle.script_session.specs.Session.{Comes, Held, IsDone, IsHandedOver, IsObeyed, IsRunOf, IsWithoutPlan, Obeys}
 use Rattle.script_session.specs.Said.{config_outcome, deliver_answer, deliver_outcome, handed_over, heard_outcome, record_outcome, start_outcome, tick_answer}
-use Rattle.script_session.specs.Session.{Comes, IsDone, IsHandedOver, IsObeyed, IsRunOf, IsWithoutPlan, Obeys}
 use Rattle.script_session.proofs.Obeying.{always_obeys}
 
 -- ---- a catalogue

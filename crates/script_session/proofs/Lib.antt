@@ -3,6 +3,4 @@ mod OnePlan
 pub mod Flashes
 pub mod Obeying
 pub mod Ticking
-pub mod Begins
 pub mod Leaping
-pub mod Stepping

@@ -6,13 +6,14 @@ use Rattle.configurator.specs.declared.fault.PlanFault.{PlanFault}
 use Rattle.configurator.specs.declared.fault.PlanFault.TheVariants.{OutOfMemory}
 use Rattle.script_lines.specs.Line.{Command, Frame, Restart, Tick, Elapse, Show, Due, Choose, Ready, Arm, Input, Alarm, Status, Diagnosis, Provider, Config, Start, Give, OutputStatus, Stop, Stands, Told, Read, Write, Reply, Deliver, Serve, Line, Skipped, Asks, meaning_of}
 use Rattle.script_lines.specs.declared.command.Choice.{Choice}
-use Rattle.script_session.specs.declared.power.Power.{Power}
-use Rattle.script_session.specs.declared.power.Power.TheVariants.{On, Off, Away}
-use Rattle.script_session.specs.Ends.{Network, Station, Running, Other, chosen, serving}
-use Rattle.script_session.specs.Power.{Held, IsRunning, is_off, refusal_of}
-use Rattle.script_session.specs.Said.{Answer, Answers, Outcome, choose_answer, outcome_of, serve_answer, served, unchanged}
+use Rattle.script_device.specs.declared.power.Power.{Power}
+use Rattle.script_device.specs.declared.power.Power.TheVariants.{On, Off, Away}
+use Rattle.script_device.specs.Machine.{Running, Station, served}
+use Rattle.script_session.specs.Ends.{Network, Other, chosen, serving}
+use Rattle.script_device.specs.Power.{IsRunning, is_off, refusal_of}
+use Rattle.script_session.specs.Session.{Are, Comes, Held, IsDone, IsObeyed, Obeys}
+use Rattle.script_session.specs.Said.{Answer, Answers, Outcome, choose_answer, outcome_of, serve_answer, unchanged}
 use Rattle.script_session.specs.Off.{Orders, TakesOrder}
-use Rattle.script_session.specs.Session.{Are, Comes, IsDone, IsObeyed, Obeys}
 
 -- A device that runs was not refused its start.
 pub unrefused : (station : Station) (power : Power) → IsRunning station power → refusal_of power ≡ None

@@ -1,16 +1,16 @@
 -- Events at either end, one after the other.
-use Rattle.std.proofs.Common.{◌≡◌, ℕ, ◌+◌, ◌-◌, ◌<◌, ◌≤◌, List, [], ◌∷◌, ◌++◌, zero, suc, replicate, flat_map, length, drop, append_assoc, append-nil, arith, refl, ap, subst, sym, ◌∙◌, Option, Some, None, Result, Ok, Err, OnOk}
+use Rattle.std.proofs.Common.{◌≡◌, ℕ, ◌+◌, ◌-◌, ◌<◌, ◌≤◌, List, [], ◌∷◌, ◌++◌, zero, suc, replicate, flat_map, append_assoc, append-nil, arith, refl, ap, subst, sym, ◌∙◌, Option, Some, None, Result, Ok, Err, OnOk}
 use Rattle.std.proofs.lemmas.Grind.{flat_map-append}
-use Rattle.std.proofs.lemmas.List.{drop_all}
 use Rattle.arrayvec.specs.ArrayVec.{ArrayVec}
 use Rattle.device_frames.specs.declared.event.Event.{Event}
 use Rattle.controller_state.specs.declared.event.Event.{Event as ControllerEvent}
 use Rattle.controller_core.specs.Machine.{Stepped as ControllerRun, step_of as controller_step}
 use Rattle.controller_state.specs.State.{Controlling}
 use Rattle.script_lines.specs.Reports.{told_line}
-use Rattle.script_session.specs.Ends.{Station, Running, station_step, Other, DeviceRun, IsRun, alarms_in, controller_run, device_run, frames_for_device, kept, news_of, octets_of, printed_for, with_sent}
-use Rattle.script_session.specs.Power.{Runs}
-use Rattle.script_session.specs.Session.{IsHandedTo, IsRunOf, IsTurned}
+use Rattle.script_device.specs.Machine.{DeviceRun, Running, Station, device_run, octets_of, station_step}
+use Rattle.script_session.specs.Ends.{IsRun, Other, alarms_in, controller_run, kept, news_of, printed_for, with_sent}
+use Rattle.script_device.specs.Power.{Runs}
+use Rattle.script_session.specs.Session.{IsRunOf, IsTurned}
 
 -- ---- units of time at the device
 
@@ -95,17 +95,6 @@ sent_both done far between after a b device services before middle now is_a is_b
     (subst (λ (s : List (List ℕ)). OnOk done ((after ≡ with_sent far (a ++ s)) × (now ≡ before ++ printed_for far.controller (a ++ s)))) is_b
     (sent_all done far between after a b before middle now e f g))
 
--- The frames of the device wait, and then those of the services.
-pub waiting_all : {E : Type 0} (done : Result (Unit {0}) E) (before middle now a b : List (List ℕ)) → middle ≡ before ++ a → OnOk done (now ≡ middle ++ b) → OnOk done (now ≡ before ++ (a ++ b))
-waiting_all (Ok it) before middle now a b e g = g ∙ ap (λ (t : List (List ℕ)). t ++ b) e ∙ append_assoc before a b
-waiting_all (Err fault) before middle now a b e g = tt
-
--- The same, of frames that are these two lists.
-pub waiting_both : {E : Type 0} (done : Result (Unit {0}) E) (before middle now a b device services : List (List ℕ)) → a ≡ device → b ≡ services → middle ≡ before ++ a → OnOk done (now ≡ middle ++ b) → OnOk done (now ≡ before ++ (device ++ services))
-waiting_both done before middle now a b device services is_a is_b e g =
-    subst (λ (s : List (List ℕ)). OnOk done (now ≡ before ++ (s ++ services))) is_a
-    (subst (λ (s : List (List ℕ)). OnOk done (now ≡ before ++ (a ++ s))) is_b (waiting_all done before middle now a b e g))
-
 -- The state before the first event.
 pub underway_first : (events : List Event) (now : Station) (device : Running) (far : Other) (before : List ℕ) → Runs now device → IsUnderway (device_run now events) events now device far far before before
 underway_first events now device far before runs = record {
@@ -174,37 +163,6 @@ pub parted : (A : Type 0) (tick : A) (left units : ℕ) → units ≤ left → r
 parted A tick left units most =
     let e : left ≡ units + (left - units) = omega arith in
     ap (λ left. replicate left tick) e ∙ some_more A tick units (left - units)
-
--- ---- frames that are handed to the device
-
--- Between two frames the device runs. The frames that wait, with those that it sends for the remaining frames, are the
--- whole.
-pub record IsHanding (whole : DeviceRun) (left : List Event) (now : Station) (device : Running) (before waiting : List (ArrayVec ℕ)) : Type 0 where
-  pub runs : Runs now device
-  pub station : whole.station ≡ (device_run now left).station
-  pub frames : octets_of before ++ whole.frames ≡ octets_of waiting ++ (device_run now left).frames
-
-pub handing_on : (whole : DeviceRun) (event : Event) (left : List Event) (now : Station) (device after : Running) (before waiting more : List (ArrayVec ℕ)) → IsHanding whole (event ∷ left) now device before waiting → Runs (station_step now event).station after → octets_of more ≡ octets_of waiting ++ (station_step now event).frames → IsHanding whole left (station_step now event).station after before more
-handing_on whole event left now device after before waiting more handing runs sent =
-    let step = station_step now event in
-    let later = device_run step.station left in
-    record {
-      runs = runs;
-      station = handing.station;
-      frames = handing.frames ∙ sym (append_assoc (octets_of waiting) step.frames later.frames) ∙ ap (λ t. t ++ later.frames) (sym sent);
-    }
-
-pub handed_all : (whole : DeviceRun) (left : List Event) (now : Station) (device : Running) (before waiting : List (ArrayVec ℕ)) → left ≡ [] → IsHanding whole left now device before waiting → IsHandedTo whole device before waiting
-handed_all whole left now device before waiting none handing =
-    let station : whole.station ≡ now = handing.station ∙ ap (λ events. (device_run now events).station) none in
-    record {
-      runs = subst (λ s. Runs s device) (sym station) handing.runs;
-      waits = sym (handing.frames ∙ ap (λ events. octets_of waiting ++ (device_run now events).frames) none ∙ append-nil (octets_of waiting));
-    }
-
--- No frame remains after the last one.
-pub no_frames : (frames : List (ArrayVec ℕ)) (i : ℕ) → length frames ≤ i → frames_for_device (octets_of (drop i frames)) ≡ []
-no_frames frames i all = ap (λ left. frames_for_device (octets_of left)) (drop_all i frames all)
 
 -- ---- events at the controller
 

@@ -5,17 +5,6 @@ use Rattle.plans.specs.declared.parts.Parts.{Parts}
 use Rattle.configurator.specs.declared.fault.PlanFault.{PlanFault}
 use Rattle.configurator.specs.declared.fault.PlanFault.TheVariants.{OutOfMemory}
 use Rattle.configurator.specs.Planned.{IsPlanOf, IsRefused}
-use Rattle.device_frames.specs.declared.event.Event.{Event}
-use Rattle.device_frames.specs.declared.event.Event.TheVariants as event
-use Rattle.device_core.specs.State.{Station as Device, State, Live}
-use Rattle.flash_model.specs.declared.memory.MemoryFlash.{MemoryFlash}
-use Rattle.device_core.specs.Leaps.{live_due_in}
-use Rattle.device_core.specs.Machine.{Stepped, step_of}
-use Rattle.device_frames.specs.declared.note.Note.{Note}
-use Rattle.pn_values.specs.declared.settings.Settings.{Settings}
-use Rattle.station.specs.Serving.{Serving, serving_at}
-use Rattle.station.specs.Beside.{beside, joined_beside}
-use Rattle.station.specs.Leaps.{due_beside, told_at}
 use Rattle.controller_state.specs.declared.event.Event.{Event as ControllerEvent}
 use Rattle.controller_state.specs.declared.event.Event.TheVariants as heard
 use Rattle.controller_state.specs.State.{Controlling}
@@ -26,71 +15,11 @@ use Rattle.alarm_reports.specs.declared.report.Report.{Report}
 use Rattle.controller_core.specs.Machine.{Stepped as ControllerRun, step_of as controller_step, can_request, end_of, fresh, opening_of, report_in}
 use Rattle.relations.specs.Options.{default_options}
 use Rattle.relations.specs.declared.options.DeviceOptions.{DeviceOptions}
+use Rattle.script_device.specs.Machine.{Station, octets_of}
 use Rattle.script_lines.specs.declared.command.Choice.{Choice}
 use Rattle.script_lines.specs.declared.command.Choice.TheVariants.{InputsBad, ReadyLater, Interval}
 use Rattle.script_lines.specs.Text.{out_lines}
 use Rattle.script_lines.specs.Reports.{told_line}
-
--- A device without its flash: what is fixed, and what changes; and the services beside it, once there are any.
-pub record Station : Type 0 where
-  pub device : Device
-  pub live : Live
-  pub services : Option Serving
-
--- Services that begin beside a device with these running settings, or none.
-abbrev pub services_at : Bool → Device → Settings → Option Serving
-services_at true device running = Some (serving_at device.identity running)
-services_at false device running = None
-
--- A step of a station: the station after it, the frames that it sends, and its note.
-pub record Turned : Type 0 where
-  pub station : Station
-  pub frames : List (List ℕ)
-  pub note : Note
-
--- After a step the device is given the call that the services joined, if they did, in a step of its own.
-abbrev pub given : Device → Option Event → Stepped → Stepped
-given device None step = step
-given device (Some call) step = step_of [] device step.live call
-
--- A step of the device, what the services do beside it, and the step of a call that the event completed. The fixed part of the
--- device stays, and the services' frames follow the device's.
-abbrev pub turned : Option Serving → Device → Event → Stepped → Turned
-turned None device event step = record {
-  station = record { device = device; live = step.live; services = None };
-  frames = step.frames;
-  note = step.note;
-}
-turned (Some state) device event step =
-    let after = beside device.identity state step.live.values step.note event in
-    let last = given device (joined_beside state step.live.values step.note event) step in
-    record {
-      station = record { device = device; live = last.live; services = Some after.services };
-      frames = last.frames ++ after.sent;
-      note = after.note;
-    }
-
--- The number of units up to and with the next one that brings something to the station.
-abbrev pub due_with : Option Serving → Live → ℕ
-due_with None live = live_due_in live
-due_with (Some state) live = due_beside live state
-
-abbrev pub due_of : Station → ℕ
-due_of station = due_with station.services station.live
-
--- Before an event the device is told of its neighbour, if that changed.
-abbrev pub ready_with : Option Serving → Device → Live → Station
-ready_with None device live = record { device = device; live = live; services = None }
-ready_with (Some state) device live =
-    let told = told_at device live state in record { device = device; live = told.live; services = Some told.services }
-
-abbrev pub ready_of : Station → Station
-ready_of station = ready_with station.services station.device station.live
-
--- A step of the station, whose flash never fails.
-abbrev pub station_step : Station → Event → Turned
-station_step station event =
-    let ready = ready_of station in turned ready.services ready.device event (step_of [] ready.device ready.live event)
 
 -- What is kept besides the station: the options of its next start, whether services begin with that, and the other end: the
 -- plan of the next controller, the controller once there is one, the lines of the alarms that it accepted since its start, and
@@ -133,34 +62,6 @@ nobody = record { options = default_options; serves = false; plan = None; contro
 
 -- ---- events, one after another, and the frames that they send
 
--- A station with its flash.
-pub record Running : Type 0 where
-  pub flash : MemoryFlash 4096
-  pub station : Device
-  pub live : Live
-  pub services : Option Serving
-
--- The station of a device that starts, with services that begin with it or without any.
-abbrev pub begun : Bool → State (MemoryFlash 4096) → Running
-begun serves device = record {
-  flash = device.flash;
-  station = device.station;
-  live = device.live;
-  services = services_at serves device.station device.live.values.running;
-}
-
--- A run of events at the station, whose flash never fails.
-pub record DeviceRun : Type 0 where
-  pub station : Station
-  pub frames : List (List ℕ)
-
-abbrev pub device_run : Station → List Event → DeviceRun
-device_run station [] = record { station = station; frames = [] }
-device_run station (event ∷ events) =
-    let step = station_step station event in
-    let later = device_run step.station events in
-    record { station = later.station; frames = step.frames ++ later.frames }
-
 -- A run of events at the controller.
 abbrev pub controller_run : Controlling → List ControllerEvent → ControllerRun
 controller_run controller [] = record { controller = controller; frames = [] }
@@ -192,10 +93,7 @@ alarms_in controller (event ∷ events) =
 abbrev pub may_request : Controlling → Bool
 may_request controller = can_request controller.live
 
--- Frames that come from the network, as events of either end.
-abbrev pub frames_for_device : List (List ℕ) → List Event
-frames_for_device frames = map (λ frame. event.Frame (record { items = frame })) frames
-
+-- Frames that come from the network, as events of the controller.
 abbrev pub frames_for_controller : List (List ℕ) → List ControllerEvent
 frames_for_controller frames = map (λ frame. heard.Frame (record { items = frame })) frames
 
@@ -262,10 +160,6 @@ printed_for None frames = out_lines frames
 printed_for (Some controller) frames = []
 
 -- ---- the state of the code
-
--- The octets of frames.
-abbrev pub octets_of : List (ArrayVec ℕ) → List (List ℕ)
-octets_of frames = map (λ frame. frame.items) frames
 
 -- A controller after a run of events: what it sent waits after the frames that waited already.
 abbrev pub IsRun : ControllerRun → Controlling → List (ArrayVec ℕ) → List (ArrayVec ℕ) → Type 0

@@ -7,8 +7,9 @@ use Rattle.configurator.specs.declared.fault.PlanFault.TheVariants.{OutOfMemory}
 use Rattle.script_lines.specs.Line.{Command, Frame, Restart, Tick, Elapse, Show, Due, Choose, Ready, Arm, Input, Alarm, Status, Diagnosis, Provider, Config, Start, Give, OutputStatus, Stop, Stands, Told, Read, Write, Reply, Deliver, Serve, Line, Unfit, Skipped, Asks, Unknown}
 use Rattle.script_lines.specs.Text.{boot_line, lost_line, off_line}
 use Rattle.script_session.specs.Ends.{Other, cleared}
-use Rattle.script_session.specs.declared.power.Power.{Power}
-use Rattle.script_session.specs.Power.{Held, IsArmed, IsBack, is_off, refusal_of}
+use Rattle.script_device.specs.declared.power.Power.{Power}
+use Rattle.script_device.specs.Power.{IsArmed, IsBack, is_off, refusal_of}
+use Rattle.script_session.specs.Session.{Held}
 
 -- What a line other than a restart prints while the power is off. None if the line is refused, which happens only for its
 -- length or for a byte that is not ASCII.

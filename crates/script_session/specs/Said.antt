@@ -1,42 +1,28 @@
 -- The effect of a line: a command to the demo device, whose flash never fails, or to the other end.
-use Rattle.std.specs.Prelude.{ℕ, Bool, true, false, ◌&&◌, nat_le, List, [], ◌++◌, codes, length, replicate, take, if◌then◌else◌, Option, Some, None}
-use Rattle.arrayvec.specs.ArrayVec.{ArrayVec}
+use Rattle.std.specs.Prelude.{ℕ, Bool, true, false, ◌&&◌, nat_le, List, [], ◌++◌, codes, length, replicate, if◌then◌else◌, Option, Some, None}
 use Rattle.pn_values.specs.Settings.{factory_settings}
-use Rattle.pn_values.specs.declared.settings.Settings.{Settings}
 use Rattle.settings_journal.specs.Image.{capacity}
 use Rattle.relations.specs.Exchanged.{provider_in}
 use Rattle.relations.specs.Options.{default_options}
 use Rattle.relations.specs.RelationState.{phase_of}
-use Rattle.relations.specs.declared.options.DeviceOptions.{DeviceOptions}
 use Rattle.plans.specs.declared.parts.Parts.{Parts}
 use Rattle.device_frames.specs.declared.event.Event.{Event}
 use Rattle.device_frames.specs.declared.event.Event.TheVariants as event
 use Rattle.device_frames.specs.declared.note.Note.TheVariants.{Done}
 use Rattle.device_frames.specs.declared.note.Note.TheVariants.{Refused as Declined}
-use Rattle.device_core.specs.Cycle.{started}
 use Rattle.controller_state.specs.declared.event.Event.{Event as ControllerEvent}
 use Rattle.controller_state.specs.declared.event.Event.TheVariants as heard
 use Rattle.controller_core.specs.Machine.{step_of as controller_step}
 use Rattle.controller_state.specs.State.{Controlling}
 use Rattle.record_access.specs.Access.{record_of}
 use Rattle.controller_frames.specs.RecordRequests.{most_record_octets}
-use Rattle.script_session.specs.Demo.{demo_device}
-use Rattle.script_session.specs.Ends.{Station, Turned, due_of, serving, services_at, station_step, Other, Network, DeviceRun, with_ends, arrived_at, chosen, cleared, device_run, frames_for_device, may_request, nobody, printed_for, ticked_by, with_fresh, with_plan, with_run, with_sent}
-use Rattle.station.specs.Serving.{Serving}
+use Rattle.script_device.specs.Machine.{DeviceRun, Station, Turned, demo_started, device_run, due_of, frames_for_device, handed, served, station_step}
+use Rattle.script_session.specs.Ends.{Network, Other, arrived_at, chosen, cleared, may_request, nobody, printed_for, serving, ticked_by, with_ends, with_fresh, with_plan, with_run, with_sent}
 use Rattle.script_lines.specs.Line.{Command, Frame, Restart, Tick, Elapse, Show, Due, Choose, Ready, Arm, Input, Alarm, Status, Diagnosis, Provider, Config, Start, Give, OutputStatus, Stop, Stands, Told, Read, Write, Reply, Deliver, Serve, Line, Unfit, Skipped, Asks, Unknown}
 use Rattle.script_lines.specs.declared.command.Choice.{Choice}
 use Rattle.script_lines.specs.Show.{shown, outputs_shown, controller_shown, diagnoses_shown, due_line, provider_line}
 use Rattle.script_lines.specs.Reports.{reply_line, told_shown}
 use Rattle.script_lines.specs.Text.{boot_line, moved_line, note_line, printed}
-
--- The demo device, started with these options from these settings, with services that begin with it or without any.
-abbrev pub demo_started : DeviceOptions → Bool → Settings → ℕ → Station
-demo_started options serves settings room = record { device = demo_device options; live = started settings room; services = services_at serves (demo_device options) settings }
-
--- Services beside the device, if there are none yet.
-abbrev pub served : Option Serving → Station → Station
-served None station = record station { services = services_at true station.device station.live.values.running }
-served (Some state) station = station
 
 -- Both ends after a line, and the text that the line prints.
 pub record Answer : Type 0 where
@@ -50,10 +36,6 @@ step_answer network step = record {
   network = with_ends step.station (with_sent network.other step.frames);
   text = printed_for network.other.controller step.frames ++ note_line step.note;
 }
-
--- The part of some bytes that is handed in: the first 1,519 of them, because longer frames are refused alike.
-abbrev pub handed : List ℕ → ArrayVec ℕ
-handed bytes = record { items = take 1519 bytes }
 
 abbrev pub event_answer : Network → Event → Answer
 event_answer network event = step_answer network (station_step network.station event)

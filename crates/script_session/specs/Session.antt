@@ -1,16 +1,20 @@
 -- The effect of a line at both ends, and the text that it prints.
 use Rattle.std.specs.Prelude.{◌≡◌, ◌⊎◌, ℕ, Bool, true, false, List, ◌++◌, length, Option, Result, Ok, Err}
-use Rattle.arrayvec.specs.ArrayVec.{ArrayVec}
 use Rattle.plans.specs.declared.parts.Parts.{Parts}
 use Rattle.configurator.specs.declared.fault.PlanFault.{PlanFault}
 use Rattle.configurator.specs.declared.fault.PlanFault.TheVariants.{OutOfMemory}
 use Rattle.configurator.specs.Planned.{IsRefused}
-use Rattle.device_frames.specs.declared.note.Note.{Note}
-use Rattle.station.specs.State.{Frames, in_order}
 use Rattle.script_lines.specs.Line.{Config, Line, Asks}
-use Rattle.script_session.specs.Ends.{DeviceRun, IsRightFor, Network, Other, Running, Turned, octets_of, printed_for, with_sent}
-use Rattle.script_session.specs.Power.{Held, IsRunning, Runs}
-use Rattle.script_session.specs.Said.{Answer, Outcome, Answers, Refuses, HasNoPlan, handed_over}
+use Rattle.script_device.specs.declared.power.Power.{Power}
+use Rattle.script_device.specs.Machine.{DeviceRun, Running, Turned}
+use Rattle.script_session.specs.Ends.{IsRightFor, Network, Other, printed_for, with_sent}
+use Rattle.script_device.specs.Power.{IsRunning, Runs}
+use Rattle.script_session.specs.Said.{Answer, Answers, HasNoPlan, Outcome, Refuses, handed_over}
+
+-- Both ends, as a run holds them.
+pub record Held : Type 0 where
+  pub power : Power
+  pub other : Other
 
 -- Both ends are as the network says.
 abbrev pub Are : Network → Held → Type 0
@@ -46,18 +50,6 @@ Obeys outcome held before now (Err fault) = (fault ≡ OutOfMemory) ⊎ IsWithou
 
 -- ---- steps of the device
 
--- A step was made: the device runs on, the outbox holds the frames that it sends, and the note is the result of the
--- event.
-pub record IsStepped (step : Turned) (device : Running) (outbox : Frames) (note : Note) : Type 0 where
-  pub runs : Runs step.station device
-  pub frames : in_order outbox ≡ step.frames
-  pub note_is : note ≡ step.note
-
--- Several units of time passed at once: the device runs on, and the outbox holds the frames that it sends.
-pub record IsLeapt (run : DeviceRun) (device : Running) (outbox : Frames) : Type 0 where
-  pub runs : Runs run.station device
-  pub frames : in_order outbox ≡ run.frames
-
 -- A step was made: the device runs on, and the frames that it sent are rendered or wait.
 pub record IsTurned (step : Turned) (device : Running) (far other : Other) (before now : List ℕ) : Type 0 where
   pub runs : Runs step.station device
@@ -69,11 +61,6 @@ pub record IsRunOf (run : DeviceRun) (device : Running) (far other : Other) (bef
   pub runs : Runs run.station device
   pub waits : other ≡ with_sent far run.frames
   pub text : now ≡ before ++ printed_for far.controller run.frames
-
--- Frames were handed to the device: it runs on, and what it sent waits after the frames that waited already.
-pub record IsHandedTo (run : DeviceRun) (device : Running) (before now : List (ArrayVec ℕ)) : Type 0 where
-  pub runs : Runs run.station device
-  pub waits : octets_of now ≡ octets_of before ++ run.frames
 
 -- All frames that waited for the device were handed to it.
 pub record IsHandedOver (run : DeviceRun) (device : Running) (far other : Other) (delivered : ℕ) : Type 0 where

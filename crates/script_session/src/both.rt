@@ -3,16 +3,17 @@ ghost use Rattle.std.specs.Prelude.{◌≡◌, ◌≤◌, ◌++◌, true, OnOk, 
 ghost use Rattle.flash_model.specs.Memory.{is_powerless};
 ghost use Rattle.device_frames.specs.declared.event.Event.TheVariants as event;
 ghost use Rattle.script_lines.specs.Text.{lost_line};
-ghost use Rattle.script_session.specs.Ends.{Network, Station, device_run, due_with, station_step};
+ghost use Rattle.script_device.specs.Machine.{Station, device_run, due_with, station_step};
+ghost use Rattle.script_session.specs.Ends.{Network};
 ghost use Rattle.script_session.specs.Said.{deliver_answer, event_answer};
 ghost use Rattle.script_session.specs.Off.{Delivers};
-ghost use Rattle.script_session.specs.Power.{Runs};
+ghost use Rattle.script_device.specs.Power.{Runs};
 ghost use Rattle.script_session.specs.Session.{IsDone, IsRunOf, IsTurned};
 
 use crate::other_end::OtherEnd;
-use crate::power::DemoStation;
 use device_core::Event;
 use flash_model::Flash;
+use script_device::DemoStation;
 use script_lines::render;
 use station::StationOutbox;
 use std::alloc::AllocError;

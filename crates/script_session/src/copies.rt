@@ -1,10 +1,10 @@
 // Copies of a plan, which need no memory: each later controller gets the same plan.
 ghost use Rattle.std.specs.Prelude.{◌≡◌, ◌≤◌, length};
 
-use crate::bytes::copied;
 use arrayvec::ArrayVec;
 use plans::{Controller, Parts, Plan, PlanRecord, Station};
 use pn_values::{Real, RealModule, RealSubmodule};
+use script_device::copied;
 
 /// A copy of the plan.
 pub(crate) fn plan_copy(plan: &Plan) -> Plan

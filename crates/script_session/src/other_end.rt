@@ -5,22 +5,19 @@ ghost use Rattle.controller_core.specs.Leaps.{live_due_in};
 ghost use Rattle.controller_core.specs.Machine.{end_of, report_in, step_of};
 ghost use Rattle.controller_state.specs.declared.event.Event.TheVariants as event;
 ghost use Rattle.script_lines.specs.Reports.{told_line};
-ghost use Rattle.script_session.specs.Ends.{IsRun, Station, alarms_in, controller_run, device_run, frames_for_controller, frames_for_device};
-ghost use Rattle.script_session.specs.Ends.{news_by, news_of, octets_of};
+ghost use Rattle.script_device.specs.Machine.{Station, device_run, frames_for_device, octets_of};
+ghost use Rattle.script_session.specs.Ends.{IsRun, alarms_in, controller_run, frames_for_controller, news_by, news_of};
 ghost use Rattle.script_session.specs.Off.{Delivers};
-ghost use Rattle.script_session.specs.Power.{Runs};
+ghost use Rattle.script_device.specs.Power.{Runs};
 ghost use Rattle.script_session.specs.Session.{IsHandedOver};
 
-use crate::bytes::copied;
 use crate::copies::plan_copy;
-use crate::device::hand_over;
-use crate::power::DemoStation;
-use crate::waiting::append;
 use configurator::{PlanFault, plan_from_json};
 use controller_core::{Controller, Event, Priority};
 use frame_codec::{Frame, Outbox};
 use plans::Plan;
 use relations::DeviceOptions;
+use script_device::{DemoStation, append, copied, hand_over};
 use script_lines::{Choice, render, reports, show};
 use station::StationOutbox;
 use std::alloc::{AllocError, Global};
@@ -44,7 +41,8 @@ pub(crate) struct OtherEnd {
 }
 
 impl Model for OtherEnd {
-    ghost use Rattle.script_session.specs.Ends.{Other, octets_of};
+    ghost use Rattle.script_device.specs.Machine.{octets_of};
+    ghost use Rattle.script_session.specs.Ends.{Other};
 
     ghost Value = { Other };
 
@@ -64,8 +62,7 @@ impl OtherEnd {
     ghost use Rattle.script_lines.specs.Reports.{told_shown};
     ghost use Rattle.script_lines.specs.Show.{controller_shown, known_shown};
     ghost use Rattle.station.specs.State.{in_order};
-    ghost use Rattle.script_session.specs.Ends.{Hears, Plans, Starts, arrived_at, chosen, cleared, may_request, nobody, printed_for, serving};
-    ghost use Rattle.script_session.specs.Ends.{ticked_by, with_sent};
+    ghost use Rattle.script_session.specs.Ends.{Hears, Plans, Starts, arrived_at, chosen, cleared, may_request, nobody, printed_for, serving, ticked_by, with_sent};
     ghost use Rattle.script_session.specs.Said.{reply_shown};
 
     /// The other end before a catalogue was read: no plan, no controller and no frames. All options have their defaults, and

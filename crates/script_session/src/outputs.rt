@@ -2,8 +2,8 @@
 ghost use Rattle.std.specs.Prelude.{◌≡◌, ◌++◌, OnOk};
 ghost use Rattle.script_lines.specs.Show.{module_shown, outputs_shown, part_shown};
 
-use crate::power::DemoDevice;
 use pn_values::{RealModule, RealSubmodule};
+use script_device::DemoDevice;
 use script_lines::show;
 use std::alloc::AllocError;
 

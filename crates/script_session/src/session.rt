@@ -5,22 +5,21 @@ ghost use Rattle.device_frames.specs.declared.event.Event.TheVariants as event;
 ghost use Rattle.configurator.specs.declared.fault.PlanFault.TheVariants as plan_fault;
 ghost use Rattle.script_lines.specs.Read.{line_read};
 ghost use Rattle.script_session.specs.Ends.{Network};
-ghost use Rattle.script_session.specs.Said.{event_answer, handed};
-ghost use Rattle.script_session.specs.Power.{IsDemo, IsRunning};
+ghost use Rattle.script_device.specs.Machine.{handed};
+ghost use Rattle.script_session.specs.Said.{event_answer};
+ghost use Rattle.script_device.specs.Power.{IsDemo, IsRunning};
 ghost use Rattle.script_session.specs.Off.{TellsLoss, is_heard_off};
 ghost use Rattle.script_session.specs.Session.{IsObeyed};
 
 use crate::both::{exchange, leaps, respond, ticks};
-use crate::bytes::copied;
-use crate::device::receive;
 use crate::other_end::OtherEnd;
 use crate::outputs::outputs;
-use crate::power::Power;
 use configurator::PlanFault;
 use controller_core::{Event as ControllerEvent, MOST_RECORD_OCTETS};
 use device_core::{Event, Note};
 use flash_model::{Flash, Lent, MemoryFlash, Order};
 use frame_codec::Bytes;
+use script_device::{Power, copied, receive};
 use script_lines::{Command, Line, meaning, render, show};
 use station::StationOutbox;
 use std::alloc::{AllocError, Global};
@@ -40,7 +39,7 @@ pub struct Session<'a> {
 }
 
 impl<'a> Model for Session<'a> {
-    ghost use Rattle.script_session.specs.Power.{Held};
+    ghost use Rattle.script_session.specs.Session.{Held};
 
     ghost Value = { Held };
 
@@ -56,10 +55,11 @@ impl<'a> Session<'a> {
     ghost use Rattle.script_lines.specs.Read.{command_read};
     ghost use Rattle.script_lines.specs.Text.{boot_line};
     ghost use Rattle.script_session.specs.Ends.{IsRightFor, cleared, nobody};
-    ghost use Rattle.script_session.specs.Said.{arms, config_outcome, deliver_answer, deliver_outcome, factory_device};
-    ghost use Rattle.script_session.specs.Said.{heard_outcome, is_order, outcome_of, restart_answer, said, serve_answer, show_answer, stands_outcome, start_outcome};
-    ghost use Rattle.script_session.specs.Said.{due_answer, fits_record, provider_answer, record_outcome, reply_outcome, tick_answer, told_outcome};
-    ghost use Rattle.script_session.specs.Power.{IsArmed, IsBack, is_off, refusal_of};
+    ghost use Rattle.script_session.specs.Said.{arms, config_outcome, deliver_answer, deliver_outcome, due_answer, factory_device};
+    ghost use Rattle.script_session.specs.Said.{fits_record, heard_outcome, is_order, outcome_of, provider_answer, record_outcome};
+    ghost use Rattle.script_session.specs.Said.{reply_outcome, restart_answer, said, serve_answer, show_answer, stands_outcome};
+    ghost use Rattle.script_session.specs.Said.{start_outcome, tick_answer, told_outcome};
+    ghost use Rattle.script_device.specs.Power.{IsArmed, IsBack, is_off, refusal_of};
     ghost use Rattle.script_session.specs.Session.{Are, AreRightFor, Comes, Obeys};
     ghost use Rattle.script_session.specs.Off.{Delivers, GivesBack, Leaves, LeavesBy, Orders, TakesOff, TakesOrder, hands, is_handed};
 

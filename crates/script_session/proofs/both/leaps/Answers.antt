@@ -1,7 +1,7 @@
 use Rattle.std.proofs.Common.{◌≡◌, ◌≤◌, replicate, refl, arith, ap, subst}
 use Rattle.device_frames.specs.declared.event.Event.{Event}
 use Rattle.device_frames.specs.declared.event.Event.TheVariants as event
-use Rattle.script_session.specs.Ends.{device_run}
+use Rattle.script_device.specs.Machine.{device_run}
 use Rattle.script_session.proofs.Ticking.{IsUnderway, parted, underway_first, underway_run, underway_all}
 use Rattle.script_session.proofs.both.leaps.Goals as goal
 

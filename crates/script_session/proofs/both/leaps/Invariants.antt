@@ -1,7 +1,7 @@
 use Rattle.std.proofs.Common.{◌≡◌, replicate}
 use Rattle.device_frames.specs.declared.event.Event.TheVariants as event
-use Rattle.script_session.specs.Ends.{Station, device_run}
-use Rattle.script_session.specs.Power.{Runs}
+use Rattle.script_device.specs.Machine.{Station, device_run}
+use Rattle.script_device.specs.Power.{Runs}
 use Rattle.script_session.proofs.Ticking.{IsUnderway}
 use Rattle.script_session.proofs.both.leaps.Given as goal
 

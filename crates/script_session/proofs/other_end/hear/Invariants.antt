@@ -1,6 +1,7 @@
 use Rattle.std.proofs.Common.{◌++◌, drop, flat_map}
 use Rattle.script_lines.specs.Reports.{told_line}
-use Rattle.script_session.specs.Ends.{alarms_in, controller_run, frames_for_controller, octets_of}
+use Rattle.script_device.specs.Machine.{octets_of}
+use Rattle.script_session.specs.Ends.{alarms_in, controller_run, frames_for_controller}
 use Rattle.script_session.proofs.Ticking.{IsHearing, IsTelling}
 use Rattle.script_session.proofs.other_end.hear.Given as goal
 

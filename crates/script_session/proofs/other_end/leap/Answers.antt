@@ -1,7 +1,7 @@
 use Rattle.std.proofs.Common.{◌++◌, ◌∙◌, ap, ℕ, List}
 use Rattle.std.proofs.lemmas.Result.{on_ok_weaker}
 use Rattle.controller_core.specs.Machine.{Stepped}
-use Rattle.script_session.specs.Ends.{octets_of}
+use Rattle.script_device.specs.Machine.{octets_of}
 use Rattle.script_session.proofs.Leaping.{controller_ticks}
 use Rattle.script_session.proofs.other_end.leap.Goals as goal
 

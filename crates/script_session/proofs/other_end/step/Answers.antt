@@ -1,6 +1,6 @@
 use Rattle.std.proofs.Common.{◌++◌, ◌∙◌, ap, ℕ, List}
 use Rattle.std.proofs.lemmas.Result.{on_ok_weaker}
-use Rattle.script_session.specs.Ends.{octets_of}
+use Rattle.script_device.specs.Machine.{octets_of}
 use Rattle.script_session.proofs.other_end.step.Goals as goal
 
 -- The outbox holds what the controller sent.

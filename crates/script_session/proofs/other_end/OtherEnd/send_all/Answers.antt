@@ -1,4 +1,4 @@
-use Rattle.script_session.specs.Ends.{octets_of}
+use Rattle.script_device.specs.Machine.{octets_of}
 use Rattle.script_session.proofs.Ticking.{sent_both}
 use Rattle.script_session.proofs.other_end.OtherEnd.send_all.Goals as goal
 

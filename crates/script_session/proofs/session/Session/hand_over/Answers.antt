@@ -1,6 +1,6 @@
 use Rattle.std.proofs.Common.{subst, sym}
 use Rattle.std.proofs.lemmas.Result.{on_ok_weaker}
-use Rattle.script_session.specs.Power.{IsRunning, Runs}
+use Rattle.script_device.specs.Power.{IsRunning, Runs}
 use Rattle.script_session.specs.Session.{Are}
 use Rattle.script_session.proofs.Obeying.{done_obeyed}
 use Rattle.script_session.proofs.session.Session.hand_over.Goals as goal

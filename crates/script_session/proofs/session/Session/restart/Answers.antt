@@ -2,8 +2,8 @@ use Rattle.std.proofs.Common.{◌≡◌, ◌++◌, subst, sym, ap, ◌∙◌, No
 use Rattle.std.proofs.lemmas.Result.{on_ok_weaker}
 use Rattle.script_lines.specs.Text.{boot_line}
 use Rattle.script_session.specs.Ends.{Other, cleared}
-use Rattle.script_session.specs.Power.{IsRunning}
-use Rattle.script_session.specs.Said.{demo_started}
+use Rattle.script_device.specs.Power.{IsRunning}
+use Rattle.script_device.specs.Machine.{demo_started}
 use Rattle.script_session.specs.Session.{Are}
 use Rattle.script_session.proofs.Obeying.{unrefused}
 use Rattle.script_session.proofs.session.Session.restart.Goals as goal

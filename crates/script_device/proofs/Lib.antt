@@ -1,0 +1,5 @@
+pub mod Begins
+pub mod Flashes
+pub mod Handing
+pub mod Leaping
+pub mod Stepping

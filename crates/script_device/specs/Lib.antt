@@ -1,0 +1,4 @@
+pub mod Demo
+pub mod Machine
+pub mod Power
+pub mod Steps

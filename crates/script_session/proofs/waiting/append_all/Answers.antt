@@ -1,9 +1,0 @@
-use Rattle.script_session.specs.Ends.{octets_of}
-use Rattle.script_session.proofs.Ticking.{waiting_both}
-use Rattle.script_session.proofs.waiting.append_all.Goals as goal
-
-pub returns : goal.returns
-returns c =
-    waiting_both c.append-2.result (octets_of c.args.waiting.now.items) (octets_of c.append.new.waiting.items) (octets_of c.append-2.new.waiting.items)
-    (octets_of c.device.result.now) (octets_of c.services.result.now) c.args.outbox.now.device c.args.outbox.now.services
-    c.device.ensures.value c.services.ensures.value c.in_ok-append.ensures c.append-2.ensures
